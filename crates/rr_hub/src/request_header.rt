@@ -1,0 +1,43 @@
+//! What travels with each request beside its payload and its user header.
+ghost use Rattle.std.specs.Prelude.{◌≡◌};
+
+use crate::identifiers::{UniqueClientId, UniqueNodeId};
+
+/// The header of a request, after iceoryx2's `RequestHeader`.
+#[derive(Clone, Copy, Debug, PartialEq, Eq)]
+pub struct RequestHeader {
+    pub client_id: UniqueClientId,
+    pub request_id: u64,
+    pub number_of_elements: u64,
+    pub node_id: UniqueNodeId,
+}
+
+impl RequestHeader {
+    /// The client that loaned the request.
+    pub fn client_id(&self) -> UniqueClientId
+        ensures { result ≡ self.now.client_id }
+    {
+        self.client_id
+    }
+
+    /// How many requests the client had loaned before this one.
+    pub fn request_id(&self) -> u64
+        ensures { result ≡ self.now.request_id }
+    {
+        self.request_id
+    }
+
+    /// How many elements the payload was asked to have.
+    pub fn number_of_elements(&self) -> u64
+        ensures { result ≡ self.now.number_of_elements }
+    {
+        self.number_of_elements
+    }
+
+    /// The node of the hub.
+    pub fn node_id(&self) -> UniqueNodeId
+        ensures { result ≡ self.now.node_id }
+    {
+        self.node_id
+    }
+}

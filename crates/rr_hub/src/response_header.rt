@@ -1,0 +1,43 @@
+//! What travels with each response beside its payload and its user header.
+ghost use Rattle.std.specs.Prelude.{◌≡◌};
+
+use crate::identifiers::{UniqueNodeId, UniqueServerId};
+
+/// The header of a response, after iceoryx2's `ResponseHeader`.
+#[derive(Clone, Copy, Debug, PartialEq, Eq)]
+pub struct ResponseHeader {
+    pub server_id: UniqueServerId,
+    pub request_id: u64,
+    pub number_of_elements: u64,
+    pub node_id: UniqueNodeId,
+}
+
+impl ResponseHeader {
+    /// The server that loaned the response.
+    pub fn server_id(&self) -> UniqueServerId
+        ensures { result ≡ self.now.server_id }
+    {
+        self.server_id
+    }
+
+    /// The id that its client gave to the request which it answers.
+    pub fn request_id(&self) -> u64
+        ensures { result ≡ self.now.request_id }
+    {
+        self.request_id
+    }
+
+    /// How many elements the payload was asked to have.
+    pub fn number_of_elements(&self) -> u64
+        ensures { result ≡ self.now.number_of_elements }
+    {
+        self.number_of_elements
+    }
+
+    /// The node of the hub.
+    pub fn node_id(&self) -> UniqueNodeId
+        ensures { result ≡ self.now.node_id }
+    {
+        self.node_id
+    }
+}

@@ -1,0 +1,66 @@
+//! How ports are created, and what they do at full queues.
+
+/// What a send does at a full queue that may not overflow. iceoryx2's `BackpressureStrategy`.
+#[derive(Clone, Copy, Debug, PartialEq, Eq)]
+pub enum BackpressureStrategy {
+    /// The send is refused. Nothing waits inside a send: the caller tries again.
+    RetryUntilDelivered,
+    /// The queue is passed over.
+    DiscardData,
+}
+
+/// What a handler answers about such a queue. iceoryx2's `BackpressureAction`.
+#[derive(Clone, Copy, Debug, PartialEq, Eq)]
+pub enum BackpressureAction {
+    /// The send is refused.
+    Retry,
+    /// The queue is passed over.
+    DiscardData,
+    /// The send is refused.
+    DiscardDataAndFail,
+    /// The port's strategy decides.
+    FollowBackpressureStrategy,
+}
+
+/// Whether a slot may grow for a slice that is longer than the initial length. iceoryx2's `AllocationStrategy`.
+#[derive(Clone, Copy, Debug, PartialEq, Eq)]
+pub enum AllocationStrategy {
+    /// It may not: such a loan is refused.
+    Static,
+    /// It may.
+    BestFit,
+    /// It may.
+    PowerOfTwo,
+}
+
+/// How a client is created.
+#[derive(Clone, Copy, Debug)]
+pub struct ClientSettings<K> {
+    /// What its sends do at a full queue.
+    pub strategy: BackpressureStrategy,
+    /// The elements for which each slot has room from the start.
+    pub initial_max_slice_len: usize,
+    /// Whether slots may grow for longer slices.
+    pub allocation_strategy: AllocationStrategy,
+    /// What an override made of the worst-case number of slots, if there is one.
+    pub pool: Option<usize>,
+    /// The handler that is asked at a full queue before the strategy, if there is one.
+    pub handler: Option<K>,
+}
+
+/// How a server is created.
+#[derive(Clone, Copy, Debug)]
+pub struct ServerSettings<K> {
+    /// What its sends do at a full queue.
+    pub strategy: BackpressureStrategy,
+    /// The elements for which each slot has room from the start.
+    pub initial_max_slice_len: usize,
+    /// Whether slots may grow for longer slices.
+    pub allocation_strategy: AllocationStrategy,
+    /// What an override made of the worst-case number of slots, if there is one.
+    pub pool: Option<usize>,
+    /// The handler that is asked at a full queue before the strategy, if there is one.
+    pub handler: Option<K>,
+    /// The responses that may be on loan at one time for each request. 0 counts as 1.
+    pub loans: usize,
+}

@@ -1,0 +1,103 @@
+//! What a message holds: elements, written up to a length that was asked for.
+ghost use Rattle.std.specs.Prelude.{◌≡◌, ◌<◌, ◌≤◌, ◌↔◌, [], ◌∷◌, ◌++◌, length, slice_get, IsTrue, IsOk, OnOk, OnErr, IfOk};
+ghost use Rattle.std.specs.Borrow.{sem, Lends};
+
+use crate::family::Family;
+use std::alloc::{AllocError, Global};
+
+/// A list of elements with an asked length, and room for a number of elements.
+///
+/// Only `new`, and `prepare` above the room, take memory. No call lowers the room. Our own: it stands for a payload that
+/// is being written, which iceoryx2 hands out as `MaybeUninit`.
+pub trait Body: Drop {
+    ghost use Rattle.std.specs.Prelude.{ℕ, List, slice_set};
+    ghost use Rattle.rr_slots.specs.declared.family.Family.{Family};
+    ghost use Rattle.rr_slots.specs.Families.{takes_len};
+
+    /// An element.
+    type Item: Drop;
+
+    /// The family of every body of this type.
+    ghost family: { Family };
+
+    /// How many elements are asked for.
+    ghost asked_len: { Self → ℕ };
+
+    /// How many elements fit without further memory.
+    ghost room: { Self → ℕ };
+
+    /// The elements written so far.
+    ghost elements: { Self → List Self.Item };
+
+    /// The body after the element at a place became another.
+    ghost with_element_at: { Self → ℕ → Self.Item → Self };
+
+    /// The family of every body of this type.
+    fn family() -> Family
+        ensures { result ≡ family };
+
+    /// An empty body with room for `len` elements, a length that the family takes. `Err` if memory was refused.
+    fn new(alloc: Global, len: usize) -> Result<Self, AllocError>
+        requires { IsTrue (takes_len family len) }
+        ensures room { IfOk result (λ body. len ≤ room body) }
+        ensures empty { IfOk result (λ body. elements body ≡ []) };
+
+    /// Empties the body and asks for `len` elements, a length that the family takes.
+    ///
+    /// `Err` if memory for more room was refused; the body is then as before.
+    fn prepare(&mut self, len: usize) -> Result<(), AllocError>
+        requires { IsTrue (takes_len family len) }
+        ensures asked { OnOk result (asked_len self.new ≡ len) }
+        ensures empty { OnOk result (elements self.new ≡ []) }
+        ensures err { OnErr result (self.new ≡ self.old) }
+        ensures room { room self.old ≤ room self.new }
+
+        // Within the room no memory is taken.
+        ensures within_room { len ≤ room self.old → IsOk result };
+
+    /// Appends an element to a body that is not complete.
+    fn push(&mut self, item: Self::Item)
+        requires { length (elements self.old) < asked_len self.old }
+        ensures elements { elements self.new ≡ elements self.old ++ item ∷ [] }
+        ensures asked { asked_len self.new ≡ asked_len self.old }
+        ensures room { room self.new ≡ room self.old };
+
+    /// Drops the elements. As many are asked for as before.
+    fn clear(&mut self)
+        ensures empty { elements self.new ≡ [] }
+        ensures asked { asked_len self.new ≡ asked_len self.old }
+        ensures room { room self.new ≡ room self.old };
+
+    /// How many elements are asked for.
+    fn asked_len(&self) -> usize
+        ensures { result ≡ asked_len self.now };
+
+    /// Whether as many elements are there as are asked for.
+    fn is_complete(&self) -> bool
+        ensures complete { IsTrue result ↔ (length (elements self.now) ≡ asked_len self.now) }
+        ensures open { ¬ IsTrue result → length (elements self.now) < asked_len self.now };
+
+    /// How many elements are there.
+    fn len(&self) -> usize
+        ensures { result ≡ length (elements self.now) };
+
+    /// The element at a place.
+    fn get(&self, index: usize) -> &Self::Item
+        requires { index < length (elements self.now) }
+        ensures { slice_get (elements self.now) index ≡ Some result.now };
+
+    /// Lends the element at a place for writing.
+    fn get_mut(&mut self, index: usize) -> &mut Self::Item
+        requires { index < length (elements self.old) }
+        ensures* lends { sem 𝓛 (Lends Self.row Self.Item.row self.entry result (with_element_at self.old index)) }
+        ensures value { slice_get (elements self.old) index ≡ Some result.now };
+
+    /// A write at a place replaces that element, and no other.
+    ghost sets_one_element: { (body : Self) (index : ℕ) (item : Self.Item) → elements (with_element_at body index item) ≡ slice_set (elements body) index item };
+
+    /// It asks for as many elements as before.
+    ghost keeps_asked_len: { (body : Self) (index : ℕ) (item : Self.Item) → asked_len (with_element_at body index item) ≡ asked_len body };
+
+    /// It keeps the room.
+    ghost keeps_room: { (body : Self) (index : ℕ) (item : Self.Item) → room (with_element_at body index item) ≡ room body };
+}
