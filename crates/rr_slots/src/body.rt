@@ -36,11 +36,13 @@ pub trait Body: Drop {
     fn family() -> Family
         ensures { result ≡ family };
 
-    /// An empty body with room for `len` elements, a length that the family takes. `Err` if memory was refused.
+    /// An empty body that asks for `len` elements and has room for them. `len` is a length that the family takes. `Err` if
+    /// memory was refused.
     fn new(alloc: Global, len: usize) -> Result<Self, AllocError>
         requires { IsTrue (takes_len family len) }
-        ensures room { IfOk result (λ body. len ≤ room body) }
-        ensures empty { IfOk result (λ body. elements body ≡ []) };
+        ensures asked { IfOk result (λ body. asked_len body ≡ len) }
+        ensures empty { IfOk result (λ body. elements body ≡ []) }
+        ensures room { IfOk result (λ body. len ≤ room body) };
 
     /// Empties the body and asks for `len` elements, a length that the family takes.
     ///
@@ -50,6 +52,7 @@ pub trait Body: Drop {
         ensures asked { OnOk result (asked_len self.new ≡ len) }
         ensures empty { OnOk result (elements self.new ≡ []) }
         ensures err { OnErr result (self.new ≡ self.old) }
+        ensures grown { OnOk result (len ≤ room self.new) }
         ensures room { room self.old ≤ room self.new }
 
         // Within the room no memory is taken.

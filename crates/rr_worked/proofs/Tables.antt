@@ -31,6 +31,9 @@ requests_of_two = refl
 pub loans_of_two : max_loaned_responses (limits 2 1 false) 1 ≡ 4
 loans_of_two = refl
 
+pub loans_of_two_for_each : max_loaned_responses (limits 2 1 false) 2 ≡ 8
+loans_of_two_for_each = refl
+
 pub responses_of_two : worst_case_responses (limits 2 1 false) 1 ≡ 28
 responses_of_two = refl
 
