@@ -49,7 +49,7 @@ pub enum ServerCreateError {
     UnableToCreatePortTag,
 }
 
-/// Why nothing was loaned. iceoryx2's `LoanError`, with the variants that can come here.
+/// Why nothing was loaned. Named after iceoryx2's `LoanError`.
 #[derive(Clone, Copy, Debug, PartialEq, Eq, Error)]
 pub enum LoanError {
     /// The port's live messages fill its pool, or memory for a slice longer than the initial length was refused.
@@ -63,7 +63,7 @@ pub enum LoanError {
     ExceedsMaxLoanSize,
 }
 
-/// Why two ports are not connected. It never comes, since creation connects. iceoryx2's `ConnectionFailure`.
+/// Why two ports are not connected. It never comes, since creation connects. Named after iceoryx2's `ConnectionFailure`.
 #[derive(Clone, Copy, Debug, PartialEq, Eq, Error)]
 pub enum ConnectionFailure {
     /// Never comes.
@@ -71,7 +71,7 @@ pub enum ConnectionFailure {
     FailedToEstablishConnection,
 }
 
-/// Why nothing was sent. iceoryx2's `SendError`, with the variants that can come here.
+/// Why nothing was sent. Named after iceoryx2's `SendError`.
 #[derive(Clone, Copy, Debug, PartialEq, Eq, Error)]
 pub enum SendError {
     /// The loan before the send was refused.
@@ -96,7 +96,7 @@ pub enum RequestSendError {
     SendError(SendError),
 }
 
-/// Why nothing was received though something is there. iceoryx2's `ReceiveError`.
+/// Why nothing was received though something is there. Named after iceoryx2's `ReceiveError`.
 #[derive(Clone, Copy, Debug, PartialEq, Eq, Error)]
 pub enum ReceiveError {
     /// From each queue that has entries as many messages are held as may be borrowed.

@@ -34,7 +34,7 @@ pub enum AllocationStrategy {
 }
 
 /// How a client is created.
-#[derive(Clone, Copy, Debug)]
+#[derive(Clone, Copy, Debug, PartialEq, Eq)]
 pub struct ClientSettings<K> {
     /// What its sends do at a full queue.
     pub strategy: BackpressureStrategy,
@@ -49,7 +49,7 @@ pub struct ClientSettings<K> {
 }
 
 /// How a server is created.
-#[derive(Clone, Copy, Debug)]
+#[derive(Clone, Copy, Debug, PartialEq, Eq)]
 pub struct ServerSettings<K> {
     /// What its sends do at a full queue.
     pub strategy: BackpressureStrategy,

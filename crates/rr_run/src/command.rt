@@ -5,7 +5,7 @@ use rr_hub::{ClientSettings, ServerSettings};
 ///
 /// `T` is the type of an element, `H` that of a user header, and `K` that of a backpressure handler. Our own: iceoryx2 has
 /// the calls alone.
-#[derive(Clone, Copy, Debug)]
+#[derive(Clone, Copy, Debug, PartialEq, Eq)]
 pub enum Command<T, H, K> {
     /// Creates a client.
     CreateClient(ClientSettings<K>),

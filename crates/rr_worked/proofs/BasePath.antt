@@ -17,7 +17,7 @@ abbrev with_ports : ℕ → Handles → Requests → Responses → ℕ → HubSt
 with_ports loans handles requests responses next =
     hub (limits 2 1 false) (client_0 8 loans ∷ []) (server_1 28 ∷ []) handles requests responses [] next
 
-abbrev sent : RequestMessage ℕ ℕ
+abbrev pub sent : RequestMessage ℕ ℕ
 sent = request 2 0 0 0 123
 
 abbrev answered : ResponseMessage ℕ ℕ
@@ -32,7 +32,7 @@ received = active 3 sent 1
 abbrev pub before_any : HubState
 before_any = with_ports 0 [] [] [] 2
 
-abbrev after_copy : HubState
+abbrev pub after_copy : HubState
 after_copy = with_ports 1 (waiting ∷ []) (requests_at 0 1 sent ∷ []) [] 3
 
 abbrev after_receive : HubState

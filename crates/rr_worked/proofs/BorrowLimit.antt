@@ -87,6 +87,10 @@ asks = simp literals
 pub exceeds_max_borrows : StepOf borrowed (Command.Receive 2) (Reply.ReceiveError ReceiveError.ExceedsMaxBorrows) borrowed
 exceeds_max_borrows = rw asks (inr ((λ server room. only_first server (nat_cmp server 1) refl room), (1, first_is_full, first_waits), refl))
 
+-- it waits all the same
+pub has_second : StepOf borrowed (Command.HasEntries 2) (Reply.Flag true) borrowed
+has_second = simp literals (((λ is. (1, λ e. cc)), (λ has. refl)), refl)
+
 pub release : StepOf borrowed (Command.Release 4) Reply.Done released
 release = simp literals refl
 
@@ -97,8 +101,8 @@ pub read_second : StepOf after_all (Command.Payload 5) (Reply.Payload (11 ∷ []
 read_second = simp literals (refl, refl)
 
 pub borrow_limit : RunOf start
-    (Command.SendCopy 3 10 ∷ Command.SendCopy 3 11 ∷ Command.Receive 2 ∷ Command.Receive 2 ∷ Command.Release 4 ∷ Command.Receive 2 ∷ Command.Payload 5 ∷ [])
-    (Reply.Sent 4 ∷ Reply.Sent 5 ∷ Reply.Response 4 ∷ Reply.ReceiveError ReceiveError.ExceedsMaxBorrows ∷ Reply.Done ∷ Reply.Response 5 ∷ Reply.Payload (11 ∷ []) ∷ [])
+    (Command.SendCopy 3 10 ∷ Command.SendCopy 3 11 ∷ Command.Receive 2 ∷ Command.Receive 2 ∷ Command.HasEntries 2 ∷ Command.Release 4 ∷ Command.Receive 2 ∷ Command.Payload 5 ∷ [])
+    (Reply.Sent 4 ∷ Reply.Sent 5 ∷ Reply.Response 4 ∷ Reply.ReceiveError ReceiveError.ExceedsMaxBorrows ∷ Reply.Flag true ∷ Reply.Done ∷ Reply.Response 5 ∷ Reply.Payload (11 ∷ []) ∷ [])
     after_all
 borrow_limit =
-    (_, answer_first, (_, answer_second, (_, receive_first, (_, exceeds_max_borrows, (_, release, (_, receive_second, (_, read_second, refl)))))))
+    (_, answer_first, (_, answer_second, (_, receive_first, (_, exceeds_max_borrows, (_, has_second, (_, release, (_, receive_second, (_, read_second, refl))))))))

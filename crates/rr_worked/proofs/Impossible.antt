@@ -1,13 +1,17 @@
 -- Replies that the machine can't give, whatever state it would go on to.
-use Rattle.std.proofs.Common.{◌≡◌, inl, inr, ℕ, true, false, List, [], ◌∷◌, Some, None, Ok, refl, sym, arith, subst, ◌∙◌}
+use Rattle.std.proofs.Common.{◌≡◌, inl, inr, ℕ, true, false, List, [], ◌∷◌, Some, None, Ok, refl, sym, ap, arith, subst, ◌∙◌}
 use Rattle.std.specs.Ordering.{nat_cmp}
+use Rattle.std.specs.declared.cmp.Ordering.{Ordering}
+use Rattle.std.specs.declared.cmp.Ordering.TheVariants.{Less, Equal, Greater}
 use Rattle.rr_hub.specs.declared.error.LoanError.{LoanError}
 use Rattle.rr_hub.specs.declared.error.SendError.{SendError}
 use Rattle.rr_hub.specs.declared.settings.BackpressureStrategy.{BackpressureStrategy}
-use Rattle.rr_hub.specs.Messages.{ResponseMessage, response_key}
+use Rattle.rr_hub.specs.Lists.{at}
+use Rattle.rr_hub.specs.Keys.{request_key}
+use Rattle.rr_hub.specs.Messages.{RequestMessage, ResponseMessage, response_key}
 use Rattle.rr_hub.specs.Loans.{with_loaned_request}
 use Rattle.rr_hub.specs.Sends.{SendsRequest}
-use Rattle.rr_hub.specs.Receives.{TakesResponse}
+use Rattle.rr_hub.specs.Receives.{is_dead, TakesRequest, Skims, TakesResponse}
 use Rattle.rr_run.specs.Step.{with_complete}
 use Rattle.rr_run.specs.declared.command.Command.{Command}
 use Rattle.rr_run.specs.declared.reply.Reply.{Reply}
@@ -44,6 +48,40 @@ never_sent connections channel header new sends = let known = simp literals at s
   where
     not_none : {X : Type 0} {x : X} → Some x ≡ None → ⊥
     not_none e = cc
+
+-- the first request of the one list that isn't empty
+first_of : (client : ℕ) (message : RequestMessage ℕ ℕ) (rest : List (RequestMessage ℕ ℕ)) (r : Ordering) → nat_cmp client 0 ≡ r →
+    at base_path.after_copy.requests (request_key client 1) ≡ message ∷ rest → base_path.sent ≡ message
+first_of client message rest Less e stands = absurd (not_filled message rest (simp (literals, e) at stands))
+first_of client message rest Equal e stands = let known : base_path.sent ∷ [] ≡ message ∷ rest = simp (literals, e) at stands in cc
+first_of client message rest Greater e stands = absurd (not_filled message rest (simp (literals, e) at stands))
+
+-- it is alive, so nothing is skimmed
+no_skim : (client : ℕ) (message : RequestMessage ℕ ℕ) (mid : HubState) → is_dead base_path.after_copy message ≡ true → TakesRequest base_path.after_copy (request_key client 1) message mid → ⊥
+no_skim client message mid dead takes =
+    let same = first_of client message takes.1.0 (nat_cmp client 0) refl takes.1.1 in
+    not_true (sym lives ∙ ap (is_dead base_path.after_copy) same ∙ dead)
+  where
+    lives : is_dead base_path.after_copy base_path.sent ≡ false
+    lives = simp literals
+
+lost : (skimmed : List ℕ) (mid : HubState) → Skims base_path.after_copy 1 skimmed mid → ((client : ℕ) → at mid.requests (request_key client 1) ≡ []) → ⊥
+lost [] mid skims none = waits (subst IsEmptyAt skims (none 0))
+  where
+    IsEmptyAt : HubState → Type 0
+    IsEmptyAt s = at s.requests (request_key 0 1) ≡ []
+
+    waits : at base_path.after_copy.requests (request_key 0 1) ≡ [] → ⊥
+    waits e = let known = simp literals at e in cc
+lost (client ∷ clients) mid skims none = no_skim client skims.0 skims.1 skims.2 skims.3
+
+-- a server doesn't find nothing while a request waits that is alive
+pub no_lost_request : (new : HubState) → StepOf base_path.after_copy (Command.Receive 1) Reply.Nothing new → ⊥
+no_lost_request new step =
+    elim step [
+      | inl received ↦ lost received.1.0 received.1.1 received.1.2 received.1.3.0
+      | inr asked ↦ let never = simp literals at asked in never
+    ]
 
 -- a send that one full list refuses is not sent to another that has room
 pub no_partial_send : (k connections : ℕ) (new : HubState) → StepOf (refused_send.released_both 2 7) (Command.SendCopy 0 3) (Reply.Pending k connections) new → ⊥
