@@ -12,13 +12,13 @@ use Rattle.rr_hub.specs.Ports.{Port, Client, Server}
 use Rattle.rr_hub.specs.State.{State, IsActiveAnd, client_at, all_handles}
 use Rattle.rr_hub.specs.Counts.{live_requests, live_responses, loaned_requests, loaned_responses, loaned_responses_from, holds_channel}
 
--- whether slots keep their room
+-- whether a port gets no room for longer slices than it was made with
 abbrev pub is_static : AllocationStrategy → Bool
 is_static Static = true
 is_static BestFit = false
 is_static PowerOfTwo = false
 
--- whether a slice is longer than the slots of this port, which may not grow
+-- whether a slice is longer than this port has room for, and may not get more
 abbrev pub is_too_long : {K : Type 0} → Port K → ℕ → Bool
 is_too_long port len = is_static port.allocation_strategy && nat_lt port.initial_max_slice_len len
 
@@ -26,7 +26,7 @@ is_too_long port len = is_static port.allocation_strategy && nat_lt port.initial
 abbrev pub empty_content : {T H : Type 0} → H → ℕ → Content T H
 empty_content header len = record { user_header = header; asked_len = len; elements = [] }
 
--- the error is the one that is due, or, where none is, want of memory for a slice longer than the slots
+-- the error is the one that is due, or, where none is, want of memory for a slice longer than the initial length
 abbrev pub IsLoanRefusal : {K : Type 0} → Option LoanError → Port K → ℕ → LoanError → Type 0
 IsLoanRefusal (Some due) port len error = error ≡ due
 IsLoanRefusal None port len error = (error ≡ OutOfMemory) × (port.initial_max_slice_len < len)

@@ -11,7 +11,7 @@ module _ {T H : Type 0} where
   abbrev pub with_element : T → Content T H → Content T H
   with_element element c = record c { elements = c.elements ++ element ∷ [] }
 
-  -- after the element at a place became another
+  -- after the element at an index became another
   abbrev pub with_element_at : ℕ → T → Content T H → Content T H
   with_element_at i element c = record c { elements = slice_set c.elements i element }
 
