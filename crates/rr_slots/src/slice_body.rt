@@ -1,0 +1,96 @@
+//! A body of any number of elements.
+use crate::body::Body;
+use crate::family::Family;
+use std::alloc::{AllocError, Global};
+use std::marker::Model;
+
+/// A body of any length, over a vector that has room for what is asked for.
+#[derive(Drop)]
+pub struct SliceBody<T: Drop> {
+    asked: usize,
+    items: Vec<T>,
+}
+
+impl<T: Drop> Model for SliceBody<T> {
+    ghost use Rattle.std.specs.Prelude.{◌≤◌, vec_len, vec_capacity};
+    ghost use Rattle.rr_slots.specs.Elements.{SliceState};
+
+    ghost Value = { SliceState T };
+
+    ghost view = { λ b. record { asked = b.asked; room = vec_capacity b.items; elements = b.items.items } };
+
+    ghost invariant = { λ b. (vec_len b.items ≤ b.asked) × (b.asked ≤ vec_capacity b.items) };
+}
+
+impl<T: Drop> Body for SliceBody<T> {
+    ghost use Rattle.std.specs.Prelude.{refl};
+    ghost use Rattle.rr_slots.specs.declared.family.Family.TheVariants.{Sliced};
+    ghost use Rattle.rr_slots.specs.Elements.{with_slice_at};
+
+    type Item = T;
+
+    ghost family = { Sliced };
+
+    ghost asked_len = { λ b. b.asked };
+
+    ghost room = { λ b. b.room };
+
+    ghost elements = { λ b. b.elements };
+
+    ghost with_element_at = { with_slice_at };
+
+    ghost sets_one_element = { λ _ _ _. refl };
+
+    ghost keeps_asked_len = { λ _ _ _. refl };
+
+    ghost keeps_room = { λ _ _ _. refl };
+
+    fn family() -> Family {
+        Family::Sliced
+    }
+
+    fn new(alloc: Global, len: usize) -> Result<Self, AllocError> {
+        Ok(SliceBody {
+            asked: len,
+            items: Vec::with_capacity(alloc, len)?,
+        })
+    }
+
+    fn prepare(&mut self, len: usize) -> Result<(), AllocError> {
+        let have = self.items.len();
+        if have < len {
+            self.items.reserve_exact(len - have)?;
+        }
+        self.items.clear();
+        self.asked = len;
+        Ok(())
+    }
+
+    fn push(&mut self, item: T) {
+        self.items.push_reserved(item);
+    }
+
+    fn clear(&mut self) {
+        self.items.clear();
+    }
+
+    fn asked_len(&self) -> usize {
+        self.asked
+    }
+
+    fn is_complete(&self) -> bool {
+        self.items.len() == self.asked
+    }
+
+    fn len(&self) -> usize {
+        self.items.len()
+    }
+
+    fn get(&self, index: usize) -> &T {
+        &self.items[index]
+    }
+
+    fn get_mut(&mut self, index: usize) -> &mut T {
+        &mut self.items[index]
+    }
+}
