@@ -1,0 +1,5 @@
+pub mod MapLaws
+pub mod Standing
+pub mod Rows
+pub mod Vectors
+pub mod SeatLaws

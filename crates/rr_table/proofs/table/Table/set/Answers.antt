@@ -1,0 +1,23 @@
+use Rattle.std.proofs.Common.{sym, subst}
+use Rattle.std.specs.Prelude.{◌≡◌, IfSome}
+use Rattle.std.specs.FinMap.{get}
+use Rattle.rr_table.specs.Seats.{seated}
+use Rattle.rr_table.proofs.Standing.{nowhere, placed_within, set_distinct, set_is}
+use Rattle.rr_table.proofs.Vectors.{written_at}
+use Rattle.rr_table.specs.Places.{rows_of, seats_of, IsDistinct}
+use Rattle.rr_table.proofs.table.Table.set.Goals as goal
+
+pub invariant_of-self : goal.invariant_of-self
+invariant_of-self g c =
+    let rows = rows_of c.self.inside.rows in
+    let is = written_at c.self.inside.rows.items c.in-Some.place c.index_mut.result.now _ (placed_within rows _ _ c.self.invariant c.in-Some.ensures) c.index_mut.ensures.value in
+    subst IsDistinct (sym is) (set_distinct rows _ _ c.self.invariant c.in-Some.ensures _)
+
+pub returns-in-Some : goal.returns-in-Some
+returns-in-Some g c =
+    let rows = rows_of c.self.inside.rows in
+    let is = written_at c.self.inside.rows.items c.in-Some.place c.index_mut.result.now _ (placed_within rows _ _ c.self.invariant c.in-Some.ensures) c.index_mut.ensures.value in
+    rw (← c.self.view_is) (subst (λ l. IfSome (get (seats_of rows).seats c.args.number) (λ s. seats_of l ≡ seated (seats_of rows) c.args.number s.place c.args.value)) (sym is) (set_is rows _ _ c.self.invariant c.in-Some.ensures _))
+
+pub returns-in_default : goal.returns-in_default
+returns-in_default g c = absurd ((rw (← c.self.view_is) at c.requires) (nowhere (rows_of c.self.inside.rows) _ c.in_default.ensures))

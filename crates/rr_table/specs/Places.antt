@@ -1,0 +1,53 @@
+-- How rows of places stand for a table.
+use Rattle.std.specs.Prelude.{◌≡◌, ◌≢◌, ℕ, ◌+◌, Option, None, Some, List, [], ◌∷◌, ◌++◌, map, length, slice_index_or, Vec}
+use Rattle.std.specs.Global.{Global}
+use Rattle.std.specs.FinMap as map
+use Rattle.rr_table.specs.Seats.{Seat, seat, Seats}
+use Rattle.rr_table.specs.declared.place.Place.{Place}
+use Rattle.rr_table.specs.declared.table.Entry.{Entry}
+
+-- the place of a row and an index
+abbrev pub place : ℕ → ℕ → Place
+place r i = record { row = r; index = i }
+
+module _ {E : Type 0} where
+  -- a value under a number
+  abbrev pub entry : ℕ → E → Entry E
+  entry n v = record { number = n; value = v }
+
+  -- the rows that a vector of vectors has
+  abbrev pub rows_of : Vec (Vec (Option (Entry E)) Global) Global → List (List (Option (Entry E)))
+  rows_of rows = map (λ row. row.items) rows.items
+
+  -- what stands in row r, from place i on
+  abbrev pub in_row : ℕ → ℕ → List (Option (Entry E)) → List (ℕ × Seat E)
+  in_row r i [] = []
+  in_row r i (None ∷ xs) = in_row r (i + 1) xs
+  in_row r i (Some e ∷ xs) = (e.number, seat (place r i) e.value) ∷ in_row r (i + 1) xs
+
+  -- what stands in the rows, the first of them row r
+  abbrev pub in_rows : ℕ → List (List (Option (Entry E))) → List (ℕ × Seat E)
+  in_rows r [] = []
+  in_rows r (row ∷ rows) = in_row r 0 row ++ in_rows (r + 1) rows
+
+  -- the table that the rows stand for
+  abbrev pub seats_of : List (List (Option (Entry E))) → Seats E
+  seats_of rows = record { seats = map.from_entries (in_rows 0 rows); rows = map length rows }
+
+  -- the entry in a place, or None where the place is vacant or outside the rows
+  abbrev pub standing : List (List (Option (Entry E))) → Place → Option (Entry E)
+  standing rows p = slice_index_or (slice_index_or rows p.row []) p.index None
+
+  -- no number stands in two places
+  abbrev pub IsDistinct : List (List (Option (Entry E))) → Type 0
+  IsDistinct rows = (p q : Place) (a b : Entry E) → standing rows p ≡ Some a → standing rows q ≡ Some b → a.number ≡ b.number → p ≡ q
+
+  -- where the number stands in the row, or None where it stands nowhere in it
+  abbrev pub IsIndexOf : List (Option (Entry E)) → ℕ → Option ℕ → Type 0
+  IsIndexOf row n None = (i : ℕ) (e : Entry E) → slice_index_or row i None ≡ Some e → e.number ≢ n
+  IsIndexOf row n (Some i) = (e : Entry E) × (slice_index_or row i None ≡ Some e) × (e.number ≡ n)
+
+  -- where the number stands, or None where it stands nowhere
+  abbrev pub IsPlaceOf : List (List (Option (Entry E))) → ℕ → Option Place → Type 0
+  IsPlaceOf rows n None = (p : Place) (e : Entry E) → standing rows p ≡ Some e → e.number ≢ n
+  IsPlaceOf rows n (Some p) = (e : Entry E) × (standing rows p ≡ Some e) × (e.number ≡ n)

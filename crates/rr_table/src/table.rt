@@ -1,0 +1,131 @@
+//! The table and its calls.
+
+ghost use Rattle.std.specs.Prelude.{◌≡◌, ◌≢◌, ◌<◌, length, replicate, IfOk, OnOk, OnErr, IfSome, None};
+ghost use Rattle.std.specs.FinMap as map;
+ghost use Rattle.rr_table.specs.Seats.{value_at, no_seats, seated, unseated, IsInside, IsVacant, with_row, IsRenewed};
+
+use crate::place::Place;
+use crate::seek::{entry_at, seek};
+use std::alloc::{AllocError, Global};
+use std::marker::Model;
+
+/// A value under its number.
+#[derive(Clone, Copy)]
+pub(crate) struct Entry<E: Copy> {
+    pub(crate) number: u64,
+    pub(crate) value: E,
+}
+
+/// Values under numbers, each in a fixed place of a row. No number stands in two places.
+#[derive(Drop)]
+pub struct Table<E: Copy> {
+    rows: Vec<Vec<Option<Entry<E>>>>,
+}
+
+impl<E: Copy> Model for Table<E> {
+    ghost use Rattle.rr_table.specs.Seats.{Seats, seats_code};
+
+    ghost Value = { Seats E };
+
+    ghost coded = { seats_code E.code };
+
+    ghost use Rattle.rr_table.specs.Places.{rows_of, seats_of, IsDistinct};
+
+    ghost view = { λ t. seats_of (rows_of t.rows) };
+
+    ghost invariant = { λ t. IsDistinct (rows_of t.rows) };
+}
+
+impl<E: Copy> Table<E> {
+    /// A table with no rows. It takes no memory.
+    pub fn new(alloc: Global) -> Self
+        ensures { result ≡ no_seats }
+    {
+        Table {
+            rows: Vec::new(alloc),
+        }
+    }
+
+    /// Adds a last row of `len` vacant places and gives its number. Nothing else changes. `AllocError` where there is no
+    /// memory for the row; the table is then as it was.
+    pub fn add_row(&mut self, alloc: Global, len: usize) -> Result<usize, AllocError>
+        ensures row { IfOk result (λ row. row ≡ length self.old.rows) }
+        ensures ok { OnOk result (self.new ≡ with_row self.old len) }
+        ensures err { OnErr result (self.new ≡ self.old) }
+    {
+        let row = self.rows.len();
+        let last = vacant(alloc, len)?;
+        self.rows.push(last)?;
+        Ok(row)
+    }
+
+    /// Gives a row `len` vacant places. The numbers that stood in that row are gone, and nothing else changes.
+    /// `AllocError` where there is no memory for the places; the table is then as it was.
+    pub fn renew_row(&mut self, alloc: Global, row: usize, len: usize) -> Result<(), AllocError>
+        requires { row < length self.old.rows }
+        ensures ok { OnOk result (IsRenewed row len self.old self.new) }
+        ensures err { OnErr result (self.new ≡ self.old) }
+    {
+        let places = vacant(alloc, len)?;
+        self.rows[row] = places;
+        Ok(())
+    }
+
+    /// The value under a number, or None where there is none. The hint is the place that is tried first: it changes how
+    /// long the call takes, and never the answer.
+    pub fn get(&self, number: u64, hint: Place) -> Option<E>
+        ensures { result ≡ value_at self.now number }
+    {
+        match seek(&self.rows, number, hint) {
+            Some(place) => match entry_at(&self.rows, place) {
+                Some(entry) => Some(entry.value),
+                None => None,
+            },
+            None => None,
+        }
+    }
+
+    /// Seats a value in a vacant place, under a new number.
+    pub fn insert(&mut self, place: Place, number: u64, value: E)
+        requires place { IsInside self.old place }
+        requires vacant { IsVacant self.old place }
+        requires fresh { map.get self.old.seats number ≡ None }
+        ensures { self.new ≡ seated self.old number place value }
+    {
+        let entry = Entry { number, value };
+        self.rows[place.row][place.index] = Some(entry);
+    }
+
+    /// Replaces the value under a number, which keeps its place. The hint is the place that is tried first.
+    pub fn set(&mut self, number: u64, hint: Place, value: E)
+        requires { map.get self.old.seats number ≢ None }
+        ensures { IfSome (map.get self.old.seats number) (λ s. self.new ≡ seated self.old number s.place value) }
+    {
+        if let Some(place) = seek(&self.rows, number, hint) {
+            self.rows[place.row][place.index] = Some(Entry { number, value });
+        }
+    }
+
+    /// Takes away a number and its value, so that its place is vacant. The hint is the place that is tried first.
+    pub fn remove(&mut self, number: u64, hint: Place)
+        requires { map.get self.old.seats number ≢ None }
+        ensures gone { self.new ≡ unseated self.old number }
+        ensures vacated { IfSome (map.get self.old.seats number) (λ s. IsVacant self.new s.place) }
+    {
+        if let Some(place) = seek(&self.rows, number, hint) {
+            self.rows[place.row][place.index] = None;
+        }
+    }
+}
+
+/// A row of vacant places. `AllocError` where there is no memory for it.
+fn vacant<E: Copy>(alloc: Global, len: usize) -> Result<Vec<Option<Entry<E>>>, AllocError>
+    ensures { IfOk result (λ places. places.items ≡ replicate len None) }
+{
+    let mut places = Vec::with_capacity(alloc, len)?;
+    for i in 0..len {
+        let _ = i;
+        places.push(None)?;
+    }
+    Ok(places)
+}
