@@ -1,0 +1,4 @@
+mod ThreadLaws
+mod HolderLaws
+mod PoolLaws
+mod Occupied

@@ -1,3 +1,9 @@
 pub mod Families
 pub mod Elements
 pub mod Channels
+pub mod Connections
+pub mod Threads
+pub mod Holding
+pub mod Pools
+pub mod BodyLends
+pub mod PoolLends

@@ -1,17 +1,25 @@
-//! What messages stand in, below any hub: bodies that are written element by element, and channels.
+//! What messages stand in, below any hub: bodies that are written element by element, pools of them, the queues between
+//! two ports, and channels.
 #![tactic(auto)]
 
 mod body;
 mod channel_state;
 mod channel_table;
+mod connection;
 mod family;
+mod holders;
+mod looks;
 mod option_body;
+mod pool;
 mod slice_body;
+mod slot;
 #[cfg(test)]
 mod tests;
 
 pub use body::Body;
 pub use channel_state::{ChannelState, RequestId};
 pub use channel_table::{Channel, ChannelTable};
+pub use connection::Connection;
 pub use family::Family;
+pub use pool::{AcquireError, Pool};
 pub use slice_body::SliceBody;

@@ -1,4 +1,7 @@
 //! A body of any number of elements.
+ghost use Rattle.std.specs.Prelude.{◌≡◌};
+ghost use Rattle.std.specs.Borrow.{sem};
+
 use crate::body::Body;
 use crate::family::Family;
 use std::alloc::{AllocError, Global};
@@ -20,6 +23,18 @@ impl<T: Drop> Model for SliceBody<T> {
     ghost view = { λ b. record { asked = b.asked; room = vec_capacity b.items; elements = b.items.items } };
 
     ghost invariant = { λ b. (vec_len b.items ≤ b.asked) × (b.asked ≤ vec_capacity b.items) };
+}
+
+impl<T: Drop> SliceBody<T> {
+    ghost use Rattle.rr_slots.specs.BodyLends.{lends_elements};
+
+    /// Lends the elements written so far.
+    pub(crate) fn slice_mut(&mut self) -> &mut [T]
+        ensures* lends { sem 𝓛 (lends_elements T.row self.entry result) }
+        ensures value { result.now ≡ self.old.elements }
+    {
+        self.items.as_mut_slice()
+    }
 }
 
 impl<T: Drop> Body for SliceBody<T> {

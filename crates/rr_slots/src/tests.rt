@@ -6,6 +6,9 @@ use crate::family::Family;
 use crate::slice_body::SliceBody;
 use std::test::Fail;
 
+mod connection;
+mod pool;
+
 #[test]
 fn an_optional_body_holds_one_element(rt: HostRuntime) -> Result<(), Fail> {
     let mut body: Option<String> = Body::new(rt.alloc(), 1)?;

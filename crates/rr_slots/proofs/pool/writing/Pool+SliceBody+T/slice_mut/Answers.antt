@@ -1,0 +1,17 @@
+use Rattle.std.proofs.Common.{refl, ap, sym}
+use Rattle.rr_slots.specs.PoolLends.{refilled}
+use Rattle.rr_slots.proofs.PoolLaws.{is_inside, content_is, changed}
+use Rattle.rr_slots.proofs.pool.writing.Pool+SliceBody+T.slice_mut.Goals as goal
+
+pub returns : goal.returns
+returns g c =
+    rw (← c.self.view_is)
+    (let inside = is_inside (λ b. b.asked) (λ b. b.elements) c.self.inside.bodies.items _ (rw (← c.self.view_is) at c.requires) in
+    let here = content_is (λ b. b.asked) (λ b. b.elements) _ _ _ inside c.index_mut-body.ensures.value in (
+      (
+        refl,
+        λ w. ap (λ contents. record { contents = contents; holders = c.self.inside.holders.holders; room = c.self.inside.room; looks = c.self.inside.holders.looks })
+            (changed (λ b. b.asked) (λ b. b.elements) _ _ _ inside c.index_mut-body.ensures.value _ (refilled w) refl refl),
+      ),
+      record { lends = tt; value = rw here (sym c.slice_mut.ensures.value) },
+    ))

@@ -1,0 +1,57 @@
+-- What contracts see of the queues from one port to another.
+use Rattle.std.specs.Prelude.{◌≡◌, ◌≤◌, ℕ, Bool, true, false, ◌==◌, if◌then◌else◌, List, [], ◌∷◌, ◌++◌, Option, None, length, drop, map, replicate, slice_get, slice_set, slice_index_or, sum_by, All}
+use Rattle.circular_buffer.specs.Buffer.{Buffer}
+
+-- the entries of each channel, from the oldest on, and how many each channel can have
+pub record Entries : Type 0 where
+  pub queues : List (List ℕ)
+  pub capacity : ℕ
+
+-- these queues, of this capacity
+abbrev pub entries : List (List ℕ) → ℕ → Entries
+entries queues capacity = record { queues = queues; capacity = capacity }
+
+-- so many channels with no entry
+abbrev pub no_entries : ℕ → ℕ → Entries
+no_entries channels capacity = entries (replicate channels []) capacity
+
+-- the entries of one channel
+abbrev pub queue_of : Entries → ℕ → List ℕ
+queue_of state channel = slice_index_or state.queues channel []
+
+-- the entries after one channel got another queue
+abbrev pub with_queue : Entries → ℕ → List ℕ → Entries
+with_queue state channel queue = record state { queues = slice_set state.queues channel queue }
+
+-- whether a queue has as many entries as it can
+abbrev pub is_full : ℕ → List ℕ → Bool
+is_full capacity queue = length queue == capacity
+
+-- whether a queue has an entry
+abbrev pub has_entries : List ℕ → Bool
+has_entries [] = false
+has_entries (entry ∷ queue) = true
+
+-- one for a queue with entries, and zero for an empty one
+abbrev pub occupancy : List ℕ → ℕ
+occupancy queue = if has_entries queue then 1 else 0
+
+-- a queue after an entry came to its end: a full one gave up its first, which is the entry itself where it has no room at all
+abbrev pub pushed : ℕ → List ℕ → ℕ → List ℕ
+pushed capacity queue entry =
+    if is_full capacity queue then drop 1 (queue ++ entry ∷ []) else queue ++ entry ∷ []
+
+-- what a queue gives up for an entry: a full one its first, and another nothing
+abbrev pub evicted : ℕ → List ℕ → ℕ → Option ℕ
+evicted capacity queue entry =
+    if is_full capacity queue then slice_get (queue ++ entry ∷ []) 0 else None
+
+-- the queues of buffers
+abbrev pub queues_of : List (Buffer ℕ) → List (List ℕ)
+queues_of buffers = map (λ buffer. buffer.items) buffers
+
+-- every buffer has this capacity and no more entries, and so many of them have entries at all
+pub record IsSound (buffers : List (Buffer ℕ)) (capacity occupied : ℕ) : Type 0 where
+  pub uniform : All (λ buffer. buffer.capacity ≡ capacity) buffers
+  pub within : All (λ buffer. length buffer.items ≤ capacity) buffers
+  pub counted : occupied ≡ sum_by occupancy (queues_of buffers)

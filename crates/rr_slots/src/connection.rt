@@ -1,0 +1,154 @@
+//! The queues from one port to another.
+ghost use Rattle.std.specs.Prelude.{◌≡◌, ◌<◌, ◌≤◌, ◌↔◌, [], None, All, IfOk, IsTrue, drop, length, replicate, slice_get};
+ghost use Rattle.circular_buffer.specs.Buffer.{buffer};
+ghost use Rattle.rr_slots.specs.Connections.{occupancy};
+
+use circular_buffer::HeapCircularBuffer;
+use std::alloc::{AllocError, Global};
+use std::marker::Model;
+
+/// The queues from one sending port to one receiving port: one for each channel, all of one capacity. An entry is the
+/// number of a slot in the sender's pool.
+///
+/// All memory is taken by `new`. Each other call takes none, and a fixed time whatever the numbers of channels and
+/// entries. Our own: iceoryx2 leaves queues to the layers below its ports.
+#[derive(Drop)]
+pub struct Connection {
+    queues: Vec<HeapCircularBuffer<usize>>,
+    capacity: usize,
+    // How many channels have an entry.
+    occupied: usize,
+}
+
+impl Model for Connection {
+    ghost use Rattle.rr_slots.specs.Connections.{Entries, entries, queues_of, IsSound};
+
+    ghost Value = { Entries };
+
+    ghost view = { λ c. entries (queues_of c.queues.items) c.capacity };
+
+    ghost invariant = { λ c. IsSound c.queues.items c.capacity c.occupied };
+}
+
+impl Connection {
+    ghost use Rattle.rr_slots.specs.Connections.{no_entries, queue_of, with_queue, pushed, evicted, is_full, has_entries};
+
+    /// So many channels with no entry, each with room for `capacity` entries. `AllocError` where there is no memory for
+    /// them all.
+    pub fn new(alloc: Global, channels: usize, capacity: usize) -> Result<Self, AllocError>
+        ensures { IfOk result (λ connection. connection ≡ no_entries channels capacity) }
+    {
+        let queues = empty_queues(alloc, channels, capacity)?;
+        Ok(Connection {
+            queues,
+            capacity,
+            occupied: 0,
+        })
+    }
+
+    /// Enters an entry at the end of a channel's queue. A full queue gives up its oldest entry, which is answered; at
+    /// capacity 0 that is the new entry itself. `None` where there was room.
+    pub fn push(&mut self, channel: usize, entry: usize) -> Option<usize>
+        requires { channel < length self.old.queues }
+        ensures evicted { result ≡ evicted self.old.capacity (queue_of self.old channel) entry }
+        ensures state { self.new ≡ with_queue self.old channel (pushed self.old.capacity (queue_of self.old channel) entry) }
+    {
+        let queue = &mut self.queues[channel];
+        let before = occupancy(queue);
+        let evicted = queue.push_back(entry);
+        self.occupied = self.occupied - before + occupancy(queue);
+        evicted
+    }
+
+    /// Takes the oldest entry of a channel. `None` where it has none, and nothing changes then.
+    pub fn pop(&mut self, channel: usize) -> Option<usize>
+        requires { channel < length self.old.queues }
+        ensures first { result ≡ slice_get (queue_of self.old channel) 0 }
+        ensures state { self.new ≡ with_queue self.old channel (drop 1 (queue_of self.old channel)) }
+        ensures none { result ≡ None → self.new ≡ self.old }
+    {
+        let queue = &mut self.queues[channel];
+        let before = occupancy(queue);
+        let first = queue.pop_front();
+        self.occupied = self.occupied - before + occupancy(queue);
+        first
+    }
+
+    /// The oldest entry of a channel, which stays. `None` where it has none.
+    pub fn first(&self, channel: usize) -> Option<usize>
+        requires { channel < length self.now.queues }
+        ensures { result ≡ slice_get (queue_of self.now channel) 0 }
+    {
+        self.queues[channel].front().copied()
+    }
+
+    /// Whether a channel has as many entries as its capacity, so that a push gives one up.
+    pub fn is_full(&self, channel: usize) -> bool
+        requires { channel < length self.now.queues }
+        ensures { result ≡ is_full self.now.capacity (queue_of self.now channel) }
+    {
+        self.queues[channel].is_full()
+    }
+
+    /// Whether a channel has an entry.
+    pub fn has_entries(&self, channel: usize) -> bool
+        requires { channel < length self.now.queues }
+        ensures { result ≡ has_entries (queue_of self.now channel) }
+    {
+        !self.queues[channel].is_empty()
+    }
+
+    /// How many entries a channel has.
+    pub fn len(&self, channel: usize) -> usize
+        requires { channel < length self.now.queues }
+        ensures len { result ≡ length (queue_of self.now channel) }
+        ensures within { result ≤ self.now.capacity }
+    {
+        self.queues[channel].len()
+    }
+
+    /// Whether no channel has an entry. It looks at none of them.
+    pub fn is_empty(&self) -> bool
+        ensures { IsTrue result ↔ All (λ queue. queue ≡ []) self.now.queues }
+    {
+        self.occupied == 0
+    }
+
+    /// How many channels there are.
+    pub fn channels(&self) -> usize
+        ensures { result ≡ length self.now.queues }
+    {
+        self.queues.len()
+    }
+
+    /// How many entries a channel can have.
+    pub fn capacity(&self) -> usize
+        ensures capacity { result ≡ self.now.capacity }
+        ensures within { All (λ queue. length queue ≤ result) self.now.queues }
+    {
+        self.capacity
+    }
+}
+
+/// One for a queue with entries, and zero for an empty one.
+fn occupancy(queue: &HeapCircularBuffer<usize>) -> usize
+    ensures { result ≡ occupancy queue.now.items }
+{
+    if queue.is_empty() { 0 } else { 1 }
+}
+
+/// So many queues with no entry, of one capacity. `AllocError` where there is no memory for them all.
+fn empty_queues(
+    alloc: Global,
+    channels: usize,
+    capacity: usize,
+) -> Result<Vec<HeapCircularBuffer<usize>>, AllocError>
+    ensures { IfOk result (λ queues. queues.items ≡ replicate channels (buffer [] capacity)) }
+{
+    let mut queues = Vec::with_capacity(alloc, channels)?;
+    for made in 0..channels {
+        let _ = made;
+        queues.push(HeapCircularBuffer::with_capacity(alloc, capacity)?)?;
+    }
+    Ok(queues)
+}

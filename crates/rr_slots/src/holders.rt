@@ -1,0 +1,110 @@
+//! How many hold each slot. Free slots stand in a list, which is threaded through the slots themselves.
+ghost use Rattle.std.specs.Prelude.{◌≡◌, ℕ, ◌+◌, ◌-◌, ◌<◌, ◌^◌, ◌↔◌, length, replicate, slice_get, slice_index, slice_set, Some, IfOk, IfSome, IsNone};
+ghost use Rattle.rr_slots.specs.Holding.{count_free, count_held};
+
+use crate::slot::{Slot, WatchedSlots};
+use std::alloc::{AllocError, Global};
+use std::marker::Model;
+
+/// How many hold each slot. A slot is free if nobody holds it.
+#[derive(Drop)]
+pub(crate) struct Holders {
+    slots: WatchedSlots,
+    first_free: usize,
+    free: usize,
+}
+
+impl Model for Holders {
+    ghost use Rattle.std.specs.Prelude.{map};
+    ghost use Rattle.rr_slots.specs.Threads.{holders_of, IsThreaded};
+    ghost use Rattle.rr_slots.specs.Holding.{Counts};
+
+    ghost Value = { Counts };
+
+    ghost view = { λ h. record { holders = map holders_of h.slots.slots; first = h.first_free; looks = h.slots.looks } };
+
+    ghost invariant = { λ h. IsThreaded h.slots.slots h.first_free h.free };
+}
+
+impl Holders {
+    /// So many slots that nobody holds.
+    pub(crate) fn new(alloc: Global, slots: usize) -> Result<Self, AllocError>
+        ensures free { IfOk result (λ h. h.holders ≡ replicate slots 0) }
+        ensures looks { IfOk result (λ h. h.looks ≡ 0) }
+    {
+        Ok(Holders {
+            slots: WatchedSlots::new(alloc, slots)?,
+            first_free: 0,
+            free: slots,
+        })
+    }
+
+    /// A free slot, if there is one, which stays free.
+    pub(crate) fn first_free(&self) -> Option<usize>
+        ensures none { IsNone result ↔ (count_free self.now.holders ≡ 0) }
+        ensures some { IfSome result (λ slot. slot ≡ self.now.first) }
+        ensures free { IfSome result (λ slot. slice_get self.now.holders slot ≡ Some 0) }
+    {
+        if self.free == 0 {
+            return None;
+        }
+        Some(self.first_free)
+    }
+
+    /// Takes the free slot that `first_free` names, which is held once from now on.
+    pub(crate) fn take(&mut self) -> usize
+        requires { 0 < count_free self.old.holders }
+        ensures first { result ≡ self.old.first }
+        ensures holders { self.new.holders ≡ slice_set self.old.holders result 1 }
+        ensures looks { self.new.looks ≡ self.old.looks + 2 }
+    {
+        let slot = self.first_free;
+        match self.slots.look(slot) {
+            Slot::Free(next) => {
+                self.slots.set(slot, Slot::Held(0));
+                self.first_free = next;
+                self.free -= 1;
+            }
+            Slot::Held(_) => unreachable!(),
+        }
+        slot
+    }
+
+    /// One more holds a slot that is held.
+    pub(crate) fn hold(&mut self, slot: usize)
+        requires held { 0 < slice_index self.old.holders slot }
+        requires fits { slice_index self.old.holders slot + 1 < 2 ^ 64 }
+        ensures holders { self.new.holders ≡ slice_set self.old.holders slot (slice_index self.old.holders slot + 1) }
+        ensures looks { self.new.looks ≡ self.old.looks + 2 }
+    {
+        match self.slots.look(slot) {
+            Slot::Free(_) => unreachable!(),
+            Slot::Held(more) => self.slots.set(slot, Slot::Held(more + 1)),
+        }
+    }
+
+    /// One less holds a slot that is held. The slot is free once nobody holds it.
+    pub(crate) fn give_back(&mut self, slot: usize)
+        requires { 0 < slice_index self.old.holders slot }
+        ensures holders { self.new.holders ≡ slice_set self.old.holders slot (slice_index self.old.holders slot - 1) }
+        ensures looks { self.new.looks ≡ self.old.looks + 2 }
+    {
+        match self.slots.look(slot) {
+            Slot::Free(_) => unreachable!(),
+            Slot::Held(0) => {
+                self.slots.set(slot, Slot::Free(self.first_free));
+                self.first_free = slot;
+                self.free += 1;
+            }
+            Slot::Held(more) => self.slots.set(slot, Slot::Held(more - 1)),
+        }
+    }
+
+    /// How many slots nobody holds. It looks at none of them.
+    pub(crate) fn free(&self) -> usize
+        ensures free { result ≡ count_free self.now.holders }
+        ensures rest { result + count_held self.now.holders ≡ length self.now.holders }
+    {
+        self.free
+    }
+}

@@ -1,0 +1,68 @@
+//! Writing what stands in a slot.
+ghost use Rattle.std.specs.Prelude.{◌≡◌, ◌<◌, [], length, slice_get, Some};
+ghost use Rattle.std.specs.Borrow.{sem, Lends};
+ghost use Rattle.rr_slots.specs.Pools.{content_at, appended, with_changed_at, with_elements};
+
+use crate::body::Body;
+use crate::pool::Pool;
+use crate::slice_body::SliceBody;
+
+impl<B: Body> Pool<B> {
+    ghost use Rattle.rr_slots.specs.PoolLends.{lends_element};
+
+    /// Appends an element to what stands in a slot, which is not complete.
+    pub fn push(&mut self, slot: usize, item: B::Item)
+        requires { length (content_at self.old slot).elements < (content_at self.old slot).asked_len }
+        ensures { self.new ≡ with_changed_at self.old slot (appended item) }
+    {
+        let body = &mut self.bodies[slot];
+        body.push(item);
+    }
+
+    /// Drops the elements in a slot. As many are asked for as before.
+    pub fn clear(&mut self, slot: usize)
+        requires { slot < length self.old.contents }
+        ensures { self.new ≡ with_changed_at self.old slot (with_elements []) }
+    {
+        let body = &mut self.bodies[slot];
+        body.clear();
+    }
+
+    /// Lends an element in a slot for writing.
+    pub fn get_mut(&mut self, slot: usize, index: usize) -> &mut B::Item
+        requires { index < length (content_at self.old slot).elements }
+        ensures* lends { sem 𝓛 (lends_element B.row B.Item.row ⟦<B as Body>⟧ self.entry slot index result) }
+        ensures value { slice_get (content_at self.old slot).elements index ≡ Some result.now }
+    {
+        let body = &mut self.bodies[slot];
+        body.get_mut(index)
+    }
+}
+
+impl<T: Drop> Pool<Option<T>> {
+    ghost use Rattle.rr_slots.specs.Elements.{option_elements};
+    ghost use Rattle.rr_slots.specs.PoolLends.{lends_option};
+
+    /// Lends what stands in a slot for writing, whether an element was written or not.
+    pub fn option_mut(&mut self, slot: usize) -> &mut Option<T>
+        requires { slot < length self.old.contents }
+        ensures* lends { sem 𝓛 (lends_option T.row ⟦<Option<T> as Body>⟧ self.entry slot result) }
+        ensures value { (content_at self.old slot).elements ≡ option_elements result.now }
+    {
+        &mut self.bodies[slot]
+    }
+}
+
+impl<T: Drop> Pool<SliceBody<T>> {
+    ghost use Rattle.rr_slots.specs.PoolLends.{lends_slice};
+
+    /// Lends the elements written so far in a slot.
+    pub fn slice_mut(&mut self, slot: usize) -> &mut [T]
+        requires { slot < length self.old.contents }
+        ensures* lends { sem 𝓛 (lends_slice T.row ⟦<SliceBody<T> as Body>⟧ self.entry slot result) }
+        ensures value { (content_at self.old slot).elements ≡ result.now }
+    {
+        let body = &mut self.bodies[slot];
+        body.slice_mut()
+    }
+}
