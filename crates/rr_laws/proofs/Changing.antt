@@ -1,0 +1,63 @@
+-- A hub fits after a handle changed in what its message says.
+use Rattle.std.proofs.Common.{◌≡◌, ℕ, List, refl, sym, subst}
+use Rattle.rr_hub.specs.Messages.{Content, Handle, RequestMutUninit, RequestMut, PendingResponse, ActiveRequest, ResponseMutUninit, ResponseMut, Response, with_hint}
+use Rattle.rr_hub.specs.Writing.{with_elements, with_request_content, with_response_content, after_init}
+use Rattle.rr_hub.specs.State.{State, with_changed}
+use Rattle.rr_run.specs.Step.{with_content, with_complete}
+use Rattle.rr_laws.specs.Roles.{role_of}
+use Rattle.rr_laws.specs.Reached.{Fits, IsReached}
+use Rattle.rr_laws.proofs.RoleLaws.{roles-changed}
+
+module _ {Q QH P PH : Type 0} where
+  -- to take a message as complete keeps its role
+  pub init_role : (h : Handle Q QH P PH) → role_of (after_init h) ≡ role_of h
+  init_role (RequestMutUninit m) = refl
+  init_role (RequestMut m) = refl
+  init_role (PendingResponse p) = refl
+  init_role (ActiveRequest a) = refl
+  init_role (ResponseMutUninit m) = refl
+  init_role (ResponseMut m) = refl
+  init_role (Response m) = refl
+
+  -- so does a hint
+  pub hint_role : (h : Handle Q QH P PH) → role_of (with_hint h) ≡ role_of h
+  hint_role (RequestMutUninit m) = refl
+  hint_role (RequestMut m) = refl
+  hint_role (PendingResponse p) = refl
+  hint_role (ActiveRequest a) = refl
+  hint_role (ResponseMutUninit m) = refl
+  hint_role (ResponseMut m) = refl
+  hint_role (Response m) = refl
+
+module _ {Q QH P PH K : Type 0} where
+  with_changed_reached : (s : State Q QH P PH K) (n : ℕ) (change : Handle Q QH P PH → Handle Q QH P PH) → ((h : Handle Q QH P PH) → role_of (change h) ≡ role_of h) → IsReached s → IsReached (with_changed s n change)
+  with_changed_reached s n change same fits =
+      subst (λ r. Fits s.limits s.clients s.servers r s.requests s.responses s.next) (sym (roles-changed change same s.handles n)) fits
+
+  -- a message is taken as complete
+  pub init_reached : (s : State Q QH P PH K) (n : ℕ) → IsReached s → IsReached (with_changed s n after_init)
+  init_reached s n fits = with_changed_reached s n after_init init_role fits
+
+  -- a hint is set
+  pub hint_reached : (s : State Q QH P PH K) (n : ℕ) → IsReached s → IsReached (with_changed s n with_hint)
+  hint_reached s n fits = with_changed_reached s n with_hint hint_role fits
+
+module _ {T H : Type 0} where
+  -- so does a write
+  pub content_role : (change : Content T H → Content T H) (h : Handle T H T H) → role_of (with_request_content change (with_response_content change h)) ≡ role_of h
+  content_role change (RequestMutUninit m) = refl
+  content_role change (RequestMut m) = refl
+  content_role change (PendingResponse p) = refl
+  content_role change (ActiveRequest a) = refl
+  content_role change (ResponseMutUninit m) = refl
+  content_role change (ResponseMut m) = refl
+  content_role change (Response m) = refl
+
+module _ {T H K : Type 0} where
+  -- a message says something else
+  pub content_reached : (s : State T H T H K) (n : ℕ) (change : Content T H → Content T H) → IsReached s → IsReached (with_content s n change)
+  content_reached s n change fits = with_changed_reached s n (λ h. with_request_content change (with_response_content change h)) (content_role change) fits
+
+  -- all elements of a message are written
+  pub complete_reached : (s : State T H T H K) (n : ℕ) (elements : List T) → IsReached s → IsReached (with_complete s n elements)
+  complete_reached s n elements fits = init_reached (with_content s n (with_elements elements)) n (content_reached s n (with_elements elements) fits)
