@@ -1,0 +1,4 @@
+pub mod Lanes
+pub mod Links
+pub mod Parts
+pub mod LaneLends

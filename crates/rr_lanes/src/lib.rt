@@ -1,0 +1,9 @@
+//! What a port sends from: the slots of its messages, and the queues of what it sent to each receiver.
+#![tactic(auto)]
+
+mod lane;
+mod links;
+#[cfg(test)]
+mod tests;
+
+pub use lane::{Lane, LaneSize};
