@@ -1,5 +1,5 @@
 -- Who is listed as left is gone, as ports come and leave.
-use Rattle.std.proofs.Common.{◌≡◌, ℕ, ◌+◌, ◌<◌, ◌≤◌, Bool, true, false, cond, not, eqb, List, [], ◌∷◌, ◌++◌, map, length, drop, Option, Some, None, option_map, refl, sym, ap, ◌∙◌, subst, ⊎_elim, inl, inr, arith}
+use Rattle.std.proofs.Common.{◌≡◌, ℕ, ◌+◌, ◌≤◌, Bool, true, false, cond, not, eqb, List, [], ◌∷◌, ◌++◌, map, length, Option, Some, None, option_map, refl, sym, ap, ◌∙◌, ⊎_elim, inl, inr, arith}
 use Rattle.std.specs.Prelude.{◌≢◌, ◌⊎◌, ◌-◌, fold, find, filter, is_some}
 use Rattle.std.specs.List.{AllByRecursion}
 use Rattle.std.specs.Ordering.{nat_cmp}
@@ -9,11 +9,10 @@ use Rattle.std.proofs.lemmas.Bool.{eq-eqb, ne_eqb, eqb-true}
 use Rattle.rr_hub.specs.declared.limits.Limits.{Limits}
 use Rattle.rr_hub.specs.Lists.{Lists, at, with_at}
 use Rattle.rr_hub.specs.Ports.{Client, Server}
-use Rattle.rr_hub.specs.State.{State, client_at, server_at}
-use Rattle.rr_hub.specs.Counts.{is_in_use}
-use Rattle.rr_hub.specs.Releases.{has_responses_from, has_requests_from, kept_senders, room_for_expired_clients, with_expired_client, with_expired_server, after_client_left, after_server_left, without_unused_port, without_port_value, without_value}
-use Rattle.rr_laws.specs.Reached.{has_client, has_server, PortsFit, IsReached}
-use Rattle.rr_laws.specs.Left.{IsGone, LeftFit, IsLeftFit}
+use Rattle.rr_hub.specs.State.{State}
+use Rattle.rr_hub.specs.Releases.{has_responses_from, has_requests_from, kept_senders, room_for_expired_clients, with_expired_client, with_expired_server}
+use Rattle.rr_laws.specs.Reached.{has_server, PortsFit}
+use Rattle.rr_laws.specs.Left.{IsGone, LeftFit}
 use Rattle.rr_laws.proofs.ListFacts.{all_each, all_append, all_drop, find-append, find-gone, find-changed}
 use Rattle.rr_laws.proofs.Connected.{has_below}
 use Rattle.rr_laws.proofs.Putting.{each_list_with}
@@ -148,7 +147,7 @@ module _ {Q QH P PH K : Type 0} where
   listed_clients R client one (server ∷ servers) s all =
       listed_clients R client one servers (with_expired_client client s server)
       (either_listed R (has_requests_from s server client) _ s
-        (each_list_with nat_cmp_total nat_cmp-IsAntisymmetric (λ k xs. AllByRecursion R xs) s.expired server _ (kept_all R (room_for_expired_clients s) (at s.expired server) client (all server) one) all) all)
+      (each_list_with nat_cmp_total nat_cmp-IsAntisymmetric (λ k xs. AllByRecursion R xs) s.expired server _ (kept_all R (room_for_expired_clients s) (at s.expired server) client (all server) one) all) all)
 
   -- and of a server that leaves
   pub listed_servers : (R : ℕ → Type 0) (server : ℕ) → R server → (clients : List ℕ) (s : State Q QH P PH K) → AllListed R s → AllListed R (fold (with_expired_server server) s clients)
@@ -156,4 +155,4 @@ module _ {Q QH P PH K : Type 0} where
   listed_servers R server one (client ∷ clients) s all =
       listed_servers R server one clients (with_expired_server server s client)
       (either_listed R (has_responses_from s client server) _ s
-        (each_list_with nat_cmp_total nat_cmp-IsAntisymmetric (λ k xs. AllByRecursion R xs) s.expired client _ (kept_all R s.limits.client_expired_connection_buffer (at s.expired client) server (all client) one) all) all)
+      (each_list_with nat_cmp_total nat_cmp-IsAntisymmetric (λ k xs. AllByRecursion R xs) s.expired client _ (kept_all R s.limits.client_expired_connection_buffer (at s.expired client) server (all client) one) all) all)

@@ -1,29 +1,28 @@
 -- Who is listed as left is gone, through releases, sends and receives.
-use Rattle.std.proofs.Common.{◌≡◌, ℕ, ◌+◌, ◌<◌, ◌≤◌, Bool, true, false, cond, not, eqb, List, [], ◌∷◌, map, Option, Some, None, Result, Ok, Err, refl, sym, ap, ◌∙◌, subst, ⊎_elim, arith}
-use Rattle.std.specs.Prelude.{◌≢◌, ◌⊎◌, fold, find, filter, is_some}
+use Rattle.std.proofs.Common.{◌≡◌, ℕ, ◌+◌, ◌<◌, Bool, true, false, cond, not, eqb, List, [], ◌∷◌, map, Option, Some, None, Result, Ok, Err, refl, sym, subst, arith}
+use Rattle.std.specs.Prelude.{filter, is_some}
 use Rattle.std.specs.List.{AllByRecursion}
 use Rattle.std.specs.Option.{option_map_or}
-use Rattle.std.specs.Ordering.{nat_cmp}
 use Rattle.std.specs.Cmp.{nat_cmp_total}
 use Rattle.std.specs.FinMap as fin_map
-use Rattle.std.specs.FinMap.{nat_cmp-IsAntisymmetric, get, remove}
+use Rattle.std.specs.FinMap.{nat_cmp-IsAntisymmetric, remove}
 use Rattle.rr_hub.specs.declared.settings.BackpressureAction.{BackpressureAction}
 use Rattle.rr_hub.specs.declared.error.LoanError.{LoanError}
 use Rattle.rr_hub.specs.declared.error.RequestSendError.{RequestSendError}
 use Rattle.rr_hub.specs.declared.error.SendError.{SendError}
 use Rattle.rr_hub.specs.declared.error.ReceiveError.{ReceiveError}
 use Rattle.rr_hub.specs.Lists.{at, with_at}
-use Rattle.rr_hub.specs.Keys.{RequestKey, ResponseKey, request_key}
-use Rattle.rr_hub.specs.Messages.{RequestMessage, ResponseMessage, Handle, RequestMutUninit, RequestMut, PendingResponse, ActiveRequest, ResponseMutUninit, ResponseMut, Response, response_key, port_of}
-use Rattle.rr_hub.specs.Ports.{Port, Client, Server}
-use Rattle.rr_hub.specs.State.{State, client_at, server_at, handle_at, pending_at}
+use Rattle.rr_hub.specs.Keys.{RequestKey, request_key}
+use Rattle.rr_hub.specs.Messages.{RequestMessage, Handle, RequestMutUninit, RequestMut, PendingResponse, ActiveRequest, ResponseMutUninit, ResponseMut, Response, response_key, port_of}
+use Rattle.rr_hub.specs.Ports.{Client, Server}
+use Rattle.rr_hub.specs.State.{State, client_at, handle_at, pending_at}
 use Rattle.rr_hub.specs.Counts.{is_in_use}
 use Rattle.rr_hub.specs.Loans.{with_loan_counted, LoansRequest, LoansResponse}
 use Rattle.rr_hub.specs.Sends.{with_response_put, SendsRequest, SendsResponse}
-use Rattle.rr_hub.specs.Receives.{TakesRequest, Skims, ReceivesUnskimmed, ReceivesRequest, TakesResponse, ReceivesResponse}
-use Rattle.rr_hub.specs.Releases.{with_expired_client, with_expired_server, after_client_left, after_server_left, without_unused_port, without_port_value, without_value, after_handle_gone, after_release}
-use Rattle.rr_laws.specs.Roles.{Role, LoanedRequest, SentRequest, ReceivedRequest, LoanedResponse, ReceivedResponse, role_of, roles_of}
-use Rattle.rr_laws.specs.Reached.{has_client, has_server, has_port, IsReached}
+use Rattle.rr_hub.specs.Receives.{TakesRequest, Skims, ReceivesUnskimmed, ReceivesRequest, ReceivesResponse}
+use Rattle.rr_hub.specs.Releases.{after_client_left, after_server_left, without_unused_port, without_port_value, without_value, after_handle_gone, after_release}
+use Rattle.rr_laws.specs.Roles.{Role, LoanedRequest, SentRequest, ReceivedRequest, LoanedResponse, ReceivedResponse, role_of}
+use Rattle.rr_laws.specs.Reached.{has_client, has_port, IsReached}
 use Rattle.rr_laws.specs.Left.{IsGone, LeftFit, IsLeftFit}
 use Rattle.rr_laws.proofs.ListFacts.{all_each, all_filter}
 use Rattle.rr_laws.proofs.RoleLaws.{role_at}
@@ -45,9 +44,9 @@ module _ {Q QH P PH K : Type 0} where
       let x = clients_expired client servers s fits in
       let IsOut : ℕ → Type 0 = λ n. IsGone clients s.servers s.next n in
       let itself : IsGone clients s.servers s.next client =
-          record { below = has_below (λ (c : Client K). c.id) s.clients client s.next fits.ports.client_numbers there; no_client = hasn't-gone (λ (c : Client K). c.id) client s.clients; no_server = left.one_kind client there } in
+      record { below = has_below (λ (c : Client K). c.id) s.clients client s.next fits.ports.client_numbers there; no_client = hasn't-gone (λ (c : Client K). c.id) client s.clients; no_server = left.one_kind client there } in
       let before : (n : ℕ) → AllByRecursion (IsGone clients s.servers s.next) (at s.expired n) =
-          λ n. all_each _ _ (λ c g. record { below = g.below; no_client = hadn't (λ (c : Client K). c.id) client c s.clients g.no_client; no_server = g.no_server }) (at s.expired n) (left.gone n) in
+      λ n. all_each _ _ (λ c g. record { below = g.below; no_client = hadn't (λ (c : Client K). c.id) client c s.clients g.no_client; no_server = g.no_server }) (at s.expired n) (left.gone n) in
       let all = listed_clients (IsGone clients s.servers s.next) client itself servers s before in
       let listed : (n : ℕ) → AllByRecursion (IsGone clients s.servers s.next) (at x.1 n) = λ n. subst (λ (y : State Q QH P PH K). AllByRecursion (IsGone clients s.servers s.next) (at y.expired n)) x.2 (all n) in
       subst (λ (y : State Q QH P PH K). LeftFit (filter (λ c. not (eqb c.id client)) y.clients) y.servers (with_at y.expired client []) y.next) (sym x.2)
@@ -63,7 +62,7 @@ module _ {Q QH P PH K : Type 0} where
       let x = servers_expired server clients s fits in
       let itself : IsGone s.clients servers s.next server = record { below = below; no_client = no_client; no_server = hasn't-gone (λ (c : Server K). c.id) server s.servers } in
       let before : (n : ℕ) → AllByRecursion (IsGone s.clients servers s.next) (at s.expired n) =
-          λ n. all_each _ _ (λ c g. record { below = g.below; no_client = g.no_client; no_server = hadn't (λ (c : Server K). c.id) server c s.servers g.no_server }) (at s.expired n) (left.gone n) in
+      λ n. all_each _ _ (λ c g. record { below = g.below; no_client = g.no_client; no_server = hadn't (λ (c : Server K). c.id) server c s.servers g.no_server }) (at s.expired n) (left.gone n) in
       let all = listed_servers (IsGone s.clients servers s.next) server itself clients s before in
       let listed : (n : ℕ) → AllByRecursion (IsGone s.clients servers s.next) (at x.1 n) = λ n. subst (λ (y : State Q QH P PH K). AllByRecursion (IsGone s.clients servers s.next) (at y.expired n)) x.2 (all n) in
       subst (λ (y : State Q QH P PH K). LeftFit y.clients (filter (λ c. not (eqb c.id server)) y.servers) (with_at y.expired server []) y.next) (sym x.2)
@@ -118,12 +117,13 @@ module _ {Q QH P PH K : Type 0} where
       go None e =
           unused_port_left (without_port_value s n) n (without_port_value_reached s n fits)
           (left_with_servers (map (λ (c : Client K). record c { port = without_value n c.port }) s.clients) s.servers s.expired s.next
-            (left_with_clients s.clients s.servers s.expired s.next left (λ (c : Client K). record c { port = without_value n c.port }) (λ c. without_value_id n c.port))
-            (λ (c : Server K). record c { port = without_value n c.port }) (λ c. without_value_id n c.port)) below
+          (left_with_clients s.clients s.servers s.expired s.next left (λ (c : Client K). record c { port = without_value n c.port }) (λ c. without_value_id n c.port))
+          (λ (c : Server K). record c { port = without_value n c.port }) (λ c. without_value_id n c.port)) below
       go (Some h) e =
           unused_port_left _ (port_of h) (handle_gone_reached s fits n h e) (handle_gone_left s n left h)
           (subst (λ k. port_of h < k) (sym (handle_gone_next s n h)) (port_below s fits n h e))
 
+  -- after a loan of a request, or its refusal
   pub loans_request_left : (IsDefault : QH → Type 0) (s : State Q QH P PH K) → IsLeftFit s → (n len : ℕ) (result : Result ℕ LoanError) (new : State Q QH P PH K) → LoansRequest IsDefault s n len result new → IsLeftFit new
   loans_request_left IsDefault s left n len (Ok number) new loans =
       let o = some_and (client_at s n) _ loans in
@@ -133,6 +133,7 @@ module _ {Q QH P PH K : Type 0} where
       (left_with_more counted s.servers s.expired s.next (left_with_clients s.clients s.servers s.expired s.next left (with_loan_counted client.id) (counted_id client.id)) (s.next + 1) (omega arith))
   loans_request_left IsDefault s left n len (Err error) new loans = subst (λ (x : State Q QH P PH K). IsLeftFit x) (sym (some_and (client_at s n) _ loans).2.1) left
 
+  -- after a loan of a response, or its refusal
   pub loans_response_left : (IsDefault : PH → Type 0) (s : State Q QH P PH K) → IsLeftFit s → (n len : ℕ) (result : Result ℕ LoanError) (new : State Q QH P PH K) → LoansResponse IsDefault s n len result new → IsLeftFit new
   loans_response_left IsDefault s left n len (Ok number) new loans =
       subst (λ (x : State Q QH P PH K). IsLeftFit x) (sym (open_active s n _ loans).4.2.2) (left_with_more s.clients s.servers s.expired s.next left (s.next + 1) (omega arith))
@@ -141,6 +142,7 @@ module _ {Q QH P PH K : Type 0} where
   given : (s : State Q QH P PH K) → IsReached s → (n : ℕ) (h : Handle Q QH P PH) → handle_at s n ≡ Some h → n < s.next
   given s fits n h e = (fits.handles n (role_of h) (role_at s.handles n h e)).below
 
+  -- after a request was sent, or refused
   pub sends_request_left : (answer : K → ℕ → ℕ → BackpressureAction) (s : State Q QH P PH K) → IsReached s → IsLeftFit s → (n : ℕ) (result : Result ℕ RequestSendError) (new : State Q QH P PH K) →
       SendsRequest answer s n result new → IsLeftFit new
   sends_request_left answer s fits left n (Ok connections) new sends = subst (λ (x : State Q QH P PH K). IsLeftFit x) (sym (open_request_mut s n _ sends).4.2) left
@@ -148,6 +150,7 @@ module _ {Q QH P PH K : Type 0} where
       let o = open_request_mut s n _ sends in
       subst (λ (x : State Q QH P PH K). IsLeftFit x) (sym o.4.1) (after_release_left s n fits left (given s fits n (RequestMut o.1) o.2))
 
+  -- after a response was sent, or refused
   pub sends_response_left : {U : Type 0} (answer : K → ℕ → ℕ → BackpressureAction) (s : State Q QH P PH K) → IsReached s → IsLeftFit s → (n : ℕ) (result : Result U SendError) (new : State Q QH P PH K) →
       SendsResponse answer s n result new → IsLeftFit new
   sends_response_left answer s fits left n (Ok u) new sends =
@@ -178,11 +181,13 @@ module _ {Q QH P PH K : Type 0} where
   unskimmed_left s left server (Err ReceiveError.ExceedsMaxBorrows) new receives = subst (λ (x : State Q QH P PH K). IsLeftFit x) (sym receives.2) left
   unskimmed_left s left server (Err (ReceiveError.ConnectionFailure failure)) new receives = absurd receives
 
+  -- after a server received, or could not
   pub receives_request_left : (s : State Q QH P PH K) → IsLeftFit s → (n : ℕ) (result : Result (Option ℕ) ReceiveError) (new : State Q QH P PH K) → ReceivesRequest s n result new → IsLeftFit new
   receives_request_left s left n result new receives =
       let r = receives.1 in
       unskimmed_left r.1 (skims_left r.0 s left n r.1 r.2) n result new r.3
 
+  -- after a pending response received, or could not
   pub receives_response_left : (s : State Q QH P PH K) → IsLeftFit s → (n : ℕ) (result : Result (Option ℕ) ReceiveError) (new : State Q QH P PH K) → ReceivesResponse s n result new → IsLeftFit new
   receives_response_left s left n (Ok (Some number)) new receives =
       let o = some_and (pending_at s n) _ receives in
@@ -190,7 +195,7 @@ module _ {Q QH P PH K : Type 0} where
       let key = response_key o.0 r.0 in
       subst (λ (x : State Q QH P PH K). IsLeftFit x) (sym r.5)
       (subst (λ (x : State Q QH P PH K). IsLeftFit x) (sym r.3.1.2)
-        (left_with_list s.clients s.servers s.expired s.next left key.client _ (all_filter _ _ (at s.expired key.client) (left.gone key.client))))
+      (left_with_list s.clients s.servers s.expired s.next left key.client _ (all_filter _ _ (at s.expired key.client) (left.gone key.client))))
   receives_response_left s left n (Ok None) new receives = subst (λ (x : State Q QH P PH K). IsLeftFit x) (sym (some_and (pending_at s n) _ receives).2.1) left
   receives_response_left s left n (Err ReceiveError.ExceedsMaxBorrows) new receives = subst (λ (x : State Q QH P PH K). IsLeftFit x) (sym (some_and (pending_at s n) _ receives).2.2) left
   receives_response_left s left n (Err (ReceiveError.ConnectionFailure failure)) new receives = absurd receives

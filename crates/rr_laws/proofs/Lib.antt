@@ -33,3 +33,4 @@ pub mod ApartReceives
 pub mod ApartSteps
 pub mod LeftPorts
 pub mod LeftSteps
+pub mod LeftRuns

@@ -1,0 +1,10 @@
+pub mod StartLaws
+pub mod Found
+pub mod KeyedViews
+pub mod Agreeing
+pub mod NewLanes
+pub mod ClientView
+pub mod Tallies
+pub mod ClientSound
+pub mod Pigeons
+pub mod Adding

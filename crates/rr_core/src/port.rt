@@ -1,0 +1,43 @@
+//! What a core keeps of its connected ports, and the lanes from which ports send.
+use rr_hub::{AllocationStrategy, BackpressureStrategy};
+use rr_lanes::Lane;
+use rr_slots::Body;
+
+/// What clients and servers have in common: the settings, in which lane the port sends, in which place others send to it,
+/// and how many loans it has.
+#[derive(Drop)]
+pub(crate) struct Port<K: Drop> {
+    pub(crate) id: u64,
+    pub(crate) strategy: BackpressureStrategy,
+    pub(crate) handler: Option<K>,
+    pub(crate) allocation_strategy: AllocationStrategy,
+    pub(crate) initial_max_slice_len: usize,
+    pub(crate) pool_size: usize,
+    pub(crate) is_held: bool,
+    pub(crate) lane: usize,
+    pub(crate) place: usize,
+    pub(crate) loans: usize,
+}
+
+/// A connected client, with the number of loans that it made and of its pending responses.
+#[derive(Drop)]
+pub(crate) struct ClientPort<K: Drop> {
+    pub(crate) port: Port<K>,
+    pub(crate) loans_made: u64,
+    pub(crate) pendings: usize,
+}
+
+/// A connected server, with the number of responses that it may have on loan for each request.
+#[derive(Drop)]
+pub(crate) struct ServerPort<K: Drop> {
+    pub(crate) port: Port<K>,
+    pub(crate) max_loaned_responses_per_request: usize,
+}
+
+/// What a port sends from, the port's number, and the row of the table in which the handles of its messages stand.
+#[derive(Drop)]
+pub(crate) struct OwnedLane<B: Body, N: Copy, H: Drop> {
+    pub(crate) owner: u64,
+    pub(crate) row: usize,
+    pub(crate) messages: Lane<B, N, H>,
+}

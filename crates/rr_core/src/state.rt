@@ -1,0 +1,93 @@
+//! A hub's core, and how it is made.
+ghost use Rattle.std.specs.Prelude.{◌≡◌};
+ghost use Rattle.rr_hub.specs.Creation.{CreatesHub};
+ghost use Rattle.rr_hub.specs.State.{numbers_left};
+
+use crate::held::Held;
+use crate::note::{RequestNote, ResponseNote};
+use crate::port::{ClientPort, OwnedLane, ServerPort};
+use rr_hub::{BackpressureFn, HubCreateError, Limits, UniqueNodeId};
+use rr_slots::Body;
+use rr_table::Table;
+use std::alloc::Global;
+use std::marker::Model;
+
+/// How many numbers a hub gives: 2^62.
+pub(crate) const NUMBERS: u64 = 4611686018427387904;
+
+/// All ports, handles and messages of a service. Contracts see the state of the message machine.
+///
+/// A message stands once, in a slot of the lane of the port that sends it. A handle is a seat of the table, under its
+/// number; it names its message by lane and slot, as entries of queues do by slot.
+#[derive(Drop)]
+pub struct Core<QB: Body, QH: Default + Drop, PB: Body, PH: Default + Drop, K: BackpressureFn> {
+    pub(crate) alloc: Global,
+    pub(crate) limits: Limits,
+    pub(crate) node_id: UniqueNodeId,
+    pub(crate) next: u64,
+    pub(crate) clients: Vec<ClientPort<K>>,
+    pub(crate) servers: Vec<ServerPort<K>>,
+    pub(crate) client_lanes: Vec<OwnedLane<QB, RequestNote, QH>>,
+    pub(crate) server_lanes: Vec<OwnedLane<PB, ResponseNote, PH>>,
+    // For each client's lane, by slot and then by place of a server, whether that server may still answer.
+    pub(crate) waiting: Vec<Vec<bool>>,
+    pub(crate) table: Table<Held>,
+    // What a slot that isn't there would show.
+    pub(crate) spare_request_header: QH,
+    pub(crate) spare_response_header: PH,
+}
+
+impl<QB: Body, QH: Default + Drop, PB: Body, PH: Default + Drop, K: BackpressureFn> Model
+    for Core<QB, QH, PB, PH, K> {
+    ghost use Rattle.rr_hub.specs.State.{State};
+    ghost use Rattle.rr_hub.specs.Codes.{state_code};
+    ghost use Rattle.rr_core.specs.Views.{state_of};
+    ghost use Rattle.rr_core.specs.Sound.{IsSound, empty_hand};
+    ghost use Rattle.rr_core.specs.Inside.{parts_of};
+
+    ghost Value = { State QB.Item QH PB.Item PH K };
+
+    ghost coded = { state_code QB.Item.code QH.code PB.Item.code PH.code K.code };
+
+    ghost view = { λ c. state_of (parts_of c) };
+
+    ghost invariant = { λ c. IsSound (parts_of c) empty_hand };
+}
+
+impl<QB: Body, QH: Default + Drop, PB: Body, PH: Default + Drop, K: BackpressureFn> Core<
+    QB,
+    QH,
+    PB,
+    PH,
+    K,
+> {
+    /// A hub without ports. `ZeroLimit` and `LimitsTooLarge` as `Limits::refusal` tells; making it takes no memory.
+    pub fn new(alloc: Global, limits: Limits, node_id: UniqueNodeId) -> Result<Self, HubCreateError>
+        ensures { CreatesHub limits node_id.0 result }
+    {
+        match limits.refusal() {
+            Some(refusal) => Err(refusal),
+            None => Ok(Core {
+                alloc,
+                limits,
+                node_id,
+                next: 0,
+                clients: Vec::new(alloc),
+                servers: Vec::new(alloc),
+                client_lanes: Vec::new(alloc),
+                server_lanes: Vec::new(alloc),
+                waiting: Vec::new(alloc),
+                table: Table::new(alloc),
+                spare_request_header: QH::default(),
+                spare_response_header: PH::default(),
+            }),
+        }
+    }
+
+    /// How many numbers the hub can still give.
+    pub fn numbers_left(&self) -> u64
+        ensures { result ≡ numbers_left self.now }
+    {
+        NUMBERS - self.next
+    }
+}
