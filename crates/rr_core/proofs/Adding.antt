@@ -1,14 +1,20 @@
 -- Small facts on which adding a port rests.
-use Rattle.std.proofs.Common.{◌≡◌, ◌<◌, ◌+◌, ◌-◌, ◌*◌, ◌^◌, ℕ, Bool, true, false, cond, List, Option, None, Some, Result, Ok, Err, length, map, refl, sym, ◌∙◌, ⊎_elim, option_map, arith}
+use Rattle.std.proofs.Common.{◌≡◌, ◌<◌, ◌+◌, ◌-◌, ◌*◌, ◌^◌, ℕ, Bool, true, false, cond, List, Option, None, Some, Result, Ok, Err, length, map, refl, sym, ap, ◌∙◌, ⊎_elim, option_map, arith}
 use Rattle.std.specs.Prelude.{OnErr, slice_get, ◌==◌, nat_le}
 use Rattle.std.proofs.Math.Nat.{mul_comm, mul-add}
 use Rattle.std.proofs.lemmas.Bool.{eq-eqb, le-leb, cases_lt}
 use Rattle.std.proofs.lemmas.Option.{slice_get-map}
 use Rattle.std.proofs.lemmas.List.{length-map}
-use Rattle.rr_core.specs.Parts.{Parts}
-use Rattle.rr_core.specs.Views.{state_of, client_of}
+use Rattle.rr_table.specs.Seats.{Seats}
+use Rattle.rr_core.specs.declared.held.Held.{Held}
+use Rattle.rr_core.specs.declared.note.RequestNote.{RequestNote}
+use Rattle.rr_core.specs.declared.note.ResponseNote.{ResponseNote}
+use Rattle.rr_core.specs.Parts.{Parts, ClientPart, ServerPart, Lane}
+use Rattle.rr_core.specs.Views.{state_of, client_of, server_of}
 use Rattle.rr_hub.specs.State.{State, numbers_left}
-use Rattle.rr_hub.specs.Creation.{client_refusal}
+use Rattle.rr_hub.specs.Creation.{client_refusal, server_refusal, loans_of}
+use Rattle.rr_hub.specs.Limits.{is_too_large, worst_case_responses}
+use Rattle.rr_hub.specs.declared.settings.ServerSettings.{ServerSettings}
 use Rattle.rr_hub.specs.declared.error.ClientCreateError.{ClientCreateError}
 
 -- what holds anyway holds of an error
@@ -30,6 +36,26 @@ not_refused s h =
       ⊎_elim (λ l. l) (λ l. absurd (let t : true ≡ false = sym (le-leb s.limits.max_clients (length s.clients) l) ∙ both.1 in cc)) (cases_lt (length s.clients) s.limits.max_clients),
     )
 
+-- the first of three refusals, or none
+three_pass : {E : Type 0} (a b c : Bool) (e f g : E) → cond a (Some e) (cond b (Some f) (cond c (Some g) None)) ≡ None → (a ≡ false) × (b ≡ false) × (c ≡ false)
+three_pass true b c e f g h = absurd (let n : Some e ≡ None = h in cc)
+three_pass false true c e f g h = absurd (let n : Some f ≡ None = h in cc)
+three_pass false false true e f g h = absurd (let n : Some g ≡ None = h in cc)
+three_pass false false false e f g h = (refl, refl, refl)
+
+-- a server that isn't refused has a number, room among the servers, and a pool that can be counted
+pub server_not_refused : {Q QH P PH K : Type 0} (s : State Q QH P PH K) (settings : ServerSettings K) → server_refusal s settings ≡ None
+    → (s.next < 2 ^ 62) × (length s.servers < s.limits.max_servers) × (is_too_large (worst_case_responses s.limits (loans_of settings)) ≡ false)
+server_not_refused s settings h =
+    let all = three_pass (numbers_left s == 0) (nat_le s.limits.max_servers (length s.servers)) (is_too_large (worst_case_responses s.limits (loans_of settings))) _ _ _ h in (
+      ⊎_elim (λ l. l) (λ l. let none : numbers_left s ≡ 0 = omega (arith, l) in absurd (let t : true ≡ false = sym (eq-eqb (numbers_left s) 0 none) ∙ all.0 in cc)) (cases_lt s.next (2 ^ 62)),
+      ⊎_elim (λ l. l) (λ l. absurd (let t : true ≡ false = sym (le-leb s.limits.max_servers (length s.servers) l) ∙ all.1 in cc)) (cases_lt (length s.servers) s.limits.max_servers),
+      all.2,
+    )
+
+pub fewer_servers : {Q QH P PH K : Type 0} (p : Parts Q QH P PH K) (settings : ServerSettings K) → server_refusal (state_of p) settings ≡ None → length p.servers < p.limits.max_servers
+fewer_servers p settings h = omega (arith, (server_not_refused (state_of p) settings h).1, length-map p.servers server_of)
+
 pub fewer : {Q QH P PH K : Type 0} (p : Parts Q QH P PH K) → client_refusal (state_of p) ≡ None → length p.clients < p.limits.max_clients
 fewer p h = omega (arith, (not_refused (state_of p) h).1, length-map p.clients client_of)
 
@@ -47,3 +73,30 @@ mapped {X} {Y} f xs i y e = go (slice_get xs i) refl (sym (slice_get-map f xs i)
     go : (o : Option X) → slice_get xs i ≡ o → option_map f o ≡ Some y → (x : X) × (slice_get xs i ≡ Some x) × (f x ≡ y)
     go None h g = absurd (let no : None ≡ Some y = g in cc)
     go (Some x) h g = let is : Some (f x) ≡ Some y = g in let same : f x ≡ y = cc in (x, h, same)
+
+module _ {Q QH P PH K : Type 0} where
+  -- a core with other clients, lanes, marks and handles
+  abbrev pub with_vectors : Parts Q QH P PH K → List (ClientPart K) → List (Lane Q RequestNote QH) → List (List Bool) → Seats Held → ℕ → Parts Q QH P PH K
+  with_vectors p clients lanes waiting table next = record p { clients = clients; client_lanes = lanes; waiting = waiting; table = table; next = next }
+
+  -- with the same ones it is as it was
+  pub same_vectors : (p q : Parts Q QH P PH K) (clients : List (ClientPart K)) (lanes : List (Lane Q RequestNote QH)) (waiting : List (List Bool)) (table : Seats Held) (next : ℕ)
+      → clients ≡ q.clients → lanes ≡ q.client_lanes → waiting ≡ q.waiting → table ≡ q.table → next ≡ q.next → q ≡ with_vectors p q.clients q.client_lanes q.waiting q.table q.next
+      → with_vectors p clients lanes waiting table next ≡ q
+  same_vectors p q clients lanes waiting table next a b c d e is =
+      ap (λ x. with_vectors p x lanes waiting table next) a ∙ ap (λ x. with_vectors p q.clients x waiting table next) b
+      ∙ ap (λ x. with_vectors p q.clients q.client_lanes x table next) c ∙ ap (λ x. with_vectors p q.clients q.client_lanes q.waiting x next) d
+      ∙ ap (λ x. with_vectors p q.clients q.client_lanes q.waiting q.table x) e ∙ sym is
+
+  -- a core with other servers, lanes of servers and handles
+  abbrev pub with_servers : Parts Q QH P PH K → List (ServerPart K) → List (Lane P ResponseNote PH) → Seats Held → ℕ → Parts Q QH P PH K
+  with_servers p servers lanes table next = record p { servers = servers; server_lanes = lanes; table = table; next = next }
+
+  -- with the same ones it is as it was
+  pub same_servers : (p q : Parts Q QH P PH K) (servers : List (ServerPart K)) (lanes : List (Lane P ResponseNote PH)) (table : Seats Held) (next : ℕ)
+      → servers ≡ q.servers → lanes ≡ q.server_lanes → table ≡ q.table → next ≡ q.next → q ≡ with_servers p q.servers q.server_lanes q.table q.next
+      → with_servers p servers lanes table next ≡ q
+  same_servers p q servers lanes table next a b d e is =
+      ap (λ x. with_servers p x lanes table next) a ∙ ap (λ x. with_servers p q.servers x table next) b
+      ∙ ap (λ x. with_servers p q.servers q.server_lanes x next) d
+      ∙ ap (λ x. with_servers p q.servers q.server_lanes q.table x) e ∙ sym is

@@ -2,14 +2,13 @@
 use Rattle.std.proofs.Common.{◌≡◌, ◌≢◌, ◌<◌, ◌+◌, ◌*◌, ◌^◌, ℕ, Bool, true, false, List, [], ◌∷◌, Option, None, Some, option_map, length, get_or, map, replicate, refl, sym, ap, ◌∙◌, subst, arith}
 use Rattle.std.specs.Prelude.{◌==◌, ◌&&◌, slice_get, slice_index}
 use Rattle.std.specs.FinMap as fin_map
-use Rattle.std.proofs.lemmas.Bool.{false≢true, false_from_ne_true, eqb-true, eq-eqb, and_parts}
+use Rattle.std.proofs.lemmas.Bool.{false_from_ne_true, eqb-true, and_parts}
 use Rattle.std.proofs.lemmas.List.{length-append, length-replicate, length-map, map-append, get_or-replicate}
 use Rattle.std.proofs.lemmas.Option.{slice_get-map}
 use Rattle.std.proofs.Math.ListN.{get_or-append}
 use Rattle.std.proofs.Math.Seq.{get_or-append_seam}
 use Rattle.rr_table.specs.Maps.{tally}
 use Rattle.rr_table.specs.Seats.{Seat}
-use Rattle.rr_table.proofs.MapLaws.{tally-at}
 use Rattle.rr_lanes.specs.Lanes.{Messages, times, queue_at, borrowed_at}
 use Rattle.rr_hub.specs.declared.settings.ClientSettings.{ClientSettings}
 use Rattle.rr_core.specs.declared.held.Held.{Held}
@@ -18,61 +17,12 @@ use Rattle.rr_core.specs.declared.held.Stage.TheVariants as stage
 use Rattle.rr_core.specs.declared.note.RequestNote.{RequestNote}
 use Rattle.rr_core.specs.Parts.{Parts, Connected, ClientPart, Lane}
 use Rattle.rr_core.specs.Views.{no_request, lane_of}
-use Rattle.rr_core.specs.Sound.{IsSound, IsCounted, IsNumbered, IsAddressed, IsSeated, IsStored, IsSized, IsVacated, HasLanes, IsShaped, Hand, empty_hand, is_of_request, is_of_response, is_request_loan, is_pending, is_active_of, is_received, has_request_at, has_response_at, request_note, response_note, request_uses, response_uses, server_place, place_at}
+use Rattle.rr_core.specs.Sound.{IsSound, IsCounted, IsNumbered, IsAddressed, IsSeated, IsStored, IsSized, IsVacated, HasLanes, IsShaped, empty_hand, is_of_request, is_request_loan, is_pending, is_active_of, is_received, request_note, response_note, request_uses, server_place, place_at}
 use Rattle.rr_core.specs.Creating.{IsNew, client_port, with_client_part}
 use Rattle.rr_core.proofs.NewLanes.{LooksLike, looks_like, lane_before, lane_last, lane_cases, new_queue, mark_of_more}
 use Rattle.rr_core.proofs.Agreeing.{request_lane}
+use Rattle.rr_core.proofs.Stages.{loan_is_request, pending_is_request, active_is_request, received_is_response, handle_uses_request, handle_uses_response}
 use Rattle.rr_core.proofs.Tallies.{tally-none, snoc_cases, snoc_keeps}
-
--- a handle that is a request on loan, or pending, or active, is of a request
-pub loan_is_request : (g : Stage) → is_request_loan g ≡ true → is_of_request g ≡ true
-loan_is_request stage.RequestMutUninit h = refl
-loan_is_request stage.RequestMut h = refl
-loan_is_request (stage.PendingResponse hint connections) h = refl
-loan_is_request (stage.ActiveRequest server loans) h = refl
-loan_is_request stage.ResponseMutUninit h = absurd (false≢true h)
-loan_is_request stage.ResponseMut h = absurd (false≢true h)
-loan_is_request stage.Response h = absurd (false≢true h)
-
-pub pending_is_request : (g : Stage) → is_pending g ≡ true → is_of_request g ≡ true
-pending_is_request (stage.PendingResponse hint connections) h = refl
-pending_is_request stage.RequestMutUninit h = absurd (false≢true h)
-pending_is_request stage.RequestMut h = absurd (false≢true h)
-pending_is_request (stage.ActiveRequest server loans) h = absurd (false≢true h)
-pending_is_request stage.ResponseMutUninit h = absurd (false≢true h)
-pending_is_request stage.ResponseMut h = absurd (false≢true h)
-pending_is_request stage.Response h = absurd (false≢true h)
-
-pub active_is_request : (server : ℕ) (g : Stage) → is_active_of server g ≡ true → is_of_request g ≡ true
-active_is_request server (stage.ActiveRequest n loans) h = refl
-active_is_request server stage.RequestMutUninit h = absurd (false≢true h)
-active_is_request server stage.RequestMut h = absurd (false≢true h)
-active_is_request server (stage.PendingResponse hint connections) h = absurd (false≢true h)
-active_is_request server stage.ResponseMutUninit h = absurd (false≢true h)
-active_is_request server stage.ResponseMut h = absurd (false≢true h)
-active_is_request server stage.Response h = absurd (false≢true h)
-
-pub received_is_response : (g : Stage) → is_received g ≡ true → is_of_response g ≡ true
-received_is_response stage.Response h = refl
-received_is_response stage.RequestMutUninit h = absurd (false≢true h)
-received_is_response stage.RequestMut h = absurd (false≢true h)
-received_is_response (stage.PendingResponse hint connections) h = absurd (false≢true h)
-received_is_response (stage.ActiveRequest server loans) h = absurd (false≢true h)
-received_is_response stage.ResponseMutUninit h = absurd (false≢true h)
-received_is_response stage.ResponseMut h = absurd (false≢true h)
-
-module _ {Q QH P PH K : Type 0} (p : Parts Q QH P PH K) (hand : Hand) (c : IsCounted p hand) where
-  -- a request with a handle is used
-  pub handle_uses_request : (k : ℕ) (s : Seat Held) → fin_map.get p.table.seats k ≡ Some s → is_of_request s.value.stage ≡ true → 0 < request_uses p s.value.lane s.value.slot
-  handle_uses_request k s at is =
-      let here : has_request_at s.value.lane s.value.slot s ≡ true = rw is (rw (eq-eqb s.value.lane s.value.lane refl) (rw (eq-eqb s.value.slot s.value.slot refl) refl)) in
-      omega (arith, c.requests s.value.lane s.value.slot, tally-at (has_request_at s.value.lane s.value.slot) p.table.seats k s at here)
-
-  -- and so is a response with a handle
-  pub handle_uses_response : (k : ℕ) (s : Seat Held) → fin_map.get p.table.seats k ≡ Some s → is_of_response s.value.stage ≡ true → 0 < response_uses p s.value.lane s.value.slot
-  handle_uses_response k s at is =
-      let here : has_response_at s.value.lane s.value.slot s ≡ true = rw is (rw (eq-eqb s.value.lane s.value.lane refl) (rw (eq-eqb s.value.slot s.value.slot refl) refl)) in
-      omega (arith, c.responses s.value.lane s.value.slot, tally-at (has_response_at s.value.lane s.value.slot) p.table.seats k s at here)
 
 module _ {Q QH P PH K : Type 0} (p : Parts Q QH P PH K) (settings : ClientSettings K) (place : ℕ) (m : Messages Q RequestNote QH)
     (sound : IsSound p empty_hand)

@@ -5,6 +5,9 @@ pub mod Agreeing
 pub mod NewLanes
 pub mod ClientView
 pub mod Tallies
+pub mod Stages
 pub mod ClientSound
 pub mod Pigeons
 pub mod Adding
+pub mod ServerView
+pub mod ServerSound

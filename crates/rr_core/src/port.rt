@@ -1,4 +1,6 @@
 //! What a core keeps of its connected ports, and the lanes from which ports send.
+ghost use Rattle.std.specs.Prelude.{◌≡◌};
+
 use rr_hub::{AllocationStrategy, BackpressureStrategy};
 use rr_lanes::Lane;
 use rr_slots::Body;
@@ -40,4 +42,32 @@ pub(crate) struct OwnedLane<B: Body, N: Copy, H: Drop> {
     pub(crate) owner: u64,
     pub(crate) row: usize,
     pub(crate) messages: Lane<B, N, H>,
+}
+
+/// A connected port, to which others send in a place.
+pub(crate) trait Placed: Drop {
+    ghost use Rattle.std.specs.Prelude.{ℕ};
+
+    /// The place.
+    ghost place: { Self → ℕ };
+
+    /// The place.
+    fn place(&self) -> usize
+        ensures { result ≡ place self.now };
+}
+
+impl<K: Drop> Placed for ClientPort<K> {
+    ghost place = { λ c. c.port.place };
+
+    fn place(&self) -> usize {
+        self.port.place
+    }
+}
+
+impl<K: Drop> Placed for ServerPort<K> {
+    ghost place = { λ s. s.port.place };
+
+    fn place(&self) -> usize {
+        self.port.place
+    }
 }

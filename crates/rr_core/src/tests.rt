@@ -1,7 +1,11 @@
-//! A hub is made, or its limits are refused.
+//! A hub is made, and ports on it, or they are refused.
+ghost use Rattle.std.specs.Prelude.{◌≡◌};
+
 use crate::state::Core;
 use rr_hub::{
-    BackpressureAction, BackpressureFn, BackpressureInfo, HubCreateError, Limits, UniqueNodeId,
+    AllocationStrategy, BackpressureAction, BackpressureFn, BackpressureInfo, BackpressureStrategy,
+    ClientCreateError, ClientSettings, HubCreateError, Limits, ServerCreateError, ServerSettings,
+    UniqueNodeId,
 };
 use std::test::Fail;
 
@@ -54,5 +58,56 @@ fn limits_are_refused_by_name(rt: HostRuntime) -> Result<(), Fail> {
         UniqueNodeId(7),
     );
     assert!(rt; many.err() == Some(HubCreateError::LimitsTooLarge));
+    Ok(())
+}
+
+fn client(pool: Option<usize>) -> ClientSettings<Refuses>
+    ensures { result.initial_max_slice_len ≡ 1 }
+{
+    ClientSettings {
+        strategy: BackpressureStrategy::DiscardData,
+        initial_max_slice_len: 1,
+        allocation_strategy: AllocationStrategy::Static,
+        pool,
+        handler: None,
+    }
+}
+
+fn server(loans: usize) -> ServerSettings<Refuses>
+    ensures { result.initial_max_slice_len ≡ 1 }
+{
+    ServerSettings {
+        strategy: BackpressureStrategy::RetryUntilDelivered,
+        initial_max_slice_len: 1,
+        allocation_strategy: AllocationStrategy::Static,
+        pool: Some(3),
+        handler: Some(Refuses),
+        loans,
+    }
+}
+
+#[test]
+fn ports_take_the_next_numbers(rt: HostRuntime) -> Result<(), Fail> {
+    let mut core: TypedCore = Core::new(rt.alloc(), limits(1), UniqueNodeId(7))?;
+    assert!(rt; core.create_client(client(None)) == Ok(0));
+    assert!(rt; core.create_server(server(1)) == Ok(1));
+    assert!(rt; core.create_client(client(Some(2))) == Ok(2));
+    assert!(rt;
+        core.create_client(client(None)) == Err(ClientCreateError::ExceedsMaxSupportedClients)
+    );
+    assert!(rt;
+        core.create_server(server(1)) == Err(ServerCreateError::ExceedsMaxSupportedServers)
+    );
+    assert_eq!(rt; core.numbers_left(), 4611686018427387901);
+    Ok(())
+}
+
+#[test]
+fn a_pool_that_cannot_be_counted_is_refused(rt: HostRuntime) -> Result<(), Fail> {
+    let mut core: TypedCore = Core::new(rt.alloc(), limits(1), UniqueNodeId(7))?;
+    assert!(rt;
+        core.create_server(server(usize::MAX)) == Err(ServerCreateError::UnableToCreateDataSegment)
+    );
+    assert_eq!(rt; core.numbers_left(), 4611686018427387904);
     Ok(())
 }

@@ -34,3 +34,4 @@ pub mod ApartSteps
 pub mod LeftPorts
 pub mod LeftSteps
 pub mod LeftRuns
+pub mod OwnRequest

@@ -1,0 +1,142 @@
+//! Creating servers.
+ghost use Rattle.std.specs.Prelude.{◌≡◌, None, true, false, IsTrue, IfOk, OnOk, OnErr};
+ghost use Rattle.rr_slots.specs.Families.{takes_len};
+ghost use Rattle.rr_hub.specs.Creation.{CreatesServer, server_refusal, with_server, loans_of};
+ghost use Rattle.rr_hub.specs.Limits.{hub_refusal, is_too_large, worst_case_responses};
+ghost use Rattle.rr_core.specs.Inside.{connected_of};
+
+use crate::create::{free_place, pool_size, worst_case_requests};
+use crate::note::ResponseNote;
+use crate::port::{OwnedLane, Port, ServerPort};
+use crate::state::Core;
+use rr_hub::{BackpressureFn, Limits, ServerCreateError, ServerSettings};
+use rr_lanes::{Lane, LaneSize};
+use rr_slots::Body;
+use std::alloc::AllocError;
+
+/// What is noted of no response.
+const NO_RESPONSE: ResponseNote = ResponseNote {
+    number: 0,
+    server: 0,
+    active_request: 0,
+    request: 0,
+    request_id: 0,
+    client: 0,
+    channel: 0,
+};
+
+impl<QB: Body, QH: Default + Drop, PB: Body, PH: Default + Drop, K: BackpressureFn> Core<
+    QB,
+    QH,
+    PB,
+    PH,
+    K,
+> {
+    /// Creates a server under the next number.
+    ///
+    /// `UnableToCreatePortTag` if no number is left, `ExceedsMaxSupportedServers` if as many servers are connected as may be,
+    /// `UnableToCreateDataSegment` if the worst-case number of responses is more than a `usize` counts, or memory was refused;
+    /// nothing has changed then. The initial length is one that the body's family takes. After iceoryx2's
+    /// `PortFactoryServer::create`.
+    pub fn create_server(&mut self, settings: ServerSettings<K>) -> Result<u64, ServerCreateError>
+        requires { IsTrue (takes_len PB.family settings.initial_max_slice_len) }
+        ensures { CreatesServer self.old settings result self.new }
+    {
+        match self.server_refusal(&settings) {
+            Some(refusal) => Err(refusal),
+            None => match self.add_server(settings) {
+                Ok(number) => Ok(number),
+                Err(_) => Err(ServerCreateError::UnableToCreateDataSegment),
+            },
+        }
+    }
+
+    /// The first reason against one more server with these settings.
+    fn server_refusal(&self, settings: &ServerSettings<K>) -> Option<ServerCreateError>
+        ensures { result ≡ server_refusal self.now settings.now }
+    {
+        if self.numbers_left() == 0 {
+            return Some(ServerCreateError::UnableToCreatePortTag);
+        }
+        if self.limits.max_servers <= self.servers.len() {
+            return Some(ServerCreateError::ExceedsMaxSupportedServers);
+        }
+        match self.limits.worst_case_responses(settings.loans.max(1)) {
+            Some(_) => None,
+            None => Some(ServerCreateError::UnableToCreateDataSegment),
+        }
+    }
+
+    /// Adds a server. `Err` if memory was refused; nothing has changed then.
+    fn add_server(&mut self, settings: ServerSettings<K>) -> Result<u64, AllocError>
+        requires len { IsTrue (takes_len PB.family settings.initial_max_slice_len) }
+        requires due { server_refusal self.old settings ≡ None }
+        ensures number { IfOk result (λ number. number ≡ self.old.next) }
+        ensures ok { OnOk result (self.new ≡ with_server self.old settings) }
+        ensures err { OnErr result (self.new ≡ self.old) }
+    {
+        let loans = settings.loans.max(1);
+        let slots = pool_size(worst_case_responses(&self.limits, loans), settings.pool);
+        let place = free_place(self.servers.as_slice(), self.limits.max_servers);
+        let size = LaneSize {
+            slots,
+            room: settings.initial_max_slice_len,
+            receivers: self.limits.max_clients,
+            channels: worst_case_requests(&self.limits),
+            capacity: self.limits.max_response_buffer_size,
+        };
+        let messages = Lane::new(self.alloc, size, NO_RESPONSE)?;
+        self.servers.reserve(1)?;
+        self.server_lanes.reserve(1)?;
+        let row = self.table.add_row(self.alloc, slots)?;
+        let number = self.next;
+        let port = server_port(number, settings, slots, self.server_lanes.len(), place);
+        self.servers.push_reserved(ServerPort {
+            port,
+            max_loaned_responses_per_request: loans,
+        });
+        self.server_lanes.push_reserved(OwnedLane {
+            owner: number,
+            row,
+            messages,
+        });
+        self.next += 1;
+        Ok(number)
+    }
+}
+
+/// The most responses of a server that can live at one time, where the limits make a hub and a `usize` counts them.
+fn worst_case_responses(limits: &Limits, loans: usize) -> usize
+    requires hub { hub_refusal limits.now ≡ None }
+    requires counts { is_too_large (worst_case_responses limits.now loans) ≡ false }
+    ensures { result ≡ worst_case_responses limits.now loans }
+{
+    match limits.worst_case_responses(loans) {
+        Some(slots) => slots,
+        None => unreachable!(),
+    }
+}
+
+/// A server's port.
+fn server_port<K: Drop>(
+    id: u64,
+    settings: ServerSettings<K>,
+    pool_size: usize,
+    lane: usize,
+    place: usize,
+) -> Port<K>
+    ensures { connected_of result ≡ record { port = record { id = id; strategy = settings.strategy; handler = settings.handler; allocation_strategy = settings.allocation_strategy; initial_max_slice_len = settings.initial_max_slice_len; pool_size = pool_size; is_held = true }; lane = lane; place = place; loans = 0 } }
+{
+    Port {
+        id,
+        strategy: settings.strategy,
+        handler: settings.handler,
+        allocation_strategy: settings.allocation_strategy,
+        initial_max_slice_len: settings.initial_max_slice_len,
+        pool_size,
+        is_held: true,
+        lane,
+        place,
+        loans: 0,
+    }
+}
