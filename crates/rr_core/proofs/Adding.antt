@@ -9,7 +9,8 @@ use Rattle.rr_table.specs.Seats.{Seats}
 use Rattle.rr_core.specs.declared.held.Held.{Held}
 use Rattle.rr_core.specs.declared.note.RequestNote.{RequestNote}
 use Rattle.rr_core.specs.declared.note.ResponseNote.{ResponseNote}
-use Rattle.rr_core.specs.Parts.{Parts, ClientPart, ServerPart, Lane}
+use Rattle.rr_core.specs.Parts.{Parts, Connected, ClientPart, ServerPart, Lane}
+use Rattle.rr_core.specs.Sound.{HasLanes}
 use Rattle.rr_core.specs.Views.{state_of, client_of, server_of}
 use Rattle.rr_hub.specs.State.{State, numbers_left}
 use Rattle.rr_hub.specs.Creation.{client_refusal, server_refusal, loans_of}
@@ -100,3 +101,7 @@ module _ {Q QH P PH K : Type 0} where
       ap (λ x. with_servers p x lanes table next) a ∙ ap (λ x. with_servers p q.servers x table next) b
       ∙ ap (λ x. with_servers p q.servers q.server_lanes x next) d
       ∙ ap (λ x. with_servers p q.servers q.server_lanes q.table x) e ∙ sym is
+
+-- a connected port's number was given before
+pub given_before : {T N H K : Type 0} (next ports : ℕ) (connected : List (Connected K)) (lanes : List (Lane T N H)) → HasLanes next ports connected lanes → (i : ℕ) (c : Connected K) → slice_get connected i ≡ Some c → c.port.id < next
+given_before next ports connected lanes has i c at = let o = has.own i c at in omega (arith, o.1, has.numbered c.lane o.0)

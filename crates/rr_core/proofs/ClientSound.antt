@@ -1,15 +1,16 @@
 -- What is true of a core stays true as a client is created.
-use Rattle.std.proofs.Common.{◌≡◌, ◌≢◌, ◌<◌, ◌+◌, ◌*◌, ◌^◌, ℕ, Bool, true, false, List, [], ◌∷◌, Option, None, Some, option_map, length, get_or, map, replicate, refl, sym, ap, ◌∙◌, subst, arith}
+use Rattle.std.proofs.Common.{◌≡◌, ◌≢◌, ◌<◌, ◌+◌, ◌*◌, ◌^◌, ℕ, Bool, true, false, List, [], ◌∷◌, Option, None, Some, option_map, length, get_or, map, replicate, refl, sym, ap, ◌∙◌, subst, ⊎_elim, arith}
 use Rattle.std.specs.Prelude.{◌==◌, ◌&&◌, slice_get, slice_index}
 use Rattle.std.specs.FinMap as fin_map
-use Rattle.std.proofs.lemmas.Bool.{false_from_ne_true, eqb-true, and_parts}
+use Rattle.std.proofs.lemmas.Bool.{cases_lt, false_from_ne_true, eqb-true, and_parts}
 use Rattle.std.proofs.lemmas.List.{length-append, length-replicate, length-map, map-append, get_or-replicate}
 use Rattle.std.proofs.lemmas.Option.{slice_get-map}
 use Rattle.std.proofs.Math.ListN.{get_or-append}
 use Rattle.std.proofs.Math.Seq.{get_or-append_seam}
 use Rattle.rr_table.specs.Maps.{tally}
 use Rattle.rr_table.specs.Seats.{Seat}
-use Rattle.rr_lanes.specs.Lanes.{Messages, times, queue_at, borrowed_at}
+use Rattle.rr_lanes.specs.Lanes.{Messages, times, all_entries, queue_at, borrowed_at}
+use Rattle.rr_lanes.proofs.EntryLaws.{times-empty}
 use Rattle.rr_hub.specs.declared.settings.ClientSettings.{ClientSettings}
 use Rattle.rr_core.specs.declared.held.Held.{Held}
 use Rattle.rr_core.specs.declared.held.Stage.{Stage}
@@ -17,12 +18,13 @@ use Rattle.rr_core.specs.declared.held.Stage.TheVariants as stage
 use Rattle.rr_core.specs.declared.note.RequestNote.{RequestNote}
 use Rattle.rr_core.specs.Parts.{Parts, Connected, ClientPart, Lane}
 use Rattle.rr_core.specs.Views.{no_request, lane_of}
-use Rattle.rr_core.specs.Sound.{IsSound, IsCounted, IsNumbered, IsAddressed, IsSeated, IsStored, IsSized, IsVacated, HasLanes, IsShaped, empty_hand, is_of_request, is_request_loan, is_pending, is_active_of, is_received, request_note, response_note, request_uses, server_place, place_at}
+use Rattle.rr_core.specs.Sound.{IsSound, IsCounted, IsNumbered, IsAddressed, IsSeated, IsStored, IsSized, IsVacated, HasLanes, IsShaped, empty_hand, is_of_request, is_request_loan, is_pending, is_active_of, is_received, is_received_at, request_note, response_note, request_uses, server_place, place_at}
 use Rattle.rr_core.specs.Creating.{IsNew, client_port, with_client_part}
 use Rattle.rr_core.proofs.NewLanes.{LooksLike, looks_like, lane_before, lane_last, lane_cases, new_queue, mark_of_more}
+use Rattle.rr_core.proofs.Adding.{given_before}
 use Rattle.rr_core.proofs.Agreeing.{request_lane}
 use Rattle.rr_core.proofs.Stages.{loan_is_request, pending_is_request, active_is_request, received_is_response, handle_uses_request, handle_uses_response}
-use Rattle.rr_core.proofs.Tallies.{tally-none, snoc_cases, snoc_keeps}
+use Rattle.rr_core.proofs.Tallies.{and_none, tally-none, last_at, snoc_cases, snoc_keeps}
 
 module _ {Q QH P PH K : Type 0} (p : Parts Q QH P PH K) (settings : ClientSettings K) (place : ℕ) (m : Messages Q RequestNote QH)
     (sound : IsSound p empty_hand)
@@ -77,6 +79,9 @@ module _ {Q QH P PH K : Type 0} (p : Parts Q QH P PH K) (settings : ClientSettin
     requests = λ l i h. ap (λ (n : RequestNote). n.client) (note_kept l i (used_before l i h)) ∙ sound.addressed.requests l i (used_before l i h) ∙ sym (like.owned l i (used_before l i h));
     responses = sound.addressed.responses;
     clients_below = λ l i h. omega (arith, sound.addressed.clients_below l i h);
+    actives_below = λ l i h. omega (arith, sound.addressed.actives_below l i h);
+    answered_below = λ l i h. omega (arith, sound.addressed.answered_below l i h);
+    answers = λ l i k j h g e. let a = sound.addressed.answers l i k j h (used_before k j g) (sym (number_kept k j (used_before k j g)) ∙ e) in (a.0, a.1 ∙ sym (like.owned k j (used_before k j g)));
     entries = λ l i channel j c at some. snoc_cases p.clients _ j c at
         (λ before h. sound.addressed.entries l i channel j c before some)
         (λ e is. absurd (omega (
@@ -153,26 +158,26 @@ module _ {Q QH P PH K : Type 0} (p : Parts Q QH P PH K) (settings : ClientSettin
       let within : s.value.lane < length p.client_lanes = request_lane p empty_hand sound.counted k s at (of_request s.value.stage both.0) in
       omega (arith, within, eqb-true s.value.lane (length p.client_lanes) both.1)))
 
-  stored : IsStored after
+  stored : IsStored after empty_hand
   stored =
       let n = sound.stored in
       record {
         request_loans = λ i c at. snoc_cases p.clients _ i c at
             (λ before h. n.request_loans i c before)
-            (λ e is. rw (← is) (sym (none_last is_request_loan loan_is_request)));
+            (λ e is. rw (← is) (omega (arith, none_last is_request_loan loan_is_request)));
         pendings = λ i c at. snoc_cases p.clients _ i c at
             (λ before h. n.pendings i c before)
-            (λ e is. rw (← is) (sym (none_last is_pending pending_is_request)));
+            (λ e is. rw (← is) (omega (arith, none_last is_pending pending_is_request)));
         response_loans = n.response_loans;
         active_loans = n.active_loans;
         borrowed_requests = λ l server h. like.borrowed l (server_place p server) 0 ∙ lane_cases p.client_lanes last new l
             (λ before e. n.borrowed_requests l server before)
             (λ is e gone. ap (λ (x : Lane Q RequestNote QH). borrowed_at x.messages (server_place p server) 0) gone
-            ∙ sym (ap (λ k. tally (λ s. is_active_of server s.value.stage && s.value.lane == k) p.table.seats) is ∙ none_last (is_active_of server) (active_is_request server)))
+            ∙ sym (ap (λ k. tally (λ s. is_active_of server s.value.stage && s.value.lane == k) p.table.seats) is ∙ none_last (is_active_of server) (active_is_request server)) ∙ and_none _)
             (λ far e gone. absurd (omega (arith, h, far, length-append p.client_lanes (last ∷ []))));
         borrowed_responses = λ l i channel c h at. snoc_cases p.clients _ i c at
             (λ before g. n.borrowed_responses l i channel c h before)
-            (λ e is. rw (← is) ((sound.vacated.of_clients l place channel vacant).1 ∙ sym (tally-none p.table.seats _ (λ k s there. false_from_ne_true _ (λ t.
+            (λ e is. rw (← is) ((sound.vacated.of_clients l place channel vacant).1 ∙ sym (tally-none p.table.seats (λ s. is_received_at p l p.next channel s.value) (λ k s there. false_from_ne_true _ (λ t.
             let received = and_parts (is_received s.value.stage) _ t in
             let here = and_parts (s.value.lane == l) _ received.1 in
             let client = and_parts ((response_note p s.value.lane s.value.slot).client == p.next) _ here.1 in
@@ -180,7 +185,7 @@ module _ {Q QH P PH K : Type 0} (p : Parts Q QH P PH K) (settings : ClientSettin
               arith,
               eqb-true (response_note p s.value.lane s.value.slot).client p.next client.0,
               sound.addressed.clients_below s.value.lane s.value.slot (handle_uses_response p empty_hand sound.counted k s there (received_is_response s.value.stage received.0)),
-            ))))));
+            )))) ∙ and_none _));
       }
 
   -- the new lane has its size
@@ -195,6 +200,7 @@ module _ {Q QH P PH K : Type 0} (p : Parts Q QH P PH K) (settings : ClientSettin
     borrowed_channels = λ r h. ap (λ (q : List (List ℕ)). length (get_or q r [])) new.borrowed ∙ ap length (get_or-replicate p.limits.max_servers r (replicate 1 0) [] h);
     capacity_is = new.capacity_is;
     within = λ r c. omega (arith, ap length (new_queue m new r c));
+    inside = λ slot some. absurd (omega (arith, some, ap (λ (q : List (List (List ℕ))). times slot (all_entries q)) new.queues, times-empty slot p.limits.max_servers 1));
   }
 
   sized : IsSized after
@@ -213,6 +219,7 @@ module _ {Q QH P PH K : Type 0} (p : Parts Q QH P PH K) (settings : ClientSettin
             (λ is e gone. ap (λ k. length (get_or after.waiting k [])) (is ∙ sym n.waiting) ∙ ap length (get_or-append_seam p.waiting _ [] []) ∙ length-replicate ((client_port p settings).pool_size * p.limits.max_servers) false ∙ ap (λ n. n * p.limits.max_servers) (sym slots_are) ∙ sym (ap (λ (x : Lane Q RequestNote QH). length x.messages.held * p.limits.max_servers) e))
             (λ far e gone. absurd (omega (arith, h, far, length-append p.client_lanes (last ∷ []))));
         next_fits = omega (arith, left);
+        loans_made = λ i c at. snoc_cases p.clients last_client i c at (λ before h. omega (arith, n.loans_made i c before)) (λ e is. omega (arith, ap (λ (c : ClientPart K). c.loans_made) is));
       }
 
   vacated : IsVacated after
@@ -262,6 +269,10 @@ module _ {Q QH P PH K : Type 0} (p : Parts Q QH P PH K) (settings : ClientSettin
               ap (λ (x : Lane Q RequestNote QH). length x.messages.held) e ∙ slots_are,
               ap (λ (x : Lane Q RequestNote QH). x.messages.room) e ∙ new.room_is,
             ));
+        ported = λ l h. ⊎_elim
+            (λ b. let o = n.ported l b in (o.0, o.1, ap (λ cs. slice_get cs o.0) (map-append (λ (c : ClientPart K). c.connected) p.clients _) ∙ snoc_keeps _ _ o.0 o.1 o.2, o.3))
+            (λ far. (length p.clients, last_client.connected, ap (λ cs. slice_get cs (length p.clients)) (map-append (λ (c : ClientPart K). c.connected) p.clients _) ∙ last_at _ _ (length p.clients) (length-map p.clients (λ (c : ClientPart K). c.connected)), omega (arith, h, far, length-append p.client_lanes (last ∷ []))))
+            (cases_lt l (length p.client_lanes));
         owned_once = λ l k h g same. lane_cases p.client_lanes last new l
             (λ before e. lane_cases p.client_lanes last new k
             (λ also f. n.owned_once l k before also (sym (ap (λ (x : Lane Q RequestNote QH). x.owner) e) ∙ same ∙ ap (λ (x : Lane Q RequestNote QH). x.owner) f))
@@ -284,10 +295,17 @@ module _ {Q QH P PH K : Type 0} (p : Parts Q QH P PH K) (settings : ClientSettin
             (λ end is. connected_cases j d there
             (λ also g. absurd (another j d also (sym same ∙ sym (ap (λ (c : Connected K). c.place) is))))
             (λ too also. end ∙ sym too));
+        numbered_once = λ i j c d at there same. connected_cases i c at
+            (λ before h. connected_cases j d there
+            (λ also g. n.numbered_once i j c d before also same)
+            (λ end is. absurd (omega (arith, given_before p.next p.limits.max_clients _ p.client_lanes n i c before, same, ap (λ (c : Connected K). c.port.id) is))))
+            (λ end is. connected_cases j d there
+            (λ also g. absurd (omega (arith, given_before p.next p.limits.max_clients _ p.client_lanes n j d also, same, ap (λ (c : Connected K). c.port.id) is)))
+            (λ too also. end ∙ sym too));
       }
 
   server_ports : HasLanes after.next p.limits.max_servers (map (λ s. s.connected) p.servers) p.server_lanes
-  server_ports = let n = sound.server_ports in record { few = n.few; own = n.own; owned_once = n.owned_once; numbered = λ i h. omega (arith, n.numbered i h); placed = n.placed; placed_once = n.placed_once }
+  server_ports = let n = sound.server_ports in record { few = n.few; own = n.own; ported = n.ported; owned_once = n.owned_once; numbered = λ i h. omega (arith, n.numbered i h); placed = n.placed; placed_once = n.placed_once; numbered_once = n.numbered_once }
 
   -- a client was created
   pub client_sound : IsSound after empty_hand

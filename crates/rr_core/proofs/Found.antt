@@ -12,10 +12,10 @@ pub data Uncons {X : Type 0} (xs : List X) : Type 0 where
 
 module _ {X : Type 0} (p : X → Bool) where
   -- what is found is tried first
-  find_here : (x : X) (xs : List X) → p x ≡ true → find p (x ∷ xs) ≡ Some x
+  pub find_here : (x : X) (xs : List X) → p x ≡ true → find p (x ∷ xs) ≡ Some x
   find_here x xs e = rw e refl
 
-  find_there : (x : X) (xs : List X) → p x ≡ false → find p (x ∷ xs) ≡ find p xs
+  pub find_there : (x : X) (xs : List X) → p x ≡ false → find p (x ∷ xs) ≡ find p xs
   find_there x xs e = rw e refl
 
   -- what is found passes

@@ -1,16 +1,17 @@
 -- What is true of a core stays true as a server is created.
-use Rattle.std.proofs.Common.{◌≡◌, ◌≢◌, ◌<◌, ◌+◌, ◌*◌, ◌^◌, ℕ, Bool, true, false, cond, List, [], ◌∷◌, Option, None, Some, option_map, find, length, get_or, map, replicate, refl, sym, ap, ◌∙◌, subst, arith}
+use Rattle.std.proofs.Common.{◌≡◌, ◌≢◌, ◌<◌, ◌+◌, ◌*◌, ◌^◌, ℕ, Bool, true, false, cond, List, [], ◌∷◌, Option, None, Some, option_map, find, length, get_or, map, replicate, refl, sym, ap, ◌∙◌, subst, ⊎_elim, arith}
 use Rattle.std.specs.Prelude.{◌==◌, ◌&&◌, slice_get, slice_index}
 use Rattle.std.specs.Option.{option_map_or, option_or}
 use Rattle.std.specs.FinMap as fin_map
-use Rattle.std.proofs.lemmas.Bool.{false_from_ne_true, eqb-true, eq-eqb, and_parts}
+use Rattle.std.proofs.lemmas.Bool.{cases_lt, false_from_ne_true, eqb-true, eq-eqb, and_parts}
 use Rattle.std.proofs.lemmas.List.{length-append, length-replicate, length-map, map-append, get_or-replicate}
 use Rattle.std.proofs.lemmas.Option.{slice_get-map}
 use Rattle.std.proofs.Math.ListN.{get_or-append}
 use Rattle.std.proofs.Math.Seq.{get_or-append_seam}
 use Rattle.rr_table.specs.Maps.{tally}
 use Rattle.rr_table.specs.Seats.{Seat}
-use Rattle.rr_lanes.specs.Lanes.{Messages, times, queue_at, borrowed_at}
+use Rattle.rr_lanes.specs.Lanes.{Messages, times, all_entries, queue_at, borrowed_at}
+use Rattle.rr_lanes.proofs.EntryLaws.{times-empty}
 use Rattle.rr_hub.specs.declared.settings.ServerSettings.{ServerSettings}
 use Rattle.rr_hub.specs.Limits.{worst_case_requests}
 use Rattle.rr_hub.specs.Creation.{loans_of}
@@ -20,13 +21,14 @@ use Rattle.rr_core.specs.declared.held.Stage.TheVariants as stage
 use Rattle.rr_core.specs.declared.note.ResponseNote.{ResponseNote}
 use Rattle.rr_core.specs.Parts.{Parts, Connected, ServerPart, Lane}
 use Rattle.rr_core.specs.Views.{no_response, lane_of}
-use Rattle.rr_core.specs.Sound.{IsSound, IsCounted, IsHeldOnce, IsNumbered, IsAddressed, IsSeated, IsStored, IsSized, IsVacated, HasLanes, IsShaped, empty_hand, is_of_response, is_active_of, is_response_loan, is_received, has_request_at, response_note, response_uses, server_place, place_at}
+use Rattle.rr_core.specs.Sound.{IsSound, IsCounted, IsHeldOnce, IsNumbered, IsAddressed, IsSeated, IsStored, IsSized, IsVacated, HasLanes, IsShaped, empty_hand, is_of_response, is_active_of, is_response_loan, is_received, has_request_at, is_received_at, response_note, response_uses, server_place, place_at}
 use Rattle.rr_core.specs.Creating.{IsNew, server_port, with_server_part}
 use Rattle.rr_core.proofs.Found.{find_last}
 use Rattle.rr_core.proofs.NewLanes.{LooksLike, looks_like, lane_before, lane_last, lane_cases, new_queue}
+use Rattle.rr_core.proofs.Adding.{given_before}
 use Rattle.rr_core.proofs.Agreeing.{response_lane}
 use Rattle.rr_core.proofs.Stages.{answer_is_response, received_is_response, handle_uses_response}
-use Rattle.rr_core.proofs.Tallies.{tally-none, tally-same, snoc_cases, snoc_keeps}
+use Rattle.rr_core.proofs.Tallies.{and_none, tally-none, tally-same, last_at, snoc_cases, snoc_keeps}
 
 module _ {Q QH P PH K : Type 0} (p : Parts Q QH P PH K) (settings : ServerSettings K) (place : ℕ) (m : Messages P ResponseNote PH)
     (sound : IsSound p empty_hand)
@@ -127,6 +129,12 @@ module _ {Q QH P PH K : Type 0} (p : Parts Q QH P PH K) (settings : ServerSettin
     requests = sound.addressed.requests;
     responses = λ l i h. ap (λ (n : ResponseNote). n.server) (note_kept l i (used_before l i h)) ∙ sound.addressed.responses l i (used_before l i h) ∙ sym (like.owned l i (used_before l i h));
     clients_below = λ l i h. omega (arith, ap (λ (n : ResponseNote). n.client) (note_kept l i (used_before l i h)), sound.addressed.clients_below l i (used_before l i h));
+    actives_below = λ l i h. omega (arith, ap (λ (n : ResponseNote). n.active_request) (note_kept l i (used_before l i h)), sound.addressed.actives_below l i (used_before l i h));
+    answered_below = λ l i h. omega (arith, ap (λ (n : ResponseNote). n.request) (note_kept l i (used_before l i h)), sound.addressed.answered_below l i (used_before l i h));
+    answers = λ l i k j h g e.
+        let note = note_kept l i (used_before l i h) in
+        let a = sound.addressed.answers l i k j (used_before l i h) g (e ∙ ap (λ (n : ResponseNote). n.request) note) in
+        (ap (λ (n : ResponseNote). n.channel) note ∙ a.0, ap (λ (n : ResponseNote). n.client) note ∙ a.1);
     entries = λ l i channel j c at some. lane_cases p.server_lanes last new l
         (λ before e. let there = sound.addressed.entries l i channel j c at (omega (arith, some, ap (times i) (like.queues l c.place channel))) in
         let note : response_note after l i ≡ response_note p l i = ap (λ (x : Lane P ResponseNote PH). get_or x.messages.notes i no_response) e in
@@ -212,7 +220,7 @@ module _ {Q QH P PH K : Type 0} (p : Parts Q QH P PH K) (settings : ServerSettin
       go true k s at e = ap (λ (n : ResponseNote). test s.value.stage && of s n) (note_kept s.value.lane s.value.slot (handle_uses_response p empty_hand sound.counted k s at (of_response s.value.stage e)))
       go false k s at e = rw e refl
 
-  stored : IsStored after
+  stored : IsStored after empty_hand
   stored =
       let n = sound.stored in
       record {
@@ -220,21 +228,21 @@ module _ {Q QH P PH K : Type 0} (p : Parts Q QH P PH K) (settings : ServerSettin
         pendings = n.pendings;
         response_loans = λ i c at. snoc_cases p.servers last_server i c at
             (λ before h. n.response_loans i c before)
-            (λ e is. rw (← is) (sym (none_last is_response_loan answer_is_response)));
-        active_loans = λ k server loans s at is. n.active_loans k server loans s at is ∙ sym (noted_alike is_response_loan answer_is_response (λ s note. note.active_request == k));
+            (λ e is. rw (← is) (omega (arith, none_last is_response_loan answer_is_response)));
+        active_loans = λ k server loans s at is. n.active_loans k server loans s at is ∙ ap (λ n. n + 0) (sym (noted_alike is_response_loan answer_is_response (λ s note. note.active_request == k)));
         borrowed_requests = λ l server h. place_cases server
             (λ e. ap (λ x. borrowed_at (lane_of l p.client_lanes).messages x 0) e ∙ n.borrowed_requests l server h)
             (λ is e far. ap (λ x. borrowed_at (lane_of l p.client_lanes).messages x 0) e ∙ (sound.vacated.of_servers l place 0 vacant).1
-            ∙ sym (tally-none p.table.seats (λ s. is_active_of server s.value.stage && s.value.lane == l) (λ k s at. false_from_ne_true _ (λ t. none_active server far k s at (and_parts (is_active_of server s.value.stage) _ t).0))));
+            ∙ sym (tally-none p.table.seats (λ s. is_active_of server s.value.stage && s.value.lane == l) (λ k s at. false_from_ne_true _ (λ t. none_active server far k s at (and_parts (is_active_of server s.value.stage) _ t).0))) ∙ and_none _);
         borrowed_responses = λ l i channel c h at. like.borrowed l c.place channel ∙ lane_cases p.server_lanes last new l
             (λ before e. n.borrowed_responses l i channel c before at)
             (λ is e gone. ap (λ (x : Lane P ResponseNote PH). borrowed_at x.messages c.place channel) gone
-            ∙ sym (tally-none p.table.seats _ (λ k s there. false_from_ne_true _ (λ t.
+            ∙ sym (tally-none p.table.seats (λ s. is_received_at p l c.port.id channel s.value) (λ k s there. false_from_ne_true _ (λ t.
             let received = and_parts (is_received s.value.stage) _ t in
             let here = and_parts (s.value.lane == l) _ received.1 in
-            omega (arith, eqb-true s.value.lane l here.0, is, response_lane p empty_hand sound.counted k s there (received_is_response s.value.stage received.0))))))
+            omega (arith, eqb-true s.value.lane l here.0, is, response_lane p empty_hand sound.counted k s there (received_is_response s.value.stage received.0))))) ∙ and_none _)
             (λ far e gone. absurd (omega (arith, h, far, length-append p.server_lanes (last ∷ []))))
-            ∙ sym (noted_alike is_received received_is_response (λ s note. s.value.lane == l && (note.client == c.port.id && note.channel == channel)));
+            ∙ ap (λ n. n + 0) (sym (noted_alike is_received received_is_response (λ s note. s.value.lane == l && (note.client == c.port.id && note.channel == channel))));
       }
 
   -- the new lane has its size
@@ -249,6 +257,7 @@ module _ {Q QH P PH K : Type 0} (p : Parts Q QH P PH K) (settings : ServerSettin
     borrowed_channels = λ r h. ap (λ (q : List (List ℕ)). length (get_or q r [])) new.borrowed ∙ ap length (get_or-replicate p.limits.max_clients r (replicate (worst_case_requests p.limits) 0) [] h) ∙ length-replicate (worst_case_requests p.limits) 0;
     capacity_is = new.capacity_is;
     within = λ r c. omega (arith, ap length (new_queue m new r c));
+    inside = λ slot some. absurd (omega (arith, some, ap (λ (q : List (List (List ℕ))). times slot (all_entries q)) new.queues, times-empty slot p.limits.max_clients (worst_case_requests p.limits)));
   }
 
   sized : IsSized after
@@ -264,6 +273,7 @@ module _ {Q QH P PH K : Type 0} (p : Parts Q QH P PH K) (settings : ServerSettin
         waiting = n.waiting;
         waiting_slots = n.waiting_slots;
         next_fits = omega (arith, left);
+        loans_made = λ i c at. omega (arith, n.loans_made i c at);
       }
 
   vacated : IsVacated after
@@ -313,6 +323,10 @@ module _ {Q QH P PH K : Type 0} (p : Parts Q QH P PH K) (settings : ServerSettin
               ap (λ (x : Lane P ResponseNote PH). length x.messages.held) e ∙ slots_are,
               ap (λ (x : Lane P ResponseNote PH). x.messages.room) e ∙ new.room_is,
             ));
+        ported = λ l h. ⊎_elim
+            (λ b. let o = n.ported l b in (o.0, o.1, ap (λ cs. slice_get cs o.0) (map-append (λ (s : ServerPart K). s.connected) p.servers _) ∙ snoc_keeps _ _ o.0 o.1 o.2, o.3))
+            (λ far. (length p.servers, last_server.connected, ap (λ cs. slice_get cs (length p.servers)) (map-append (λ (s : ServerPart K). s.connected) p.servers _) ∙ last_at _ _ (length p.servers) (length-map p.servers (λ (s : ServerPart K). s.connected)), omega (arith, h, far, length-append p.server_lanes (last ∷ []))))
+            (cases_lt l (length p.server_lanes));
         owned_once = λ l k h g same. lane_cases p.server_lanes last new l
             (λ before e. lane_cases p.server_lanes last new k
             (λ also f. n.owned_once l k before also (sym (ap (λ (x : Lane P ResponseNote PH). x.owner) e) ∙ same ∙ ap (λ (x : Lane P ResponseNote PH). x.owner) f))
@@ -335,10 +349,17 @@ module _ {Q QH P PH K : Type 0} (p : Parts Q QH P PH K) (settings : ServerSettin
             (λ end is. connected_cases j d there
             (λ also g. absurd (another j d also (sym same ∙ sym (ap (λ (c : Connected K). c.place) is))))
             (λ too also. end ∙ sym too));
+        numbered_once = λ i j c d at there same. connected_cases i c at
+            (λ before h. connected_cases j d there
+            (λ also g. n.numbered_once i j c d before also same)
+            (λ end is. absurd (omega (arith, given_before p.next p.limits.max_servers _ p.server_lanes n i c before, same, ap (λ (c : Connected K). c.port.id) is))))
+            (λ end is. connected_cases j d there
+            (λ also g. absurd (omega (arith, given_before p.next p.limits.max_servers _ p.server_lanes n j d also, same, ap (λ (c : Connected K). c.port.id) is)))
+            (λ too also. end ∙ sym too));
       }
 
   client_ports : HasLanes after.next p.limits.max_clients (map (λ c. c.connected) p.clients) p.client_lanes
-  client_ports = let n = sound.client_ports in record { few = n.few; own = n.own; owned_once = n.owned_once; numbered = λ i h. omega (arith, n.numbered i h); placed = n.placed; placed_once = n.placed_once }
+  client_ports = let n = sound.client_ports in record { few = n.few; own = n.own; ported = n.ported; owned_once = n.owned_once; numbered = λ i h. omega (arith, n.numbered i h); placed = n.placed; placed_once = n.placed_once; numbered_once = n.numbered_once }
 
   -- a server was created
   pub server_sound : IsSound after empty_hand

@@ -28,10 +28,12 @@ no_ports : {T N H K : Type 0} {ports : ℕ} → HasLanes {T = T} {N = N} {H = H}
 no_ports = record {
   few = omega arith;
   own = λ i c e. no_element i c e;
+  ported = λ l h. absurd (omega (arith, h));
   owned_once = λ i j h. absurd (omega arith);
   numbered = λ i h. absurd (omega arith);
   placed = λ i c e. no_element i c e;
   placed_once = λ i j c d e. no_element i c e;
+  numbered_once = λ i j c d e. no_element i c e;
 }
 
 module _ (Q QH P PH K : Type 0) (limits : Limits) (node_id : ℕ) (h : QH) (g : PH) where
@@ -61,7 +63,7 @@ module _ (Q QH P PH K : Type 0) (limits : Limits) (node_id : ℕ) (h : QH) (g : 
       kinds_apart = λ l i m j h. absurd (omega arith);
       actives_apart = λ k server l i s e. nothing_there k s e;
     };
-    addressed = record { requests = λ l i h. absurd (omega arith); responses = λ l i h. absurd (omega arith); clients_below = λ l i h. absurd (omega arith); entries = λ l i channel j c e. no_element j c e };
+    addressed = record { requests = λ l i h. absurd (omega arith); responses = λ l i h. absurd (omega arith); clients_below = λ l i h. absurd (omega arith); actives_below = λ l i h. absurd (omega arith); answered_below = λ l i h. absurd (omega arith); answers = λ l i m j h. absurd (omega arith); entries = λ l i channel j c e. no_element j c e };
     seated = record {
       placed = λ k s e. nothing_there k s e;
       client_rows = λ l h. absurd (omega arith);
@@ -86,6 +88,7 @@ module _ (Q QH P PH K : Type 0) (limits : Limits) (node_id : ℕ) (h : QH) (g : 
       waiting = refl;
       waiting_slots = λ l h. absurd (omega arith);
       next_fits = omega arith;
+      loans_made = λ i c e. no_element i c e;
     };
     vacated = record { of_clients = λ l place channel h. (refl, refl); of_servers = λ l place channel h. (refl, refl); awaits_none = λ l i place h. refl };
     held_by_value = record { clients = λ i c e. no_element i c e; servers = λ i c e. no_element i c e };

@@ -11,6 +11,10 @@ use Rattle.std.proofs.Math.Seq.{get_or-append_seam}
 use Rattle.rr_table.specs.Maps.{tally}
 use Rattle.rr_table.proofs.MapLaws.{map_values-same, tally-map_values}
 
+-- with none in hand it is what the table has
+pub and_none : (n : ℕ) → n ≡ n + 0
+and_none n = omega arith
+
 count_none : {X : Type 0} (xs : List X) → count_by (λ x. false) xs ≡ 0
 count_none [] = refl
 count_none (x ∷ xs) = count_none xs
@@ -42,3 +46,9 @@ snoc_keeps xs y i x e =
     let within : i < length xs = slice_get_within xs i x e in
     slice_get-get_or (xs ++ y ∷ []) i x (omega (arith, within, length-append xs (y ∷ [])))
     ∙ ap Some (get_or-append xs (y ∷ []) x i within ∙ get_or_from_slice_get xs i x x e)
+
+-- the last element of a list with one more
+pub last_at : {X : Type 0} (xs : List X) (y : X) (i : ℕ) → length xs ≡ i → slice_get (xs ++ y ∷ []) i ≡ Some y
+last_at xs y i e =
+    slice_get-get_or (xs ++ y ∷ []) i y (omega (arith, e, length-append xs (y ∷ [])))
+    ∙ ap Some (ap (λ k. get_or (xs ++ y ∷ []) k y) (sym e) ∙ get_or-append_seam xs y [] y)

@@ -1,6 +1,13 @@
 pub mod Parts
 pub mod Views
+pub mod Kinds
+pub mod Writing
 pub mod Sound
 pub mod Start
 pub mod Creating
 pub mod Inside
+pub mod Frames
+pub mod Hands
+pub mod Kept
+pub mod Loaning
+pub mod Rewrites

@@ -5,7 +5,7 @@ use Rattle.std.specs.FinMap as fin_map
 use Rattle.rr_table.specs.Maps.{tally}
 use Rattle.rr_table.specs.Seats.{Seat}
 use Rattle.rr_table.specs.declared.place.Place.{Place}
-use Rattle.rr_lanes.specs.Lanes.{Messages, times, queue_at, borrowed_at, uses}
+use Rattle.rr_lanes.specs.Lanes.{Messages, times, all_entries, queue_at, borrowed_at, uses}
 use Rattle.rr_hub.specs.Limits.{worst_case_requests, hub_refusal}
 use Rattle.rr_core.specs.declared.held.Held.{Held}
 use Rattle.rr_core.specs.declared.held.Stage.{Stage}
@@ -15,22 +15,12 @@ use Rattle.rr_core.specs.declared.note.ResponseNote.{ResponseNote}
 use Rattle.rr_core.specs.Parts.{Connected, ClientPart, ServerPart, Lane, Parts}
 use Rattle.rr_core.specs.Views.{no_request, no_response, lane_of, is_awaited}
 
--- a slot of a lane
-pub record Spot : Type 0 where
-  pub lane : ℕ
-  pub slot : ℕ
-
--- the slots that a call holds for itself, of clients' lanes and of servers'
-pub record Hand : Type 0 where
-  pub requests : List Spot
-  pub responses : List Spot
+-- the handles that a call has for itself, without their numbers
+abbrev pub Hand : Type 0
+Hand = List Held
 
 abbrev pub empty_hand : Hand
-empty_hand = record { requests = []; responses = [] }
-
--- how often a slot is in a list
-abbrev pub spots : ℕ → ℕ → List Spot → ℕ
-spots lane slot hand = count_by (λ s. s.lane == lane && s.slot == slot) hand
+empty_hand = []
 
 -- whether a handle is of a request
 abbrev pub is_of_request : Stage → Bool
@@ -75,11 +65,26 @@ is_received stage.Response = true
 is_received _ = false
 
 -- whether a handle is of the request in a slot, and of the response in a slot
+abbrev pub is_request_at : ℕ → ℕ → Held → Bool
+is_request_at lane slot h = is_of_request h.stage && (h.lane == lane && h.slot == slot)
+
+abbrev pub is_response_at : ℕ → ℕ → Held → Bool
+is_response_at lane slot h = is_of_response h.stage && (h.lane == lane && h.slot == slot)
+
+-- the same of what stands in the table
 abbrev pub has_request_at : ℕ → ℕ → Seat Held → Bool
-has_request_at lane slot s = is_of_request s.value.stage && (s.value.lane == lane && s.value.slot == slot)
+has_request_at lane slot s = is_request_at lane slot s.value
 
 abbrev pub has_response_at : ℕ → ℕ → Seat Held → Bool
-has_response_at lane slot s = is_of_response s.value.stage && (s.value.lane == lane && s.value.slot == slot)
+has_response_at lane slot s = is_response_at lane slot s.value
+
+-- whether it is a handle of the request in a slot, by which this server has it
+abbrev pub is_active_at : ℕ → ℕ → ℕ → Held → Bool
+is_active_at lane slot server h = is_request_at lane slot h && is_active_of server h.stage
+
+-- whether it is a handle of this lane and at this stage
+abbrev pub is_in_lane : (Stage → Bool) → ℕ → Held → Bool
+is_in_lane test lane h = test h.stage && h.lane == lane
 
 -- so many receivers with so many channels each, and as much of everything as there are slots
 pub record IsShaped {T N H : Type 0} (receivers channels capacity : ℕ) (m : Messages T N H) : Type 0 where
@@ -92,16 +97,19 @@ pub record IsShaped {T N H : Type 0} (receivers channels capacity : ℕ) (m : Me
   pub borrowed_channels : (r : ℕ) → r < receivers → length (slice_index_or m.borrowed r []) ≡ channels
   pub capacity_is : m.capacity ≡ capacity
   pub within : (r c : ℕ) → length (queue_at m r c) ≤ capacity
+  pub inside : (slot : ℕ) → 0 < times slot (all_entries m.queues) → slot < length m.held
 
--- each port has a lane of its own, of the size that it says
+-- each port has a lane of its own, of the size that it says, and each lane a port
 pub record HasLanes {T N H K : Type 0} (next ports : ℕ) (connected : List (Connected K)) (lanes : List (Lane T N H)) : Type 0 where
   pub few : length connected ≤ ports
   pub own : (i : ℕ) (c : Connected K) → slice_get connected i ≡ Some c →
       (c.lane < length lanes) × ((lane_of c.lane lanes).owner ≡ c.port.id) × (length (lane_of c.lane lanes).messages.held ≡ c.port.pool_size) × ((lane_of c.lane lanes).messages.room ≡ c.port.initial_max_slice_len)
+  pub ported : (lane : ℕ) → lane < length lanes → (i : ℕ) × (c : Connected K) × (slice_get connected i ≡ Some c) × (c.lane ≡ lane)
   pub owned_once : (i j : ℕ) → i < length lanes → j < length lanes → (lane_of i lanes).owner ≡ (lane_of j lanes).owner → i ≡ j
   pub numbered : (i : ℕ) → i < length lanes → (lane_of i lanes).owner < next
   pub placed : (i : ℕ) (c : Connected K) → slice_get connected i ≡ Some c → c.place < ports
   pub placed_once : (i j : ℕ) (c d : Connected K) → slice_get connected i ≡ Some c → slice_get connected j ≡ Some d → c.place ≡ d.place → i ≡ j
+  pub numbered_once : (i j : ℕ) (c d : Connected K) → slice_get connected i ≡ Some c → slice_get connected j ≡ Some d → c.port.id ≡ d.port.id → i ≡ j
 
 module _ {Q QH P PH K : Type 0} (p : Parts Q QH P PH K) where
   -- the note of a request, and of a response
@@ -145,16 +153,29 @@ module _ {Q QH P PH K : Type 0} (p : Parts Q QH P PH K) where
   abbrev pub place_of : Held → Place
   place_of held = place_at held.stage held.lane held.slot
 
-  -- every slot is held as often as there are handles of it, and once for each time that it is in hand
-  pub record IsCounted (hand : Hand) : Type 0 where
-    pub requests : (lane slot : ℕ) → slice_index (lane_of lane p.client_lanes).messages.held slot ≡ tally (has_request_at lane slot) p.table.seats + spots lane slot hand.requests
-    pub responses : (lane slot : ℕ) → slice_index (lane_of lane p.server_lanes).messages.held slot ≡ tally (has_response_at lane slot) p.table.seats + spots lane slot hand.responses
+  -- how many handles pass a test, in the table and in hand
+  abbrev pub handles : (Held → Bool) → Hand → ℕ
+  handles test hand = tally (λ s. test s.value) p.table.seats + count_by test hand
 
-  -- a request that was not sent has one handle and no entry, a server has one handle or entry of a request, and a response has one of anything
+  -- whether it is a response on loan from this active request
+  abbrev pub is_loan_from : ℕ → Held → Bool
+  is_loan_from active h = is_response_loan h.stage && (response_note h.lane h.slot).active_request == active
+
+  -- whether it is a response of this lane that this client received on this channel
+  abbrev pub is_received_at : ℕ → ℕ → ℕ → Held → Bool
+  is_received_at lane client channel h =
+      is_received h.stage && (h.lane == lane && ((response_note h.lane h.slot).client == client && (response_note h.lane h.slot).channel == channel))
+
+  -- every slot is held as often as there are handles of it
+  pub record IsCounted (hand : Hand) : Type 0 where
+    pub requests : (lane slot : ℕ) → slice_index (lane_of lane p.client_lanes).messages.held slot ≡ handles (is_request_at lane slot) hand
+    pub responses : (lane slot : ℕ) → slice_index (lane_of lane p.server_lanes).messages.held slot ≡ handles (is_response_at lane slot) hand
+
+  -- a request that was not sent has one handle and no entry, a server has one handle or entry of a request, and a response has one of anything, but for handles in hand
   pub record IsHeldOnce (hand : Hand) : Type 0 where
     pub loans : (k : ℕ) (s : Seat Held) → fin_map.get p.table.seats k ≡ Some s → is_request_loan s.value.stage ≡ true → request_uses s.value.lane s.value.slot ≡ 1
-    pub servers : (lane slot server : ℕ) → times slot (queue_at (lane_of lane p.client_lanes).messages (server_place server) 0) + tally (λ s. has_request_at lane slot s && is_active_of server s.value.stage) p.table.seats ≤ 1
-    pub responses : (lane slot : ℕ) → response_uses lane slot ≤ 1 + spots lane slot hand.responses
+    pub servers : (lane slot server : ℕ) → times slot (queue_at (lane_of lane p.client_lanes).messages (server_place server) 0) + handles (is_active_at lane slot server) hand ≤ 1
+    pub responses : (lane slot : ℕ) → response_uses lane slot ≤ 1 + count_by (is_response_at lane slot) hand
 
   -- a handle has its message's number, an active request its own; numbers that are in use are below the next one, and each has one use
   pub record IsNumbered : Type 0 where
@@ -175,6 +196,10 @@ module _ {Q QH P PH K : Type 0} (p : Parts Q QH P PH K) where
     pub requests : (lane slot : ℕ) → 0 < request_uses lane slot → (request_note lane slot).client ≡ (lane_of lane p.client_lanes).owner
     pub responses : (lane slot : ℕ) → 0 < response_uses lane slot → (response_note lane slot).server ≡ (lane_of lane p.server_lanes).owner
     pub clients_below : (lane slot : ℕ) → 0 < response_uses lane slot → (response_note lane slot).client < p.next
+    pub actives_below : (lane slot : ℕ) → 0 < response_uses lane slot → (response_note lane slot).active_request < p.next
+    pub answered_below : (lane slot : ℕ) → 0 < response_uses lane slot → (response_note lane slot).request < p.next
+    pub answers : (lane slot m j : ℕ) → 0 < response_uses lane slot → 0 < request_uses m j → (request_note m j).number ≡ (response_note lane slot).request →
+        ((response_note lane slot).channel ≡ j) × ((response_note lane slot).client ≡ (lane_of m p.client_lanes).owner)
     pub entries : (lane slot channel i : ℕ) (c : ClientPart K) → slice_get p.clients i ≡ Some c → 0 < times slot (queue_at (lane_of lane p.server_lanes).messages c.place channel) →
         ((response_note lane slot).client ≡ c.port.id) × ((response_note lane slot).channel ≡ channel)
 
@@ -189,16 +214,14 @@ module _ {Q QH P PH K : Type 0} (p : Parts Q QH P PH K) where
     pub active_servers : (k server : ℕ) (s : Seat Held) → fin_map.get p.table.seats k ≡ Some s → is_active_of server s.value.stage ≡ true → server_place server < p.limits.max_servers
 
   -- what is stored is what there is
-  pub record IsStored : Type 0 where
-    pub request_loans : (i : ℕ) (c : ClientPart K) → slice_get p.clients i ≡ Some c → c.loans ≡ tally (λ s. is_request_loan s.value.stage && s.value.lane == c.lane) p.table.seats
-    pub pendings : (i : ℕ) (c : ClientPart K) → slice_get p.clients i ≡ Some c → c.pendings ≡ tally (λ s. is_pending s.value.stage && s.value.lane == c.lane) p.table.seats
-    pub response_loans : (i : ℕ) (c : ServerPart K) → slice_get p.servers i ≡ Some c → c.loans ≡ tally (λ s. is_response_loan s.value.stage && s.value.lane == c.lane) p.table.seats
-    pub active_loans : (k server loans : ℕ) (s : Seat Held) → fin_map.get p.table.seats k ≡ Some s → s.value.stage ≡ stage.ActiveRequest server loans →
-        loans ≡ tally (λ t. is_response_loan t.value.stage && (response_note t.value.lane t.value.slot).active_request == k) p.table.seats
-    pub borrowed_requests : (lane server : ℕ) → lane < length p.client_lanes → borrowed_at (lane_of lane p.client_lanes).messages (server_place server) 0 ≡ tally (λ s. is_active_of server s.value.stage && s.value.lane == lane) p.table.seats
+  pub record IsStored (hand : Hand) : Type 0 where
+    pub request_loans : (i : ℕ) (c : ClientPart K) → slice_get p.clients i ≡ Some c → c.loans ≡ handles (is_in_lane is_request_loan c.lane) hand
+    pub pendings : (i : ℕ) (c : ClientPart K) → slice_get p.clients i ≡ Some c → c.pendings ≡ handles (is_in_lane is_pending c.lane) hand
+    pub response_loans : (i : ℕ) (c : ServerPart K) → slice_get p.servers i ≡ Some c → c.loans ≡ handles (is_in_lane is_response_loan c.lane) hand
+    pub active_loans : (k server loans : ℕ) (s : Seat Held) → fin_map.get p.table.seats k ≡ Some s → s.value.stage ≡ stage.ActiveRequest server loans → loans ≡ handles (is_loan_from k) hand
+    pub borrowed_requests : (lane server : ℕ) → lane < length p.client_lanes → borrowed_at (lane_of lane p.client_lanes).messages (server_place server) 0 ≡ handles (is_in_lane (is_active_of server) lane) hand
     pub borrowed_responses : (lane i channel : ℕ) (c : ClientPart K) → lane < length p.server_lanes → slice_get p.clients i ≡ Some c →
-        borrowed_at (lane_of lane p.server_lanes).messages c.place channel
-        ≡ tally (λ s. is_received s.value.stage && (s.value.lane == lane && ((response_note s.value.lane s.value.slot).client == c.port.id && (response_note s.value.lane s.value.slot).channel == channel))) p.table.seats
+        borrowed_at (lane_of lane p.server_lanes).messages c.place channel ≡ handles (is_received_at lane c.port.id channel) hand
 
   -- every lane has its size
   pub record IsSized : Type 0 where
@@ -208,6 +231,7 @@ module _ {Q QH P PH K : Type 0} (p : Parts Q QH P PH K) where
     pub waiting : length p.waiting ≡ length p.client_lanes
     pub waiting_slots : (lane : ℕ) → lane < length p.client_lanes → length (slice_index_or p.waiting lane []) ≡ length (lane_of lane p.client_lanes).messages.held * p.limits.max_servers
     pub next_fits : p.next ≤ 2 ^ 62
+    pub loans_made : (i : ℕ) (c : ClientPart K) → slice_get p.clients i ≡ Some c → c.loans_made ≤ p.next
 
   -- nothing waits, and nothing was received, at a place that no port has
   pub record IsVacated : Type 0 where
@@ -229,7 +253,7 @@ pub record IsSound {Q QH P PH K : Type 0} (p : Parts Q QH P PH K) (hand : Hand) 
   pub numbered : IsNumbered p
   pub addressed : IsAddressed p
   pub seated : IsSeated p
-  pub stored : IsStored p
+  pub stored : IsStored p hand
   pub sized : IsSized p
   pub vacated : IsVacated p
   pub held_by_value : IsHeldByValue p

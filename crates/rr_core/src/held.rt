@@ -1,4 +1,10 @@
 //! What is kept under the number of a handle.
+ghost use Rattle.std.specs.Prelude.{◌≡◌};
+ghost use Rattle.rr_core.specs.Kinds.{stage_kind};
+ghost use Rattle.rr_core.specs.Sound.{is_pending};
+ghost use Rattle.rr_core.specs.Writing.{initialised};
+
+use rr_hub::Kind;
 
 /// What a handle is for.
 #[derive(Clone, Copy, Debug)]
@@ -17,6 +23,44 @@ pub enum Stage {
     ResponseMut,
     /// A response that was received.
     Response,
+}
+
+impl Stage {
+    /// The kind of the handle.
+    pub(crate) fn kind(self) -> Kind
+        ensures { result ≡ stage_kind self }
+    {
+        match self {
+            Stage::RequestMutUninit => Kind::RequestMutUninit,
+            Stage::RequestMut => Kind::RequestMut,
+            Stage::PendingResponse(_, _) => Kind::PendingResponse,
+            Stage::ActiveRequest(_, _) => Kind::ActiveRequest,
+            Stage::ResponseMutUninit => Kind::ResponseMutUninit,
+            Stage::ResponseMut => Kind::ResponseMut,
+            Stage::Response => Kind::Response,
+        }
+    }
+
+    /// The stage once a message that was being written can be sent. Other stages stay.
+    pub(crate) fn initialised(self) -> Self
+        ensures { result ≡ initialised self }
+    {
+        match self {
+            Stage::RequestMutUninit => Stage::RequestMut,
+            Stage::ResponseMutUninit => Stage::ResponseMut,
+            stage => stage,
+        }
+    }
+
+    /// Whether the handle is a pending response.
+    pub(crate) fn is_pending(self) -> bool
+        ensures { result ≡ is_pending self }
+    {
+        match self {
+            Stage::PendingResponse(_, _) => true,
+            _ => false,
+        }
+    }
 }
 
 /// A handle's stage, and the lane and slot of its message.

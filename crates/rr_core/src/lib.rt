@@ -2,13 +2,18 @@
 #![tactic(auto)]
 
 mod create;
+mod handle_id;
 mod held;
+mod loan;
 mod note;
 mod port;
+mod query;
 mod state;
 #[cfg(test)]
 mod tests;
+mod write;
 
+pub use handle_id::HandleId;
 pub use held::{Held, Stage};
 pub use note::{RequestNote, ResponseNote};
 pub use state::Core;

@@ -1,5 +1,8 @@
 //! What a core keeps of its connected ports, and the lanes from which ports send.
-ghost use Rattle.std.specs.Prelude.{◌≡◌};
+ghost use Rattle.std.specs.Prelude.{◌≡◌, ◌==◌, ◌&&◌};
+ghost use Rattle.std.specs.List.{position};
+ghost use Rattle.rr_hub.specs.Loans.{is_too_long};
+ghost use Rattle.rr_core.specs.Inside.{connected_of};
 
 use rr_hub::{AllocationStrategy, BackpressureStrategy};
 use rr_lanes::Lane;
@@ -44,12 +47,38 @@ pub(crate) struct OwnedLane<B: Body, N: Copy, H: Drop> {
     pub(crate) messages: Lane<B, N, H>,
 }
 
-/// A connected port, to which others send in a place.
+impl<K: Drop> Port<K> {
+    /// Whether the port has this number, and its value lives.
+    pub(crate) fn is_held_as(&self, number: u64) -> bool
+        ensures { result ≡ (self.now.id == number && self.now.is_held) }
+    {
+        self.id == number && self.is_held
+    }
+
+    /// Whether a slice is longer than the port has room for, and may not get more.
+    pub(crate) fn is_too_long(&self, len: usize) -> bool
+        ensures { result ≡ is_too_long (connected_of self.now).port len }
+    {
+        match self.allocation_strategy {
+            AllocationStrategy::Static => self.initial_max_slice_len < len,
+            AllocationStrategy::BestFit | AllocationStrategy::PowerOfTwo => false,
+        }
+    }
+}
+
+/// A connected port, with a number, to which others send in a place.
 pub(crate) trait Placed: Drop {
     ghost use Rattle.std.specs.Prelude.{ℕ};
 
+    /// The number.
+    ghost id: { Self → ℕ };
+
     /// The place.
     ghost place: { Self → ℕ };
+
+    /// The number.
+    fn id(&self) -> u64
+        ensures { result ≡ id self.now };
 
     /// The place.
     fn place(&self) -> usize
@@ -57,7 +86,13 @@ pub(crate) trait Placed: Drop {
 }
 
 impl<K: Drop> Placed for ClientPort<K> {
+    ghost id = { λ c. c.port.id };
+
     ghost place = { λ c. c.port.place };
+
+    fn id(&self) -> u64 {
+        self.port.id
+    }
 
     fn place(&self) -> usize {
         self.port.place
@@ -65,9 +100,22 @@ impl<K: Drop> Placed for ClientPort<K> {
 }
 
 impl<K: Drop> Placed for ServerPort<K> {
+    ghost id = { λ s. s.port.id };
+
     ghost place = { λ s. s.port.place };
+
+    fn id(&self) -> u64 {
+        self.port.id
+    }
 
     fn place(&self) -> usize {
         self.port.place
     }
+}
+
+/// Where among the ports the one with a number stands.
+pub(crate) fn index_of<P: Placed>(ports: &[P], id: u64) -> Option<usize>
+    ensures { result ≡ position (λ p. P.id p == id) ports.now }
+{
+    ports.iter().position(|port| port.id() == id)
 }

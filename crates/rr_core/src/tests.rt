@@ -9,6 +9,8 @@ use rr_hub::{
 };
 use std::test::Fail;
 
+mod loans;
+
 /// A handler that refuses.
 #[derive(Drop)]
 struct Refuses;

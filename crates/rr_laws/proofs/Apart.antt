@@ -13,7 +13,7 @@ use Rattle.rr_hub.specs.Messages.{ResponseMessage}
 use Rattle.rr_laws.specs.Roles.{Question, Role, Roles, asking, asking_at}
 use Rattle.rr_laws.specs.Reached.{ResponseFits, ResponsesFit}
 use Rattle.rr_laws.specs.Apart.{ChannelsApart, standing, ResponsesApart, AreApart}
-use Rattle.rr_laws.proofs.Counting.{count-cons}
+use Rattle.rr_table.proofs.Counting.{count-cons}
 use Rattle.rr_laws.proofs.Staying.{Shrinks, asking_stays_with, asking_stays_without}
 
 -- no request is asked for that was not

@@ -16,12 +16,13 @@ use Rattle.rr_hub.proofs.KeyLaws.{response_keys_total, response_keys_exact}
 use Rattle.rr_hub.proofs.ListsLaws.{at-with_at}
 use Rattle.rr_laws.specs.Roles.{Role, Roles}
 use Rattle.rr_laws.specs.Apart.{standing, ResponsesApart}
-use Rattle.rr_laws.proofs.Counting.{count-cons, count-append}
-use Rattle.rr_laws.proofs.MapFacts.{itself}
+use Rattle.rr_table.proofs.Counting.{count-cons, count-append}
+use Rattle.rr_table.proofs.MapFacts.{itself}
 use Rattle.rr_laws.proofs.Putting.{shrinks_taken}
 use Rattle.rr_laws.proofs.Apart.{count-drop, standing_shrinks}
 
-count-put : {X : Type 0} (p : X → Bool) (overflow : Bool) (capacity : ℕ) (entries : List X) (x : X) → count_by p (put overflow capacity entries x) ≤ count_by p entries + mark (p x)
+-- a message that comes to a list adds one at most
+pub count-put : {X : Type 0} (p : X → Bool) (overflow : Bool) (capacity : ℕ) (entries : List X) (x : X) → count_by p (put overflow capacity entries x) ≤ count_by p entries + mark (p x)
 count-put p overflow capacity entries x = go (is_full capacity entries) overflow
   where
     go : (full over : Bool) → count_by p (cond (not full) (entries ++ x ∷ []) (cond over (drop 1 entries ++ x ∷ []) entries)) ≤ count_by p entries + mark (p x)

@@ -22,8 +22,8 @@ use Rattle.rr_hub.specs.Releases.{without_unused_port, without_port_value, after
 use Rattle.rr_laws.specs.Roles.{Question, Role, LoanedRequest, SentRequest, LoanedResponse, Roles, role_of, roles_of, question_of, answer_of, asking, asking_at}
 use Rattle.rr_laws.specs.Reached.{IsReached}
 use Rattle.rr_laws.specs.Apart.{ResponsesApart, AreApart, IsApart}
-use Rattle.rr_laws.proofs.ListFacts.{any-map}
-use Rattle.rr_laws.proofs.MapFacts.{any_value}
+use Rattle.rr_table.proofs.ListFacts.{any-map}
+use Rattle.rr_table.proofs.MapFacts.{any_value}
 use Rattle.rr_laws.proofs.LiveRequests.{both_true}
 use Rattle.rr_laws.proofs.RoleLaws.{role_at, handle_of, roles-insert, roles-remove}
 use Rattle.rr_laws.proofs.Opening.{some_and, open_request_mut, open_response_mut, open_active}

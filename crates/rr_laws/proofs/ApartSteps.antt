@@ -70,7 +70,8 @@ module _ {T H K : Type 0} where
   content_apart : (s : State T H T H K) (n : ℕ) (change : Content T H → Content T H) → IsApart s → IsApart (with_content s n change)
   content_apart s n change apart = changed_apart s n (λ h. with_request_content change (with_response_content change h)) (content_role change) apart
 
-  complete_apart : (s : State T H T H K) (n : ℕ) (elements : List T) → IsApart s → IsApart (with_complete s n elements)
+  -- all elements of a message are written
+  pub complete_apart : (s : State T H T H K) (n : ℕ) (elements : List T) → IsApart s → IsApart (with_complete s n elements)
   complete_apart s n elements apart = changed_apart (with_content s n (with_elements elements)) n after_init init_role (content_apart s n (with_elements elements) apart)
 
   written : (old new : State T H T H K) (n : ℕ) (b : Bool) (change : Content T H → Content T H) → new ≡ cond b (with_content old n change) old → IsApart old → IsApart new

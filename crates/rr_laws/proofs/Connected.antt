@@ -11,7 +11,7 @@ use Rattle.rr_hub.specs.Messages.{RequestMessage}
 use Rattle.rr_hub.specs.Ports.{Client, Server}
 use Rattle.rr_laws.specs.Roles.{Role, LoanedRequest, SentRequest, ReceivedRequest, LoanedResponse, ReceivedResponse, Roles}
 use Rattle.rr_laws.specs.Reached.{has_client, has_server, has_port, HandlesFit, RequestFits, RequestsFit}
-use Rattle.rr_laws.proofs.ListFacts.{all_each, all_found, passes_found, find-append, find-gone, find-changed}
+use Rattle.rr_table.proofs.ListFacts.{all_each, all_found, passes_found, find-append, find-gone, find-changed}
 
 module _ {X : Type 0} (id : X → ℕ) where
   -- who was there is there after one more came

@@ -21,9 +21,9 @@ use Rattle.rr_hub.specs.Creation.{pool_size_of, loans_of, client_refusal, with_c
 use Rattle.rr_hub.proofs.ListsLaws.{at-no_lists}
 use Rattle.rr_laws.specs.Roles.{Role, LoanedRequest, SentRequest, ReceivedRequest, LoanedResponse, ReceivedResponse, role_of, roles_of, loans_response}
 use Rattle.rr_laws.specs.Reached.{has_port, Fits, IsReached}
-use Rattle.rr_laws.proofs.ListFacts.{all_append, find-append}
-use Rattle.rr_laws.proofs.MapFacts.{all_entries}
-use Rattle.rr_laws.proofs.Counting.{count-none}
+use Rattle.rr_table.proofs.ListFacts.{all_append, find-append}
+use Rattle.rr_table.proofs.MapFacts.{all_entries}
+use Rattle.rr_table.proofs.Counting.{count-none}
 use Rattle.rr_laws.proofs.Staying.{role_stays, requests_stay, responses_stay, ports_with_more}
 use Rattle.rr_laws.proofs.Connected.{has-append, has_below, port_number, port_stays, handles_with_ports, requests_with_servers}
 use Rattle.rr_laws.proofs.Tests.{not_due, below_of_test, positive}

@@ -19,14 +19,14 @@ use Rattle.rr_hub.specs.Loans.{is_too_long}
 use Rattle.rr_laws.specs.Roles.{Role, LoanedRequest, SentRequest, ReceivedRequest, LoanedResponse, ReceivedResponse, role_of, roles_of, subject_of, number_of}
 use Rattle.rr_laws.specs.Reached.{IsReached}
 use Rattle.rr_laws.specs.Unreduced.{FindsChannel}
-use Rattle.rr_laws.proofs.MapFacts.{all_entries, one_entry, any_value}
-use Rattle.rr_laws.proofs.Counting.{count-bins}
+use Rattle.rr_table.proofs.MapFacts.{all_entries, one_entry, any_value}
+use Rattle.rr_table.proofs.Counting.{count-bins}
 use Rattle.rr_laws.proofs.RoleLaws.{handle_of}
 use Rattle.rr_laws.proofs.Counts.{and_first, and_second}
 use Rattle.rr_laws.proofs.Tests.{not_due, below_of_test}
 use Rattle.rr_laws.proofs.LiveRequests.{both_true}
 use Rattle.rr_laws.proofs.Bins.{all_of}
-use Rattle.rr_laws.proofs.ListFacts.{or_true, any-append, any-filter, any-map, any-filter_map}
+use Rattle.rr_table.proofs.ListFacts.{or_true, any-append, any-filter, any-map, any-filter_map}
 use Rattle.rr_laws.proofs.Below.{all_below, one_below, count-all, search_below}
 
 -- the different numbers of a list, each once

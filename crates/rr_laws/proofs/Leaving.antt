@@ -20,14 +20,15 @@ use Rattle.rr_hub.proofs.KeyLaws.{request_keys_total, request_keys_exact}
 use Rattle.rr_hub.proofs.ListsLaws.{at-retain_keys}
 use Rattle.rr_laws.specs.Roles.{Role, role_of, roles_of, loans_response}
 use Rattle.rr_laws.specs.Reached.{RequestFits, RequestsFit, Fits, IsReached}
-use Rattle.rr_laws.proofs.MapFacts.{any_value}
-use Rattle.rr_laws.proofs.ListFacts.{any-map, all_filter, all_map, length-filter_le, find-gone, find-changed}
+use Rattle.rr_table.proofs.MapFacts.{any_value}
+use Rattle.rr_table.proofs.ListFacts.{any-map, all_filter, all_map, length-filter_le, find-gone, find-changed}
 use Rattle.rr_laws.proofs.RoleLaws.{handle_of, roles-map_handles}
 use Rattle.rr_laws.proofs.Connected.{port_number, port_stays, has-gone, has-changed, handles_with_ports, request_with_servers, requests_with_servers}
 use Rattle.rr_laws.proofs.Releasing.{without_server-role, handle_gone_reached}
 use Rattle.rr_laws.proofs.Expiring.{clients_expired, servers_expired, requests_dropped, responses_dropped}
 
-or_no : (a b : Bool) → (a || b) ≡ false → b ≡ false
+-- the second of two tests of which neither passes
+pub or_no : (a b : Bool) → (a || b) ≡ false → b ≡ false
 or_no true b e = absurd (cc)
 or_no false b e = e
 
@@ -62,7 +63,7 @@ module _ {K : Type 0} (n : ℕ) where
 
 module _ {Q QH P PH K : Type 0} where
   -- no handle is of a port that is not in use
-  no_handle_of : (s : State Q QH P PH K) (port : ℕ) → is_in_use s port ≡ false → (n : ℕ) (role : Role) → get (roles_of s.handles) n ≡ Some role → port_number role ≢ port
+  pub no_handle_of : (s : State Q QH P PH K) (port : ℕ) → is_in_use s port ≡ false → (n : ℕ) (role : Role) → get (roles_of s.handles) n ≡ Some role → port_number role ≢ port
   no_handle_of s port unused n role e same =
       let h = handle_of s.handles n role e in
       let its : port_of h.0 ≡ port = port_of-role h.0 ∙ ap port_number h.2 ∙ same in

@@ -26,7 +26,7 @@ use Rattle.rr_run.specs.Run.{Run}
 use Rattle.rr_laws.specs.Roles.{role_of}
 use Rattle.rr_laws.specs.Reached.{IsReached}
 use Rattle.rr_laws.specs.Left.{IsLeftFit}
-use Rattle.rr_laws.proofs.ListFacts.{any_found, any_weaker}
+use Rattle.rr_table.proofs.ListFacts.{any_found, any_weaker}
 use Rattle.rr_laws.proofs.RoleLaws.{role_at}
 use Rattle.rr_laws.proofs.Opening.{some_and}
 use Rattle.rr_laws.proofs.Counts.{and_first}

@@ -24,7 +24,7 @@ use Rattle.rr_hub.specs.Releases.{after_client_left, after_server_left, without_
 use Rattle.rr_laws.specs.Roles.{Role, LoanedRequest, SentRequest, ReceivedRequest, LoanedResponse, ReceivedResponse, role_of}
 use Rattle.rr_laws.specs.Reached.{has_client, has_port, IsReached}
 use Rattle.rr_laws.specs.Left.{IsGone, LeftFit, IsLeftFit}
-use Rattle.rr_laws.proofs.ListFacts.{all_each, all_filter}
+use Rattle.rr_table.proofs.ListFacts.{all_each, all_filter}
 use Rattle.rr_laws.proofs.RoleLaws.{role_at}
 use Rattle.rr_laws.proofs.Opening.{some_and, open_request_mut, open_response_mut, open_active}
 use Rattle.rr_laws.proofs.Connected.{has_below, port_number}
@@ -90,7 +90,8 @@ module _ {Q QH P PH K : Type 0} where
       go (LoanedResponse a) h = has_below (λ c. c.id) s.servers a.server s.next fits.ports.server_numbers h
       go (ReceivedResponse a) h = has_below (λ c. c.id) s.clients a.client s.next fits.ports.client_numbers h
 
-  handle_gone_left : (s : State Q QH P PH K) (n : ℕ) → IsLeftFit s → (h : Handle Q QH P PH) → IsLeftFit (after_handle_gone (record s { handles = remove s.handles n }) h)
+  -- after a handle is gone, and what goes with it
+  pub handle_gone_left : (s : State Q QH P PH K) (n : ℕ) → IsLeftFit s → (h : Handle Q QH P PH) → IsLeftFit (after_handle_gone (record s { handles = remove s.handles n }) h)
   handle_gone_left s n left (RequestMutUninit m) = left
   handle_gone_left s n left (RequestMut m) = left
   handle_gone_left s n left (PendingResponse p) = left_with_list s.clients s.servers s.expired s.next left p.message.client _ (all_filter _ _ (at s.expired p.message.client) (left.gone p.message.client))

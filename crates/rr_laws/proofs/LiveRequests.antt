@@ -17,9 +17,9 @@ use Rattle.rr_hub.specs.Counts.{live_requests}
 use Rattle.rr_hub.proofs.KeyLaws.{request_keys_total}
 use Rattle.rr_laws.specs.Roles.{Role, LoanedRequest, SentRequest, ReceivedRequest, LoanedResponse, ReceivedResponse, role_of, roles_of, loans_request, waits, holds_request}
 use Rattle.rr_laws.specs.Reached.{has_port, RequestFits, IsReached}
-use Rattle.rr_laws.proofs.ListFacts.{any_weaker, all_each, any_found}
-use Rattle.rr_laws.proofs.MapFacts.{all_entries, one_entry}
-use Rattle.rr_laws.proofs.Counting.{count-parts, count-bins, count-filter_map}
+use Rattle.rr_table.proofs.ListFacts.{any_weaker, all_each, any_found}
+use Rattle.rr_table.proofs.MapFacts.{all_entries, one_entry}
+use Rattle.rr_table.proofs.Counting.{count-parts, count-bins, count-filter_map}
 use Rattle.rr_laws.proofs.RoleLaws.{count-roles}
 use Rattle.rr_laws.proofs.Counts.{and_first, and_second}
 use Rattle.rr_laws.proofs.Bins.{all_of, distinct_parts, all_lists, count_elements}

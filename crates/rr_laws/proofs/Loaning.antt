@@ -18,7 +18,7 @@ use Rattle.rr_hub.specs.Loans.{with_loan_counted, request_loan_refusal, with_loa
 use Rattle.rr_hub.specs.Counts.{loaned_requests, loaned_responses, loaned_responses_from, live_responses}
 use Rattle.rr_laws.specs.Roles.{Question, Answer, Role, LoanedRequest, SentRequest, LoanedResponse, Roles, roles_of, question_of, asking, loans_request, loans_response}
 use Rattle.rr_laws.specs.Reached.{IsKnown, RoleFits, CountsFit, Fits, IsReached}
-use Rattle.rr_laws.proofs.ListFacts.{all_found, all_map, passes_found}
+use Rattle.rr_table.proofs.ListFacts.{all_found, all_map, passes_found}
 use Rattle.rr_laws.proofs.RoleLaws.{role_at, roles-insert, loaned_requests-roles, loaned_responses-roles}
 use Rattle.rr_laws.proofs.Staying.{AskingStays, asking_stays_with_new, waiting_stays_with, known_stays, role_stays, requests_stay, responses_stay, ports_with_more}
 use Rattle.rr_laws.proofs.Counts.{counts_with_request_loan, counts_with_response_loan}

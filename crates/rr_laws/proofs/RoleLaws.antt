@@ -16,7 +16,7 @@ use Rattle.rr_hub.specs.Counts.{is_request_loan, is_response_loan, is_pending_of
 use Rattle.rr_hub.specs.Releases.{map_handles}
 use Rattle.rr_hub.proofs.HandleLaws.{get-map_handles}
 use Rattle.rr_laws.specs.Roles.{Role, Roles, role_of, roles_of, loans_request, waits, holds_request, loans_response, holds_response}
-use Rattle.rr_laws.proofs.Counting.{count-map}
+use Rattle.rr_table.proofs.Counting.{count-map}
 
 module _ {Q QH P PH : Type 0} where
   -- the role under a number

@@ -16,7 +16,7 @@ use Rattle.rr_hub.specs.Counts.{pending_responses, is_alive}
 use Rattle.rr_hub.specs.Sends.{put, request_reach, with_request_put, with_response_put, with_sent_request, SendsRequest, SendsResponse}
 use Rattle.rr_laws.specs.Roles.{answered, LoanedRequest, SentRequest, LoanedResponse, roles_of, question_of, answer_of, asking, asking_at, waits}
 use Rattle.rr_laws.specs.Reached.{RequestFits, RequestsFit, ResponseFits, ResponsesFit, Fits, IsReached}
-use Rattle.rr_laws.proofs.ListFacts.{all_map, each_found, passes_found}
+use Rattle.rr_table.proofs.ListFacts.{all_map, each_found, passes_found}
 use Rattle.rr_laws.proofs.RoleLaws.{role_at, roles-insert, pending_responses-roles}
 use Rattle.rr_laws.proofs.Staying.{asking_stays_with, known_stays}
 use Rattle.rr_laws.proofs.Counts.{counts_with_sent_request}
@@ -72,7 +72,7 @@ module _ {Q QH P PH K : Type 0} (s : State Q QH P PH K) (fits : IsReached s) (n 
       subst (λ (x : State Q QH P PH K). IsReached x) (sym o.4.1) (after_release_reached s n fits)
 
   -- a response on loan fits the list that it reaches, if its request is alive
-  response_fits : (m : ResponseMessage P PH) → handle_at s n ≡ Some (ResponseMut m) → is_alive s m.request ≡ true →
+  pub response_fits : (m : ResponseMessage P PH) → handle_at s n ≡ Some (ResponseMut m) → is_alive s m.request ≡ true →
       ResponseFits (roles_of s.handles) s.next (record { server = m.server; client = m.client; channel = m.channel }) m
   response_fits m is alive =
       let at : get (roles_of s.handles) n ≡ Some (LoanedResponse (answer_of m)) = role_at s.handles n (ResponseMut m) is in

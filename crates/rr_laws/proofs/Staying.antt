@@ -13,7 +13,7 @@ use Rattle.rr_hub.specs.Messages.{RequestMessage, ResponseMessage}
 use Rattle.rr_hub.specs.Ports.{Client, Server}
 use Rattle.rr_laws.specs.Roles.{Question, Role, SentRequest, Roles, asking, asking_at, subject_of}
 use Rattle.rr_laws.specs.Reached.{PortsFit, IsKnown, RoleFits, RequestFits, RequestsFit, ResponseFits, ResponsesFit}
-use Rattle.rr_laws.proofs.ListFacts.{all_each, all_drop}
+use Rattle.rr_table.proofs.ListFacts.{all_each, all_drop}
 
 -- a request that its client has later under a number that was given before, it had before
 abbrev pub AskingStays : Roles → Roles → ℕ → Type 0

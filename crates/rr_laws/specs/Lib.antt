@@ -4,3 +4,7 @@ pub mod Apart
 pub mod Left
 pub mod Bound
 pub mod Unreduced
+pub mod History
+pub mod Following
+pub mod Settling
+pub mod Completing

@@ -2,7 +2,11 @@
 #![tactic(auto)]
 
 mod bounded;
+mod ordered;
+mod own_request;
 mod unreduced;
 
 pub use bounded::bound;
+pub use ordered::in_order;
+pub use own_request::own_request_once;
 pub use unreduced::unreduced_pool;

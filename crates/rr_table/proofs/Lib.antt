@@ -1,5 +1,10 @@
 pub mod MapLaws
 pub mod Standing
+pub mod Kept
 pub mod Rows
 pub mod Vectors
 pub mod SeatLaws
+pub mod ListFacts
+pub mod MapFacts
+pub mod Counting
+pub mod Members

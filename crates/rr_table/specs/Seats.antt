@@ -1,5 +1,5 @@
 -- What contracts see of a table.
-use Rattle.std.specs.Prelude.{◌≡◌, ◌≢◌, ℕ, ◌<◌, ◌==◌, if◌then◌else◌, Option, Some, None, List, [], ◌∷◌, ◌++◌, length, slice_index_or, slice_set, option_map, refl}
+use Rattle.std.specs.Prelude.{◌≡◌, ◌≢◌, ℕ, ◌<◌, ◌==◌, ◌&&◌, if◌then◌else◌, Option, Some, None, List, [], ◌∷◌, ◌++◌, length, slice_index_or, slice_set, option_map, option_and_then, refl}
 use Rattle.std.specs.Coded.{Coded, code_by, coded×, coded_ℕ, coded_list}
 use Rattle.std.specs.Ordering.{nat_cmp}
 use Rattle.std.specs.FinMap as map
@@ -41,6 +41,14 @@ module _ {E : Type 0} where
   -- the value under a number
   abbrev pub value_at : Seats E → ℕ → Option E
   value_at t n = option_map (λ s. s.value) (map.get t.seats n)
+
+  -- the value of a seat, if the seat is in this place
+  abbrev pub kept_in : Place → Seat E → Option E
+  kept_in p s = if s.place.row == p.row && s.place.index == p.index then Some s.value else None
+
+  -- the value under a number, if it stands in this place
+  abbrev pub value_in : Seats E → ℕ → Place → Option E
+  value_in t n p = option_and_then (kept_in p) (map.get t.seats n)
 
   -- with a value under a number, in a place
   abbrev pub seated : Seats E → ℕ → Place → E → Seats E

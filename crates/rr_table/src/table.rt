@@ -2,7 +2,7 @@
 
 ghost use Rattle.std.specs.Prelude.{◌≡◌, ◌≢◌, ◌<◌, length, replicate, IfOk, OnOk, OnErr, IfSome, None};
 ghost use Rattle.std.specs.FinMap as map;
-ghost use Rattle.rr_table.specs.Seats.{value_at, no_seats, seated, unseated, IsInside, IsVacant, with_row, IsRenewed};
+ghost use Rattle.rr_table.specs.Seats.{value_at, value_in, no_seats, seated, unseated, IsInside, IsVacant, with_row, IsRenewed};
 
 use crate::place::Place;
 use crate::seek::{entry_at, seek};
@@ -81,6 +81,23 @@ impl<E: Copy> Table<E> {
                 Some(entry) => Some(entry.value),
                 None => None,
             },
+            None => None,
+        }
+    }
+
+    /// The value under a number, if it stands in this very place. None else, whatever stands there. It looks at no other
+    /// place.
+    pub fn get_at(&self, number: u64, place: Place) -> Option<E>
+        ensures { result ≡ value_in self.now number place }
+    {
+        match entry_at(&self.rows, place) {
+            Some(entry) => {
+                if entry.number == number {
+                    Some(entry.value)
+                } else {
+                    None
+                }
+            }
             None => None,
         }
     }

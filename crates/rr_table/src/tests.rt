@@ -40,6 +40,17 @@ fn gets_what_was_inserted_whatever_the_hint(rt: HostRuntime) -> Result<(), Fail>
 }
 
 #[test]
+fn gets_only_what_stands_in_the_place(rt: HostRuntime) -> Result<(), Fail> {
+    let table = two_rows(rt.alloc())?;
+    let cases = [Some(70), None, None, None];
+    for index in 0..4 {
+        assert_eq!(rt; table.get_at(7, HINTS[index]), cases[index]);
+    }
+    assert_eq!(rt; table.get_at(9, HINTS[2]), Some(90));
+    Ok(())
+}
+
+#[test]
 fn numbers_its_rows(rt: HostRuntime) -> Result<(), Fail> {
     let alloc = rt.alloc();
     let mut table: Table<u32> = Table::new(alloc);

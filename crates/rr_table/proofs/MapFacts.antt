@@ -10,7 +10,7 @@ use Rattle.std.specs.FinMap.{FinMap, entries, entries_sorted, get, get-entries}
 use Rattle.std.specs.FinMap.Entries.{find, is_sorted, below_all}
 use Rattle.std.proofs.lemmas.List.Sums.{sum_by-cons}
 use Rattle.rr_table.specs.Maps.{mark}
-use Rattle.rr_laws.proofs.ListFacts.{all_each, or_true}
+use Rattle.rr_table.proofs.ListFacts.{all_each, or_true}
 use lib.Dec.{T}
 
 first : (a b : Bool) → T (a && b) → T a

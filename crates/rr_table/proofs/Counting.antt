@@ -7,7 +7,7 @@ use Rattle.std.specs.Option.{option_map_or}
 use Rattle.std.proofs.Math.Nat.{suc-mul}
 use Rattle.std.proofs.lemmas.List.Sums.{sum_by-cons, sum_by-append}
 use Rattle.rr_table.specs.Maps.{mark}
-use Rattle.rr_laws.proofs.ListFacts.{all_each}
+use Rattle.rr_table.proofs.ListFacts.{all_each}
 
 mark_parts : (a b c : Bool) → (a ≡ true → (b || c) ≡ true) → mark a ≤ mark b + mark c
 mark_parts true true c h = omega arith

@@ -1,0 +1,56 @@
+use Rattle.std.proofs.Common.{◌≡◌, ◌<◌, length, sym, ap, refl, ◌∙◌, arith}
+use Rattle.std.specs.Prelude.{nat_lt}
+use Rattle.std.proofs.lemmas.List.{length-map}
+use Rattle.rr_core.specs.Inside.{parts_of, marks_of}
+use Rattle.rr_core.specs.Sound.{empty_hand}
+use Rattle.rr_core.proofs.Shown.{request_spot}
+use Rattle.rr_core.proofs.Connected.{of_kind, of_kind_there, of_pending, pending_has_request, server_place_within, mark_within, marks_before, marks_read, waiting_seen}
+use Rattle.rr_hub.specs.declared.kind.Kind.{Kind}
+use Rattle.rr_core.proofs.state.Core.is_pending_connected.Goals as goal
+
+pub index-requires : goal.index-requires
+index-requires g c =
+    let p = parts_of c.self.inside in
+    let found = sym c.get.ensures ∙ c.in-Some.is in
+    let kind = of_kind p c.args.self.now c.id.inside.number c.args.id.now c.self.view_is c.id.view_is Kind.PendingResponse (λ e. cc) (λ e. cc) c.requires c.in-Some.held found in
+    let spot = request_spot p empty_hand c.self.invariant.counted c.id.inside.number c.in-Some.held found (pending_has_request _ kind) in
+    omega (arith, spot.0, c.self.invariant.sized.waiting, length-map c.self.inside.waiting.items marks_of, c.self.inside.waiting.ok.0)
+
+pub overflow_mul-held : goal.overflow_mul-held
+overflow_mul-held g c =
+    let p = parts_of c.self.inside in
+    let found = sym c.get.ensures ∙ c.in-Some.is in
+    let kind = of_kind p c.args.self.now c.id.inside.number c.args.id.now c.self.view_is c.id.view_is Kind.PendingResponse (λ e. cc) (λ e. cc) c.requires c.in-Some.held found in
+    let spot = request_spot p empty_hand c.self.invariant.counted c.id.inside.number c.in-Some.held found (pending_has_request _ kind) in
+    let within : c.in-Some.held.lane < length c.self.inside.waiting.items = omega (arith, spot.0, c.self.invariant.sized.waiting, length-map c.self.inside.waiting.items marks_of) in
+    let marks = marks_read c.self.inside.waiting.items c.in-Some.held.lane c.index.result.now c.as_slice-in-Some.result.now within c.index.ensures c.as_slice-in-Some.ensures.value in
+    let many = ap length (sym marks) ∙ c.self.invariant.sized.waiting_slots c.in-Some.held.lane spot.0 in
+    omega (arith, marks_before c.in-Some.held.slot _ c.self.inside.limits.max_servers (length c.as_slice-in-Some.result.now) spot.1 many, c.as_slice-in-Some.type_inv.0)
+
+pub is_any_marked-requires : goal.is_any_marked-requires
+is_any_marked-requires g c i s at =
+    let p = parts_of c.self.inside in
+    let found = sym c.get.ensures ∙ c.in-Some.is in
+    let kind = of_kind p c.args.self.now c.id.inside.number c.args.id.now c.self.view_is c.id.view_is Kind.PendingResponse (λ e. cc) (λ e. cc) c.requires c.in-Some.held found in
+    let spot = request_spot p empty_hand c.self.invariant.counted c.id.inside.number c.in-Some.held found (pending_has_request _ kind) in
+    let within : c.in-Some.held.lane < length c.self.inside.waiting.items = omega (arith, spot.0, c.self.invariant.sized.waiting, length-map c.self.inside.waiting.items marks_of) in
+    let marks = marks_read c.self.inside.waiting.items c.in-Some.held.lane c.index.result.now c.as_slice-in-Some.result.now within c.index.ensures c.as_slice-in-Some.ensures.value in
+    let many = ap length (sym marks) ∙ c.self.invariant.sized.waiting_slots c.in-Some.held.lane spot.0 in
+    mark_within c.in-Some.held.slot _ c.self.inside.limits.max_servers s.port.place (length c.as_slice-in-Some.result.now) spot.1
+    (server_place_within p.next c.self.inside.limits.max_servers c.self.inside.servers.items c.as_slice.result.now p.server_lanes c.self.invariant.server_ports c.as_slice.ensures.value i s at) many
+
+pub unreachable-requires : goal.unreachable-requires
+unreachable-requires g c =
+    of_kind_there (parts_of c.self.inside) c.args.self.now c.id.inside.number c.args.id.now c.self.view_is c.id.view_is Kind.PendingResponse (λ e. cc) (λ e. cc) c.requires (sym c.get.ensures ∙ c.in-None.is)
+
+pub returns : goal.returns
+returns g c =
+    let p = parts_of c.self.inside in
+    let found = sym c.get.ensures ∙ c.in-Some.is in
+    let kind = of_kind p c.args.self.now c.id.inside.number c.args.id.now c.self.view_is c.id.view_is Kind.PendingResponse (λ e. cc) (λ e. cc) c.requires c.in-Some.held found in
+    let spot = request_spot p empty_hand c.self.invariant.counted c.id.inside.number c.in-Some.held found (pending_has_request _ kind) in
+    let within : c.in-Some.held.lane < length c.self.inside.waiting.items = omega (arith, spot.0, c.self.invariant.sized.waiting, length-map c.self.inside.waiting.items marks_of) in
+    let marks = marks_read c.self.inside.waiting.items c.in-Some.held.lane c.index.result.now c.as_slice-in-Some.result.now within c.index.ensures c.as_slice-in-Some.ensures.value in
+    of_pending p c.args.self.now c.id.inside.number c.args.id.now c.self.view_is c.id.view_is c.in-Some.held found (λ servers. c.is_any_marked.result ≡ nat_lt 0 (length servers)) kind
+    (c.is_any_marked.ensures
+    ∙ waiting_seen p c.in-Some.held.lane c.in-Some.held.slot c.self.inside.servers.items c.as_slice.result.now c.as_slice-in-Some.result.now refl c.as_slice.ensures.value marks)

@@ -1,0 +1,35 @@
+use Rattle.std.proofs.Common.{option_map, Some, sym, ap, ◌∙◌}
+use Rattle.rr_hub.specs.Queries.{kind_at, kind_of}
+use Rattle.rr_core.specs.Inside.{parts_of}
+use Rattle.rr_core.specs.Views.{state_of}
+use Rattle.rr_core.proofs.Looking.{client_seen, server_seen, kind_client, kind_server, kind_handle, kind_shown, nothing_shown}
+use Rattle.rr_core.proofs.state.Core.kind.Goals as goal
+
+pub returns-then-is_client_held : goal.returns-then-is_client_held
+returns-then-is_client_held g c =
+    let client = client_seen c.self.inside.clients.items _ c.id.inside.number _ c.as_slice.ensures.value c.is_client_held.ensures in
+    kind_client (state_of (parts_of c.self.inside)) c.id.inside.number (client ∙ c.if-is_client_held.true)
+    ∙ ap (λ s. kind_at s c.id.inside.number) c.self.view_is ∙ ap (kind_at c.args.self.now) c.id.view_is
+
+pub returns-then-is_server_held : goal.returns-then-is_server_held
+returns-then-is_server_held g c =
+    let client = client_seen c.self.inside.clients.items _ c.id.inside.number _ c.as_slice.ensures.value c.is_client_held.ensures in
+    let server = server_seen c.self.inside.servers.items _ c.id.inside.number _ c.as_slice-2.ensures.value c.is_server_held.ensures in
+    kind_server (state_of (parts_of c.self.inside)) c.id.inside.number (client ∙ c.if-is_client_held.false) (server ∙ c.if-is_server_held.true)
+    ∙ ap (λ s. kind_at s c.id.inside.number) c.self.view_is ∙ ap (kind_at c.args.self.now) c.id.view_is
+
+pub returns-in-Some : goal.returns-in-Some
+returns-in-Some g c =
+    let client = client_seen c.self.inside.clients.items _ c.id.inside.number _ c.as_slice.ensures.value c.is_client_held.ensures in
+    let server = server_seen c.self.inside.servers.items _ c.id.inside.number _ c.as_slice-2.ensures.value c.is_server_held.ensures in
+    ap Some c.kind.ensures ∙ sym (kind_shown (parts_of c.self.inside) c.id.inside.number c.in-Some.held (sym c.get.ensures ∙ c.in-Some.is))
+    ∙ kind_handle (state_of (parts_of c.self.inside)) c.id.inside.number (client ∙ c.if-is_client_held.false) (server ∙ c.if-is_server_held.false)
+    ∙ ap (λ s. kind_at s c.id.inside.number) c.self.view_is ∙ ap (kind_at c.args.self.now) c.id.view_is
+
+pub returns-in-None : goal.returns-in-None
+returns-in-None g c =
+    let client = client_seen c.self.inside.clients.items _ c.id.inside.number _ c.as_slice.ensures.value c.is_client_held.ensures in
+    let server = server_seen c.self.inside.servers.items _ c.id.inside.number _ c.as_slice-2.ensures.value c.is_server_held.ensures in
+    sym (ap (option_map kind_of) (nothing_shown (parts_of c.self.inside) c.id.inside.number (sym c.get.ensures ∙ c.in-None.is)))
+    ∙ kind_handle (state_of (parts_of c.self.inside)) c.id.inside.number (client ∙ c.if-is_client_held.false) (server ∙ c.if-is_server_held.false)
+    ∙ ap (λ s. kind_at s c.id.inside.number) c.self.view_is ∙ ap (kind_at c.args.self.now) c.id.view_is

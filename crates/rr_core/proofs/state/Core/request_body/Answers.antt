@@ -1,0 +1,46 @@
+use Rattle.std.proofs.Common.{◌<◌, length, sym, ap, ◌∙◌, arith}
+use Rattle.std.proofs.lemmas.List.{length-map}
+use Rattle.rr_core.specs.Inside.{parts_of, lane_part}
+use Rattle.rr_core.specs.Sound.{empty_hand}
+use Rattle.rr_core.proofs.Shown.{lane_read, content_read, request_there, is_request, of_request, request_spot}
+use Rattle.rr_core.proofs.state.Core.request_body.Goals as goal
+
+pub index-requires : goal.index-requires
+index-requires g c =
+    let p = parts_of c.self.inside in
+    let found = sym c.get.ensures ∙ c.in-Some.is in
+    let is = is_request p c.args.self.now c.id.inside.number c.args.id.now c.self.view_is c.id.view_is c.in-Some.held found c.requires in
+    omega (arith, (request_spot p empty_hand c.self.invariant.counted c.id.inside.number c.in-Some.held found is).0, length-map c.self.inside.client_lanes.items lane_part, c.self.inside.client_lanes.ok.0)
+
+pub body-requires : goal.body-requires
+body-requires g c =
+    let p = parts_of c.self.inside in
+    let found = sym c.get.ensures ∙ c.in-Some.is in
+    let is = is_request p c.args.self.now c.id.inside.number c.args.id.now c.self.view_is c.id.view_is c.in-Some.held found c.requires in
+    let spot = request_spot p empty_hand c.self.invariant.counted c.id.inside.number c.in-Some.held found is in
+    let within : c.in-Some.held.lane < length c.self.inside.client_lanes.items = omega (arith, spot.0, length-map c.self.inside.client_lanes.items lane_part) in
+    omega (arith, spot.1, ap (λ l. length l.messages.held) (lane_read c.self.inside.client_lanes.items c.in-Some.held.lane c.index.result.now within c.index.ensures))
+
+pub unreachable-requires : goal.unreachable-requires
+unreachable-requires g c =
+    request_there (parts_of c.self.inside) c.args.self.now c.id.inside.number c.args.id.now c.self.view_is c.id.view_is c.requires (sym c.get.ensures ∙ c.in-None.is)
+
+pub returns-clause-asked : goal.returns-clause-asked
+returns-clause-asked g c =
+    let p = parts_of c.self.inside in
+    let found = sym c.get.ensures ∙ c.in-Some.is in
+    let is = is_request p c.args.self.now c.id.inside.number c.args.id.now c.self.view_is c.id.view_is c.in-Some.held found c.requires in
+    let spot = request_spot p empty_hand c.self.invariant.counted c.id.inside.number c.in-Some.held found is in
+    let within : c.in-Some.held.lane < length c.self.inside.client_lanes.items = omega (arith, spot.0, length-map c.self.inside.client_lanes.items lane_part) in
+    of_request p c.args.self.now c.id.inside.number c.args.id.now c.self.view_is c.id.view_is c.in-Some.held found _ is
+    (ap (λ w. w.asked_len) (sym (content_read c.self.inside.client_lanes.items c.in-Some.held.lane c.index.result.now within c.index.ensures c.in-Some.held.slot _ c.body.ensures)))
+
+pub returns-clause-elements : goal.returns-clause-elements
+returns-clause-elements g c =
+    let p = parts_of c.self.inside in
+    let found = sym c.get.ensures ∙ c.in-Some.is in
+    let is = is_request p c.args.self.now c.id.inside.number c.args.id.now c.self.view_is c.id.view_is c.in-Some.held found c.requires in
+    let spot = request_spot p empty_hand c.self.invariant.counted c.id.inside.number c.in-Some.held found is in
+    let within : c.in-Some.held.lane < length c.self.inside.client_lanes.items = omega (arith, spot.0, length-map c.self.inside.client_lanes.items lane_part) in
+    of_request p c.args.self.now c.id.inside.number c.args.id.now c.self.view_is c.id.view_is c.in-Some.held found _ is
+    (ap (λ w. w.elements) (sym (content_read c.self.inside.client_lanes.items c.in-Some.held.lane c.index.result.now within c.index.ensures c.in-Some.held.slot _ c.body.ensures)))

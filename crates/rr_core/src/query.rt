@@ -1,0 +1,136 @@
+//! What a core tells of its ports and handles. No query changes it.
+ghost use Rattle.std.specs.Prelude.{◌≡◌, ℕ, ◌+◌, ◌<◌, ◌==◌, ◌&&◌, false, nat_lt, length, Some, IsSome, IsSomeAnd, option_and_then, slice_get, slice_index_or};
+ghost use Rattle.std.specs.List.{list_any};
+ghost use Rattle.rr_hub.specs.Counts.{is_alive};
+ghost use Rattle.rr_hub.specs.Messages.{request_in, response_in};
+ghost use Rattle.rr_hub.specs.Queries.{kind_at};
+ghost use Rattle.rr_hub.specs.State.{handle_at, pending_at, active_at};
+
+use crate::handle_id::HandleId;
+use crate::port::{ClientPort, ServerPort};
+use crate::state::Core;
+use rr_hub::{BackpressureFn, Kind};
+use rr_slots::Body;
+use rr_table::Place;
+
+impl<QB: Body, QH: Default + Drop, PB: Body, PH: Default + Drop, K: BackpressureFn> Core<
+    QB,
+    QH,
+    PB,
+    PH,
+    K,
+> {
+    /// What a number names: a client or a server whose value lives, or a handle. `None` if it names nothing.
+    ///
+    /// It walks over the ports, and finds a handle at its hint. Our own.
+    pub fn kind(&self, id: &HandleId) -> Option<Kind>
+        ensures { result ≡ kind_at self.now id.now }
+    {
+        if is_client_held(self.clients.as_slice(), id.number) {
+            return Some(Kind::Client);
+        }
+        if is_server_held(self.servers.as_slice(), id.number) {
+            return Some(Kind::Server);
+        }
+        match self.table.get(id.number, id.hint) {
+            Some(held) => Some(held.stage.kind()),
+            None => None,
+        }
+    }
+
+    /// The body of a handle's request, as far as it was written.
+    ///
+    /// After iceoryx2's `payload` of `RequestMut`, `PendingResponse` and `ActiveRequest`.
+    pub fn request_body(&self, id: &HandleId) -> &QB
+        requires { IsSome (option_and_then request_in (handle_at self.now id.now)) }
+        ensures asked { IsSomeAnd (option_and_then request_in (handle_at self.now id.now)) (λ m. QB.asked_len result.now ≡ m.content.asked_len) }
+        ensures elements { IsSomeAnd (option_and_then request_in (handle_at self.now id.now)) (λ m. QB.elements result.now ≡ m.content.elements) }
+    {
+        match self.table.get(id.number, id.hint) {
+            Some(held) => self.client_lanes[held.lane].messages.body(held.slot),
+            None => unreachable!(),
+        }
+    }
+
+    /// The body of a handle's response, as far as it was written.
+    ///
+    /// After iceoryx2's `payload` of `ResponseMut` and `Response`.
+    pub fn response_body(&self, id: &HandleId) -> &PB
+        requires { IsSome (option_and_then response_in (handle_at self.now id.now)) }
+        ensures asked { IsSomeAnd (option_and_then response_in (handle_at self.now id.now)) (λ m. PB.asked_len result.now ≡ m.content.asked_len) }
+        ensures elements { IsSomeAnd (option_and_then response_in (handle_at self.now id.now)) (λ m. PB.elements result.now ≡ m.content.elements) }
+    {
+        match self.table.get(id.number, id.hint) {
+            Some(held) => self.server_lanes[held.lane].messages.body(held.slot),
+            None => unreachable!(),
+        }
+    }
+
+    /// Whether a connected server may still answer a pending response's request.
+    ///
+    /// It looks once at each connected server. After iceoryx2's `PendingResponse::is_connected`.
+    pub fn is_pending_connected(&self, id: &HandleId) -> bool
+        requires { kind_at self.now id.now ≡ Some Kind.PendingResponse }
+        ensures { IsSomeAnd (pending_at self.now id.now) (λ pending. result ≡ nat_lt 0 (length pending.servers)) }
+    {
+        match self.table.get(id.number, id.hint) {
+            Some(held) => is_any_marked(
+                self.servers.as_slice(),
+                self.waiting[held.lane].as_slice(),
+                held.slot * self.limits.max_servers,
+            ),
+            None => unreachable!(),
+        }
+    }
+
+    /// Whether the pending response of an active request's request lives.
+    ///
+    /// It looks at the one place where that handle can stand. After iceoryx2's `ActiveRequest::is_connected`.
+    pub fn is_active_connected(&self, id: &HandleId) -> bool
+        requires { kind_at self.now id.now ≡ Some Kind.ActiveRequest }
+        ensures { IsSomeAnd (active_at self.now id.now) (λ active. result ≡ is_alive self.now active.message.number) }
+    {
+        match self.table.get(id.number, id.hint) {
+            Some(held) => {
+                let row = self.client_lanes[held.lane].row;
+                let note = self.client_lanes[held.lane].messages.note(held.slot);
+                let own = Place {
+                    row,
+                    index: held.slot,
+                };
+                match self.table.get_at(note.number, own) {
+                    Some(request) => request.stage.is_pending(),
+                    None => false,
+                }
+            }
+            None => unreachable!(),
+        }
+    }
+}
+
+/// Whether one of the clients has this number and lives by value.
+fn is_client_held<K: Drop>(clients: &[ClientPort<K>], number: u64) -> bool
+    ensures { result ≡ list_any (λ c. c.port.id == number && c.port.is_held) clients.now }
+{
+    clients.iter().any(|client| client.port.is_held_as(number))
+}
+
+/// Whether one of the servers has this number and lives by value.
+fn is_server_held<K: Drop>(servers: &[ServerPort<K>], number: u64) -> bool
+    ensures { result ≡ list_any (λ s. s.port.id == number && s.port.is_held) servers.now }
+{
+    servers.iter().any(|server| server.port.is_held_as(number))
+}
+
+/// Whether one of the servers has a mark, where the marks by place begin at an index.
+fn is_any_marked<K: Drop>(servers: &[ServerPort<K>], marks: &[bool], start: usize) -> bool
+    requires { (i : ℕ) (s : ServerPort K) → slice_get servers.now i ≡ Some s → start + s.port.place < length marks.now }
+    ensures { result ≡ list_any (λ s. slice_index_or marks.now (start + s.port.place) false) servers.now }
+{
+    for server in servers {
+        if marks[start + server.port.place] {
+            return true;
+        }
+    }
+    false
+}

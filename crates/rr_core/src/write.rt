@@ -1,0 +1,91 @@
+//! Writing what a loaned message says, before it is sent.
+ghost use Rattle.std.specs.Prelude.{◌≡◌, ◌<◌, ◌⊎◌, not, true, length, Some, IsSomeAnd, if◌then◌else◌, option_and_then, slice_get, slice_set};
+ghost use Rattle.rr_slots.specs.Pools.{appended};
+ghost use Rattle.rr_lanes.specs.Lanes.{content_at, with_changed_at};
+ghost use Rattle.rr_hub.specs.Messages.{request_in, response_in};
+ghost use Rattle.rr_hub.specs.Queries.{kind_at};
+ghost use Rattle.rr_hub.specs.State.{handle_at, with_changed};
+ghost use Rattle.rr_hub.specs.Writing.{is_complete, with_element, with_request_content, with_response_content, after_init};
+ghost use Rattle.rr_core.specs.Writing.{is_ready, is_written, with_messages};
+
+use crate::handle_id::HandleId;
+use crate::held::Held;
+use crate::port::OwnedLane;
+use crate::state::Core;
+use rr_hub::{BackpressureFn, Kind};
+use rr_slots::Body;
+
+impl<QB: Body, QH: Default + Drop, PB: Body, PH: Default + Drop, K: BackpressureFn> Core<
+    QB,
+    QH,
+    PB,
+    PH,
+    K,
+> {
+    /// Appends an element to a request that is being written, and tells whether it had room: `false` where the body is
+    /// complete, and then nothing changes.
+    ///
+    /// Our own: it stands for writes through the `MaybeUninit` that iceoryx2's `RequestMutUninit::payload_mut` lends.
+    pub fn push_request(&mut self, id: &HandleId, item: QB::Item) -> bool
+        requires { kind_at self.old id.now ≡ Some Kind.RequestMutUninit }
+        ensures { IsSomeAnd (option_and_then request_in (handle_at self.old id.now)) (λ m. (result ≡ not (is_complete m.content)) × (self.new ≡ (if result then with_changed self.old id.now (with_request_content (with_element item)) else self.old))) }
+    {
+        match self.table.get(id.number, id.hint) {
+            Some(held) => push_in(&mut self.client_lanes, held.lane, held.slot, item),
+            None => unreachable!(),
+        }
+    }
+
+    /// Appends an element to a response that is being written, and tells whether it had room: `false` where the body is
+    /// complete, and then nothing changes.
+    ///
+    /// Our own: it stands for writes through the `MaybeUninit` that iceoryx2's `ResponseMutUninit::payload_mut` lends.
+    pub fn push_response(&mut self, id: &HandleId, item: PB::Item) -> bool
+        requires { kind_at self.old id.now ≡ Some Kind.ResponseMutUninit }
+        ensures { IsSomeAnd (option_and_then response_in (handle_at self.old id.now)) (λ m. (result ≡ not (is_complete m.content)) × (self.new ≡ (if result then with_changed self.old id.now (with_response_content (with_element item)) else self.old))) }
+    {
+        match self.table.get(id.number, id.hint) {
+            Some(held) => push_in(&mut self.server_lanes, held.lane, held.slot, item),
+            None => unreachable!(),
+        }
+    }
+
+    /// Makes a message that is being written, and complete, one that can be sent.
+    ///
+    /// After iceoryx2's `RequestMutUninit::assume_init` and `ResponseMutUninit::assume_init`.
+    pub fn assume_init(&mut self, id: &HandleId)
+        requires uninit { (kind_at self.old id.now ≡ Some Kind.RequestMutUninit) ⊎ (kind_at self.old id.now ≡ Some Kind.ResponseMutUninit) }
+        requires complete { IsSomeAnd (handle_at self.old id.now) (λ handle. is_ready handle ≡ true) }
+        ensures { self.new ≡ with_changed self.old id.now after_init }
+    {
+        match self.table.get(id.number, id.hint) {
+            Some(held) => {
+                let ready = Held {
+                    stage: held.stage.initialised(),
+                    lane: held.lane,
+                    slot: held.slot,
+                };
+                self.table.set(id.number, id.hint, ready);
+            }
+            None => unreachable!(),
+        }
+    }
+}
+
+/// Appends an element to what stands in a slot of a lane, unless it is complete, and tells whether it did.
+fn push_in<B: Body, N: Copy, H: Drop>(
+    lanes: &mut Vec<OwnedLane<B, N, H>>,
+    lane: usize,
+    slot: usize,
+    item: B::Item,
+) -> bool
+    requires { IsSomeAnd (slice_get lanes.old.items lane) (λ l. slot < length l.messages.held) }
+    ensures told { IsSomeAnd (slice_get lanes.old.items lane) (λ l. result ≡ not (is_written (content_at l.messages slot))) }
+    ensures pushed { IsSomeAnd (slice_get lanes.old.items lane) (λ l. lanes.new.items ≡ (if result then slice_set lanes.old.items lane (with_messages l (with_changed_at l.messages slot (appended item))) else lanes.old.items)) }
+{
+    if lanes[lane].messages.body(slot).is_complete() {
+        return false;
+    }
+    lanes[lane].messages.push(slot, item);
+    true
+}
