@@ -1,8 +1,8 @@
 -- Small facts on which adding a port rests.
-use Rattle.std.proofs.Common.{◌≡◌, ◌<◌, ◌+◌, ◌-◌, ◌*◌, ◌^◌, ℕ, Bool, true, false, cond, List, Option, None, Some, Result, Ok, Err, length, map, refl, sym, ap, ◌∙◌, ⊎_elim, option_map, arith}
-use Rattle.std.specs.Prelude.{OnErr, slice_get, ◌==◌, nat_le}
+use Rattle.std.proofs.Common.{◌≡◌, ◌<◌, ◌≤◌, ◌+◌, ◌-◌, ◌*◌, ◌^◌, ℕ, Bool, true, false, cond, List, Option, None, Some, Result, Ok, Err, length, map, refl, sym, ap, ◌∙◌, ⊎_elim, option_map, arith}
+use Rattle.std.specs.Prelude.{OnErr, slice_get, ◌==◌, ◌||◌, nat_le}
 use Rattle.std.proofs.Math.Nat.{mul_comm, mul-add}
-use Rattle.std.proofs.lemmas.Bool.{eq-eqb, le-leb, cases_lt}
+use Rattle.std.proofs.lemmas.Bool.{false≢true, eq-eqb, le-leb, cases_lt}
 use Rattle.std.proofs.lemmas.Option.{slice_get-map}
 use Rattle.std.proofs.lemmas.List.{length-map}
 use Rattle.rr_table.specs.Seats.{Seats}
@@ -13,8 +13,10 @@ use Rattle.rr_core.specs.Parts.{Parts, Connected, ClientPart, ServerPart, Lane}
 use Rattle.rr_core.specs.Sound.{HasLanes}
 use Rattle.rr_core.specs.Views.{state_of, client_of, server_of}
 use Rattle.rr_hub.specs.State.{State, numbers_left}
-use Rattle.rr_hub.specs.Creation.{client_refusal, server_refusal, loans_of}
-use Rattle.rr_hub.specs.Limits.{is_too_large, worst_case_responses}
+use Rattle.rr_hub.specs.Creation.{client_refusal, server_refusal, loans_of, pool_size_of}
+use Rattle.rr_hub.specs.Limits.{has_zero_limit, is_too_large, worst_case_requests, worst_case_responses, hub_refusal}
+use Rattle.rr_hub.specs.declared.error.HubCreateError.{HubCreateError}
+use Rattle.rr_hub.specs.declared.limits.Limits.{Limits}
 use Rattle.rr_hub.specs.declared.settings.ServerSettings.{ServerSettings}
 use Rattle.rr_hub.specs.declared.error.ClientCreateError.{ClientCreateError}
 
@@ -105,3 +107,46 @@ module _ {Q QH P PH K : Type 0} where
 -- a connected port's number was given before
 pub given_before : {T N H K : Type 0} (next ports : ℕ) (connected : List (Connected K)) (lanes : List (Lane T N H)) → HasLanes next ports connected lanes → (i : ℕ) (c : Connected K) → slice_get connected i ≡ Some c → c.port.id < next
 given_before next ports connected lanes has i c at = let o = has.own i c at in omega (arith, o.1, has.numbered c.lane o.0)
+
+-- where limits make a hub, none of them is zero
+pub none_zero : (l : Limits) → hub_refusal l ≡ None → has_zero_limit l ≡ false
+none_zero l h = go (has_zero_limit l) refl h
+  where
+    go : (z : Bool) → has_zero_limit l ≡ z → cond z (Some HubCreateError.ZeroLimit) (cond (is_too_large (worst_case_requests l) || is_too_large (worst_case_responses l 1)) (Some HubCreateError.LimitsTooLarge) None) ≡ None → has_zero_limit l ≡ false
+    go true e f = absurd (let n : Some HubCreateError.ZeroLimit ≡ None = f in cc)
+    go false e f = e
+
+-- one of the limits is not zero, where none is
+pub not_zero : (n : ℕ) → (n == 0) ≡ false → 0 < n
+not_zero n h = ⊎_elim (λ l. l) (λ l. absurd (false≢true (sym h ∙ eq-eqb n 0 (omega (arith, l))))) (cases_lt 0 n)
+
+-- of two tests that both fail, the one and the other
+left_off : (a b : Bool) → (a || b) ≡ false → a ≡ false
+left_off false b e = refl
+left_off true b e = absurd (false≢true (sym e))
+
+right_off : (a b : Bool) → (a || b) ≡ false → b ≡ false
+right_off false b e = e
+right_off true b e = absurd (false≢true (sym e))
+
+module _ (l : Limits) (h : hub_refusal l ≡ None) where
+  pub some_clients : 0 < l.max_clients
+  some_clients = not_zero l.max_clients (left_off _ _ (left_off _ _ (left_off _ _ (left_off _ _ (left_off _ _ (none_zero l h))))))
+
+  pub some_loans : 0 < l.max_loaned_requests
+  some_loans = not_zero l.max_loaned_requests (right_off _ _ (left_off _ _ (left_off _ _ (left_off _ _ (none_zero l h)))))
+
+  pub some_borrows : 0 < l.max_borrowed_responses_per_pending_response
+  some_borrows = not_zero l.max_borrowed_responses_per_pending_response (right_off _ _ (none_zero l h))
+
+  -- a client of such a hub may have some request
+  pub makes_channels : 0 < worst_case_requests l
+  makes_channels = positive l.max_loaned_requests l.max_active_requests_per_client (l.max_servers * 2 * l.max_active_requests_per_client) some_loans
+    where
+      positive : (a b c : ℕ) → 0 < a → 0 < a + b + c
+      positive a b c h = omega (arith, h)
+
+-- no pool is larger than the worst case
+pub pool_fits : (worst : ℕ) (pool : Option ℕ) → 0 < worst → pool_size_of worst pool ≤ worst
+pool_fits worst None h = omega (arith, h)
+pool_fits worst (Some answer) h = omega (arith, h)

@@ -2,7 +2,7 @@
 use Rattle.std.proofs.Common.{◌≡◌, ◌<◌, ◌≤◌, ◌+◌, ◌*◌, ◌^◌, ℕ, Bool, true, false, cond, List, Option, None, Some, Result, Ok, Err, option_map, find, length, get_or, map, refl, sym, ap, ◌∙◌, mul-add, ⊎_elim, arith}
 use Rattle.std.specs.Prelude.{◌==◌, ◌||◌, slice_get}
 use Rattle.std.specs.List.{position}
-use Rattle.std.proofs.Math.Nat.{mul_comm}
+use Rattle.std.proofs.Math.Nat.{mul_comm, le-mul_of_pos_right}
 use Rattle.std.proofs.lemmas.List.{length-map}
 use Rattle.std.proofs.lemmas.Option.{slice_get-get_or, get_or_from_slice_get}
 use Rattle.std.proofs.lemmas.Bool.{leb-false, cases_lt}
@@ -17,6 +17,8 @@ use Rattle.rr_core.specs.declared.port.ServerPort.{ServerPort}
 use Rattle.rr_core.specs.declared.port.OwnedLane.{OwnedLane}
 use Rattle.rr_core.specs.Inside.{client_part, server_part, lane_part}
 use Rattle.rr_core.specs.Views.{client_of, server_of, lane_of, no_lane}
+use Rattle.rr_hub.proofs.Growth.{large_borrows}
+use Rattle.rr_core.proofs.Adding.{some_clients, makes_channels}
 use Rattle.rr_core.proofs.HandleCounts.{listed}
 use Rattle.rr_core.proofs.Places.{Standing, standing, find_mapped}
 
@@ -86,3 +88,19 @@ not_full {used} {slots} {size} e le n = ⊎_elim (λ h. omega (arith, h, e)) (λ
 -- what is fine is no error
 pub no_error : {T E : Type 0} {t : T} {e : E} → Ok t ≡ Err e → ⊥
 no_error {T} {E} {t} {e} h = let f : ◌≡◌ {A = Result T E} (Ok t) (Err e) = h in cc
+
+-- in such a hub the worst-case number of responses can be counted
+pub responses_countable : (l : Limits) → hub_refusal l ≡ None → worst_case_responses l 1 < 2 ^ 64
+responses_countable l h = go (has_zero_limit l) (is_too_large (worst_case_requests l)) (is_too_large (worst_case_responses l 1)) refl h
+  where
+    go : (z a b : Bool) → is_too_large (worst_case_responses l 1) ≡ b → cond z (Some HubCreateError.ZeroLimit) (cond (a || b) (Some HubCreateError.LimitsTooLarge) None) ≡ None → worst_case_responses l 1 < 2 ^ 64
+    go true a b e f = absurd (let n : Some HubCreateError.ZeroLimit ≡ None = f in cc)
+    go false true b e f = absurd (let n : Some HubCreateError.LimitsTooLarge ≡ None = f in cc)
+    go false false true e f = absurd (let n : Some HubCreateError.LimitsTooLarge ≡ None = f in cc)
+    go false false false e f = leb-false (2 ^ 64) (worst_case_responses l 1) e
+
+-- and so can the responses that a client may have from one server on one channel
+pub borrows_fit : (l : Limits) → hub_refusal l ≡ None → l.max_borrowed_responses_per_pending_response < 2 ^ 64
+borrows_fit l h =
+    let enough = large_borrows l 1 l.max_borrowed_responses_per_pending_response (some_clients l h) (omega (arith, le-mul_of_pos_right l.max_borrowed_responses_per_pending_response (makes_channels l h), mul_comm l.max_borrowed_responses_per_pending_response (worst_case_requests l))) in
+    omega (arith, enough, responses_countable l h)

@@ -21,7 +21,8 @@ use Rattle.rr_core.specs.Views.{no_request, lane_of}
 use Rattle.rr_core.specs.Sound.{IsSound, IsCounted, IsNumbered, IsAddressed, IsSeated, IsStored, IsSized, IsVacated, HasLanes, IsShaped, empty_hand, is_of_request, is_request_loan, is_pending, is_active_of, is_received, is_received_at, request_note, response_note, request_uses, server_place, place_at}
 use Rattle.rr_core.specs.Creating.{IsNew, client_port, with_client_part}
 use Rattle.rr_core.proofs.NewLanes.{LooksLike, looks_like, lane_before, lane_last, lane_cases, new_queue, mark_of_more}
-use Rattle.rr_core.proofs.Adding.{given_before}
+use Rattle.rr_core.proofs.Adding.{given_before, pool_fits, makes_channels}
+use Rattle.rr_hub.specs.Limits.{worst_case_requests}
 use Rattle.rr_core.proofs.Agreeing.{request_lane}
 use Rattle.rr_core.proofs.Stages.{loan_is_request, pending_is_request, active_is_request, received_is_response, handle_uses_request, handle_uses_response}
 use Rattle.rr_core.proofs.Tallies.{and_none, tally-none, last_at, snoc_cases, snoc_keeps}
@@ -219,6 +220,10 @@ module _ {Q QH P PH K : Type 0} (p : Parts Q QH P PH K) (settings : ClientSettin
             (λ is e gone. ap (λ k. length (get_or after.waiting k [])) (is ∙ sym n.waiting) ∙ ap length (get_or-append_seam p.waiting _ [] []) ∙ length-replicate ((client_port p settings).pool_size * p.limits.max_servers) false ∙ ap (λ n. n * p.limits.max_servers) (sym slots_are) ∙ sym (ap (λ (x : Lane Q RequestNote QH). length x.messages.held * p.limits.max_servers) e))
             (λ far e gone. absurd (omega (arith, h, far, length-append p.client_lanes (last ∷ []))));
         next_fits = omega (arith, left);
+        channels = λ l h. lane_cases p.client_lanes last new l
+            (λ before e. omega (arith, n.channels l before, ap (λ (x : Lane Q RequestNote QH). length x.messages.held) e))
+            (λ is e gone. omega (arith, ap (λ (x : Lane Q RequestNote QH). length x.messages.held) e, slots_are, pool_fits (worst_case_requests p.limits) settings.pool (makes_channels p.limits n.limits_fit)))
+            (λ far e gone. absurd (omega (arith, h, far, length-append p.client_lanes (last ∷ []))));
         loans_made = λ i c at. snoc_cases p.clients last_client i c at (λ before h. omega (arith, n.loans_made i c before)) (λ e is. omega (arith, ap (λ (c : ClientPart K). c.loans_made) is));
       }
 

@@ -155,5 +155,6 @@ module _ {Q QH P PH K : Type 0} (p : Parts Q QH P PH K) (hand : Hand) (sound : I
         waiting = frame.marks ∙ n.waiting ∙ sym frame.client_lanes_alike.many;
         waiting_slots = λ l h. frame.marks_each l ∙ n.waiting_slots l (omega (arith, h, frame.client_lanes_alike.many)) ∙ sym (ap (λ k. k * p.limits.max_servers) (frame.client_lanes_alike.each l).slots);
         next_fits = fits;
+        channels = λ l h. omega (arith, n.channels l (omega (arith, h, frame.client_lanes_alike.many)), (frame.client_lanes_alike.each l).slots);
         loans_made = made;
       }

@@ -109,7 +109,7 @@ module _ {Q QH P PH K : Type 0} (p : Parts Q QH P PH K) where
         borrowed_requests = λ l server h. n.borrowed_requests l server h ∙ same_taken _;
         borrowed_responses = λ l i channel c h e. n.borrowed_responses l i channel c h e ∙ same_taken _;
       };
-      sized = let n = sound.sized in record { limits_fit = n.limits_fit; client_lanes = n.client_lanes; server_lanes = n.server_lanes; waiting = n.waiting; waiting_slots = n.waiting_slots; next_fits = n.next_fits; loans_made = n.loans_made };
+      sized = let n = sound.sized in record { limits_fit = n.limits_fit; client_lanes = n.client_lanes; server_lanes = n.server_lanes; waiting = n.waiting; waiting_slots = n.waiting_slots; next_fits = n.next_fits; channels = n.channels; loans_made = n.loans_made };
       vacated = let n = sound.vacated in record { of_clients = n.of_clients; of_servers = n.of_servers; awaits_none = n.awaits_none };
       held_by_value = let n = sound.held_by_value in record { clients = n.clients; servers = n.servers };
       client_ports = sound.client_ports;
@@ -196,7 +196,7 @@ module _ {Q QH P PH K : Type 0} (p : Parts Q QH P PH K) where
         borrowed_requests = λ l server h. n.borrowed_requests l server h ∙ same_given _;
         borrowed_responses = λ l i channel c h e. n.borrowed_responses l i channel c h e ∙ same_given _;
       };
-      sized = let n = sound.sized in record { limits_fit = n.limits_fit; client_lanes = n.client_lanes; server_lanes = n.server_lanes; waiting = n.waiting; waiting_slots = n.waiting_slots; next_fits = n.next_fits; loans_made = n.loans_made };
+      sized = let n = sound.sized in record { limits_fit = n.limits_fit; client_lanes = n.client_lanes; server_lanes = n.server_lanes; waiting = n.waiting; waiting_slots = n.waiting_slots; next_fits = n.next_fits; channels = n.channels; loans_made = n.loans_made };
       vacated = let n = sound.vacated in record { of_clients = n.of_clients; of_servers = n.of_servers; awaits_none = n.awaits_none };
       held_by_value = let n = sound.held_by_value in record { clients = n.clients; servers = n.servers };
       client_ports = sound.client_ports;

@@ -35,3 +35,17 @@ pub mod Unseen
 pub mod WrittenView
 pub mod Pushing
 pub mod Initialising
+pub mod NextSender
+pub mod SetTwo
+pub mod TakenLane
+pub mod ReceiveSound
+pub mod Seating
+pub mod LiveResponses
+pub mod Recounted
+pub mod AnswerSound
+pub mod AnswerSeated
+pub mod AnswerView
+pub mod AnswerRefusals
+pub mod Answerable
+pub mod ReceiveView
+pub mod Receivable

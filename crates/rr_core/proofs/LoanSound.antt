@@ -22,21 +22,24 @@ use Rattle.rr_core.proofs.Frames.{client_before, client_after, framed_client_por
 use Rattle.rr_core.proofs.Kept.{framed_seated}
 use Rattle.rr_core.proofs.Hands.{count-cons, one_in_hand, none_in_hand, never, lanes_same, seated_sound}
 
-other_slot : (l i k j : ℕ) → l ≡ k → (i ≡ j → ⊥) → (l == k && i == j) ≡ false
+-- two slots of a lane are told apart
+pub other_slot : (l i k j : ℕ) → l ≡ k → (i ≡ j → ⊥) → (l == k && i == j) ≡ false
 other_slot l i k j e n = rw (eq-eqb l k e) (ne_eqb i j n)
 
-other_lanes : (l i k j : ℕ) → (l ≡ k → ⊥) → (l == k && i == j) ≡ false
+-- and so are two lanes
+pub other_lanes : (l i k j : ℕ) → (l ≡ k → ⊥) → (l == k && i == j) ≡ false
 other_lanes l i k j n = rw (ne_eqb l k n) refl
 
 -- a slot is this one, or another
-slot_cases : {Z : Type 0} (l i k j : ℕ) → (l ≡ k → i ≡ j → Z) → ((l == k && i == j) ≡ false → ((l ≡ k) → (i ≡ j) → ⊥) → Z) → Z
+pub slot_cases : {Z : Type 0} (l i k j : ℕ) → (l ≡ k → i ≡ j → Z) → ((l == k && i == j) ≡ false → ((l ≡ k) → (i ≡ j) → ⊥) → Z) → Z
 slot_cases l i k j here there =
     ⊎_elim
     (λ e. ⊎_elim (λ f. here e f) (λ n. there (other_slot l i k j e n) (λ _ f. n f)) (cases_eq i j))
     (λ n. there (other_lanes l i k j n) (λ e _. n e))
     (cases_eq l k)
 
-both_true : (l i k j : ℕ) → l ≡ k → i ≡ j → (l == k && i == j) ≡ true
+-- a slot is itself
+pub both_true : (l i k j : ℕ) → l ≡ k → i ≡ j → (l == k && i == j) ≡ true
 both_true l i k j e f = rw (eq-eqb l k e) (eq-eqb i j f)
 
 module _ {Q QH P PH K : Type 0} (p : Parts Q QH P PH K) (sound : IsSound p empty_hand) (index : ℕ) (c : ClientPart K) (at : slice_get p.clients index ≡ Some c) (slot len : ℕ) (header : QH)

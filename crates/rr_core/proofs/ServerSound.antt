@@ -273,6 +273,7 @@ module _ {Q QH P PH K : Type 0} (p : Parts Q QH P PH K) (settings : ServerSettin
         waiting = n.waiting;
         waiting_slots = n.waiting_slots;
         next_fits = omega (arith, left);
+        channels = n.channels;
         loans_made = λ i c at. omega (arith, n.loans_made i c at);
       }
 

@@ -88,6 +88,7 @@ module _ (Q QH P PH K : Type 0) (limits : Limits) (node_id : ℕ) (h : QH) (g : 
       waiting = refl;
       waiting_slots = λ l h. absurd (omega arith);
       next_fits = omega arith;
+      channels = λ l h. absurd (omega (arith, h));
       loans_made = λ i c e. no_element i c e;
     };
     vacated = record { of_clients = λ l place channel h. (refl, refl); of_servers = λ l place channel h. (refl, refl); awaits_none = λ l i place h. refl };

@@ -1,15 +1,15 @@
 -- How many values of a map pass a test that none passes, and where elements of a longer list stand.
-use Rattle.std.proofs.Common.{◌≡◌, ◌<◌, ◌+◌, ℕ, Bool, false, List, [], ◌∷◌, ◌++◌, Some, length, get_or, refl, sym, ap, ◌∙◌, ⊎_elim, arith}
+use Rattle.std.proofs.Common.{◌≡◌, ◌<◌, ◌≤◌, ◌+◌, ℕ, zero, suc, Bool, true, false, List, [], ◌∷◌, ◌++◌, Option, None, Some, length, get_or, refl, sym, ap, ◌∙◌, ⊎_elim, arith}
 use Rattle.std.specs.Prelude.{slice_get, count_by}
 use Rattle.std.specs.Ordering.{nat_cmp}
 use Rattle.std.specs.FinMap as fin_map
-use Rattle.std.proofs.lemmas.Bool.{cases_lt}
+use Rattle.std.proofs.lemmas.Bool.{cases_eq, cases_lt}
 use Rattle.std.proofs.lemmas.List.{length-append}
 use Rattle.std.proofs.lemmas.Option.{slice_get-get_or, get_or_from_slice_get, slice_get_within}
 use Rattle.std.proofs.Math.ListN.{get_or-append}
 use Rattle.std.proofs.Math.Seq.{get_or-append_seam}
-use Rattle.rr_table.specs.Maps.{tally}
-use Rattle.rr_table.proofs.MapLaws.{map_values-same, tally-map_values}
+use Rattle.rr_table.specs.Maps.{tally, mark}
+use Rattle.rr_table.proofs.MapLaws.{get-remove_other, get-remove_same, map_values-same, tally-map_values, tally-remove}
 
 -- with none in hand it is what the table has
 pub and_none : (n : ℕ) → n ≡ n + 0
@@ -52,3 +52,24 @@ pub last_at : {X : Type 0} (xs : List X) (y : X) (i : ℕ) → length xs ≡ i �
 last_at xs y i e =
     slice_get-get_or (xs ++ y ∷ []) i y (omega (arith, e, length-append xs (y ∷ [])))
     ∙ ap Some (ap (λ k. get_or (xs ++ y ∷ []) k y) (sym e) ∙ get_or-append_seam xs y [] y)
+
+mark_one : (b : Bool) → mark b ≤ 1
+mark_one true = omega arith
+mark_one false = omega arith
+
+past : (k n : ℕ) → n ≤ k → (k ≡ n → ⊥) → suc n ≤ k
+past k n h f = ⊎_elim (λ l. omega (arith, l)) (λ l. absurd (f (omega (arith, l, h)))) (cases_lt n k)
+
+-- a map whose numbers are below another has at most that many values that pass
+pub tally_below : {X : Type 0} (test : X → Bool) (n : ℕ) (m : fin_map.FinMap nat_cmp X) → ((k : ℕ) → n ≤ k → fin_map.get m k ≡ None) → tally test m ≤ n
+tally_below test zero m none = omega (arith, tally-none m test (λ k x at. absurd (let f : None ≡ Some x = sym (none k (omega arith)) ∙ at in cc)))
+tally_below {X} test (suc n) m none = go (fin_map.get m n) refl (tally_below test n)
+  where
+    go : (o : Option X) → fin_map.get m n ≡ o → ((m : fin_map.FinMap nat_cmp X) → ((k : ℕ) → n ≤ k → fin_map.get m k ≡ None) → tally test m ≤ n) → tally test m ≤ suc n
+    go None e fewer = omega (arith, fewer m (λ k h. ⊎_elim (λ f. ap (fin_map.get m) f ∙ e) (λ f. none k (past k n h f)) (cases_eq k n)))
+    go (Some x) e fewer = omega (
+      arith,
+      tally-remove test m n x e,
+      mark_one (test x),
+      fewer (fin_map.remove m n) (λ k h. ⊎_elim (λ f. get-remove_same m n k f) (λ f. get-remove_other m n k f ∙ none k (past k n h f)) (cases_eq k n)),
+    )

@@ -11,3 +11,5 @@ pub mod Hands
 pub mod Kept
 pub mod Loaning
 pub mod Rewrites
+pub mod Receiving
+pub mod Answering

@@ -231,6 +231,7 @@ module _ {Q QH P PH K : Type 0} (p : Parts Q QH P PH K) where
     pub waiting : length p.waiting ≡ length p.client_lanes
     pub waiting_slots : (lane : ℕ) → lane < length p.client_lanes → length (slice_index_or p.waiting lane []) ≡ length (lane_of lane p.client_lanes).messages.held * p.limits.max_servers
     pub next_fits : p.next ≤ 2 ^ 62
+    pub channels : (lane : ℕ) → lane < length p.client_lanes → length (lane_of lane p.client_lanes).messages.held ≤ worst_case_requests p.limits
     pub loans_made : (i : ℕ) (c : ClientPart K) → slice_get p.clients i ≡ Some c → c.loans_made ≤ p.next
 
   -- nothing waits, and nothing was received, at a place that no port has

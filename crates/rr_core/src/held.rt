@@ -1,5 +1,6 @@
 //! What is kept under the number of a handle.
 ghost use Rattle.std.specs.Prelude.{◌≡◌};
+ghost use Rattle.rr_core.specs.Answering.{active_in};
 ghost use Rattle.rr_core.specs.Kinds.{stage_kind};
 ghost use Rattle.rr_core.specs.Sound.{is_pending};
 ghost use Rattle.rr_core.specs.Writing.{initialised};
@@ -49,6 +50,16 @@ impl Stage {
             Stage::RequestMutUninit => Stage::RequestMut,
             Stage::ResponseMutUninit => Stage::ResponseMut,
             stage => stage,
+        }
+    }
+
+    /// The server of an active request, and how many responses it has on loan from it.
+    pub(crate) fn active(self) -> Option<(u64, usize)>
+        ensures { result ≡ active_in self }
+    {
+        match self {
+            Stage::ActiveRequest(server, loans) => Some((server, loans)),
+            _ => None,
         }
     }
 

@@ -8,6 +8,7 @@ mod loan;
 mod note;
 mod port;
 mod query;
+mod receive;
 mod state;
 #[cfg(test)]
 mod tests;

@@ -1,4 +1,4 @@
-//! Loans of requests and of responses.
+//! Loans of requests.
 ghost use Rattle.std.specs.Prelude.{◌≡◌, ◌<◌, Some, IsTrue};
 ghost use Rattle.rr_slots.specs.Families.{takes_len};
 ghost use Rattle.rr_hub.specs.declared.kind.Kind.TheVariants as kind;
@@ -14,6 +14,8 @@ use crate::state::Core;
 use rr_hub::{BackpressureFn, LoanError};
 use rr_slots::Body;
 use rr_table::Place;
+
+mod response;
 
 impl<QB: Body, QH: Default + Drop, PB: Body, PH: Default + Drop, K: BackpressureFn> Core<
     QB,

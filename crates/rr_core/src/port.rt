@@ -1,10 +1,11 @@
 //! What a core keeps of its connected ports, and the lanes from which ports send.
-ghost use Rattle.std.specs.Prelude.{◌≡◌, ◌==◌, ◌&&◌};
+ghost use Rattle.std.specs.Prelude.{◌≡◌, ◌<◌, ◌*◌, ◌==◌, ◌&&◌, ◌||◌, nat_le};
 ghost use Rattle.std.specs.List.{position};
+ghost use Rattle.rr_hub.specs.Limits.{max_loaned_responses};
 ghost use Rattle.rr_hub.specs.Loans.{is_too_long};
 ghost use Rattle.rr_core.specs.Inside.{connected_of};
 
-use rr_hub::{AllocationStrategy, BackpressureStrategy};
+use rr_hub::{AllocationStrategy, BackpressureStrategy, Limits};
 use rr_lanes::Lane;
 use rr_slots::Body;
 
@@ -66,6 +67,36 @@ impl<K: Drop> Port<K> {
     }
 }
 
+impl<K: Drop> ServerPort<K> {
+    /// Whether an active request with so many responses on loan has as many as it may, or the server has.
+    pub(crate) fn is_at_loan_limit(&self, limits: &Limits, loans: usize) -> bool
+        requires { 0 < limits.now.max_clients }
+        ensures { result ≡ (nat_le self.now.max_loaned_responses_per_request loans || nat_le (max_loaned_responses limits.now self.now.max_loaned_responses_per_request) self.now.port.loans) }
+    {
+        self.max_loaned_responses_per_request <= loans
+            || is_product_within(
+                self.max_loaned_responses_per_request,
+                limits.max_active_requests_per_client,
+                limits.max_clients,
+                self.port.loans,
+            )
+    }
+}
+
+/// Whether the product of three numbers, the last of them not 0, is at most a count. One that no `usize` counts is not.
+fn is_product_within(first: usize, second: usize, third: usize, count: usize) -> bool
+    requires { 0 < third }
+    ensures { result ≡ nat_le (first * second * third) count }
+{
+    match first.checked_mul(second) {
+        Some(two) => match two.checked_mul(third) {
+            Some(all) => all <= count,
+            None => false,
+        },
+        None => false,
+    }
+}
+
 /// A connected port, with a number, to which others send in a place.
 pub(crate) trait Placed: Drop {
     ghost use Rattle.std.specs.Prelude.{ℕ};
@@ -76,6 +107,9 @@ pub(crate) trait Placed: Drop {
     /// The place.
     ghost place: { Self → ℕ };
 
+    /// The lane from which it sends.
+    ghost lane: { Self → ℕ };
+
     /// The number.
     fn id(&self) -> u64
         ensures { result ≡ id self.now };
@@ -83,6 +117,10 @@ pub(crate) trait Placed: Drop {
     /// The place.
     fn place(&self) -> usize
         ensures { result ≡ place self.now };
+
+    /// The lane from which it sends.
+    fn lane(&self) -> usize
+        ensures { result ≡ lane self.now };
 }
 
 impl<K: Drop> Placed for ClientPort<K> {
@@ -90,12 +128,18 @@ impl<K: Drop> Placed for ClientPort<K> {
 
     ghost place = { λ c. c.port.place };
 
+    ghost lane = { λ c. c.port.lane };
+
     fn id(&self) -> u64 {
         self.port.id
     }
 
     fn place(&self) -> usize {
         self.port.place
+    }
+
+    fn lane(&self) -> usize {
+        self.port.lane
     }
 }
 
@@ -104,12 +148,18 @@ impl<K: Drop> Placed for ServerPort<K> {
 
     ghost place = { λ s. s.port.place };
 
+    ghost lane = { λ s. s.port.lane };
+
     fn id(&self) -> u64 {
         self.port.id
     }
 
     fn place(&self) -> usize {
         self.port.place
+    }
+
+    fn lane(&self) -> usize {
+        self.port.lane
     }
 }
 
@@ -118,4 +168,11 @@ pub(crate) fn index_of<P: Placed>(ports: &[P], id: u64) -> Option<usize>
     ensures { result ≡ position (λ p. P.id p == id) ports.now }
 {
     ports.iter().position(|port| port.id() == id)
+}
+
+/// Where among the ports the one that sends from a lane stands.
+pub(crate) fn index_of_lane<P: Placed>(ports: &[P], lane: usize) -> Option<usize>
+    ensures { result ≡ position (λ p. P.lane p == lane) ports.now }
+{
+    ports.iter().position(|port| port.lane() == lane)
 }

@@ -1,0 +1,141 @@
+//! Loans of responses.
+ghost use Rattle.std.specs.Prelude.{◌≡◌, ◌==◌, ◌<◌, ◌+◌, ◌^◌, Some, IsTrue};
+ghost use Rattle.std.specs.List.{position};
+ghost use Rattle.rr_slots.specs.Families.{takes_len};
+ghost use Rattle.rr_table.specs.Seats.{value_at};
+ghost use Rattle.rr_hub.specs.declared.kind.Kind.TheVariants as kind;
+ghost use Rattle.rr_hub.specs.Loans.{LoansResponse};
+ghost use Rattle.rr_hub.specs.Queries.{kind_at};
+ghost use Rattle.rr_hub.specs.State.{numbers_left};
+ghost use Rattle.rr_core.specs.Answering.{IsActiveOfOne, active_held, answer_note_of};
+
+use crate::handle_id::HandleId;
+use crate::held::{Held, Stage};
+use crate::note::{RequestNote, ResponseNote};
+use crate::port::{ServerPort, index_of};
+use crate::state::Core;
+use rr_hub::{BackpressureFn, LoanError};
+use rr_slots::Body;
+use rr_table::{Place, Table};
+
+/// An active request that was looked up: its server, where that stands, how many responses it has on loan from it, and
+/// the request's lane and slot.
+#[derive(Clone, Copy)]
+pub(crate) struct Asked {
+    server: u64,
+    index: usize,
+    loans: usize,
+    lane: usize,
+    slot: usize,
+}
+
+impl<QB: Body, QH: Default + Drop, PB: Body, PH: Default + Drop, K: BackpressureFn> Core<
+    QB,
+    QH,
+    PB,
+    PH,
+    K,
+> {
+    /// Loans a response of `len` elements, a length that the body's family takes, from an active request. It has the next
+    /// number, of which one is left, and a default user header, and goes to the request's channel.
+    ///
+    /// `ExceedsMaxLoanSize` for a slice that is longer than a static pool has room for; `ExceedsMaxLoans` if the active
+    /// request has as many responses on loan as it may, or its server has; `OutOfMemory` if the server's live responses fill
+    /// its pool, or a longer slice found no memory. Nothing has changed then. After iceoryx2's `ActiveRequest::loan_uninit`.
+    pub fn loan_response(&mut self, active: &HandleId, len: usize) -> Result<HandleId, LoanError>
+        requires kind { kind_at self.old active.now ≡ Some kind.ActiveRequest }
+        requires number { 0 < numbers_left self.old }
+        requires len { IsTrue (takes_len PB.family len) }
+        ensures { LoansResponse PH.is_default self.old active.now len result self.new }
+    {
+        let asked = asked_from(&self.table, &self.servers, active.number, active.hint);
+        let port = &self.servers[asked.index];
+        if port.port.is_too_long(len) {
+            return Err(LoanError::ExceedsMaxLoanSize);
+        }
+        if port.is_at_loan_limit(&self.limits, asked.loans) {
+            return Err(LoanError::ExceedsMaxLoans);
+        }
+        let lane = port.port.lane;
+        let number = self.next;
+        let request = self.client_lanes[asked.lane].messages.note(asked.slot);
+        let note = asked.response_note(number, active.number, request);
+        match self.server_lanes[lane]
+            .messages
+            .loan(len, note, PH::default())
+        {
+            Ok(slot) => {
+                let row = self.server_lanes[lane].row;
+                let hint = Place { row, index: slot };
+                self.table
+                    .set(active.number, active.hint, asked.with_one_loan());
+                let stage = Stage::ResponseMutUninit;
+                self.table.insert(hint, number, Held { stage, lane, slot });
+                self.servers[asked.index].port.loans += 1;
+                self.next += 1;
+                Ok(HandleId::new(number, hint))
+            }
+            Err(_) => Err(LoanError::OutOfMemory),
+        }
+    }
+}
+
+impl Asked {
+    /// What is noted of a response with this number that is loaned from it, to its request.
+    fn response_note(self, number: u64, active_request: u64, request: RequestNote) -> ResponseNote
+        ensures { result ≡ answer_note_of self.server active_request request self.slot number }
+    {
+        ResponseNote {
+            number,
+            server: self.server,
+            active_request,
+            request: request.number,
+            request_id: request.request_id,
+            client: request.client,
+            channel: self.slot,
+        }
+    }
+
+    /// Its handle with one more response on loan.
+    fn with_one_loan(self) -> Held
+        requires { self.loans + 1 < 2 ^ 64 }
+        ensures { result ≡ active_held self.server self.lane self.slot (self.loans + 1) }
+    {
+        Held {
+            stage: Stage::ActiveRequest(self.server, self.loans + 1),
+            lane: self.lane,
+            slot: self.slot,
+        }
+    }
+}
+
+/// The active request under a number, of which one of the servers is the server.
+fn asked_from<K: Drop>(
+    table: &Table<Held>,
+    servers: &Vec<ServerPort<K>>,
+    number: u64,
+    hint: Place,
+) -> Asked
+    requires { IsActiveOfOne table.now servers.now.items number }
+    ensures held { value_at table.now number ≡ Some (active_held result.server result.lane result.slot result.loans) }
+    ensures server { position (λ s. s.port.id == result.server) servers.now.items ≡ Some result.index }
+{
+    let held = match table.get(number, hint) {
+        Some(held) => held,
+        None => unreachable!(),
+    };
+    let (server, loans) = match held.stage.active() {
+        Some(active) => active,
+        None => unreachable!(),
+    };
+    match index_of(servers.as_slice(), server) {
+        Some(index) => Asked {
+            server,
+            index,
+            loans,
+            lane: held.lane,
+            slot: held.slot,
+        },
+        None => unreachable!(),
+    }
+}
