@@ -1,15 +1,2 @@
-pub mod Parts
-pub mod Views
-pub mod Kinds
-pub mod Writing
-pub mod Sound
-pub mod Start
-pub mod Creating
 pub mod Inside
-pub mod Frames
-pub mod Hands
-pub mod Kept
-pub mod Loaning
-pub mod Rewrites
-pub mod Receiving
-pub mod Answering
+pub use Rattle.rr_parts.specs.Writing

@@ -1,16 +1,15 @@
 //! Creating ports.
-ghost use Rattle.std.specs.Prelude.{◌≡◌, ◌≢◌, ℕ, ◌+◌, ◌*◌, ◌<◌, ◌≤◌, None, Some, length, map, true, IsTrue, IfOk, OnOk, OnErr, slice_get, ◌==◌};
+ghost use Rattle.std.specs.Prelude.{◌≡◌, ◌≢◌, ℕ, ◌+◌, ◌*◌, ◌^◌, ◌<◌, ◌≤◌, None, Some, length, map, true, IsTrue, IfOk, OnOk, OnErr, slice_get, ◌==◌};
 ghost use Rattle.rr_slots.specs.Families.{takes_len};
 ghost use Rattle.rr_hub.specs.Creation.{CreatesClient, client_refusal, with_client, pool_size_of};
 ghost use Rattle.rr_hub.specs.Limits.{hub_refusal, worst_case_requests};
 ghost use Rattle.std.specs.List.{list_any};
-ghost use Rattle.rr_core.specs.Inside.{connected_of};
+ghost use Rattle.rr_parts.specs.Ports.{connected_of};
 
-use crate::note::RequestNote;
-use crate::port::{ClientPort, OwnedLane, Placed, Port};
 use crate::state::Core;
 use rr_hub::{BackpressureFn, ClientCreateError, ClientSettings, Limits};
 use rr_lanes::{Lane, LaneSize};
+use rr_parts::{ClientPort, OwnedLane, Placed, Port, RequestNote};
 use rr_slots::Body;
 use std::alloc::AllocError;
 
@@ -127,7 +126,8 @@ pub(crate) fn pool_size(worst_case: usize, pool: Option<usize>) -> usize
 /// The places of a row: for each slot one for its own handle, and one for a handle of each server. `Err` where no memory
 /// holds so many.
 fn row_len(slots: usize, servers: usize) -> Result<usize, AllocError>
-    ensures { IfOk result (λ len. len ≡ (servers + 1) * slots) }
+    ensures len { IfOk result (λ len. len ≡ (servers + 1) * slots) }
+    ensures fits { IfOk result (λ len. len < 2 ^ 64) }
 {
     match servers.checked_add(1) {
         Some(handles) => match handles.checked_mul(slots) {

@@ -3,18 +3,13 @@
 
 mod create;
 mod handle_id;
-mod held;
 mod loan;
-mod note;
-mod port;
 mod query;
 mod receive;
+mod release;
+mod send;
 mod state;
-#[cfg(test)]
-mod tests;
 mod write;
 
 pub use handle_id::HandleId;
-pub use held::{Held, Stage};
-pub use note::{RequestNote, ResponseNote};
 pub use state::Core;

@@ -7,11 +7,9 @@ ghost use Rattle.rr_hub.specs.Queries.{kind_at};
 ghost use Rattle.rr_hub.specs.State.{numbers_left};
 
 use crate::handle_id::HandleId;
-use crate::held::{Held, Stage};
-use crate::note::RequestNote;
-use crate::port::index_of;
 use crate::state::Core;
 use rr_hub::{BackpressureFn, LoanError};
+use rr_parts::{Held, RequestNote, Stage, index_of};
 use rr_slots::Body;
 use rr_table::Place;
 

@@ -7,9 +7,9 @@ ghost use Rattle.rr_hub.specs.Queries.{kind_at};
 ghost use Rattle.rr_hub.specs.State.{handle_at, pending_at, active_at};
 
 use crate::handle_id::HandleId;
-use crate::port::{ClientPort, ServerPort};
 use crate::state::Core;
 use rr_hub::{BackpressureFn, Kind};
+use rr_parts::{ClientPort, ServerPort};
 use rr_slots::Body;
 use rr_table::Place;
 
@@ -103,6 +103,19 @@ impl<QB: Body, QH: Default + Drop, PB: Body, PH: Default + Drop, K: Backpressure
                     None => false,
                 }
             }
+            None => unreachable!(),
+        }
+    }
+
+    /// The number of the request that a server received as an active request.
+    ///
+    /// Our own: iceoryx2 has no numbers of requests.
+    pub fn request_number(&self, id: &HandleId) -> u64
+        requires { IsSome (active_at self.now id.now) }
+        ensures { IsSomeAnd (active_at self.now id.now) (λ active. result ≡ active.message.number) }
+    {
+        match self.table.get(id.number, id.hint) {
+            Some(held) => self.client_lanes[held.lane].messages.note(held.slot).number,
             None => unreachable!(),
         }
     }

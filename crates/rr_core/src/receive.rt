@@ -1,18 +1,19 @@
-//! Receiving responses.
+//! Receiving responses, and from which sender a receiver takes next.
 ghost use Rattle.std.specs.Prelude.{◌≡◌, Some, map};
 ghost use Rattle.rr_hub.specs.declared.kind.Kind.TheVariants as kind;
 ghost use Rattle.rr_hub.specs.Queries.{kind_at};
 ghost use Rattle.rr_hub.specs.Receives.{ReceivesResponse};
-ghost use Rattle.rr_core.specs.Inside.{lane_part};
-ghost use Rattle.rr_core.specs.Receiving.{IsNextSender, Reaches};
+ghost use Rattle.rr_parts.specs.Ports.{lane_part};
+ghost use Rattle.rr_parts.specs.Receiving.{IsNextSender, Reaches};
 
 use crate::handle_id::HandleId;
-use crate::held::{Held, Stage};
-use crate::port::{OwnedLane, index_of_lane};
 use crate::state::Core;
 use rr_hub::{BackpressureFn, ReceiveError};
+use rr_parts::{Held, OwnedLane, Stage, index_of_lane};
 use rr_slots::Body;
 use rr_table::Place;
+
+mod request;
 
 impl<QB: Body, QH: Default + Drop, PB: Body, PH: Default + Drop, K: BackpressureFn> Core<
     QB,
@@ -59,7 +60,7 @@ impl<QB: Body, QH: Default + Drop, PB: Body, PH: Default + Drop, K: Backpressure
 /// Some lane from which a message waits for a receiver on a channel, of which it may have `most` from each.
 ///
 /// `None` if no message waits, `ExceedsMaxBorrows` if messages wait alone where the receiver has so many.
-fn next_sender<B: Body, N: Copy, H: Drop>(
+pub(crate) fn next_sender<B: Body, N: Copy, H: Drop>(
     lanes: &Vec<OwnedLane<B, N, H>>,
     place: usize,
     channel: usize,

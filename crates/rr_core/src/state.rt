@@ -1,12 +1,11 @@
 //! A hub's core, and how it is made.
-ghost use Rattle.std.specs.Prelude.{◌≡◌};
+ghost use Rattle.std.specs.Prelude.{◌≡◌, None};
 ghost use Rattle.rr_hub.specs.Creation.{CreatesHub};
+ghost use Rattle.rr_hub.specs.Queries.{kind_at};
 ghost use Rattle.rr_hub.specs.State.{numbers_left};
 
-use crate::held::Held;
-use crate::note::{RequestNote, ResponseNote};
-use crate::port::{ClientPort, OwnedLane, ServerPort};
 use rr_hub::{BackpressureFn, HubCreateError, Limits, UniqueNodeId};
+use rr_parts::{ClientPort, Held, OwnedLane, RequestNote, ResponseNote, ServerPort};
 use rr_slots::Body;
 use rr_table::Table;
 use std::alloc::Global;
@@ -41,8 +40,8 @@ impl<QB: Body, QH: Default + Drop, PB: Body, PH: Default + Drop, K: Backpressure
     for Core<QB, QH, PB, PH, K> {
     ghost use Rattle.rr_hub.specs.State.{State};
     ghost use Rattle.rr_hub.specs.Codes.{state_code};
-    ghost use Rattle.rr_core.specs.Views.{state_of};
-    ghost use Rattle.rr_core.specs.Sound.{IsSound, empty_hand};
+    ghost use Rattle.rr_parts.specs.Views.{state_of};
+    ghost use Rattle.rr_parts.specs.Sound.{IsSound, empty_hand};
     ghost use Rattle.rr_core.specs.Inside.{parts_of};
 
     ghost Value = { State QB.Item QH PB.Item PH K };
@@ -89,5 +88,13 @@ impl<QB: Body, QH: Default + Drop, PB: Body, PH: Default + Drop, K: Backpressure
         ensures { result ≡ numbers_left self.now }
     {
         NUMBERS - self.next
+    }
+
+    /// The number that is given next, if one is left. It names nothing yet.
+    pub fn next_number(&self) -> u64
+        ensures number { result ≡ self.now.next }
+        ensures free { kind_at self.now result ≡ None }
+    {
+        self.next
     }
 }

@@ -6,13 +6,12 @@ ghost use Rattle.rr_hub.specs.Messages.{request_in, response_in};
 ghost use Rattle.rr_hub.specs.Queries.{kind_at};
 ghost use Rattle.rr_hub.specs.State.{handle_at, with_changed};
 ghost use Rattle.rr_hub.specs.Writing.{is_complete, with_element, with_request_content, with_response_content, after_init};
-ghost use Rattle.rr_core.specs.Writing.{is_ready, is_written, with_messages};
+ghost use Rattle.rr_parts.specs.Writing.{is_ready, is_written, with_messages};
 
 use crate::handle_id::HandleId;
-use crate::held::Held;
-use crate::port::OwnedLane;
 use crate::state::Core;
 use rr_hub::{BackpressureFn, Kind};
+use rr_parts::{Held, OwnedLane};
 use rr_slots::Body;
 
 impl<QB: Body, QH: Default + Drop, PB: Body, PH: Default + Drop, K: BackpressureFn> Core<

@@ -122,6 +122,13 @@ impl<B: Body, N: Copy, H: Drop> Lane<B, N, H> {
         self.pool.give_back(slot);
     }
 
+    /// How many slots there are.
+    pub fn slots(&self) -> usize
+        ensures { result ≡ length self.now.held }
+    {
+        self.heads.len()
+    }
+
     /// How many slots no handle and no entry holds.
     pub fn free_slots(&self) -> usize
         ensures free { result + used_count self.now ≡ length self.now.held }

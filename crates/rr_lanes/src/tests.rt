@@ -22,6 +22,7 @@ fn a_loan_holds_a_slot(rt: HostRuntime) -> Result<(), Fail> {
     let second = lane.loan(1, 8, Some(String::from_str(rt.alloc(), "second")?))?;
     assert!(rt; first != second);
     assert_eq!(rt; lane.free_slots(), 0);
+    assert_eq!(rt; lane.slots(), 2);
     assert!(rt; lane.loan(1, 9, None) == Err(AcquireError::Full));
     Ok(())
 }

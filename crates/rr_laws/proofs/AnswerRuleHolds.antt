@@ -13,10 +13,10 @@ use Rattle.rr_hub.specs.Ports.{Server}
 use Rattle.rr_hub.specs.State.{State, empty_hub, server_at, handle_at, pending_at, is_server_held}
 use Rattle.rr_hub.specs.Receives.{ReceivesRequest, ReceivesResponse}
 use Rattle.rr_hub.proofs.ListsLaws.{at-no_lists}
-use Rattle.rr_run.specs.declared.command.Command.{Command}
-use Rattle.rr_run.specs.declared.reply.Reply.{Reply}
-use Rattle.rr_run.specs.Run.{Run}
-use Rattle.rr_run.specs.AnswerRule.{Event, received_by, sent_by, is_answer, received_from, sent_for, ReceivesWithoutGap, ReceivesAll, KeepsAnswerRule}
+use Rattle.rr_steps.specs.declared.command.Command.{Command}
+use Rattle.rr_steps.specs.declared.reply.Reply.{Reply}
+use Rattle.rr_steps.specs.Run.{Run}
+use Rattle.rr_steps.specs.AnswerRule.{Event, received_by, sent_by, is_answer, received_from, sent_for, ReceivesWithoutGap, ReceivesAll, KeepsAnswerRule}
 use Rattle.rr_laws.specs.Roles.{SentRequest, roles_of, question_of}
 use Rattle.rr_laws.specs.Reached.{IsReached}
 use Rattle.rr_laws.specs.Apart.{IsApart}

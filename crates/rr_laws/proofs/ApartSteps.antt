@@ -21,11 +21,11 @@ use Rattle.rr_hub.specs.Messages.{Content, with_hint}
 use Rattle.rr_hub.specs.Writing.{with_element, with_element_at, with_elements, with_user_header, with_request_content, with_response_content, after_init}
 use Rattle.rr_hub.specs.State.{State, empty_hub, handle_at}
 use Rattle.rr_hub.specs.Creation.{CreatesClient, CreatesServer}
-use Rattle.rr_run.specs.declared.command.Command.{Command}
-use Rattle.rr_run.specs.declared.reply.Reply.{Reply}
-use Rattle.rr_run.specs.Refusals.{refusal}
-use Rattle.rr_run.specs.Step.{client_settings, server_settings, with_content, with_complete, Loans, Acts, Step}
-use Rattle.rr_run.specs.Run.{Run}
+use Rattle.rr_steps.specs.declared.command.Command.{Command}
+use Rattle.rr_steps.specs.declared.reply.Reply.{Reply}
+use Rattle.rr_steps.specs.Refusals.{refusal}
+use Rattle.rr_steps.specs.Step.{client_settings, server_settings, with_content, with_complete, Loans, Acts, Step}
+use Rattle.rr_steps.specs.Run.{Run}
 use Rattle.rr_laws.specs.Roles.{role_of, asking}
 use Rattle.rr_laws.specs.Reached.{IsReached}
 use Rattle.rr_laws.specs.Apart.{standing, AreApart, IsApart}

@@ -3,7 +3,7 @@ use Rattle.std.proofs.Common.{◌≡◌, ℕ, List, refl, sym, subst}
 use Rattle.rr_hub.specs.Messages.{Content, Handle, RequestMutUninit, RequestMut, PendingResponse, ActiveRequest, ResponseMutUninit, ResponseMut, Response, with_hint}
 use Rattle.rr_hub.specs.Writing.{with_elements, with_request_content, with_response_content, after_init}
 use Rattle.rr_hub.specs.State.{State, with_changed}
-use Rattle.rr_run.specs.Step.{with_content, with_complete}
+use Rattle.rr_steps.specs.Step.{with_content, with_complete}
 use Rattle.rr_laws.specs.Roles.{role_of}
 use Rattle.rr_laws.specs.Reached.{Fits, IsReached}
 use Rattle.rr_laws.proofs.RoleLaws.{roles-changed}

@@ -6,9 +6,9 @@ use Rattle.std.proofs.lemmas.Bool.{cases_eq}
 use Rattle.std.proofs.lemmas.List.{append-nil}
 use Rattle.rr_hub.specs.Ports.{Server}
 use Rattle.rr_hub.specs.State.{State, server_at, is_server_held}
-use Rattle.rr_run.specs.declared.command.Command.{Command}
-use Rattle.rr_run.specs.declared.reply.Reply.{Reply}
-use Rattle.rr_run.specs.AnswerRule.{Event, IsPrefix, is_active_of, sent_by, received_by, creates_waiting, is_release, is_answer, sent_for, received_from}
+use Rattle.rr_steps.specs.declared.command.Command.{Command}
+use Rattle.rr_steps.specs.declared.reply.Reply.{Reply}
+use Rattle.rr_steps.specs.AnswerRule.{Event, IsPrefix, is_active_of, sent_by, received_by, creates_waiting, is_release, is_answer, sent_for, received_from}
 use Rattle.rr_laws.specs.Reached.{IsReached}
 use Rattle.rr_laws.specs.Following.{queued, Moves, WasSent, Follows}
 use Rattle.rr_laws.specs.Settling.{IsServing, IsNew, IsWaiting, Settles}

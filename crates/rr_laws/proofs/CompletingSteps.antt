@@ -20,11 +20,11 @@ use Rattle.rr_hub.specs.Loans.{LoansRequest, LoansResponse}
 use Rattle.rr_hub.specs.Sends.{SendsRequest, SendsResponse}
 use Rattle.rr_hub.specs.Receives.{ReceivesRequest, ReceivesResponse}
 use Rattle.rr_hub.specs.Releases.{after_release}
-use Rattle.rr_run.specs.declared.command.Command.{Command}
-use Rattle.rr_run.specs.declared.reply.Reply.{Reply}
-use Rattle.rr_run.specs.Refusals.{refusal}
-use Rattle.rr_run.specs.Step.{client_settings, server_settings, with_content, with_complete, Loans, Acts, Step}
-use Rattle.rr_run.specs.AnswerRule.{Event, creates_waiting}
+use Rattle.rr_steps.specs.declared.command.Command.{Command}
+use Rattle.rr_steps.specs.declared.reply.Reply.{Reply}
+use Rattle.rr_steps.specs.Refusals.{refusal}
+use Rattle.rr_steps.specs.Step.{client_settings, server_settings, with_content, with_complete, Loans, Acts, Step}
+use Rattle.rr_steps.specs.AnswerRule.{Event, creates_waiting}
 use Rattle.rr_laws.specs.Roles.{role_of}
 use Rattle.rr_laws.specs.Reached.{IsReached}
 use Rattle.rr_laws.specs.Apart.{IsApart}

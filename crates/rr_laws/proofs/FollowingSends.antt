@@ -6,9 +6,9 @@ use Rattle.std.specs.FinMap.{get}
 use Rattle.std.proofs.lemmas.Bool.{cases_eq, eq-eqb, ne_eqb}
 use Rattle.std.proofs.lemmas.List.{append-nil}
 use Rattle.rr_hub.specs.State.{State}
-use Rattle.rr_run.specs.declared.command.Command.{Command}
-use Rattle.rr_run.specs.declared.reply.Reply.{Reply}
-use Rattle.rr_run.specs.AnswerRule.{Event, IsSubsequence, is_answer, sent_for, received_from}
+use Rattle.rr_steps.specs.declared.command.Command.{Command}
+use Rattle.rr_steps.specs.declared.reply.Reply.{Reply}
+use Rattle.rr_steps.specs.AnswerRule.{Event, IsSubsequence, is_answer, sent_for, received_from}
 use Rattle.rr_laws.specs.Roles.{Question, ReceivedRequest, LoanedResponse, Answer, roles_of}
 use Rattle.rr_laws.specs.Following.{queued, Moves, WasReceived, WasSent, Follows}
 use Rattle.rr_table.proofs.ListFacts.{all_append, all_drop}

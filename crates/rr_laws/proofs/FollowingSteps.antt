@@ -18,11 +18,11 @@ use Rattle.rr_hub.specs.State.{State, client_at, handle_at, with_changed}
 use Rattle.rr_hub.specs.Creation.{CreatesClient, CreatesServer}
 use Rattle.rr_hub.specs.Loans.{LoansRequest, LoansResponse}
 use Rattle.rr_hub.specs.Sends.{SendsRequest, SendsResponse}
-use Rattle.rr_run.specs.declared.command.Command.{Command}
-use Rattle.rr_run.specs.declared.reply.Reply.{Reply}
-use Rattle.rr_run.specs.Refusals.{refusal}
-use Rattle.rr_run.specs.Step.{client_settings, server_settings, with_content, with_complete, Loans, Acts, Step}
-use Rattle.rr_run.specs.AnswerRule.{Event, is_active, is_loan, is_sent, is_sent_copy}
+use Rattle.rr_steps.specs.declared.command.Command.{Command}
+use Rattle.rr_steps.specs.declared.reply.Reply.{Reply}
+use Rattle.rr_steps.specs.Refusals.{refusal}
+use Rattle.rr_steps.specs.Step.{client_settings, server_settings, with_content, with_complete, Loans, Acts, Step}
+use Rattle.rr_steps.specs.AnswerRule.{Event, is_active, is_loan, is_sent, is_sent_copy}
 use Rattle.rr_laws.specs.Roles.{Role, LoanedResponse, Answer, role_of, roles_of, answer_of}
 use Rattle.rr_laws.specs.Reached.{IsReached}
 use Rattle.rr_laws.specs.Apart.{IsApart}

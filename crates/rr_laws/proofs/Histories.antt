@@ -10,12 +10,12 @@ use Rattle.rr_hub.specs.declared.limits.Limits.{Limits}
 use Rattle.rr_hub.specs.declared.settings.BackpressureAction.{BackpressureAction}
 use Rattle.rr_hub.specs.Limits.{hub_refusal}
 use Rattle.rr_hub.specs.State.{State, empty_hub}
-use Rattle.rr_run.specs.declared.command.Command.{Command}
-use Rattle.rr_run.specs.declared.reply.Reply.{Reply}
-use Rattle.rr_run.specs.Refusals.{refusal}
-use Rattle.rr_run.specs.Step.{Acts, Step}
-use Rattle.rr_run.specs.Run.{Run}
-use Rattle.rr_run.specs.AnswerRule.{Event, IsSubsequence, AnswersTheRequest, ReceivesOnce, ReceivesInOrder, received_from, sent_for}
+use Rattle.rr_steps.specs.declared.command.Command.{Command}
+use Rattle.rr_steps.specs.declared.reply.Reply.{Reply}
+use Rattle.rr_steps.specs.Refusals.{refusal}
+use Rattle.rr_steps.specs.Step.{Acts, Step}
+use Rattle.rr_steps.specs.Run.{Run}
+use Rattle.rr_steps.specs.AnswerRule.{Event, IsSubsequence, AnswersTheRequest, ReceivesOnce, ReceivesInOrder, received_from, sent_for}
 use Rattle.rr_laws.specs.Roles.{role_of, roles_of}
 use Rattle.rr_laws.specs.Reached.{IsReached}
 use Rattle.rr_laws.specs.Apart.{IsApart}

@@ -18,11 +18,11 @@ use Rattle.rr_hub.specs.State.{State, empty_hub, handle_at, is_client_held, is_s
 use Rattle.rr_hub.specs.Queries.{kind_of}
 use Rattle.rr_hub.specs.Creation.{CreatesClient, CreatesServer}
 use Rattle.rr_hub.proofs.ListsLaws.{at-no_lists}
-use Rattle.rr_run.specs.declared.command.Command.{Command}
-use Rattle.rr_run.specs.declared.reply.Reply.{Reply}
-use Rattle.rr_run.specs.Refusals.{refusal_of_kind, refusal}
-use Rattle.rr_run.specs.Step.{client_settings, server_settings, with_content, with_complete, Loans, Acts, Step}
-use Rattle.rr_run.specs.Run.{Run}
+use Rattle.rr_steps.specs.declared.command.Command.{Command}
+use Rattle.rr_steps.specs.declared.reply.Reply.{Reply}
+use Rattle.rr_steps.specs.Refusals.{refusal_of_kind, refusal}
+use Rattle.rr_steps.specs.Step.{client_settings, server_settings, with_content, with_complete, Loans, Acts, Step}
+use Rattle.rr_steps.specs.Run.{Run}
 use Rattle.rr_laws.specs.Roles.{role_of}
 use Rattle.rr_laws.specs.Reached.{IsReached}
 use Rattle.rr_laws.specs.Left.{IsLeftFit}

@@ -18,10 +18,10 @@ use Rattle.rr_hub.specs.Counts.{live_requests, live_responses, loaned_requests, 
 use Rattle.rr_hub.specs.Loans.{is_too_long, IsLoanRefusal, LoansRequest, LoansResponse}
 use Rattle.rr_hub.specs.Sends.{is_request_refused, SendsRequest, SendsResponse}
 use Rattle.rr_hub.specs.Queries.{kind_at}
-use Rattle.rr_run.specs.declared.command.Command.{Command}
-use Rattle.rr_run.specs.declared.reply.Reply.{Reply}
-use Rattle.rr_run.specs.Refusals.{has_call, has_length, needs_number, is_incomplete, refusal_of_kind, refusal, number_in}
-use Rattle.rr_run.specs.Step.{with_complete, Loans, Acts}
+use Rattle.rr_steps.specs.declared.command.Command.{Command}
+use Rattle.rr_steps.specs.declared.reply.Reply.{Reply}
+use Rattle.rr_steps.specs.Refusals.{has_call, has_length, needs_number, is_incomplete, refusal_of_kind, refusal, number_in}
+use Rattle.rr_steps.specs.Step.{with_complete, Loans, Acts}
 use Rattle.rr_laws.specs.Reached.{IsReached}
 use Rattle.rr_laws.specs.Unreduced.{asked_in, is_out_of_memory, HasClientPool, HasServerPool, HasPool, FindsMemory}
 use Rattle.rr_laws.proofs.Opening.{some_and, open_request_mut, open_response_mut}

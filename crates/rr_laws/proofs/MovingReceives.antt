@@ -19,7 +19,7 @@ use Rattle.rr_hub.specs.Loans.{LoansResponse}
 use Rattle.rr_hub.specs.Receives.{Skims, with_active_request, ReceivesRequest, ReceivesResponse}
 use Rattle.rr_hub.proofs.KeyLaws.{response_keys_total, response_keys_exact}
 use Rattle.rr_hub.proofs.ListsLaws.{at-with_at}
-use Rattle.rr_run.specs.AnswerRule.{Event}
+use Rattle.rr_steps.specs.AnswerRule.{Event}
 use Rattle.rr_laws.specs.Roles.{Question, Role, SentRequest, ReceivedRequest, LoanedResponse, ReceivedResponse, Answer, roles_of, question_of, answer_of, asking}
 use Rattle.rr_laws.specs.Reached.{ResponseFits, IsReached}
 use Rattle.rr_laws.specs.Apart.{standing, IsApart}

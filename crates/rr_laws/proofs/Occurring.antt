@@ -2,7 +2,7 @@
 use Rattle.std.proofs.Common.{◌≡◌, ℕ, ◌<◌, Bool, true, false, cond, ◌&&◌, List, [], ◌∷◌, ◌++◌, drop, refl, ap, ◌∙◌, ⊎_elim, inl, inr, suc, zero}
 use Rattle.std.specs.Prelude.{◌||◌, filter}
 use Rattle.std.specs.List.{AllByRecursion, list_any}
-use Rattle.rr_run.specs.AnswerRule.{Event, IsSubsequence, occur_in_order}
+use Rattle.rr_steps.specs.AnswerRule.{Event, IsSubsequence, occur_in_order}
 use Rattle.rr_table.proofs.ListFacts.{or_true}
 
 -- the two truth values are different

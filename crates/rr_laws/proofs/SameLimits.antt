@@ -21,11 +21,11 @@ use Rattle.rr_hub.specs.Creation.{CreatesClient, CreatesServer}
 use Rattle.rr_hub.specs.Sends.{SendsRequest, SendsResponse, with_response_put}
 use Rattle.rr_hub.specs.Receives.{Skims, ReceivesUnskimmed, ReceivesRequest, ReceivesResponse}
 use Rattle.rr_hub.specs.Releases.{has_responses_from, has_requests_from, with_expired_client, with_expired_server, after_client_left, after_server_left, without_unused_port, without_port_value, after_handle_gone, after_release}
-use Rattle.rr_run.specs.declared.command.Command.{Command}
-use Rattle.rr_run.specs.declared.reply.Reply.{Reply}
-use Rattle.rr_run.specs.Refusals.{refusal}
-use Rattle.rr_run.specs.Step.{client_settings, server_settings, with_complete, Loans, Acts, Step}
-use Rattle.rr_run.specs.Run.{Run}
+use Rattle.rr_steps.specs.declared.command.Command.{Command}
+use Rattle.rr_steps.specs.declared.reply.Reply.{Reply}
+use Rattle.rr_steps.specs.Refusals.{refusal}
+use Rattle.rr_steps.specs.Step.{client_settings, server_settings, with_complete, Loans, Acts, Step}
+use Rattle.rr_steps.specs.Run.{Run}
 use Rattle.rr_laws.proofs.Opening.{some_and, open_request_mut, open_response_mut, open_active}
 
 module _ {Q QH P PH K : Type 0} where

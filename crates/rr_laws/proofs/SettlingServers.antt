@@ -17,10 +17,10 @@ use Rattle.rr_hub.specs.Ports.{Server}
 use Rattle.rr_hub.specs.State.{State, server_at, active_at, is_server_held}
 use Rattle.rr_hub.specs.Creation.{CreatesServer}
 use Rattle.rr_hub.specs.Receives.{with_active_request, ReceivesRequest}
-use Rattle.rr_run.specs.declared.command.Command.{Command}
-use Rattle.rr_run.specs.declared.reply.Reply.{Reply}
-use Rattle.rr_run.specs.Step.{server_settings}
-use Rattle.rr_run.specs.AnswerRule.{retries, creates_waiting}
+use Rattle.rr_steps.specs.declared.command.Command.{Command}
+use Rattle.rr_steps.specs.declared.reply.Reply.{Reply}
+use Rattle.rr_steps.specs.Step.{server_settings}
+use Rattle.rr_steps.specs.AnswerRule.{retries, creates_waiting}
 use Rattle.rr_laws.specs.Roles.{Question, Role, roles_of, asking, asking_at}
 use Rattle.rr_laws.specs.Reached.{IsReached}
 use Rattle.rr_laws.specs.Following.{entries_for}

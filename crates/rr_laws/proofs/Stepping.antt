@@ -6,11 +6,11 @@ use Rattle.rr_hub.specs.declared.error.LoanError.{LoanError}
 use Rattle.rr_hub.specs.Messages.{Content}
 use Rattle.rr_hub.specs.Writing.{with_element, with_element_at, with_user_header}
 use Rattle.rr_hub.specs.State.{State, handle_at}
-use Rattle.rr_run.specs.declared.command.Command.{Command}
-use Rattle.rr_run.specs.declared.reply.Reply.{Reply}
-use Rattle.rr_run.specs.Refusals.{refusal}
-use Rattle.rr_run.specs.Step.{client_settings, server_settings, with_content, with_complete, Loans, Acts, Step}
-use Rattle.rr_run.specs.Run.{Run}
+use Rattle.rr_steps.specs.declared.command.Command.{Command}
+use Rattle.rr_steps.specs.declared.reply.Reply.{Reply}
+use Rattle.rr_steps.specs.Refusals.{refusal}
+use Rattle.rr_steps.specs.Step.{client_settings, server_settings, with_content, with_complete, Loans, Acts, Step}
+use Rattle.rr_steps.specs.Run.{Run}
 use Rattle.rr_laws.specs.Reached.{IsReached}
 use Rattle.rr_laws.proofs.Opening.{some_and}
 use Rattle.rr_laws.proofs.Creating.{creates_client_reached, creates_server_reached}

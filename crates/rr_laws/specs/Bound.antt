@@ -7,9 +7,9 @@ use Rattle.rr_hub.specs.Limits.{worst_case_requests, worst_case_responses, hub_r
 use Rattle.rr_hub.specs.Ports.{Client, Server}
 use Rattle.rr_hub.specs.State.{State, empty_hub, client_at, server_at}
 use Rattle.rr_hub.specs.Counts.{live_requests, live_responses}
-use Rattle.rr_run.specs.declared.command.Command.{Command}
-use Rattle.rr_run.specs.declared.reply.Reply.{Reply}
-use Rattle.rr_run.specs.Run.{Run}
+use Rattle.rr_steps.specs.declared.command.Command.{Command}
+use Rattle.rr_steps.specs.declared.reply.Reply.{Reply}
+use Rattle.rr_steps.specs.Run.{Run}
 
 module _ {Q QH P PH K : Type 0} where
   -- each connected client has at most the worst case of live requests

@@ -4,7 +4,7 @@ use Rattle.std.specs.List.{list_any}
 use Rattle.std.specs.FinMap as fin_map
 use Rattle.rr_hub.specs.Ports.{Server}
 use Rattle.rr_hub.specs.State.{State, server_at, is_server_held}
-use Rattle.rr_run.specs.AnswerRule.{Event, IsPrefix, creates_waiting, is_release, sent_for, received_from}
+use Rattle.rr_steps.specs.AnswerRule.{Event, IsPrefix, creates_waiting, is_release, sent_for, received_from}
 use Rattle.rr_laws.specs.Roles.{Question, LoanedRequest, roles_of}
 use Rattle.rr_laws.specs.Following.{queued, WasReceived}
 use Rattle.rr_laws.specs.Settling.{IsServing, Clashes, IsWaiting}

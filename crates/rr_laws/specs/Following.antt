@@ -7,7 +7,7 @@ use Rattle.rr_hub.specs.Lists.{Lists, at}
 use Rattle.rr_hub.specs.Keys.{ResponseKey, response_key_cmp}
 use Rattle.rr_hub.specs.Messages.{ResponseMessage}
 use Rattle.rr_hub.specs.State.{State}
-use Rattle.rr_run.specs.AnswerRule.{Event, IsSubsequence, occur_in_order, is_active, is_active_of, is_loan, is_sent, is_sent_copy, is_response, sent_by, received_by, lender_of, sent_for, received_from}
+use Rattle.rr_steps.specs.AnswerRule.{Event, IsSubsequence, occur_in_order, is_active, is_active_of, is_loan, is_sent, is_sent_copy, is_response, sent_by, received_by, lender_of, sent_for, received_from}
 use Rattle.rr_laws.specs.Roles.{Question, Role, SentRequest, ReceivedRequest, LoanedResponse, Answer, Roles, roles_of}
 
 -- the request that waits for answers in a role

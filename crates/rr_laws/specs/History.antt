@@ -5,8 +5,8 @@ use Rattle.rr_hub.specs.declared.limits.Limits.{Limits}
 use Rattle.rr_hub.specs.declared.settings.BackpressureAction.{BackpressureAction}
 use Rattle.rr_hub.specs.Limits.{hub_refusal}
 use Rattle.rr_hub.specs.State.{State, empty_hub}
-use Rattle.rr_run.specs.AnswerRule.{Event}
-use Rattle.rr_run.specs.Run.{Run}
+use Rattle.rr_steps.specs.AnswerRule.{Event}
+use Rattle.rr_steps.specs.Run.{Run}
 
 module _ {T H K : Type 0} (IsDefaultElement : T → Type 0) (IsDefaultHeader : H → Type 0) where
   -- this holds of every list of commands and their replies that is a run from an empty hub whose limits make a hub

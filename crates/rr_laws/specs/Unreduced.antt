@@ -11,9 +11,9 @@ use Rattle.rr_hub.specs.Messages.{Active}
 use Rattle.rr_hub.specs.Ports.{Client, Server}
 use Rattle.rr_hub.specs.State.{State, client_at, server_at, active_at}
 use Rattle.rr_hub.specs.Loans.{request_loan_refusal, IsFreeChannel}
-use Rattle.rr_run.specs.declared.command.Command.{Command}
-use Rattle.rr_run.specs.declared.reply.Reply.{Reply}
-use Rattle.rr_run.specs.Step.{Step}
+use Rattle.rr_steps.specs.declared.command.Command.{Command}
+use Rattle.rr_steps.specs.declared.reply.Reply.{Reply}
+use Rattle.rr_steps.specs.Step.{Step}
 
 module _ {T H K : Type 0} where
   -- from what a command would loan, and how long a slice

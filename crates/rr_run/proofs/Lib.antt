@@ -1,2 +1,5 @@
-pub mod RunLaws
-pub mod FamilyLaws
+pub mod Steps
+pub mod Copies
+pub mod Received
+pub mod Running
+pub mod Continuing

@@ -1,12 +1,11 @@
-//! Commands of all ports, and their replies. Its `specs/` hold the steps and the runs of the message machine.
+//! A runner that carries out commands of all ports, and a program that reads them from a script.
 #![tactic(auto)]
 
-mod command;
-mod elements;
-mod reply;
+mod places;
+mod runner;
+mod script;
 #[cfg(test)]
 mod tests;
 
-pub use command::Command;
-pub use elements::Elements;
-pub use reply::Reply;
+pub use runner::Runner;
+pub use script::serve;

@@ -10,8 +10,8 @@ use Rattle.rr_hub.specs.Messages.{RequestMessage, ResponseMessage, Pending, Hand
 use Rattle.rr_hub.specs.State.{handle_at}
 use Rattle.rr_hub.specs.Counts.{has_response_room}
 use Rattle.rr_hub.specs.Loans.{with_loaned_response}
-use Rattle.rr_run.specs.declared.command.Command.{Command}
-use Rattle.rr_run.specs.declared.reply.Reply.{Reply}
+use Rattle.rr_steps.specs.declared.command.Command.{Command}
+use Rattle.rr_steps.specs.declared.reply.Reply.{Reply}
 use Rattle.rr_worked.proofs.Literals.{literals}
 use Rattle.rr_worked.proofs.Worked.{HubState, Handles, Responses, StepOf, RunOf, limits, hub, request, pending, active, response, responses_at, client_0, server_1}
 

@@ -6,8 +6,8 @@ use Rattle.rr_hub.specs.Messages.{RequestMessage, Pending, Handle}
 use Rattle.rr_hub.specs.Ports.{Client, Server}
 use Rattle.rr_hub.specs.Counts.{live_requests}
 use Rattle.rr_hub.specs.Loans.{with_loaned_request}
-use Rattle.rr_run.specs.declared.command.Command.{Command}
-use Rattle.rr_run.specs.declared.reply.Reply.{Reply}
+use Rattle.rr_steps.specs.declared.command.Command.{Command}
+use Rattle.rr_steps.specs.declared.reply.Reply.{Reply}
 use Rattle.rr_worked.proofs.Literals.{literals}
 use Rattle.rr_worked.proofs.Worked.{NoHandler, HubState, Handles, Requests, StepOf, limits, port, client_port, client_0, server_1, hub, request, pending, active, requests_at}
 

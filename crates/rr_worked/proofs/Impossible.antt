@@ -12,9 +12,9 @@ use Rattle.rr_hub.specs.Messages.{RequestMessage, ResponseMessage, response_key}
 use Rattle.rr_hub.specs.Loans.{with_loaned_request}
 use Rattle.rr_hub.specs.Sends.{SendsRequest}
 use Rattle.rr_hub.specs.Receives.{is_dead, TakesRequest, Skims, TakesResponse}
-use Rattle.rr_run.specs.Step.{with_complete}
-use Rattle.rr_run.specs.declared.command.Command.{Command}
-use Rattle.rr_run.specs.declared.reply.Reply.{Reply}
+use Rattle.rr_steps.specs.Step.{with_complete}
+use Rattle.rr_steps.specs.declared.command.Command.{Command}
+use Rattle.rr_steps.specs.declared.reply.Reply.{Reply}
 use Rattle.rr_worked.proofs.Literals.{literals}
 use Rattle.rr_worked.proofs.Worked.{not_true, HubState, StepOf, answer, port, client_port}
 use Rattle.rr_worked.proofs.BasePath as base_path

@@ -5,8 +5,8 @@ use Rattle.rr_hub.specs.declared.error.SendError.{SendError}
 use Rattle.rr_hub.specs.declared.error.RequestSendError.{RequestSendError}
 use Rattle.rr_hub.specs.Messages.{RequestMessage, Handle}
 use Rattle.rr_hub.specs.Loans.{with_loaned_request}
-use Rattle.rr_run.specs.declared.command.Command.{Command}
-use Rattle.rr_run.specs.declared.reply.Reply.{Reply}
+use Rattle.rr_steps.specs.declared.command.Command.{Command}
+use Rattle.rr_steps.specs.declared.reply.Reply.{Reply}
 use Rattle.std.specs.Ordering.{nat_cmp, is_eq, ordering_then}
 use Rattle.std.specs.declared.cmp.Ordering.{Ordering}
 use Rattle.std.specs.declared.cmp.Ordering.TheVariants.{Less, Equal, Greater}

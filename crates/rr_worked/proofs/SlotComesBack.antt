@@ -3,8 +3,8 @@ use Rattle.std.proofs.Common.{inr, ℕ, false, [], ◌∷◌, refl}
 use Rattle.rr_hub.specs.declared.error.LoanError.{LoanError}
 use Rattle.rr_hub.specs.Messages.{RequestMessage, ResponseMessage, Handle}
 use Rattle.rr_hub.specs.Loans.{with_loaned_response}
-use Rattle.rr_run.specs.declared.command.Command.{Command}
-use Rattle.rr_run.specs.declared.reply.Reply.{Reply}
+use Rattle.rr_steps.specs.declared.command.Command.{Command}
+use Rattle.rr_steps.specs.declared.reply.Reply.{Reply}
 use Rattle.rr_worked.proofs.Literals.{literals}
 use Rattle.rr_worked.proofs.Worked.{HubState, Handles, Responses, StepOf, RunOf, limits, hub, request, pending, active, response, responses_at, client_0, server_1}
 

@@ -6,8 +6,8 @@ use Rattle.rr_hub.specs.declared.kind.Kind.TheVariants.{Client, Server}
 use Rattle.rr_hub.specs.declared.error.HubCreateError.{HubCreateError}
 use Rattle.rr_hub.specs.Limits.{worst_case_requests, max_loaned_responses, worst_case_responses, hub_refusal}
 use Rattle.rr_hub.specs.Creation.{pool_size_of}
-use Rattle.rr_run.specs.declared.command.Command.{Command}
-use Rattle.rr_run.specs.Refusals.{handle_kinds, has_call}
+use Rattle.rr_steps.specs.declared.command.Command.{Command}
+use Rattle.rr_steps.specs.Refusals.{handle_kinds, has_call}
 use Rattle.rr_worked.proofs.Worked.{NoHandler, limits}
 
 -- the commands that name a number

@@ -12,10 +12,10 @@ use Rattle.rr_hub.specs.Messages.{RequestMessage, ResponseMessage, Handle}
 use Rattle.rr_hub.specs.Keys.{RequestKey, ResponseKey}
 use Rattle.rr_hub.specs.Ports.{Port, Client, Server}
 use Rattle.rr_hub.specs.State.{State}
-use Rattle.rr_run.specs.declared.command.Command.{Command}
-use Rattle.rr_run.specs.declared.reply.Reply.{Reply}
-use Rattle.rr_run.specs.Step.{Step}
-use Rattle.rr_run.specs.Run.{Run}
+use Rattle.rr_steps.specs.declared.command.Command.{Command}
+use Rattle.rr_steps.specs.declared.reply.Reply.{Reply}
+use Rattle.rr_steps.specs.Step.{Step}
+use Rattle.rr_steps.specs.Run.{Run}
 
 pub not_true : false ≡ true → ⊥
 not_true e = cc

@@ -3,14 +3,13 @@ ghost use Rattle.std.specs.Prelude.{◌≡◌, None, true, false, IsTrue, IfOk, 
 ghost use Rattle.rr_slots.specs.Families.{takes_len};
 ghost use Rattle.rr_hub.specs.Creation.{CreatesServer, server_refusal, with_server, loans_of};
 ghost use Rattle.rr_hub.specs.Limits.{hub_refusal, is_too_large, worst_case_responses};
-ghost use Rattle.rr_core.specs.Inside.{connected_of};
+ghost use Rattle.rr_parts.specs.Ports.{connected_of};
 
 use crate::create::{free_place, pool_size, worst_case_requests};
-use crate::note::ResponseNote;
-use crate::port::{OwnedLane, Port, ServerPort};
 use crate::state::Core;
 use rr_hub::{BackpressureFn, Limits, ServerCreateError, ServerSettings};
 use rr_lanes::{Lane, LaneSize};
+use rr_parts::{OwnedLane, Port, ResponseNote, ServerPort};
 use rr_slots::Body;
 use std::alloc::AllocError;
 

@@ -7,14 +7,12 @@ ghost use Rattle.rr_hub.specs.declared.kind.Kind.TheVariants as kind;
 ghost use Rattle.rr_hub.specs.Loans.{LoansResponse};
 ghost use Rattle.rr_hub.specs.Queries.{kind_at};
 ghost use Rattle.rr_hub.specs.State.{numbers_left};
-ghost use Rattle.rr_core.specs.Answering.{IsActiveOfOne, active_held, answer_note_of};
+ghost use Rattle.rr_parts.specs.Answering.{IsActiveOfOne, active_held, answer_note_of};
 
 use crate::handle_id::HandleId;
-use crate::held::{Held, Stage};
-use crate::note::{RequestNote, ResponseNote};
-use crate::port::{ServerPort, index_of};
 use crate::state::Core;
 use rr_hub::{BackpressureFn, LoanError};
+use rr_parts::{Held, RequestNote, ResponseNote, ServerPort, Stage, index_of};
 use rr_slots::Body;
 use rr_table::{Place, Table};
 

@@ -2,7 +2,7 @@ use Rattle.std.proofs.Common.{sym, ap, ◌∙◌, arith}
 use Rattle.std.proofs.lemmas.Bool.{false≢true, eq-eqb}
 use Rattle.std.proofs.lemmas.List.Folds.{list_any_at}
 use Rattle.std.proofs.lemmas.Option.{slice_get_within, get_or_from_slice_get}
-use Rattle.rr_core.proofs.Pigeons.{each_number}
+use Rattle.rr_core_laws.proofs.Pigeons.{each_number}
 use Rattle.rr_core.proofs.create.free_place.Goals as goal
 
 pub returns-then-not-is_taken-clause-vacant : goal.returns-then-not-is_taken-clause-vacant

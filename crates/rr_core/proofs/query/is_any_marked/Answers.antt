@@ -1,6 +1,6 @@
 use Rattle.std.proofs.Common.{sym, arith}
 use Rattle.std.proofs.lemmas.Option.{slice_get_within}
-use Rattle.rr_core.proofs.Connected.{none_pass}
+use Rattle.rr_core_laws.proofs.Connected.{none_pass}
 use Rattle.rr_core.proofs.query.is_any_marked.Goals as goal
 
 pub returns : goal.returns

@@ -1,5 +1,5 @@
 use Rattle.std.proofs.Common.{◌≡◌, ℕ, ◌+◌, ◌<◌, false, Some, slice_get, slice_index_or}
-use Rattle.rr_core.specs.declared.port.ServerPort.{ServerPort}
+use Rattle.rr_parts.specs.declared.port.ServerPort.{ServerPort}
 use Rattle.rr_core.proofs.query.is_any_marked.Given as goal
 
 -- none of the servers so far has a mark

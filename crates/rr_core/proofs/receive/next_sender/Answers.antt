@@ -1,13 +1,13 @@
 use Rattle.std.proofs.Common.{◌≡◌, ◌<◌, ◌≤◌, ◌+◌, [], length, map, sym, ap, ◌∙◌, subst, arith}
-use Rattle.rr_core.specs.Inside.{lane_part}
-use Rattle.rr_core.specs.Parts.{Lane}
+use Rattle.rr_parts.specs.Ports.{lane_part}
+use Rattle.rr_parts.specs.Parts.{Lane}
 use Rattle.rr_lanes.specs.Lanes.{queue_at, borrowed_at}
 use Rattle.std.specs.Prelude.{slice_index_or}
 use Rattle.std.proofs.lemmas.Bool.{false≢true}
 use Rattle.std.proofs.lemmas.List.{length-map}
-use Rattle.rr_core.specs.Receiving.{IsLookedThrough, queue_from, borrowed_from}
-use Rattle.rr_core.proofs.Asking.{lane_is}
-use Rattle.rr_core.proofs.NextSender.{looked_at_none, looked_at_empty, looked_at_blocked, empty_of, some_of}
+use Rattle.rr_parts.specs.Receiving.{IsLookedThrough, queue_from, borrowed_from}
+use Rattle.rr_core_laws.proofs.Asking.{lane_is}
+use Rattle.rr_core_laws.proofs.NextSender.{looked_at_none, looked_at_empty, looked_at_blocked, empty_of, some_of}
 use Rattle.rr_core.proofs.receive.next_sender.Goals as goal
 use Rattle.rr_core.proofs.receive.next_sender.Goals.{then-has_entries+else-borrowed-most, else-has_entries}
 

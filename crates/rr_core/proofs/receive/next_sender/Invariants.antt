@@ -1,6 +1,6 @@
 use Rattle.std.proofs.Common.{map}
-use Rattle.rr_core.specs.Inside.{lane_part}
-use Rattle.rr_core.specs.Receiving.{IsLookedThrough}
+use Rattle.rr_parts.specs.Ports.{lane_part}
+use Rattle.rr_parts.specs.Receiving.{IsLookedThrough}
 use Rattle.rr_core.proofs.receive.next_sender.Given as goal
 
 -- the lanes so far were looked through

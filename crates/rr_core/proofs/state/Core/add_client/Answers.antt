@@ -1,18 +1,19 @@
 use Rattle.std.proofs.Common.{◌≡◌, ◌≢◌, ◌<◌, ◌+◌, ◌-◌, ◌*◌, ◌^◌, ℕ, false, [], ◌∷◌, ◌++◌, length, map, replicate, refl, sym, ap, ◌∙◌, subst, arith}
 use Rattle.std.specs.Prelude.{Some, slice_get}
 use Rattle.std.proofs.lemmas.List.{map-append, length-map, length-replicate}
-use Rattle.rr_core.specs.Parts.{ClientPart}
-use Rattle.rr_core.specs.Inside.{parts_of, connected_of, client_part, lane_part, marks_of}
+use Rattle.rr_parts.specs.Parts.{ClientPart}
+use Rattle.rr_core.specs.Inside.{parts_of}
+use Rattle.rr_parts.specs.Ports.{connected_of, client_part, lane_part, marks_of}
 use Rattle.rr_hub.specs.Creation.{pool_size_of, with_client}
 use Rattle.rr_table.specs.Seats.{with_row}
-use Rattle.rr_core.specs.declared.port.ClientPort.{ClientPort}
-use Rattle.rr_core.specs.declared.port.OwnedLane.{OwnedLane}
-use Rattle.rr_core.specs.Creating.{IsNew, client_port, with_client_part}
-use Rattle.rr_core.specs.Views.{state_of, no_request}
-use Rattle.rr_core.proofs.Adding.{on_err_any, fewer, not_refused, other_places, mapped, with_vectors, same_vectors}
-use Rattle.rr_core.specs.Sound.{IsSound, empty_hand}
-use Rattle.rr_core.proofs.ClientSound.{client_sound}
-use Rattle.rr_core.proofs.ClientView.{client_view}
+use Rattle.rr_parts.specs.declared.port.ClientPort.{ClientPort}
+use Rattle.rr_parts.specs.declared.port.OwnedLane.{OwnedLane}
+use Rattle.rr_parts.specs.Creating.{IsNew, client_port, with_client_part}
+use Rattle.rr_parts.specs.Views.{state_of, no_request}
+use Rattle.rr_core_laws.proofs.Adding.{on_err_any, fewer, not_refused, other_places, mapped, with_vectors, same_vectors}
+use Rattle.rr_parts.specs.Sound.{IsSound, empty_hand}
+use Rattle.rr_core_laws.proofs.ClientSound.{client_sound}
+use Rattle.rr_core_laws.proofs.ClientView.{client_view}
 use Rattle.rr_core.proofs.state.Core.add_client.Goals as goal
 
 pub free_place-place-requires : goal.free_place-place-requires
@@ -80,9 +81,9 @@ parts g c =
     let client : ClientPort _ = record { port = c.client_port-port.result; loans_made = 0; pendings = 0 } in
     let lane : OwnedLane _ _ _ _ = record { owner = c.self.inside.next; row = c.in_ok-row.row; messages = c.in_ok-messages.messages } in
     let marks = c.in_ok-marks.ensures.items_if_clones_equal (λ _ e. e) in
-    let len : c.in_ok-row_len.row_len ≡ (p.limits.max_servers + 1) * (client_port p c.args.settings).pool_size = c.in_ok-row_len.ensures ∙ ap (λ n. (p.limits.max_servers + 1) * n) (pool g c) in
+    let len : c.in_ok-row_len.row_len ≡ (p.limits.max_servers + 1) * (client_port p c.args.settings).pool_size = c.in_ok-row_len.ensures.len ∙ ap (λ n. (p.limits.max_servers + 1) * n) (pool g c) in
     let others : c.in_ok-row_len.row_len - c.pool_size-slots.result ≡ (client_port p c.args.settings).pool_size * p.limits.max_servers =
-    ap (λ n. n - c.pool_size-slots.result) c.in_ok-row_len.ensures ∙ other_places p.limits.max_servers c.pool_size-slots.result ∙ ap (λ n. n * p.limits.max_servers) (pool g c) in
+    ap (λ n. n - c.pool_size-slots.result) c.in_ok-row_len.ensures.len ∙ other_places p.limits.max_servers c.pool_size-slots.result ∙ ap (λ n. n * p.limits.max_servers) (pool g c) in
     same_vectors p (with_client_part p c.args.settings c.free_place-place.result c.in_ok-messages.messages) _ _ _ _ _
     (ap (map client_part) (c.push_reserved.ensures.items ∙ ap (λ xs. xs ++ client ∷ []) c.reserve.ensures.items) ∙ map-append client_part c.self.inside.clients.items (client ∷ [])
     ∙ ap (λ x. p.clients ++ record { connected = x; loans_made = 0; pendings = 0 } ∷ []) (port g c))
@@ -108,7 +109,8 @@ room g c = let due = rw (← c.self.view_is) at c.requires.due in ((not_refused 
 pub invariant_of-self-2 : goal.invariant_of-self-2
 invariant_of-self-2 g c =
     subst (λ p. IsSound p empty_hand) (sym (parts g c))
-    (client_sound (parts_of c.self.inside) c.args.settings c.free_place-place.result c.in_ok-messages.messages c.self.invariant (new_lane g c) c.free_place-place.ensures.inside (vacant g c) (room g c).1 (room g c).0)
+    (client_sound (parts_of c.self.inside) c.args.settings c.free_place-place.result c.in_ok-messages.messages c.self.invariant (new_lane g c) c.free_place-place.ensures.inside (vacant g c) (room g c).1 (room g c).0
+    (omega (arith, c.in_ok-row_len.ensures.fits, c.in_ok-row_len.ensures.len, ap (λ n. (c.self.inside.limits.max_servers + 1) * n) (pool g c))))
 
 pub returns-clause-ok : goal.returns-clause-ok
 returns-clause-ok g c =

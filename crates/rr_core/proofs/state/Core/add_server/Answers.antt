@@ -5,16 +5,17 @@ use Rattle.std.proofs.Math.Nat.{max_comm}
 use Rattle.rr_table.specs.Seats.{with_row}
 use Rattle.rr_hub.specs.Limits.{worst_case_requests, worst_case_responses, is_too_large}
 use Rattle.rr_hub.specs.Creation.{pool_size_of, with_server, loans_of}
-use Rattle.rr_core.specs.declared.port.ServerPort.{ServerPort}
-use Rattle.rr_core.specs.declared.port.OwnedLane.{OwnedLane}
-use Rattle.rr_core.specs.Parts.{ServerPart}
-use Rattle.rr_core.specs.Inside.{parts_of, connected_of, server_part, lane_part}
-use Rattle.rr_core.specs.Creating.{IsNew, server_port, with_server_part}
-use Rattle.rr_core.specs.Views.{state_of, no_response}
-use Rattle.rr_core.specs.Sound.{IsSound, empty_hand}
-use Rattle.rr_core.proofs.Adding.{on_err_any, fewer_servers, server_not_refused, mapped, with_servers, same_servers}
-use Rattle.rr_core.proofs.ServerSound.{server_sound}
-use Rattle.rr_core.proofs.ServerView.{server_view}
+use Rattle.rr_parts.specs.declared.port.ServerPort.{ServerPort}
+use Rattle.rr_parts.specs.declared.port.OwnedLane.{OwnedLane}
+use Rattle.rr_parts.specs.Parts.{ServerPart}
+use Rattle.rr_core.specs.Inside.{parts_of}
+use Rattle.rr_parts.specs.Ports.{connected_of, server_part, lane_part}
+use Rattle.rr_parts.specs.Creating.{IsNew, server_port, with_server_part}
+use Rattle.rr_parts.specs.Views.{state_of, no_response}
+use Rattle.rr_parts.specs.Sound.{IsSound, empty_hand}
+use Rattle.rr_core_laws.proofs.Adding.{on_err_any, fewer_servers, server_not_refused, mapped, with_servers, same_servers}
+use Rattle.rr_core_laws.proofs.ServerSound.{server_sound}
+use Rattle.rr_core_laws.proofs.ServerView.{server_view}
 use Rattle.rr_core.proofs.state.Core.add_server.Goals as goal
 
 pub free_place-place-requires : goal.free_place-place-requires
@@ -111,5 +112,5 @@ invariant_of-self-2 g c =
 pub returns-clause-ok : goal.returns-clause-ok
 returns-clause-ok g c =
     ap state_of (parts g c)
-    ∙ server_view (parts_of c.self.inside) c.args.settings c.free_place-place.result c.in_ok-messages.messages c.self.invariant _ _ _ _ _ (new_lane g c) (vacant g c)
+    ∙ server_view (parts_of c.self.inside) c.args.settings c.free_place-place.result c.in_ok-messages.messages c.self.invariant _ _ _ _ _ (new_lane g c) (vacant g c) c.free_place-place.ensures.inside
     ∙ ap (λ s. with_server s c.args.settings) c.self.view_is

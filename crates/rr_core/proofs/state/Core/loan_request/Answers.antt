@@ -12,24 +12,25 @@ use Rattle.rr_hub.specs.declared.kind.Kind.TheVariants as kind
 use Rattle.rr_hub.specs.Loans.{is_too_long, request_loan_refusal}
 use Rattle.rr_hub.specs.Queries.{kind_at}
 use Rattle.rr_hub.specs.State.{client_at, numbers_left}
-use Rattle.rr_core.specs.declared.held.Stage.TheVariants as stage
-use Rattle.rr_core.specs.declared.note.RequestNote.{RequestNote}
-use Rattle.rr_core.specs.declared.port.ClientPort.{ClientPort}
-use Rattle.rr_core.specs.declared.port.OwnedLane.{OwnedLane}
-use Rattle.rr_core.specs.Inside.{parts_of, client_part, lane_part}
-use Rattle.rr_core.specs.Loaning.{loan_note, loan_place, with_messages, with_request_loan}
-use Rattle.rr_core.specs.Parts.{ClientPart, Lane}
-use Rattle.rr_core.specs.Sound.{IsSound, empty_hand}
-use Rattle.rr_core.specs.Views.{state_of, client_of, lane_of}
-use Rattle.rr_core.proofs.Adding.{with_vectors, same_vectors}
-use Rattle.rr_core.proofs.Asking.{in_row, client_seen, no_client_seen, standing_at, read_at, due_refusal, lane_is, lanes_many, loans_fit, not_full, no_error}
-use Rattle.rr_core.proofs.Entries.{used_le}
-use Rattle.rr_core.proofs.HandleCounts.{listed}
-use Rattle.rr_core.proofs.LoanSound.{loan_sound}
-use Rattle.rr_core.proofs.LoanRefusals.{refusal_stored, refuses, lends, first_due, second_due, none_due, pool_refusal}
-use Rattle.rr_core.proofs.Numbers.{client_there}
-use Rattle.rr_core.proofs.Places.{standing_nowhere, map-set_one}
-use Rattle.rr_core.proofs.Vacant.{own_vacant}
+use Rattle.rr_parts.specs.declared.held.Stage.TheVariants as stage
+use Rattle.rr_parts.specs.declared.note.RequestNote.{RequestNote}
+use Rattle.rr_parts.specs.declared.port.ClientPort.{ClientPort}
+use Rattle.rr_parts.specs.declared.port.OwnedLane.{OwnedLane}
+use Rattle.rr_core.specs.Inside.{parts_of}
+use Rattle.rr_parts.specs.Ports.{client_part, lane_part}
+use Rattle.rr_parts.specs.Loaning.{loan_note, loan_place, with_messages, with_request_loan}
+use Rattle.rr_parts.specs.Parts.{ClientPart, Lane}
+use Rattle.rr_parts.specs.Sound.{IsSound, empty_hand}
+use Rattle.rr_parts.specs.Views.{state_of, client_of, lane_of}
+use Rattle.rr_core_laws.proofs.Adding.{with_vectors, same_vectors}
+use Rattle.rr_core_laws.proofs.Asking.{in_row, client_seen, no_client_seen, standing_at, read_at, due_refusal, lane_is, lanes_many, loans_fit, not_full, no_error}
+use Rattle.rr_core_laws.proofs.Entries.{used_le}
+use Rattle.rr_core_laws.proofs.HandleCounts.{listed}
+use Rattle.rr_core_laws.proofs.LoanSound.{loan_sound}
+use Rattle.rr_core_laws.proofs.LoanRefusals.{refusal_stored, refuses, lends, first_due, second_due, none_due, pool_refusal}
+use Rattle.rr_core_laws.proofs.Numbers.{client_there}
+use Rattle.rr_core_laws.proofs.Places.{standing_nowhere, map-set_one}
+use Rattle.rr_core_laws.proofs.Vacant.{own_vacant}
 use Rattle.rr_core.proofs.state.Core.loan_request.Goals as goal
 
 pub unreachable-requires : goal.unreachable-requires

@@ -11,26 +11,25 @@ use Rattle.rr_hub.specs.declared.error.LoanError.{LoanError}
 use Rattle.rr_hub.specs.Limits.{max_loaned_responses}
 use Rattle.rr_hub.specs.Loans.{is_too_long}
 use Rattle.rr_hub.specs.State.{numbers_left}
-use Rattle.rr_core.specs.declared.held.Held.{Held}
-use Rattle.rr_core.specs.declared.held.Stage.TheVariants as stage
-use Rattle.rr_core.specs.declared.note.RequestNote.{RequestNote}
-use Rattle.rr_core.specs.declared.note.ResponseNote.{ResponseNote}
-use Rattle.rr_core.specs.declared.port.OwnedLane.{OwnedLane}
-use Rattle.rr_core.specs.declared.port.ServerPort.{ServerPort}
-use Rattle.rr_core.specs.Answering.{active_held, answer_note, answer_note_of, answer_place, with_response_loan}
-use Rattle.rr_core.specs.Inside.{parts_of, server_part, lane_part}
-use Rattle.rr_core.specs.Loaning.{with_messages}
-use Rattle.rr_core.specs.Parts.{Lane}
-use Rattle.rr_core.specs.Sound.{IsSound, empty_hand, request_note}
-use Rattle.rr_core.specs.Views.{lane_of, no_request, state_of}
-use Rattle.rr_core.proofs.Adding.{with_servers, same_servers}
-use Rattle.rr_core.proofs.AnswerRefusals.{stored_refusal, refuses, lends, first_due, second_due, none_due, pool_refusal}
-use Rattle.rr_core.proofs.AnswerSeated.{answer_sound}
-use Rattle.rr_core.proofs.Answerable.{Found, found, active_of_one, answers_fit, loans_from_fit}
-use Rattle.rr_core.proofs.Asking.{read_at, due_refusal, lane_is, lanes_many, not_full, no_error}
-use Rattle.rr_core.proofs.Entries.{used_le}
-use Rattle.rr_core.proofs.Places.{map-set_one}
-use Rattle.rr_core.proofs.Vacant.{response_vacant}
+use Rattle.rr_parts.specs.declared.held.Held.{Held}
+use Rattle.rr_parts.specs.declared.held.Stage.TheVariants as stage
+use Rattle.rr_parts.specs.declared.port.OwnedLane.{OwnedLane}
+use Rattle.rr_parts.specs.declared.port.ServerPort.{ServerPort}
+use Rattle.rr_parts.specs.Answering.{active_held, answer_note, answer_note_of, answer_place, with_response_loan}
+use Rattle.rr_core.specs.Inside.{parts_of}
+use Rattle.rr_parts.specs.Ports.{server_part, lane_part}
+use Rattle.rr_parts.specs.Loaning.{with_messages}
+use Rattle.rr_parts.specs.Parts.{Lane}
+use Rattle.rr_parts.specs.Sound.{IsSound, empty_hand, request_note}
+use Rattle.rr_parts.specs.Views.{lane_of, no_request, state_of}
+use Rattle.rr_core_laws.proofs.Adding.{with_servers, same_servers}
+use Rattle.rr_core_laws.proofs.AnswerRefusals.{stored_refusal, refuses, lends, first_due, second_due, none_due, pool_refusal}
+use Rattle.rr_core_laws.proofs.AnswerSeated.{answer_sound}
+use Rattle.rr_core_laws.proofs.Answerable.{Found, found, active_of_one, answers_fit, loans_from_fit}
+use Rattle.rr_core_laws.proofs.Asking.{read_at, due_refusal, lane_is, lanes_many, not_full, no_error}
+use Rattle.rr_core_laws.proofs.Entries.{used_le}
+use Rattle.rr_core_laws.proofs.Places.{map-set_one}
+use Rattle.rr_core_laws.proofs.Vacant.{response_vacant}
 use Rattle.rr_core.proofs.state.Core.loan_response.Goals as goal
 
 pub asked_from-asked-requires : goal.asked_from-asked-requires

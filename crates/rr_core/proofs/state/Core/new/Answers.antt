@@ -1,7 +1,7 @@
 use Rattle.std.proofs.Common.{◌≡◌, sym, ap, ◌∙◌, map}
 use Rattle.std.specs.Prelude.{None}
 use Rattle.rr_hub.specs.Limits.{hub_refusal}
-use Rattle.rr_core.proofs.StartLaws.{start_sound, start_view}
+use Rattle.rr_core_laws.proofs.StartLaws.{start_sound, start_view}
 use Rattle.rr_core.proofs.state.Core.new.Goals as goal
 
 pub invariant_of-result : goal.invariant_of-result

@@ -6,13 +6,13 @@ use Rattle.rr_hub.specs.declared.kind.Kind.{Kind}
 use Rattle.rr_hub.specs.State.{with_changed}
 use Rattle.rr_hub.specs.Writing.{with_element, with_response_content}
 use Rattle.rr_core.specs.Inside.{parts_of}
-use Rattle.rr_core.specs.Sound.{IsSound, empty_hand, is_of_response}
-use Rattle.rr_core.specs.Views.{state_of}
-use Rattle.rr_core.specs.Writing.{is_written, with_messages}
-use Rattle.rr_core.proofs.Shown.{of_response, response_spot}
-use Rattle.rr_core.proofs.Connected.{of_kind, of_kind_there}
-use Rattle.rr_core.proofs.WrittenView.{stored_lane, lanes_written}
-use Rattle.rr_core.proofs.Pushing.{response_mut_stage, pushed_response_sound, pushed_response_view}
+use Rattle.rr_parts.specs.Sound.{IsSound, empty_hand, is_of_response}
+use Rattle.rr_parts.specs.Views.{state_of}
+use Rattle.rr_parts.specs.Writing.{is_written, with_messages}
+use Rattle.rr_core_laws.proofs.Shown.{of_response, response_spot}
+use Rattle.rr_core_laws.proofs.Connected.{of_kind, of_kind_there}
+use Rattle.rr_core_laws.proofs.WrittenView.{stored_lane, lanes_written}
+use Rattle.rr_core_laws.proofs.Pushing.{response_mut_stage, pushed_response_sound, pushed_response_view}
 use Rattle.rr_core.proofs.state.Core.push_response.Goals as goal
 
 pub push_in-requires : goal.push_in-requires

@@ -1,36 +1,34 @@
-use Rattle.std.proofs.Common.{◌≡◌, ◌≢◌, ◌<◌, ◌≤◌, ◌+◌, ◌^◌, ℕ, List, find, None, Some, Ok, Err, [], length, get_or, map, refl, sym, ap, ◌∙◌, subst, arith}
+use Rattle.std.proofs.Common.{◌≡◌, ◌<◌, ◌+◌, ℕ, List, find, None, Some, Ok, Err, [], length, get_or, map, refl, sym, ap, ◌∙◌, subst, arith}
 use Rattle.std.specs.List.{position}
 use Rattle.std.specs.Prelude.{◌==◌, slice_get, slice_index, slice_index_or, slice_set, drop}
 use Rattle.std.specs.FinMap as fin_map
 use Rattle.std.proofs.lemmas.Bool.{eqb-true, eq-eqb, false≢true}
-use Rattle.std.proofs.lemmas.List.{get_or-set_same, length-set, length-map}
+use Rattle.std.proofs.lemmas.List.{get_or-set_same, length-set}
 use Rattle.std.proofs.lemmas.Option.{slice_get_within, get_or_from_slice_get}
 use Rattle.rr_table.specs.Seats.{seated}
 use Rattle.rr_lanes.specs.Lanes.{Messages, times, all_entries, queue_at, borrowed_at, taken}
-use Rattle.rr_hub.specs.declared.error.ReceiveError.{ReceiveError}
 use Rattle.rr_hub.specs.declared.kind.Kind.TheVariants as kind
-use Rattle.rr_hub.specs.Receives.{ReceivesResponse}
-use Rattle.rr_core.specs.declared.held.Stage.TheVariants as stage
-use Rattle.rr_core.specs.declared.note.ResponseNote.{ResponseNote}
-use Rattle.rr_core.specs.declared.port.ClientPort.{ClientPort}
-use Rattle.rr_core.specs.declared.port.OwnedLane.{OwnedLane}
-use Rattle.rr_core.specs.Inside.{parts_of, client_part, lane_part}
-use Rattle.rr_core.specs.Loaning.{with_messages}
-use Rattle.rr_core.specs.Parts.{ClientPart, Connected, Lane}
-use Rattle.rr_core.specs.Receiving.{IsNextSender, queue_from, borrowed_from, received_held, with_received_response}
-use Rattle.rr_core.specs.Sound.{IsSound, empty_hand, response_note, response_place}
-use Rattle.rr_core.specs.Views.{state_of, lane_of, no_response}
-use Rattle.rr_core.proofs.Adding.{mapped, with_servers, same_servers}
-use Rattle.rr_core.proofs.Entries.{found_none}
-use Rattle.rr_core.proofs.Asking.{in_row, standing_at, read_at, lane_is, lanes_many, borrows_fit}
-use Rattle.rr_core.proofs.Connected.{of_kind, of_kind_there, pending_has_request}
-use Rattle.rr_core.proofs.HandleCounts.{listed}
-use Rattle.rr_core.proofs.Places.{standing_nowhere, map-set_one}
-use Rattle.rr_core.proofs.Queues.{times_queue}
-use Rattle.rr_core.proofs.Receivable.{IsAsking, asking, reaches, receives, receives_nothing, by_error}
-use Rattle.rr_core.proofs.Seating.{entry_waits, not_held, no_handle, received_sound}
-use Rattle.rr_core.proofs.Shown.{request_spot}
-use Rattle.rr_core.proofs.Vacant.{response_vacant}
+use Rattle.rr_parts.specs.declared.note.ResponseNote.{ResponseNote}
+use Rattle.rr_parts.specs.declared.port.ClientPort.{ClientPort}
+use Rattle.rr_parts.specs.declared.port.OwnedLane.{OwnedLane}
+use Rattle.rr_core.specs.Inside.{parts_of}
+use Rattle.rr_parts.specs.Ports.{client_part, lane_part}
+use Rattle.rr_parts.specs.Loaning.{with_messages}
+use Rattle.rr_parts.specs.Parts.{ClientPart, Connected, Lane}
+use Rattle.rr_parts.specs.Receiving.{IsNextSender, queue_from, borrowed_from, received_held, with_received_response}
+use Rattle.rr_parts.specs.Sound.{IsSound, empty_hand, response_note, response_place}
+use Rattle.rr_parts.specs.Views.{state_of, lane_of, no_response}
+use Rattle.rr_core_laws.proofs.Adding.{mapped, with_servers, same_servers}
+use Rattle.rr_core_laws.proofs.Entries.{found_none}
+use Rattle.rr_core_laws.proofs.Asking.{standing_at, read_at, lane_is, lanes_many, borrows_fit}
+use Rattle.rr_core_laws.proofs.Connected.{of_kind, of_kind_there, pending_has_request}
+use Rattle.rr_core_laws.proofs.HandleCounts.{listed}
+use Rattle.rr_core_laws.proofs.Places.{standing_nowhere, map-set_one}
+use Rattle.rr_core_laws.proofs.Queues.{times_queue}
+use Rattle.rr_core_laws.proofs.Receivable.{IsAsking, asking, reaches, receives, receives_nothing, by_error}
+use Rattle.rr_core_laws.proofs.Seating.{entry_waits, not_held, no_handle, received_sound}
+use Rattle.rr_core_laws.proofs.Shown.{request_spot}
+use Rattle.rr_core_laws.proofs.Vacant.{response_vacant}
 use Rattle.rr_core.proofs.state.Core.receive_response.Goals as goal
 
 pub unreachable-requires : goal.unreachable-requires

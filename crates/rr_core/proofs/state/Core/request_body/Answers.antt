@@ -1,8 +1,9 @@
 use Rattle.std.proofs.Common.{◌<◌, length, sym, ap, ◌∙◌, arith}
 use Rattle.std.proofs.lemmas.List.{length-map}
-use Rattle.rr_core.specs.Inside.{parts_of, lane_part}
-use Rattle.rr_core.specs.Sound.{empty_hand}
-use Rattle.rr_core.proofs.Shown.{lane_read, content_read, request_there, is_request, of_request, request_spot}
+use Rattle.rr_core.specs.Inside.{parts_of}
+use Rattle.rr_parts.specs.Ports.{lane_part}
+use Rattle.rr_parts.specs.Sound.{empty_hand}
+use Rattle.rr_core_laws.proofs.Shown.{lane_read, content_read, request_there, is_request, of_request, request_spot}
 use Rattle.rr_core.proofs.state.Core.request_body.Goals as goal
 
 pub index-requires : goal.index-requires

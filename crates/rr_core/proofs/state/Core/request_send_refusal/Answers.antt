@@ -1,0 +1,66 @@
+use Rattle.std.proofs.Common.{◌≡◌, true, false, None, Some, refl, sym, ap, ◌∙◌, arith}
+use Rattle.std.specs.List.{position}
+use Rattle.std.specs.Prelude.{◌==◌}
+use Rattle.std.proofs.lemmas.Option.{slice_get_within}
+use Rattle.rr_hub.specs.declared.kind.Kind.{Kind}
+use Rattle.rr_parts.specs.declared.port.ClientPort.{ClientPort}
+use Rattle.rr_core.specs.Inside.{parts_of}
+use Rattle.rr_parts.specs.Parts.{Lane}
+use Rattle.rr_core_laws.proofs.Asking.{standing_at, lane_is, lanes_many}
+use Rattle.rr_core_laws.proofs.Connected.{of_kind_there}
+use Rattle.rr_core_laws.proofs.RequestFields.{spot, client, read_client, queues_of, too_many, not_too_many}
+use Rattle.rr_core.proofs.state.Core.request_send_refusal.Goals as goal
+
+pub unreachable-requires : goal.unreachable-requires
+unreachable-requires g c =
+    of_kind_there (parts_of c.self.inside) c.args.self.now c.id.inside.number c.args.id.now c.self.view_is c.id.view_is Kind.RequestMut (λ e. cc) (λ e. cc) c.requires (sym c.get.ensures ∙ c.in-None.is)
+
+pub index-requires : goal.index-requires
+index-requires g c =
+    let items = c.self.inside.clients.items in
+    let i = c.in-Some-index_of_lane.index in
+    let it = standing_at (λ (x : ClientPort _). x.port.lane == c.in-Some.held.lane) i c.as_slice.result.now items c.index_of_lane.result c.index_of_lane.ensures c.as_slice.ensures.value c.in-Some-index_of_lane.is in
+    omega (arith, slice_get_within items i it.it it.at, c.self.inside.clients.ok.0)
+
+pub unreachable-requires-in-None-index_of_lane : goal.unreachable-requires-in-None-index_of_lane
+unreachable-requires-in-None-index_of_lane g c =
+    let p = parts_of c.self.inside in
+    let sender = client p c.self.invariant c.args.self.now c.id.inside.number c.args.id.now c.self.view_is c.id.view_is c.requires c.self.inside.clients.items refl c.self.inside.servers.items refl c.in-Some.held (sym c.get.ensures ∙ c.in-Some.is) in
+    let none : None ≡ Some sender.index = sym c.in-None-index_of_lane.is ∙ c.index_of_lane.ensures ∙ ap (position _) c.as_slice.ensures.value ∙ sender.found in cc
+
+pub returns-then-self-client : goal.returns-then-self-client
+returns-then-self-client g c =
+    let p = parts_of c.self.inside in
+    too_many p c.self.invariant c.args.self.now c.id.inside.number c.args.id.now c.self.view_is c.id.view_is c.requires c.self.inside.clients.items refl c.self.inside.servers.items refl c.in-Some.held (sym c.get.ensures ∙ c.in-Some.is) g.K.BackpressureFn.answer c.index.result.now
+    (read_client p c.self.invariant c.args.self.now c.id.inside.number c.args.id.now c.self.view_is c.id.view_is c.requires c.self.inside.clients.items refl c.self.inside.servers.items refl c.in-Some.held (sym c.get.ensures ∙ c.in-Some.is) c.in-Some-index_of_lane.index c.as_slice.result.now c.index_of_lane.result c.index_of_lane.ensures c.as_slice.ensures.value c.in-Some-index_of_lane.is c.index.result.now c.index.ensures)
+    c.if-self-client.true
+
+pub index-requires-2 : goal.index-requires-2
+index-requires-2 g c =
+    let p = parts_of c.self.inside in
+    omega (arith, lanes_many c.self.inside.client_lanes.items c.in-Some.held.lane (spot p c.self.invariant c.args.self.now c.id.inside.number c.args.id.now c.self.view_is c.id.view_is c.requires c.self.inside.clients.items refl c.self.inside.servers.items refl c.in-Some.held (sym c.get.ensures ∙ c.in-Some.is)).0, c.self.inside.client_lanes.ok.0)
+
+pub is_refused-requires : goal.is_refused-requires
+is_refused-requires g c =
+    let p = parts_of c.self.inside in
+    let lanes = c.self.inside.client_lanes.items in
+    let is = lane_is lanes c.in-Some.held.lane c.index-2.result.now (lanes_many lanes c.in-Some.held.lane (spot p c.self.invariant c.args.self.now c.id.inside.number c.args.id.now c.self.view_is c.id.view_is c.requires c.self.inside.clients.items refl c.self.inside.servers.items refl c.in-Some.held (sym c.get.ensures ∙ c.in-Some.is)).0) c.index-2.ensures in
+    queues_of p c.self.invariant c.args.self.now c.id.inside.number c.args.id.now c.self.view_is c.id.view_is c.requires c.self.inside.clients.items refl c.self.inside.servers.items refl c.in-Some.held (sym c.get.ensures ∙ c.in-Some.is) c.index-2.result.now.messages c.as_slice-2.result.now (ap (λ (l : Lane _ _ _). l.messages) is) c.as_slice-2.ensures.value
+
+pub returns-then-is_refused : goal.returns-then-is_refused
+returns-then-is_refused g c =
+    let p = parts_of c.self.inside in
+    let lanes = c.self.inside.client_lanes.items in
+    let is = lane_is lanes c.in-Some.held.lane c.index-2.result.now (lanes_many lanes c.in-Some.held.lane (spot p c.self.invariant c.args.self.now c.id.inside.number c.args.id.now c.self.view_is c.id.view_is c.requires c.self.inside.clients.items refl c.self.inside.servers.items refl c.in-Some.held (sym c.get.ensures ∙ c.in-Some.is)).0) c.index-2.ensures in
+    not_too_many p c.self.invariant c.args.self.now c.id.inside.number c.args.id.now c.self.view_is c.id.view_is c.requires c.self.inside.clients.items refl c.self.inside.servers.items refl c.in-Some.held (sym c.get.ensures ∙ c.in-Some.is) g.K.BackpressureFn.answer c.index.result.now
+    (read_client p c.self.invariant c.args.self.now c.id.inside.number c.args.id.now c.self.view_is c.id.view_is c.requires c.self.inside.clients.items refl c.self.inside.servers.items refl c.in-Some.held (sym c.get.ensures ∙ c.in-Some.is) c.in-Some-index_of_lane.index c.as_slice.result.now c.index_of_lane.result c.index_of_lane.ensures c.as_slice.ensures.value c.in-Some-index_of_lane.is c.index.result.now c.index.ensures)
+    c.if-self-client.false c.index-2.result.now.messages (ap (λ (l : Lane _ _ _). l.messages) is) c.as_slice-2.result.now c.as_slice-2.ensures.value true (sym c.if-is_refused.true ∙ c.is_refused.ensures)
+
+pub returns : goal.returns
+returns g c =
+    let p = parts_of c.self.inside in
+    let lanes = c.self.inside.client_lanes.items in
+    let is = lane_is lanes c.in-Some.held.lane c.index-2.result.now (lanes_many lanes c.in-Some.held.lane (spot p c.self.invariant c.args.self.now c.id.inside.number c.args.id.now c.self.view_is c.id.view_is c.requires c.self.inside.clients.items refl c.self.inside.servers.items refl c.in-Some.held (sym c.get.ensures ∙ c.in-Some.is)).0) c.index-2.ensures in
+    not_too_many p c.self.invariant c.args.self.now c.id.inside.number c.args.id.now c.self.view_is c.id.view_is c.requires c.self.inside.clients.items refl c.self.inside.servers.items refl c.in-Some.held (sym c.get.ensures ∙ c.in-Some.is) g.K.BackpressureFn.answer c.index.result.now
+    (read_client p c.self.invariant c.args.self.now c.id.inside.number c.args.id.now c.self.view_is c.id.view_is c.requires c.self.inside.clients.items refl c.self.inside.servers.items refl c.in-Some.held (sym c.get.ensures ∙ c.in-Some.is) c.in-Some-index_of_lane.index c.as_slice.result.now c.index_of_lane.result c.index_of_lane.ensures c.as_slice.ensures.value c.in-Some-index_of_lane.is c.index.result.now c.index.ensures)
+    c.if-self-client.false c.index-2.result.now.messages (ap (λ (l : Lane _ _ _). l.messages) is) c.as_slice-2.result.now c.as_slice-2.ensures.value false (sym c.if-is_refused.false ∙ c.is_refused.ensures)

@@ -1,0 +1,3 @@
+//! Sends.
+mod request;
+mod response;

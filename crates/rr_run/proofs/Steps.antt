@@ -1,0 +1,41 @@
+-- Which steps a runner may take, by what a command's number names.
+use Rattle.std.proofs.Common.{◌≡◌, ℕ, false, refl, sym, ap, ◌∙◌, subst, Some, None, Option, MatchOption}
+use Rattle.std.specs.Prelude.{◌==◌, option_and_then, IsSomeAnd}
+use Rattle.std.specs.Option.{option_map_or}
+use Rattle.rr_slots.specs.declared.family.Family.{Family}
+use Rattle.rr_hub.specs.declared.settings.BackpressureAction.{BackpressureAction}
+use Rattle.rr_hub.specs.declared.kind.Kind.{Kind}
+use Rattle.rr_hub.specs.State.{State, numbers_left}
+use Rattle.rr_hub.specs.Queries.{kind_at}
+use Rattle.rr_steps.specs.declared.command.Command.{Command}
+use Rattle.rr_steps.specs.declared.reply.Reply.{Reply}
+use Rattle.rr_steps.specs.Refusals.{number_in, refusal, refusal_of_kind}
+use Rattle.rr_steps.specs.Step.{Acts, Step}
+
+-- what holds of an element that is there
+pub some_and : {X : Type 0} (o : Option X) (P : X → Type 0) → IsSomeAnd o P → (x : X) × (o ≡ Some x) × P x
+some_and None P h = absurd h
+some_and (Some x) P h = (x, refl, h)
+
+module _ {T H K : Type 0} (answer : K → ℕ → ℕ → BackpressureAction) (IsDefaultElement : T → Type 0) (IsDefaultHeader : H → Type 0) (family : Family) where
+  module _ (old : State T H T H K) (command : Command T H K) (n : ℕ) (k : Kind) (reply : Reply T H) (new : State T H T H K) where
+    -- where nothing refuses it, a command acts
+    pub step_acts : number_in command ≡ Some n → kind_at old n ≡ Some k → refusal_of_kind family old command k ≡ None →
+        Acts answer IsDefaultElement IsDefaultHeader family old command reply new → Step answer IsDefaultElement IsDefaultHeader family old command reply new
+    step_acts names is due acts =
+        let none : refusal family old command ≡ None =
+        ap (option_and_then (λ m. option_map_or (refusal_of_kind family old command) (kind_at old m) (Some Reply.Unknown))) names
+        ∙ ap (λ o. option_map_or (refusal_of_kind family old command) o (Some Reply.Unknown)) is ∙ due in
+        subst (λ o. MatchOption o (Acts answer IsDefaultElement IsDefaultHeader family old command reply new) (λ refused. (reply ≡ refused) × (new ≡ old))) (sym none) acts
+
+module _ {T H K : Type 0} (family : Family) (old : State T H T H K) (n : ℕ) (left : (numbers_left old == 0) ≡ false) where
+  -- no command for one element is refused where a number is left
+  pub request_copy_due : (v : T) → refusal_of_kind family old (Command.SendCopy n v) Kind.Client ≡ None
+  request_copy_due v = rw left refl
+
+  pub response_copy_due : (v : T) → refusal_of_kind family old (Command.SendCopy n v) Kind.ActiveRequest ≡ None
+  response_copy_due v = rw left refl
+
+  -- nor is a receive of a server
+  pub receive_due : refusal_of_kind family old (Command.Receive n) Kind.Server ≡ None
+  receive_due = rw left refl

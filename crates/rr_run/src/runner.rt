@@ -1,0 +1,167 @@
+//! A runner of commands over a hub's core.
+ghost use Rattle.std.specs.Prelude.{◌≡◌, IsTrue};
+ghost use Rattle.rr_hub.specs.Creation.{CreatesHub};
+ghost use Rattle.rr_hub.specs.Queries.{kind_at};
+ghost use Rattle.rr_run.specs.Offered.{IsOffered, AreOffered};
+ghost use Rattle.rr_steps.specs.Continuing.{GoesOn};
+ghost use Rattle.rr_steps.specs.Run.{RunsAppending};
+ghost use Rattle.rr_steps.specs.Step.{Step};
+
+use crate::places::Places;
+use rr_core::Core;
+use rr_hub::{BackpressureFn, HubCreateError, Kind, Limits, UniqueNodeId};
+use rr_slots::Body;
+use rr_steps::{Command, Reply};
+use std::alloc::{AllocError, Global};
+use std::marker::Model;
+
+mod creation;
+mod loans;
+mod queries;
+mod receives;
+mod releases;
+mod sends;
+mod writes;
+
+/// A hub whose ports and handles are named by numbers. Contracts see the state of the message machine.
+///
+/// It keeps a core, and where handles stood last. Our own: iceoryx2 has the calls alone.
+#[derive(Drop)]
+pub struct Runner<T: Copy + Default, B: Body<Item = T>, H: Copy + Default, K: BackpressureFn> {
+    alloc: Global,
+    core: Core<B, H, B, H, K>,
+    places: Places,
+}
+
+impl<T: Copy + Default, B: Body<Item = T>, H: Copy + Default, K: BackpressureFn> Model
+    for Runner<T, B, H, K> {
+    ghost use Rattle.rr_hub.specs.State.{State};
+    ghost use Rattle.rr_hub.specs.Codes.{state_code};
+
+    ghost Value = { State T H T H K };
+
+    ghost coded = { state_code T.code H.code T.code H.code K.code };
+
+    ghost view = { λ r. r.core };
+}
+
+impl<T: Copy + Default, B: Body<Item = T>, H: Copy + Default, K: BackpressureFn> Runner<
+    T,
+    B,
+    H,
+    K,
+> {
+    /// A runner over a hub without ports.
+    ///
+    /// `ZeroLimit` and `LimitsTooLarge` as `Limits::refusal` tells; making it takes no memory. Our own.
+    pub fn new(alloc: Global, limits: Limits, node_id: UniqueNodeId) -> Result<Self, HubCreateError>
+        ensures { CreatesHub limits node_id.0 result }
+    {
+        let core = Core::new(alloc, limits, node_id)?;
+        Ok(Runner {
+            alloc,
+            core,
+            places: Places::new(alloc),
+        })
+    }
+
+    /// What a number names: a client or a server whose value lives, or a handle. `None` if it names nothing.
+    ///
+    /// Our own.
+    pub fn kind(&self, number: u64) -> Option<Kind>
+        ensures { result ≡ kind_at self.now number }
+    {
+        self.core.kind(&self.places.id_of(number))
+    }
+
+    /// Whether `apply` takes a command: one that it tells of, and no release of a port's value.
+    ///
+    /// Our own.
+    pub fn offers(&self, command: &Command<T, H, K>) -> bool
+        ensures yes { IsTrue result → IsOffered self.now command.now }
+        ensures no { IsOffered self.now command.now → IsTrue result }
+    {
+        match command {
+            Command::CreateClient(_)
+            | Command::CreateServer(_)
+            | Command::Loan(_, _)
+            | Command::SendCopy(_, _)
+            | Command::Push(_, _)
+            | Command::AssumeInit(_)
+            | Command::Send(_)
+            | Command::Receive(_)
+            | Command::Payload(_)
+            | Command::IsConnected(_) => true,
+            Command::Release(number) => match self.kind(*number) {
+                Some(Kind::Client | Kind::Server) => false,
+                _ => true,
+            },
+            _ => false,
+        }
+    }
+
+    /// Carries out a command, and answers it.
+    ///
+    /// So far it takes creations, loans, copies, pushes, `AssumeInit`, sends, receives, payloads, `IsConnected`, and releases
+    /// of handles. A refusal leaves everything as it was; the first that holds is answered, in this order: `Unknown`,
+    /// `WrongKind`, `NumbersExhausted`, `Incomplete`. Beside the memory that the call itself takes, a hint may be kept for
+    /// each handle. Our own: iceoryx2 has the calls alone.
+    pub fn apply(&mut self, command: Command<T, H, K>) -> Reply<T, H>
+        requires { IsOffered self.old command }
+        ensures { Step K.answer T.is_default H.is_default B.family self.old command result self.new }
+    {
+        match command {
+            Command::CreateClient(settings) => creation::create_client(&mut self.core, settings),
+            Command::CreateServer(settings) => creation::create_server(&mut self.core, settings),
+            Command::Loan(number, len) => {
+                loans::loan(&mut self.core, &mut self.places, number, len)
+            }
+            Command::SendCopy(number, item) => {
+                sends::send_copy(&mut self.core, &mut self.places, number, item)
+            }
+            Command::Push(number, item) => {
+                writes::push(&mut self.core, &self.places.id_of(number), item)
+            }
+            Command::AssumeInit(number) => {
+                writes::assume_init(&mut self.core, &self.places.id_of(number))
+            }
+            Command::Send(number) => sends::send(&mut self.core, &mut self.places, number),
+            Command::Receive(number) => {
+                receives::receive(&mut self.core, &mut self.places, number)
+            }
+            Command::Payload(number) => queries::payload(
+                &self.core,
+                self.alloc,
+                &self.places.id_of(number),
+            ),
+            Command::IsConnected(number) => {
+                queries::is_connected(&self.core, &self.places.id_of(number))
+            }
+            Command::Release(number) => {
+                releases::release(&mut self.core, &mut self.places, number)
+            }
+            _ => unreachable!(),
+        }
+    }
+
+    /// Carries out commands, one after another, and appends their replies. A refusal is a reply, and the next command follows.
+    ///
+    /// Room for all replies is got first: `Err` if no memory was found for them; nothing has changed then. Whatever led to this
+    /// state from a new hub, with these commands and replies the answer rule holds: a response reaches only the request that
+    /// it answers, once, and in the order in which its server sent it. Our own.
+    pub fn run(
+        &mut self,
+        commands: Vec<Command<T, H, K>>,
+        replies: &mut Vec<Reply<T, H>>,
+    ) -> Result<(), AllocError>
+        requires { AreOffered K.answer T.is_default H.is_default B.family self.old commands.items }
+        ensures runs { RunsAppending K.answer T.is_default H.is_default B.family self.old commands.items replies.old.items result self.new replies.new.items }
+        ensures answer_rule { GoesOn K.answer T.is_default H.is_default B.family self.old commands.items replies.old.items result self.new replies.new.items }
+    {
+        replies.reserve(commands.len())?;
+        for command in commands {
+            replies.push_reserved(self.apply(command));
+        }
+        Ok(())
+    }
+}

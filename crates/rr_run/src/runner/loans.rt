@@ -1,0 +1,91 @@
+//! Loans.
+ghost use Rattle.std.specs.Prelude.{◌≡◌, Some};
+ghost use Rattle.rr_slots.specs.Families.{takes_len};
+ghost use Rattle.rr_hub.specs.declared.kind.Kind.TheVariants as kind;
+ghost use Rattle.rr_hub.specs.Queries.{kind_at};
+ghost use Rattle.rr_steps.specs.declared.command.Command.{Command};
+ghost use Rattle.rr_steps.specs.Step.{Step};
+
+use crate::places::Places;
+use rr_core::{Core, HandleId};
+use rr_hub::{BackpressureFn, Kind};
+use rr_slots::{Body, Family};
+use rr_steps::Reply;
+
+/// Loans a message of `len` elements: a request of a client, or a response of an active request.
+pub(crate) fn loan<T: Copy + Default, B: Body<Item = T>, H: Copy + Default, K: BackpressureFn>(
+    core: &mut Core<B, H, B, H, K>,
+    places: &mut Places,
+    number: u64,
+    len: usize,
+) -> Reply<T, H>
+    ensures { Step K.answer T.is_default H.is_default B.family core.old (Command.Loan number len) result core.new }
+{
+    let id = places.id_of(number);
+    match core.kind(&id) {
+        Some(Kind::Client) => loan_request(core, places, number, len),
+        Some(Kind::ActiveRequest) => loan_response(core, places, &id, len),
+        Some(_) => Reply::WrongKind,
+        None => Reply::Unknown,
+    }
+}
+
+/// Loans a request of a client.
+fn loan_request<T: Copy + Default, B: Body<Item = T>, H: Copy + Default, K: BackpressureFn>(
+    core: &mut Core<B, H, B, H, K>,
+    places: &mut Places,
+    client: u64,
+    len: usize,
+) -> Reply<T, H>
+    requires { kind_at core.old client ≡ Some kind.Client }
+    ensures { Step K.answer T.is_default H.is_default B.family core.old (Command.Loan client len) result core.new }
+{
+    if !takes_len(B::family(), len) {
+        return Reply::WrongKind;
+    }
+    if core.numbers_left() == 0 {
+        return Reply::NumbersExhausted;
+    }
+    match core.loan_request(client, len) {
+        Ok(id) => {
+            places.remember(&id);
+            Reply::Loaned(id.number())
+        }
+        Err(error) => Reply::LoanError(error),
+    }
+}
+
+/// Loans a response of an active request.
+fn loan_response<T: Copy + Default, B: Body<Item = T>, H: Copy + Default, K: BackpressureFn>(
+    core: &mut Core<B, H, B, H, K>,
+    places: &mut Places,
+    active: &HandleId,
+    len: usize,
+) -> Reply<T, H>
+    requires { kind_at core.old active.now ≡ Some kind.ActiveRequest }
+    ensures { Step K.answer T.is_default H.is_default B.family core.old (Command.Loan active.now len) result core.new }
+{
+    if !takes_len(B::family(), len) {
+        return Reply::WrongKind;
+    }
+    if core.numbers_left() == 0 {
+        return Reply::NumbersExhausted;
+    }
+    match core.loan_response(active, len) {
+        Ok(id) => {
+            places.remember(&id);
+            Reply::Loaned(id.number())
+        }
+        Err(error) => Reply::LoanError(error),
+    }
+}
+
+/// Whether a message of a family can have this many elements.
+fn takes_len(family: Family, len: usize) -> bool
+    ensures { result ≡ takes_len family len }
+{
+    match family {
+        Family::Typed => len == 1,
+        Family::Sliced => true,
+    }
+}

@@ -1,0 +1,66 @@
+//! What a runner tells of handles. No query changes it.
+ghost use Rattle.std.specs.Prelude.{◌≡◌, IfOk};
+ghost use Rattle.rr_steps.specs.declared.command.Command.{Command};
+ghost use Rattle.rr_steps.specs.Step.{Step};
+
+use rr_core::{Core, HandleId};
+use rr_hub::{BackpressureFn, Kind};
+use rr_slots::Body;
+use rr_steps::{Elements, Reply};
+use std::alloc::{AllocError, Global};
+
+/// A handle's elements. `NoMemory` if none was found for a copy of them.
+pub(crate) fn payload<T: Copy + Default, B: Body<Item = T>, H: Copy + Default, K: BackpressureFn>(
+    core: &Core<B, H, B, H, K>,
+    alloc: Global,
+    id: &HandleId,
+) -> Reply<T, H>
+    ensures { Step K.answer T.is_default H.is_default B.family core.now (Command.Payload id.now) result core.now }
+{
+    let copied = match core.kind(id) {
+        Some(Kind::Client | Kind::Server) => return Reply::WrongKind,
+        Some(
+            Kind::RequestMutUninit | Kind::RequestMut | Kind::PendingResponse | Kind::ActiveRequest,
+        ) => elements_of(alloc, core.request_body(id)),
+        Some(Kind::ResponseMutUninit | Kind::ResponseMut | Kind::Response) => {
+            elements_of(alloc, core.response_body(id))
+        }
+        None => return Reply::Unknown,
+    };
+    match copied {
+        Ok(elements) => Reply::Payload(elements),
+        Err(_) => Reply::NoMemory,
+    }
+}
+
+/// A copy of a body's elements.
+fn elements_of<T: Copy, B: Body<Item = T>>(
+    alloc: Global,
+    body: &B,
+) -> Result<Elements<T>, AllocError>
+    ensures { IfOk result (λ elements. elements ≡ B.elements body.now) }
+{
+    let mut items = Vec::new(alloc);
+    items.reserve(body.len())?;
+    for index in 0..body.len() {
+        items.push_reserved(*body.get(index));
+    }
+    Ok(Elements::from(items))
+}
+
+/// Whether a pending response waits for a server, or an active request for its client.
+pub(crate) fn is_connected<
+    T: Copy + Default,
+    B: Body<Item = T>,
+    H: Copy + Default,
+    K: BackpressureFn,
+>(core: &Core<B, H, B, H, K>, id: &HandleId) -> Reply<T, H>
+    ensures { Step K.answer T.is_default H.is_default B.family core.now (Command.IsConnected id.now) result core.now }
+{
+    match core.kind(id) {
+        Some(Kind::PendingResponse) => Reply::Flag(core.is_pending_connected(id)),
+        Some(Kind::ActiveRequest) => Reply::Flag(core.is_active_connected(id)),
+        Some(_) => Reply::WrongKind,
+        None => Reply::Unknown,
+    }
+}

@@ -1,0 +1,147 @@
+//! Sends.
+ghost use Rattle.std.specs.Prelude.{◌≡◌, ◌<◌, Some};
+ghost use Rattle.rr_hub.specs.declared.kind.Kind.TheVariants as kind;
+ghost use Rattle.rr_hub.specs.Queries.{kind_at};
+ghost use Rattle.rr_hub.specs.State.{numbers_left};
+ghost use Rattle.rr_steps.specs.declared.command.Command.{Command};
+ghost use Rattle.rr_steps.specs.Step.{Step};
+ghost use Rattle.rr_run.specs.Written.{WritesRequest, WritesResponse};
+
+use crate::places::Places;
+use rr_core::{Core, HandleId};
+use rr_hub::{BackpressureFn, Kind, LoanError, RequestSendError, SendError};
+use rr_slots::Body;
+use rr_steps::Reply;
+
+/// Sends a request or a response.
+pub(crate) fn send<T: Copy + Default, B: Body<Item = T>, H: Copy + Default, K: BackpressureFn>(
+    core: &mut Core<B, H, B, H, K>,
+    places: &mut Places,
+    number: u64,
+) -> Reply<T, H>
+    ensures { Step K.answer T.is_default H.is_default B.family core.old (Command.Send number) result core.new }
+{
+    let id = places.id_of(number);
+    match core.kind(&id) {
+        Some(Kind::RequestMut) => match core.send_request(&id) {
+            Ok(connections) => Reply::Pending(number, connections),
+            Err(error) => {
+                places.forget(number);
+                Reply::RequestError(error)
+            }
+        },
+        Some(Kind::ResponseMut) => {
+            places.forget(number);
+            match core.send_response(&id) {
+                Ok(()) => Reply::Sent(number),
+                Err(error) => Reply::SendError(error),
+            }
+        }
+        Some(_) => Reply::WrongKind,
+        None => Reply::Unknown,
+    }
+}
+
+/// Loans a message of one element, writes this one and sends it: a request of a client, or a response of an active request.
+pub(crate) fn send_copy<T: Copy + Default, B: Body<Item = T>, H: Copy + Default, K: BackpressureFn>(
+    core: &mut Core<B, H, B, H, K>,
+    places: &mut Places,
+    number: u64,
+    item: T,
+) -> Reply<T, H>
+    ensures { Step K.answer T.is_default H.is_default B.family core.old (Command.SendCopy number item) result core.new }
+{
+    let id = places.id_of(number);
+    match core.kind(&id) {
+        Some(Kind::Client) => send_request_copy(core, places, number, item),
+        Some(Kind::ActiveRequest) => send_response_copy(core, &id, item),
+        Some(_) => Reply::WrongKind,
+        None => Reply::Unknown,
+    }
+}
+
+/// Sends a request of one element.
+fn send_request_copy<T: Copy + Default, B: Body<Item = T>, H: Copy + Default, K: BackpressureFn>(
+    core: &mut Core<B, H, B, H, K>,
+    places: &mut Places,
+    client: u64,
+    item: T,
+) -> Reply<T, H>
+    requires { kind_at core.old client ≡ Some kind.Client }
+    ensures { Step K.answer T.is_default H.is_default B.family core.old (Command.SendCopy client item) result core.new }
+{
+    if core.numbers_left() == 0 {
+        return Reply::NumbersExhausted;
+    }
+    let id = match written_request(core, client, item) {
+        Ok(id) => id,
+        Err(error) => {
+            return Reply::RequestError(RequestSendError::SendError(SendError::LoanError(error)));
+        }
+    };
+    match core.send_request(&id) {
+        Ok(connections) => {
+            places.remember(&id);
+            Reply::Pending(id.number(), connections)
+        }
+        Err(error) => Reply::RequestError(error),
+    }
+}
+
+/// Sends a response of one element.
+fn send_response_copy<T: Copy + Default, B: Body<Item = T>, H: Copy + Default, K: BackpressureFn>(
+    core: &mut Core<B, H, B, H, K>,
+    active: &HandleId,
+    item: T,
+) -> Reply<T, H>
+    requires { kind_at core.old active.now ≡ Some kind.ActiveRequest }
+    ensures { Step K.answer T.is_default H.is_default B.family core.old (Command.SendCopy active.now item) result core.new }
+{
+    if core.numbers_left() == 0 {
+        return Reply::NumbersExhausted;
+    }
+    let id = match written_response(core, active, item) {
+        Ok(id) => id,
+        Err(error) => return Reply::SendError(SendError::LoanError(error)),
+    };
+    match core.send_response(&id) {
+        Ok(()) => Reply::Sent(id.number()),
+        Err(error) => Reply::SendError(error),
+    }
+}
+
+/// Loans a request of one element from a client, and writes it.
+fn written_request<T: Copy + Default, B: Body<Item = T>, H: Copy + Default, K: BackpressureFn>(
+    core: &mut Core<B, H, B, H, K>,
+    client: u64,
+    item: T,
+) -> Result<HandleId, LoanError>
+    requires kind { kind_at core.old client ≡ Some kind.Client }
+    requires number { 0 < numbers_left core.old }
+    ensures { WritesRequest H.is_default core.old client item result core.new }
+{
+    // No port has the number that the loan gets.
+    core.next_number();
+    let id = core.loan_request(client, 1)?;
+    core.push_request(&id, item);
+    core.assume_init(&id);
+    Ok(id)
+}
+
+/// Loans a response of one element from an active request, and writes it.
+fn written_response<T: Copy + Default, B: Body<Item = T>, H: Copy + Default, K: BackpressureFn>(
+    core: &mut Core<B, H, B, H, K>,
+    active: &HandleId,
+    item: T,
+) -> Result<HandleId, LoanError>
+    requires kind { kind_at core.old active.now ≡ Some kind.ActiveRequest }
+    requires number { 0 < numbers_left core.old }
+    ensures { WritesResponse H.is_default core.old active.now item result core.new }
+{
+    // No port has the number that the loan gets.
+    core.next_number();
+    let id = core.loan_response(active, 1)?;
+    core.push_response(&id, item);
+    core.assume_init(&id);
+    Ok(id)
+}

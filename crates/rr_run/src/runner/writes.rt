@@ -1,0 +1,47 @@
+//! Writing messages before they are sent.
+ghost use Rattle.std.specs.Prelude.{◌≡◌};
+ghost use Rattle.rr_steps.specs.declared.command.Command.{Command};
+ghost use Rattle.rr_steps.specs.Step.{Step};
+
+use rr_core::{Core, HandleId};
+use rr_hub::{BackpressureFn, Kind};
+use rr_slots::Body;
+use rr_steps::Reply;
+
+/// Appends an element to a message that is being written.
+pub(crate) fn push<T: Copy + Default, B: Body<Item = T>, H: Copy + Default, K: BackpressureFn>(
+    core: &mut Core<B, H, B, H, K>,
+    id: &HandleId,
+    item: T,
+) -> Reply<T, H>
+    ensures { Step K.answer T.is_default H.is_default B.family core.old (Command.Push id.now item) result core.new }
+{
+    match core.kind(id) {
+        Some(Kind::RequestMutUninit) => Reply::Flag(core.push_request(id, item)),
+        Some(Kind::ResponseMutUninit) => Reply::Flag(core.push_response(id, item)),
+        Some(_) => Reply::WrongKind,
+        None => Reply::Unknown,
+    }
+}
+
+/// Makes a message that is being written, and complete, one that can be sent.
+pub(crate) fn assume_init<
+    T: Copy + Default,
+    B: Body<Item = T>,
+    H: Copy + Default,
+    K: BackpressureFn,
+>(core: &mut Core<B, H, B, H, K>, id: &HandleId) -> Reply<T, H>
+    ensures { Step K.answer T.is_default H.is_default B.family core.old (Command.AssumeInit id.now) result core.new }
+{
+    let is_complete = match core.kind(id) {
+        Some(Kind::RequestMutUninit) => core.request_body(id).is_complete(),
+        Some(Kind::ResponseMutUninit) => core.response_body(id).is_complete(),
+        Some(_) => return Reply::WrongKind,
+        None => return Reply::Unknown,
+    };
+    if !is_complete {
+        return Reply::Incomplete;
+    }
+    core.assume_init(id);
+    Reply::Done
+}

@@ -1,0 +1,139 @@
+//! Scripts: a line is a command of a runner, and its reply is a line.
+ghost use Rattle.rr_run.specs.Offered.{IsOffered};
+
+use crate::runner::Runner;
+use crate::script::line::{Line, NoHandler, ScriptCommand};
+use crate::script::lines::Lines;
+use crate::script::reply_text::{hub_error, write_reply};
+use crate::script::stop::Stop;
+use rr_hub::{Limits, UniqueNodeId};
+use rr_steps::Reply;
+use std::alloc::{AllocError, Global};
+use std::io::{BufRead, Write};
+
+mod line;
+mod lines;
+mod reply_text;
+mod source;
+mod stop;
+mod words;
+
+/// A runner of the typed family, of numbers.
+type ScriptRunner = Runner<u64, Option<u64>, u64, NoHandler>;
+
+/// The program: does what the words ask for, and answers its status.
+///
+/// `script` alone reads commands from the input, one a line, and writes each reply before the next line is read. 0 if all was
+/// done. Else one line goes to `faults`: 1 for a line that is none (`bad line L`), 2 for a read or write that failed, 3 for
+/// other words, 4 if the hub was refused or a buffer found no memory. What was written before stays. Our own.
+pub fn serve<R: BufRead + Drop, W: Write, F: Write>(
+    alloc: Global,
+    words: &[String],
+    input: R,
+    output: &mut W,
+    faults: &mut F,
+) -> u8 {
+    let end = match words.first() {
+        Some(word) if word.as_str() == "script" && words.len() == 1 => {
+            script(alloc, input, output)
+        }
+        _ => Err(Stop::Usage),
+    };
+    match end {
+        Ok(()) => 0,
+        Err(stop) => {
+            let _ = stop.tell(faults);
+            stop.status()
+        }
+    }
+}
+
+/// Makes the hub that the first line tells, and carries out the others.
+fn script<R: BufRead + Drop, W: Write>(
+    alloc: Global,
+    input: R,
+    output: &mut W,
+) -> Result<(), Stop> {
+    let mut lines = Lines::new(alloc, input)?;
+    match lines.read()? {
+        Some(Line::Hub(limits)) => {
+            let mut runner = hub(alloc, limits, output)?;
+            commands(alloc, &mut runner, &mut lines, output)
+        }
+        Some(Line::Command(_)) => Err(lines.bad_line()),
+        None => Ok(()),
+    }
+}
+
+/// Makes a hub, and tells it.
+fn hub<W: Write>(alloc: Global, limits: Limits, output: &mut W) -> Result<ScriptRunner, Stop> {
+    match Runner::new(alloc, limits, UniqueNodeId(0)) {
+        Ok(runner) => match writeln!(output, "done") {
+            Ok(()) => Ok(runner),
+            Err(_) => Err(Stop::WriteFault),
+        },
+        Err(error) => match writeln!(output, "error {}", hub_error(error)) {
+            Ok(()) => Err(Stop::Refused),
+            Err(_) => Err(Stop::WriteFault),
+        },
+    }
+}
+
+/// Carries out the commands of the lines that are left.
+fn commands<R: BufRead + Drop, W: Write>(
+    alloc: Global,
+    runner: &mut ScriptRunner,
+    lines: &mut Lines<R>,
+    output: &mut W,
+) -> Result<(), Stop> {
+    for _ in 0..u64::MAX {
+        match lines.read()? {
+            Some(Line::Command(command)) => carry_out(alloc, runner, lines, command, output)?,
+            Some(Line::Hub(_)) => return Err(lines.bad_line()),
+            None => return Ok(()),
+        }
+    }
+    Err(Stop::ReadFault)
+}
+
+/// Carries out one command, and writes its reply.
+fn carry_out<R: BufRead + Drop, W: Write>(
+    alloc: Global,
+    runner: &mut ScriptRunner,
+    lines: &Lines<R>,
+    command: ScriptCommand,
+    output: &mut W,
+) -> Result<(), Stop> {
+    if !runner.offers(&command) {
+        return Err(lines.bad_line());
+    }
+    match replies_to(alloc, runner, command) {
+        Ok(replies) => write_replies(output, replies.as_slice()),
+        Err(_) => Err(Stop::NoMemory),
+    }
+}
+
+/// Runs one command, and gives its reply.
+fn replies_to(
+    alloc: Global,
+    runner: &mut ScriptRunner,
+    command: ScriptCommand,
+) -> Result<Vec<Reply<u64, u64>>, AllocError>
+    requires { IsOffered runner.old command }
+{
+    let commands = vec![in alloc; command]?;
+    let mut replies = Vec::new(alloc);
+    runner.run(commands, &mut replies)?;
+    Ok(replies)
+}
+
+/// Writes replies, one a line.
+fn write_replies<W: Write>(output: &mut W, replies: &[Reply<u64, u64>]) -> Result<(), Stop> {
+    for reply in replies {
+        match write_reply(output, reply) {
+            Ok(()) => {}
+            Err(_) => return Err(Stop::WriteFault),
+        }
+    }
+    Ok(())
+}

@@ -1,0 +1,64 @@
+//! The lines of a script that have words, and which line is at fault.
+use crate::script::line::{Line, line_of};
+use crate::script::source::{Found, Source};
+use crate::script::stop::Stop;
+use crate::script::words::Words;
+use std::alloc::Global;
+use std::io::BufRead;
+
+/// Reads the lines of a script, and counts them.
+#[derive(Drop)]
+pub(crate) struct Lines<R: BufRead + Drop> {
+    source: Source<R>,
+    number: u64,
+}
+
+impl<R: BufRead + Drop> Lines<R> {
+    /// The lines of this input.
+    pub(crate) fn new(alloc: Global, input: R) -> Result<Self, Stop> {
+        match Source::new(alloc, input) {
+            Ok(source) => Ok(Lines { source, number: 0 }),
+            Err(_) => Err(Stop::NoMemory),
+        }
+    }
+
+    /// That the line that was read last is none.
+    pub(crate) fn bad_line(&self) -> Stop {
+        Stop::BadLine(self.number)
+    }
+
+    /// The next line that has words, if there is one.
+    pub(crate) fn read(&mut self) -> Result<Option<Line>, Stop> {
+        for _ in 0..u64::MAX {
+            if !self.advance()? {
+                return Ok(None);
+            }
+            let Some(text) = self.source.text() else {
+                return Err(self.bad_line());
+            };
+            if !Words::new(text).is_done() {
+                return match line_of(text) {
+                    Some(line) => Ok(Some(line)),
+                    None => Err(self.bad_line()),
+                };
+            }
+        }
+        Err(Stop::ReadFault)
+    }
+
+    /// Reads one line, and tells whether there was one.
+    fn advance(&mut self) -> Result<bool, Stop> {
+        match self.source.read() {
+            Ok(Found::Line) => {
+                self.number = self.number.saturating_add(1);
+                Ok(true)
+            }
+            Ok(Found::TooLong) => {
+                self.number = self.number.saturating_add(1);
+                Err(self.bad_line())
+            }
+            Ok(Found::End) => Ok(false),
+            Err(_) => Err(Stop::ReadFault),
+        }
+    }
+}

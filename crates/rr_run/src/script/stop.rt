@@ -1,0 +1,43 @@
+//! Why a program ends before its input does.
+use std::io::{self, Write};
+
+/// Why a program ended early.
+#[derive(Clone, Copy, Debug, PartialEq, Eq)]
+pub(crate) enum Stop {
+    /// This line, counted from 1, is none.
+    BadLine(u64),
+    /// A read failed.
+    ReadFault,
+    /// A write failed.
+    WriteFault,
+    /// The words after the program's name are none that it knows.
+    Usage,
+    /// The hub was refused.
+    Refused,
+    /// A buffer of the program found no memory.
+    NoMemory,
+}
+
+impl Stop {
+    /// The program's status.
+    pub(crate) fn status(self) -> u8 {
+        match self {
+            Stop::BadLine(_) => 1,
+            Stop::ReadFault | Stop::WriteFault => 2,
+            Stop::Usage => 3,
+            Stop::Refused | Stop::NoMemory => 4,
+        }
+    }
+
+    /// Tells it in one line. What can't be told there is told nowhere.
+    pub(crate) fn tell<W: Write>(self, faults: &mut W) -> io::Result<()> {
+        match self {
+            Stop::BadLine(number) => writeln!(faults, "bad line {number}"),
+            Stop::ReadFault => writeln!(faults, "read fault"),
+            Stop::WriteFault => writeln!(faults, "write fault"),
+            Stop::Usage => writeln!(faults, "usage: rr script or rr threads K or rr least N"),
+            Stop::Refused => writeln!(faults, "refused"),
+            Stop::NoMemory => writeln!(faults, "no memory"),
+        }
+    }
+}

@@ -1,0 +1,5 @@
+pub mod Refusals
+pub mod Step
+pub mod Run
+pub mod AnswerRule
+pub mod Continuing

@@ -1,0 +1,12 @@
+//! Commands of all ports, and their replies. Its `specs/` hold the steps and the runs of the message machine.
+#![tactic(auto)]
+
+mod command;
+mod elements;
+mod reply;
+#[cfg(test)]
+mod tests;
+
+pub use command::Command;
+pub use elements::Elements;
+pub use reply::Reply;
