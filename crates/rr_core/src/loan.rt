@@ -1,10 +1,11 @@
 //! Loans of requests.
-ghost use Rattle.std.specs.Prelude.{◌≡◌, ◌<◌, Some, IsTrue};
+ghost use Rattle.std.specs.Prelude.{◌≡◌, ◌≢◌, ◌<◌, Some, Err, IsTrue};
 ghost use Rattle.rr_slots.specs.Families.{takes_len};
 ghost use Rattle.rr_hub.specs.declared.kind.Kind.TheVariants as kind;
 ghost use Rattle.rr_hub.specs.Loans.{LoansRequest};
 ghost use Rattle.rr_hub.specs.Queries.{kind_at};
 ghost use Rattle.rr_hub.specs.State.{numbers_left};
+ghost use Rattle.rr_laws.specs.Unreduced.{ClientHasPool};
 
 use crate::handle_id::HandleId;
 use crate::state::Core;
@@ -26,13 +27,15 @@ impl<QB: Body, QH: Default + Drop, PB: Body, PH: Default + Drop, K: Backpressure
     /// next number, of which one is left, any free channel and a default user header.
     ///
     /// `ExceedsMaxLoanSize` for a slice that is longer than a static pool has room for; `ExceedsMaxLoans` if the client has as
-    /// many requests on loan as it may; `OutOfMemory` if its live requests fill its pool, or a longer slice found no memory.
-    /// Nothing has changed then. After iceoryx2's `Client::loan_uninit`.
+    /// many requests on loan as it may; `OutOfMemory` if its live requests fill its pool, or a longer slice found no memory,
+    /// neither of which comes for up to the initial slice length from a pool of the worst-case size. Nothing has changed then.
+    /// After iceoryx2's `Client::loan_uninit`.
     pub fn loan_request(&mut self, client: u64, len: usize) -> Result<HandleId, LoanError>
         requires kind { kind_at self.old client ≡ Some kind.Client }
         requires number { 0 < numbers_left self.old }
         requires len { IsTrue (takes_len QB.family len) }
-        ensures { LoansRequest QH.is_default self.old client len result self.new }
+        ensures loans { LoansRequest QH.is_default self.old client len result self.new }
+        ensures unreduced { ClientHasPool self.old.limits self.old client len → result ≢ Err LoanError.OutOfMemory }
     {
         let index = match index_of(self.clients.as_slice(), client) {
             Some(index) => index,

@@ -41,8 +41,8 @@ impl<QB: Body, QH: Default + Drop, PB: Body, PH: Default + Drop, K: Backpressure
     ghost use Rattle.rr_hub.specs.State.{State};
     ghost use Rattle.rr_hub.specs.Codes.{state_code};
     ghost use Rattle.rr_parts.specs.Views.{state_of};
-    ghost use Rattle.rr_parts.specs.Sound.{IsSound, empty_hand};
     ghost use Rattle.rr_core.specs.Inside.{parts_of};
+    ghost use Rattle.rr_core.specs.Reaching.{IsCore};
 
     ghost Value = { State QB.Item QH PB.Item PH K };
 
@@ -50,7 +50,7 @@ impl<QB: Body, QH: Default + Drop, PB: Body, PH: Default + Drop, K: Backpressure
 
     ghost view = { λ c. state_of (parts_of c) };
 
-    ghost invariant = { λ c. IsSound (parts_of c) empty_hand };
+    ghost invariant = { λ c. IsCore (parts_of c) };
 }
 
 impl<QB: Body, QH: Default + Drop, PB: Body, PH: Default + Drop, K: BackpressureFn> Core<

@@ -11,7 +11,6 @@ use Rattle.rr_hub.specs.declared.error.LoanError.TheVariants.{OutOfMemory, Excee
 use Rattle.rr_hub.specs.declared.error.SendError.{SendError}
 use Rattle.rr_hub.specs.declared.error.RequestSendError.{RequestSendError}
 use Rattle.rr_hub.specs.Limits.{max_loaned_responses}
-use Rattle.rr_hub.specs.Messages.{Active}
 use Rattle.rr_hub.specs.Ports.{Port, Client, Server}
 use Rattle.rr_hub.specs.State.{State, client_at, server_at, active_at, numbers_left}
 use Rattle.rr_hub.specs.Counts.{live_requests, live_responses, loaned_requests, loaned_responses, loaned_responses_from, pending_responses}
@@ -23,7 +22,7 @@ use Rattle.rr_steps.specs.declared.reply.Reply.{Reply}
 use Rattle.rr_steps.specs.Refusals.{has_call, has_length, needs_number, is_incomplete, refusal_of_kind, refusal, number_in}
 use Rattle.rr_steps.specs.Step.{with_complete, Loans, Acts}
 use Rattle.rr_laws.specs.Reached.{IsReached}
-use Rattle.rr_laws.specs.Unreduced.{asked_in, is_out_of_memory, HasClientPool, HasServerPool, HasPool, FindsMemory}
+use Rattle.rr_laws.specs.Unreduced.{asked_in, is_out_of_memory, ClientHasPool, ServerHasPool, HasPool, FindsMemory}
 use Rattle.rr_laws.proofs.Opening.{some_and, open_request_mut, open_response_mut}
 use Rattle.rr_laws.proofs.RoleLaws.{loaned_requests-roles, loaned_responses-roles}
 use Rattle.rr_laws.proofs.LiveRequests.{live_requests_le}
@@ -59,7 +58,7 @@ fewer_responses live loans loaned most rest pool a b c d = omega (arith, a, b, c
 
 module _ {Q QH P PH K : Type 0} (s : State Q QH P PH K) (fits : IsReached s) where
   -- no loan of a request from a whole pool is refused for want of memory
-  pub request_finds_memory : (IsDefault : QH → Type 0) (n len : ℕ) (new : State Q QH P PH K) → ((client : Client K) → client_at s n ≡ Some client → HasClientPool s.limits client len) →
+  pub request_finds_memory : (IsDefault : QH → Type 0) (n len : ℕ) (new : State Q QH P PH K) → ClientHasPool s.limits s n len →
       LoansRequest IsDefault s n len (Err OutOfMemory) new → ⊥
   request_finds_memory IsDefault n len new pool loans =
       let o = some_and (client_at s n) _ loans in
@@ -71,8 +70,7 @@ module _ {Q QH P PH K : Type 0} (s : State Q QH P PH K) (fits : IsReached s) whe
       o.2.0
 
   -- nor one of a response
-  pub response_finds_memory : (IsDefault : PH → Type 0) (n len : ℕ) (new : State Q QH P PH K) →
-      ((active : Active Q QH) (server : Server K) → active_at s n ≡ Some active → server_at s active.server ≡ Some server → HasServerPool s.limits server len) →
+  pub response_finds_memory : (IsDefault : PH → Type 0) (n len : ℕ) (new : State Q QH P PH K) → ServerHasPool s.limits s n len →
       LoansResponse IsDefault s n len (Err OutOfMemory) new → ⊥
   response_finds_memory IsDefault n len new pool loans =
       let a = some_and (active_at s n) _ loans in

@@ -10,6 +10,11 @@ pub some_and : {X : Type 0} (o : Option X) (P : X → Type 0) → IsSomeAnd o P 
 some_and None P h = absurd h
 some_and (Some x) P h = (x, refl, h)
 
+-- two facts of what is there make a third
+pub with_both : {X : Type 0} (o : Option X) (P R T : X → Type 0) → ((x : X) → P x → R x → T x) → IsSomeAnd o P → IsSomeAnd o R → IsSomeAnd o T
+with_both None P R T make h k = absurd h
+with_both (Some x) P R T make h k = make x h k
+
 module _ {Q QH P PH : Type 0} where
   -- the handle of a request that can be sent
   pub from_request_mut : (o : Option (Handle Q QH P PH)) (m : RequestMessage Q QH) → option_and_then as_request_mut o ≡ Some m → o ≡ Some (RequestMut m)

@@ -11,9 +11,9 @@ use Rattle.rr_hub.specs.Lists.{at, with_at}
 use Rattle.rr_hub.specs.Keys.{ResponseKey, request_key}
 use Rattle.rr_hub.specs.Messages.{RequestMessage, ResponseMessage, Pending, RequestMut, PendingResponse, ResponseMut}
 use Rattle.rr_hub.specs.Ports.{Client, Server}
-use Rattle.rr_hub.specs.State.{State, client_at, handle_at, pending_at}
+use Rattle.rr_hub.specs.State.{State, IsRequestMutAnd, client_at, handle_at, pending_at, request_at}
 use Rattle.rr_hub.specs.Counts.{pending_responses, is_alive}
-use Rattle.rr_hub.specs.Sends.{put, request_reach, with_request_put, with_response_put, with_sent_request, SendsRequest, SendsResponse}
+use Rattle.rr_hub.specs.Sends.{put, request_reach, with_request_put, with_response_put, connections_of, request_send_refusal, with_sent_request, SendsRequest, SendsResponse}
 use Rattle.rr_laws.specs.Roles.{answered, LoanedRequest, SentRequest, LoanedResponse, roles_of, question_of, answer_of, asking, asking_at, waits}
 use Rattle.rr_laws.specs.Reached.{RequestFits, RequestsFit, ResponseFits, ResponsesFit, Fits, IsReached}
 use Rattle.rr_table.proofs.ListFacts.{all_map, each_found, passes_found}
@@ -21,7 +21,7 @@ use Rattle.rr_laws.proofs.RoleLaws.{role_at, roles-insert, pending_responses-rol
 use Rattle.rr_laws.proofs.Staying.{asking_stays_with, known_stays}
 use Rattle.rr_laws.proofs.Counts.{counts_with_sent_request}
 use Rattle.rr_laws.proofs.Tests.{not_due, below_of_test, positive}
-use Rattle.rr_laws.proofs.Opening.{from_pending, open_request_mut, open_response_mut}
+use Rattle.rr_laws.proofs.Opening.{with_both, from_pending, open_request_mut, open_response_mut}
 use Rattle.rr_laws.proofs.Loaning.{fits_with_role}
 use Rattle.rr_laws.proofs.Putting.{requests_with_put, responses_with_put}
 use Rattle.rr_laws.proofs.Expiring.{fits_with_requests, fits_with_responses}
@@ -59,6 +59,14 @@ module _ {Q QH P PH K : Type 0} (s : State Q QH P PH K) (fits : IsReached s) (n 
         channel = f.channel;
       })
       (counts_with_sent_request s.limits s.servers roles fits.counts n q below))
+
+  -- a request that nothing refused, and that was put into its lists, is sent
+  pub sends_unrefused : (answer : K → ℕ → ℕ → BackpressureAction) (connections : ℕ) (new : State Q QH P PH K)
+      → IsRequestMutAnd s n (λ client message. None ≡ request_send_refusal answer s client message)
+      → IsRequestMutAnd s n (λ client message. (connections ≡ connections_of s message) × (new ≡ with_sent_request s n message))
+      → SendsRequest answer s n (Ok connections) new
+  sends_unrefused answer connections new due sent =
+      with_both (request_at s n) _ _ _ (λ m. with_both (client_at s m.client) _ _ _ (λ client d r. (sym d, r.0, r.1))) due sent
 
   -- after a request was sent, or refused
   pub sends_request_reached : (answer : K → ℕ → ℕ → BackpressureAction) (result : Result ℕ RequestSendError) (new : State Q QH P PH K) → SendsRequest answer s n result new → IsReached new

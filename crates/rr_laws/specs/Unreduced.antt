@@ -43,11 +43,18 @@ module _ {K : Type 0} where
     pub short : len ≤ server.initial_max_slice_len
 
 module _ {Q QH P PH K : Type 0} where
-  -- the client with this number, or the server of the active request with it, has such a pool
+  -- the client with this number has such a pool
+  abbrev pub ClientHasPool : Limits → State Q QH P PH K → ℕ → ℕ → Type 0
+  ClientHasPool limits s n len = (client : Client K) → client_at s n ≡ Some client → HasClientPool limits client len
+
+  -- the server of the active request with this number has
+  abbrev pub ServerHasPool : Limits → State Q QH P PH K → ℕ → ℕ → Type 0
+  ServerHasPool limits s n len =
+      (active : Active Q QH) (server : Server K) → active_at s n ≡ Some active → server_at s active.server ≡ Some server → HasServerPool limits server len
+
+  -- the client with this number, or the server of the active request with it, has
   abbrev pub HasPool : Limits → State Q QH P PH K → ℕ → ℕ → Type 0
-  HasPool limits s n len =
-      ((client : Client K) → client_at s n ≡ Some client → HasClientPool limits client len)
-      × ((active : Active Q QH) (server : Server K) → active_at s n ≡ Some active → server_at s active.server ≡ Some server → HasServerPool limits server len)
+  HasPool limits s n len = ClientHasPool limits s n len × ServerHasPool limits s n len
 
   -- where a loan of a request is not refused, some channel is free
   abbrev pub FindsChannel : State Q QH P PH K → Type 0

@@ -1,5 +1,5 @@
 //! Loans of responses.
-ghost use Rattle.std.specs.Prelude.{◌≡◌, ◌==◌, ◌<◌, ◌+◌, ◌^◌, Some, IsTrue};
+ghost use Rattle.std.specs.Prelude.{◌≡◌, ◌≢◌, ◌==◌, ◌<◌, ◌+◌, ◌^◌, Some, Err, IsTrue};
 ghost use Rattle.std.specs.List.{position};
 ghost use Rattle.rr_slots.specs.Families.{takes_len};
 ghost use Rattle.rr_table.specs.Seats.{value_at};
@@ -8,6 +8,7 @@ ghost use Rattle.rr_hub.specs.Loans.{LoansResponse};
 ghost use Rattle.rr_hub.specs.Queries.{kind_at};
 ghost use Rattle.rr_hub.specs.State.{numbers_left};
 ghost use Rattle.rr_parts.specs.Answering.{IsActiveOfOne, active_held, answer_note_of};
+ghost use Rattle.rr_laws.specs.Unreduced.{ServerHasPool};
 
 use crate::handle_id::HandleId;
 use crate::state::Core;
@@ -39,12 +40,14 @@ impl<QB: Body, QH: Default + Drop, PB: Body, PH: Default + Drop, K: Backpressure
     ///
     /// `ExceedsMaxLoanSize` for a slice that is longer than a static pool has room for; `ExceedsMaxLoans` if the active
     /// request has as many responses on loan as it may, or its server has; `OutOfMemory` if the server's live responses fill
-    /// its pool, or a longer slice found no memory. Nothing has changed then. After iceoryx2's `ActiveRequest::loan_uninit`.
+    /// its pool, or a longer slice found no memory, neither of which comes for up to the initial slice length from a pool of the
+    /// worst-case size. Nothing has changed then. After iceoryx2's `ActiveRequest::loan_uninit`.
     pub fn loan_response(&mut self, active: &HandleId, len: usize) -> Result<HandleId, LoanError>
         requires kind { kind_at self.old active.now ≡ Some kind.ActiveRequest }
         requires number { 0 < numbers_left self.old }
         requires len { IsTrue (takes_len PB.family len) }
-        ensures { LoansResponse PH.is_default self.old active.now len result self.new }
+        ensures loans { LoansResponse PH.is_default self.old active.now len result self.new }
+        ensures unreduced { ServerHasPool self.old.limits self.old active.now len → result ≢ Err LoanError.OutOfMemory }
     {
         let asked = asked_from(&self.table, &self.servers, active.number, active.hint);
         let port = &self.servers[asked.index];

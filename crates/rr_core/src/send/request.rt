@@ -68,10 +68,11 @@ impl<QB: Body, QH: Default + Drop, PB: Body, PH: Default + Drop, K: Backpressure
         None
     }
 
-    /// Puts a request into the queue to each connected server, makes it a pending response that waits for them, and tells how
-    /// many queues took it.
+    /// Puts a request that nothing refuses into the queue to each connected server, makes it a pending response that waits for
+    /// them, and tells how many queues took it.
     fn deliver_request(&mut self, id: &HandleId) -> usize
-        requires { kind_at self.old id.now ≡ Some kind.RequestMut }
+        requires kind { kind_at self.old id.now ≡ Some kind.RequestMut }
+        requires due { IsRequestMutAnd self.old id.now (λ client message. None ≡ request_send_refusal K.answer self.old client message) }
         ensures { IsRequestMutAnd self.old id.now (λ client message. (result ≡ connections_of self.old message) × (self.new ≡ with_sent_request self.old id.now message)) }
     {
         let Held { lane, slot, .. } = match self.table.get(id.number, id.hint) {

@@ -14,6 +14,8 @@ use Rattle.rr_core_laws.proofs.Adding.{on_err_any, fewer, not_refused, other_pla
 use Rattle.rr_parts.specs.Sound.{IsSound, empty_hand}
 use Rattle.rr_core_laws.proofs.ClientSound.{client_sound}
 use Rattle.rr_core_laws.proofs.ClientView.{client_view}
+use Rattle.rr_laws.specs.Reached.{IsReached}
+use Rattle.rr_laws.proofs.Creating.{with_client_reached}
 use Rattle.rr_core.proofs.state.Core.add_client.Goals as goal
 
 pub free_place-place-requires : goal.free_place-place-requires
@@ -106,14 +108,17 @@ vacant g c i d at same =
 room : (g : _) (c : goal.After-self-1 g) → (c.self.inside.next < 2 ^ 62) × (length (parts_of c.self.inside).clients < c.self.inside.limits.max_clients)
 room g c = let due = rw (← c.self.view_is) at c.requires.due in ((not_refused (state_of (parts_of c.self.inside)) due).0, fewer (parts_of c.self.inside) due)
 
-pub invariant_of-self-2 : goal.invariant_of-self-2
-invariant_of-self-2 g c =
-    subst (λ p. IsSound p empty_hand) (sym (parts g c))
-    (client_sound (parts_of c.self.inside) c.args.settings c.free_place-place.result c.in_ok-messages.messages c.self.invariant (new_lane g c) c.free_place-place.ensures.inside (vacant g c) (room g c).1 (room g c).0
-    (omega (arith, c.in_ok-row_len.ensures.fits, c.in_ok-row_len.ensures.len, ap (λ n. (c.self.inside.limits.max_servers + 1) * n) (pool g c))))
-
 pub returns-clause-ok : goal.returns-clause-ok
 returns-clause-ok g c =
     ap state_of (parts g c)
-    ∙ client_view (parts_of c.self.inside) c.args.settings c.free_place-place.result c.in_ok-messages.messages c.self.invariant _ _ _ _ _ (new_lane g c) (vacant g c)
+    ∙ client_view (parts_of c.self.inside) c.args.settings c.free_place-place.result c.in_ok-messages.messages c.self.invariant.sound _ _ _ _ _ (new_lane g c) (vacant g c)
     ∙ ap (λ s. with_client s c.args.settings) c.self.view_is
+
+pub invariant_of-self-2 : goal.invariant_of-self-2
+invariant_of-self-2 g c =
+    record {
+      sound = subst (λ p. IsSound p empty_hand) (sym (parts g c))
+          (client_sound (parts_of c.self.inside) c.args.settings c.free_place-place.result c.in_ok-messages.messages c.self.invariant.sound (new_lane g c) c.free_place-place.ensures.inside (vacant g c) (room g c).1 (room g c).0
+          (omega (arith, c.in_ok-row_len.ensures.fits, c.in_ok-row_len.ensures.len, ap (λ n. (c.self.inside.limits.max_servers + 1) * n) (pool g c))));
+      reached = subst (λ s. IsReached s) (sym (returns-clause-ok g c)) (with_client_reached c.args.self.now (subst (λ s. IsReached s) c.self.view_is c.self.invariant.reached) c.args.settings c.requires.due);
+    }

@@ -16,6 +16,8 @@ use Rattle.rr_parts.specs.Sound.{IsSound, empty_hand}
 use Rattle.rr_core_laws.proofs.Adding.{on_err_any, fewer_servers, server_not_refused, mapped, with_servers, same_servers}
 use Rattle.rr_core_laws.proofs.ServerSound.{server_sound}
 use Rattle.rr_core_laws.proofs.ServerView.{server_view}
+use Rattle.rr_laws.specs.Reached.{IsReached}
+use Rattle.rr_laws.proofs.Creating.{with_server_reached}
 use Rattle.rr_core.proofs.state.Core.add_server.Goals as goal
 
 pub free_place-place-requires : goal.free_place-place-requires
@@ -104,13 +106,16 @@ vacant g c i d at same =
 room : (g : _) (c : goal.After-self-1 g) → (c.self.inside.next < 2 ^ 62) × (length (parts_of c.self.inside).servers < c.self.inside.limits.max_servers)
 room g c = let due = rw (← c.self.view_is) at c.requires.due in ((server_not_refused (state_of (parts_of c.self.inside)) c.args.settings due).0, fewer_servers (parts_of c.self.inside) c.args.settings due)
 
-pub invariant_of-self-2 : goal.invariant_of-self-2
-invariant_of-self-2 g c =
-    subst (λ p. IsSound p empty_hand) (sym (parts g c))
-    (server_sound (parts_of c.self.inside) c.args.settings c.free_place-place.result c.in_ok-messages.messages c.self.invariant (new_lane g c) c.free_place-place.ensures.inside (vacant g c) (room g c).1 (room g c).0)
-
 pub returns-clause-ok : goal.returns-clause-ok
 returns-clause-ok g c =
     ap state_of (parts g c)
-    ∙ server_view (parts_of c.self.inside) c.args.settings c.free_place-place.result c.in_ok-messages.messages c.self.invariant _ _ _ _ _ (new_lane g c) (vacant g c) c.free_place-place.ensures.inside
+    ∙ server_view (parts_of c.self.inside) c.args.settings c.free_place-place.result c.in_ok-messages.messages c.self.invariant.sound _ _ _ _ _ (new_lane g c) (vacant g c) c.free_place-place.ensures.inside
     ∙ ap (λ s. with_server s c.args.settings) c.self.view_is
+
+pub invariant_of-self-2 : goal.invariant_of-self-2
+invariant_of-self-2 g c =
+    record {
+      sound = subst (λ p. IsSound p empty_hand) (sym (parts g c))
+          (server_sound (parts_of c.self.inside) c.args.settings c.free_place-place.result c.in_ok-messages.messages c.self.invariant.sound (new_lane g c) c.free_place-place.ensures.inside (vacant g c) (room g c).1 (room g c).0);
+      reached = subst (λ s. IsReached s) (sym (returns-clause-ok g c)) (with_server_reached c.args.self.now (subst (λ s. IsReached s) c.self.view_is c.self.invariant.reached) c.args.settings c.requires.due);
+    }

@@ -24,70 +24,74 @@ use Rattle.rr_core_laws.proofs.ReleaseFields.{lane_asked, lanes_then}
 use Rattle.rr_core_laws.proofs.Senders.{of_found, to_found}
 use Rattle.rr_core_laws.proofs.SentFields.{loaned_kind, lanes_there, queue_asked, slot_asked, held_then, of_sent}
 use Rattle.rr_core_laws.proofs.Shown.{held_within}
+use Rattle.rr_laws.specs.Reached.{IsReached}
+use Rattle.rr_laws.proofs.Sending.{response_put_reached}
+use Rattle.rr_laws.proofs.Leaving.{after_release_reached}
+use Rattle.rr_laws.proofs.Opening.{open_response_mut}
 use Rattle.rr_core.proofs.state.Core.deliver_response.Goals as goal
 
 pub note_in-note-requires : goal.note_in-note-requires
 note_in-note-requires g c =
     let p = parts_of c.self.inside in
     let held = c.in-Some.held in
-    let f = answer_found p c.self.invariant c.args.self.now c.id.inside.number c.args.id.now c.self.view_is c.id.view_is (loaned_kind c.args.self.now c.args.id.now c.requires) held (sym c.get.ensures ∙ c.in-Some.is) in
+    let f = answer_found p c.self.invariant.sound c.args.self.now c.id.inside.number c.args.id.now c.self.view_is c.id.view_is (loaned_kind c.args.self.now c.args.id.now c.requires) held (sym c.get.ensures ∙ c.in-Some.is) in
     subst (λ ls. IsSomeAnd (slice_get ls held.lane) (λ l. held.slot < length l.messages.held)) (sym c.as_slice.ensures.value)
     (lane_asked c.self.inside.server_lanes.items held.lane f.lane (λ l. held.slot < length l.messages.held) (λ l. held.slot < length l.messages.held) (λ l h. h)
     (held_within (lane_of held.lane p.server_lanes).messages.held held.slot f.slot))
 
 pub reached_place-reach-requires : goal.reached_place-reach-requires
-reached_place-reach-requires g c = lanes_there (parts_of c.self.inside) c.self.invariant c.self.inside.clients.items c.self.inside.client_lanes.items refl refl
+reached_place-reach-requires g c = lanes_there (parts_of c.self.inside) c.self.invariant.sound c.self.inside.clients.items c.self.inside.client_lanes.items refl refl
 
 pub deliver_in-requires-clause-queue : goal.deliver_in-requires-clause-queue
 deliver_in-requires-clause-queue g c =
     let p = parts_of c.self.inside in
     let held = c.in-Some.held in
-    let f = answer_found p c.self.invariant c.args.self.now c.id.inside.number c.args.id.now c.self.view_is c.id.view_is (loaned_kind c.args.self.now c.args.id.now c.requires) held (sym c.get.ensures ∙ c.in-Some.is) in
-    let s = server_sending p c.self.invariant c.self.inside.servers.items refl held.lane f.lane in
+    let f = answer_found p c.self.invariant.sound c.args.self.now c.id.inside.number c.args.id.now c.self.view_is c.id.view_is (loaned_kind c.args.self.now c.args.id.now c.requires) held (sym c.get.ensures ∙ c.in-Some.is) in
+    let s = server_sending p c.self.invariant.sound c.self.inside.servers.items refl held.lane f.lane in
     let note = c.note_in-note.result in
     let noted = note_is c.self.inside.server_lanes.items c.as_slice.result.now held.lane held.slot note no_response f.lane c.as_slice.ensures.value c.note_in-note.ensures in
     lane_asked c.self.inside.server_lanes.items held.lane f.lane (λ l. HasQueue l.messages note.channel c.reached_place-reach.result) (λ l. HasQueue l.messages note.channel c.reached_place-reach.result) (λ l h. h)
-    (queue_asked p c.self.invariant c.id.inside.number held f s.index (server_part s.it) s.there s.sends note noted c.reached_place-reach.result c.reached_place-reach.ensures)
+    (queue_asked p c.self.invariant.sound c.id.inside.number held f s.index (server_part s.it) s.there s.sends note noted c.reached_place-reach.result c.reached_place-reach.ensures)
 
 pub deliver_in-requires-clause-capacity : goal.deliver_in-requires-clause-capacity
 deliver_in-requires-clause-capacity g c =
     let p = parts_of c.self.inside in
     let held = c.in-Some.held in
-    let f = answer_found p c.self.invariant c.args.self.now c.id.inside.number c.args.id.now c.self.view_is c.id.view_is (loaned_kind c.args.self.now c.args.id.now c.requires) held (sym c.get.ensures ∙ c.in-Some.is) in
-    let s = server_sending p c.self.invariant c.self.inside.servers.items refl held.lane f.lane in
+    let f = answer_found p c.self.invariant.sound c.args.self.now c.id.inside.number c.args.id.now c.self.view_is c.id.view_is (loaned_kind c.args.self.now c.args.id.now c.requires) held (sym c.get.ensures ∙ c.in-Some.is) in
+    let s = server_sending p c.self.invariant.sound c.self.inside.servers.items refl held.lane f.lane in
     lane_asked c.self.inside.server_lanes.items held.lane f.lane (λ l. 0 < l.messages.capacity) (λ l. 0 < l.messages.capacity) (λ l h. h)
-    (has_capacity p c.self.invariant c.id.inside.number held f s.index (server_part s.it) s.there s.sends)
+    (has_capacity p c.self.invariant.sound c.id.inside.number held f s.index (server_part s.it) s.there s.sends)
 
 pub deliver_in-requires-clause-slot : goal.deliver_in-requires-clause-slot
 deliver_in-requires-clause-slot g c =
     let p = parts_of c.self.inside in
     let held = c.in-Some.held in
-    let f = answer_found p c.self.invariant c.args.self.now c.id.inside.number c.args.id.now c.self.view_is c.id.view_is (loaned_kind c.args.self.now c.args.id.now c.requires) held (sym c.get.ensures ∙ c.in-Some.is) in
-    let s = server_sending p c.self.invariant c.self.inside.servers.items refl held.lane f.lane in
+    let f = answer_found p c.self.invariant.sound c.args.self.now c.id.inside.number c.args.id.now c.self.view_is c.id.view_is (loaned_kind c.args.self.now c.args.id.now c.requires) held (sym c.get.ensures ∙ c.in-Some.is) in
+    let s = server_sending p c.self.invariant.sound c.self.inside.servers.items refl held.lane f.lane in
     lane_asked c.self.inside.server_lanes.items held.lane f.lane
     (λ l. (0 < slice_index l.messages.held held.slot) × (uses l.messages held.slot + 1 < 2 ^ 64)) (λ l. (0 < slice_index l.messages.held held.slot) × (uses l.messages held.slot + 1 < 2 ^ 64)) (λ l h. h)
-    (slot_asked p c.self.invariant c.id.inside.number held f s.index (server_part s.it) s.there s.sends)
+    (slot_asked p c.self.invariant.sound c.id.inside.number held f s.index (server_part s.it) s.there s.sends)
 
 pub give_back_in-requires : goal.give_back_in-requires
 give_back_in-requires g c =
     let p = parts_of c.self.inside in
     let held = c.in-Some.held in
-    let f = answer_found p c.self.invariant c.args.self.now c.id.inside.number c.args.id.now c.self.view_is c.id.view_is (loaned_kind c.args.self.now c.args.id.now c.requires) held (sym c.get.ensures ∙ c.in-Some.is) in
-    let s = server_sending p c.self.invariant c.self.inside.servers.items refl held.lane f.lane in
+    let f = answer_found p c.self.invariant.sound c.args.self.now c.id.inside.number c.args.id.now c.self.view_is c.id.view_is (loaned_kind c.args.self.now c.args.id.now c.requires) held (sym c.get.ensures ∙ c.in-Some.is) in
+    let s = server_sending p c.self.invariant.sound c.self.inside.servers.items refl held.lane f.lane in
     let overflow = c.self.inside.limits.enable_safe_overflow_for_responses in
     let channel = c.note_in-note.result.channel in
     let mid = lanes_then c.self.inside.server_lanes.items held.lane f.lane c.deliver_in.new.lanes.items (λ m. delivered m overflow channel held.slot c.reached_place-reach.result) c.deliver_in.ensures in
-    let then = held_then p c.self.invariant c.id.inside.number held f s.index (server_part s.it) s.there s.sends overflow channel c.reached_place-reach.result (map lane_part c.deliver_in.new.lanes.items) mid in
+    let then = held_then p c.self.invariant.sound c.id.inside.number held f s.index (server_part s.it) s.there s.sends overflow channel c.reached_place-reach.result (map lane_part c.deliver_in.new.lanes.items) mid in
     lane_asked c.deliver_in.new.lanes.items held.lane then.0 (λ l. 0 < slice_index l.messages.held held.slot) (λ l. 0 < slice_index l.messages.held held.slot) (λ l h. h) then.1
 
 pub end_answer-requires-clause-counted : goal.end_answer-requires-clause-counted
 end_answer-requires-clause-counted g c =
     let p = parts_of c.self.inside in
     let held = c.in-Some.held in
-    let f = answer_found p c.self.invariant c.args.self.now c.id.inside.number c.args.id.now c.self.view_is c.id.view_is (loaned_kind c.args.self.now c.args.id.now c.requires) held (sym c.get.ensures ∙ c.in-Some.is) in
-    let s = server_sending p c.self.invariant c.self.inside.servers.items refl held.lane f.lane in
+    let f = answer_found p c.self.invariant.sound c.args.self.now c.id.inside.number c.args.id.now c.self.view_is c.id.view_is (loaned_kind c.args.self.now c.args.id.now c.requires) held (sym c.get.ensures ∙ c.in-Some.is) in
+    let s = server_sending p c.self.invariant.sound c.self.inside.servers.items refl held.lane f.lane in
     to_found (λ (x : ServerPort _). x.port.lane == held.lane) c.self.inside.servers.items s.index s.it s.found s.at (λ _ x. 0 < x.port.loans)
-    (has_loan p c.self.invariant c.id.inside.number held f s.index (server_part s.it) s.there s.sends)
+    (has_loan p c.self.invariant.sound c.id.inside.number held f s.index (server_part s.it) s.there s.sends)
 
 -- the parts after it are sound, and what contracts see
 after : (g : _) (c : goal.After-end_answer g) → let p = parts_of c.self.inside in let q = with_servers p (map server_part c.end_answer.new.servers.items) (map lane_part c.give_back_in.new.lanes.items) c.end_answer.new.table c.self.inside.next in
@@ -95,28 +99,25 @@ after : (g : _) (c : goal.After-end_answer g) → let p = parts_of c.self.inside
 after g c =
     let p = parts_of c.self.inside in
     let held = c.in-Some.held in
-    let f = answer_found p c.self.invariant c.args.self.now c.id.inside.number c.args.id.now c.self.view_is c.id.view_is (loaned_kind c.args.self.now c.args.id.now c.requires) held (sym c.get.ensures ∙ c.in-Some.is) in
-    let s = server_sending p c.self.invariant c.self.inside.servers.items refl held.lane f.lane in
+    let f = answer_found p c.self.invariant.sound c.args.self.now c.id.inside.number c.args.id.now c.self.view_is c.id.view_is (loaned_kind c.args.self.now c.args.id.now c.requires) held (sym c.get.ensures ∙ c.in-Some.is) in
+    let s = server_sending p c.self.invariant.sound c.self.inside.servers.items refl held.lane f.lane in
     let note = c.note_in-note.result in
     let noted = note_is c.self.inside.server_lanes.items c.as_slice.result.now held.lane held.slot note no_response f.lane c.as_slice.ensures.value c.note_in-note.ensures in
     let overflow = c.self.inside.limits.enable_safe_overflow_for_responses in
     let mid = lanes_then c.self.inside.server_lanes.items held.lane f.lane c.deliver_in.new.lanes.items (λ m. delivered m overflow note.channel held.slot c.reached_place-reach.result) c.deliver_in.ensures in
-    let then = held_then p c.self.invariant c.id.inside.number held f s.index (server_part s.it) s.there s.sends overflow note.channel c.reached_place-reach.result (map lane_part c.deliver_in.new.lanes.items) mid in
+    let then = held_then p c.self.invariant.sound c.id.inside.number held f s.index (server_part s.it) s.there s.sends overflow note.channel c.reached_place-reach.result (map lane_part c.deliver_in.new.lanes.items) mid in
     let servers = of_found (λ (x : ServerPort _). x.port.lane == held.lane) c.self.inside.servers.items s.index s.it s.found s.at
     (λ i x. c.end_answer.new.servers.items ≡ slice_set c.self.inside.servers.items i (with_answer_ended x)) c.end_answer.ensures.servers in
     let table = of_found (λ (x : ServerPort _). x.port.lane == held.lane) c.self.inside.servers.items s.index s.it s.found s.at
     (λ _ x. (at : Option Place) × IfSome at (IsAskedPlace (map lane_part c.as_slice-in-Some.result.now) note x.port.place)
     × IsLoanEnded note.active_request (found_under (unseated c.self.inside.table c.args.id.now) note.active_request at) (unseated c.self.inside.table c.args.id.now) c.end_answer.new.table) c.end_answer.ensures.table in
     let asked = subst (λ ls. IfSome table.0 (IsAskedPlace (map lane_part ls) note s.it.port.place)) c.as_slice-in-Some.ensures.value table.1 in
-    sent_parts p c.self.invariant c.id.inside.number held f s.index (server_part s.it) s.there s.sends note noted c.reached_place-reach.result c.reached_place-reach.ensures
+    sent_parts p c.self.invariant.sound c.id.inside.number held f s.index (server_part s.it) s.there s.sends note noted c.reached_place-reach.result c.reached_place-reach.ensures
     (map server_part c.end_answer.new.servers.items) (map lane_part c.deliver_in.new.lanes.items) (map lane_part c.give_back_in.new.lanes.items) c.end_answer.new.table
     (ap (map server_part) servers ∙ map-set_one server_part c.self.inside.servers.items s.index (with_answer_ended s.it))
     mid
     (lanes_then c.deliver_in.new.lanes.items held.lane then.0 c.give_back_in.new.lanes.items (λ m. given_back m held.slot) c.give_back_in.ensures)
     table.0 asked (subst (λ n. IsLoanEnded note.active_request (found_under (unseated c.self.inside.table n) note.active_request table.0) (unseated c.self.inside.table n) c.end_answer.new.table) (sym c.id.view_is) table.2)
-
-pub invariant_of-self : goal.invariant_of-self
-invariant_of-self g c = (after g c).0
 
 pub unreachable-requires : goal.unreachable-requires
 unreachable-requires g c =
@@ -127,10 +128,18 @@ returns g c =
     let p = parts_of c.self.inside in
     let held = c.in-Some.held in
     let found = sym c.get.ensures ∙ c.in-Some.is in
-    let f = answer_found p c.self.invariant c.args.self.now c.id.inside.number c.args.id.now c.self.view_is c.id.view_is (loaned_kind c.args.self.now c.args.id.now c.requires) held found in
-    let s = server_sending p c.self.invariant c.self.inside.servers.items refl held.lane f.lane in
+    let f = answer_found p c.self.invariant.sound c.args.self.now c.id.inside.number c.args.id.now c.self.view_is c.id.view_is (loaned_kind c.args.self.now c.args.id.now c.requires) held found in
+    let s = server_sending p c.self.invariant.sound c.self.inside.servers.items refl held.lane f.lane in
     let kind = of_kind p c.args.self.now c.id.inside.number c.args.id.now c.self.view_is c.id.view_is Kind.ResponseMut (λ e. cc) (λ e. cc) c.requires held found in
     let q = with_servers p (map server_part c.end_answer.new.servers.items) (map lane_part c.give_back_in.new.lanes.items) c.end_answer.new.table c.self.inside.next in
-    of_sent p c.self.invariant c.id.inside.number held f s.index (server_part s.it) s.there s.sends
+    of_sent p c.self.invariant.sound c.id.inside.number held f s.index (server_part s.it) s.there s.sends
     (λ t j _ message. state_of q ≡ after_release (record t { responses = with_response_put t message }) j) found kind (after g c).1
     c.args.self.now c.args.id.now c.self.view_is c.id.view_is
+
+pub invariant_of-self : goal.invariant_of-self
+invariant_of-self g c =
+    let sent = open_response_mut c.args.self.now c.args.id.now _ (returns g c) in
+    record {
+      sound = (after g c).0;
+      reached = subst (λ s. IsReached s) (sym sent.4) (after_release_reached _ c.args.id.now (response_put_reached c.args.self.now (subst (λ s. IsReached s) c.self.view_is c.self.invariant.reached) c.args.id.now sent.1 sent.2));
+    }

@@ -16,7 +16,7 @@ index-requires g c =
     let p = parts_of c.self.inside in
     let found = sym c.get.ensures ∙ c.in-Some.is in
     let kind = of_kind p c.args.self.now c.id.inside.number c.args.id.now c.self.view_is c.id.view_is Kind.ActiveRequest (λ e. cc) (λ e. cc) c.requires c.in-Some.held found in
-    let spot = request_spot p empty_hand c.self.invariant.counted c.id.inside.number c.in-Some.held found (active_has_request _ kind) in
+    let spot = request_spot p empty_hand c.self.invariant.sound.counted c.id.inside.number c.in-Some.held found (active_has_request _ kind) in
     omega (arith, spot.0, length-map c.self.inside.client_lanes.items lane_part, c.self.inside.client_lanes.ok.0)
 
 pub index-requires-in-Some : goal.index-requires-in-Some
@@ -24,7 +24,7 @@ index-requires-in-Some g c =
     let p = parts_of c.self.inside in
     let found = sym c.get.ensures ∙ c.in-Some.is in
     let kind = of_kind p c.args.self.now c.id.inside.number c.args.id.now c.self.view_is c.id.view_is Kind.ActiveRequest (λ e. cc) (λ e. cc) c.requires c.in-Some.held found in
-    let spot = request_spot p empty_hand c.self.invariant.counted c.id.inside.number c.in-Some.held found (active_has_request _ kind) in
+    let spot = request_spot p empty_hand c.self.invariant.sound.counted c.id.inside.number c.in-Some.held found (active_has_request _ kind) in
     omega (arith, spot.0, length-map c.self.inside.client_lanes.items lane_part, c.self.inside.client_lanes.ok.0)
 
 pub note-note-requires : goal.note-note-requires
@@ -32,7 +32,7 @@ note-note-requires g c =
     let p = parts_of c.self.inside in
     let found = sym c.get.ensures ∙ c.in-Some.is in
     let kind = of_kind p c.args.self.now c.id.inside.number c.args.id.now c.self.view_is c.id.view_is Kind.ActiveRequest (λ e. cc) (λ e. cc) c.requires c.in-Some.held found in
-    let spot = request_spot p empty_hand c.self.invariant.counted c.id.inside.number c.in-Some.held found (active_has_request _ kind) in
+    let spot = request_spot p empty_hand c.self.invariant.sound.counted c.id.inside.number c.in-Some.held found (active_has_request _ kind) in
     let within : c.in-Some.held.lane < length c.self.inside.client_lanes.items = omega (arith, spot.0, length-map c.self.inside.client_lanes.items lane_part) in
     omega (arith, spot.1, ap (λ l. length l.messages.held) (lane_read c.self.inside.client_lanes.items c.in-Some.held.lane c.index-in-Some.result.now within c.index-in-Some.ensures))
 
@@ -45,7 +45,7 @@ returns-in-Some-get_at g c =
     let p = parts_of c.self.inside in
     let found = sym c.get.ensures ∙ c.in-Some.is in
     let kind = of_kind p c.args.self.now c.id.inside.number c.args.id.now c.self.view_is c.id.view_is Kind.ActiveRequest (λ e. cc) (λ e. cc) c.requires c.in-Some.held found in
-    let spot = request_spot p empty_hand c.self.invariant.counted c.id.inside.number c.in-Some.held found (active_has_request _ kind) in
+    let spot = request_spot p empty_hand c.self.invariant.sound.counted c.id.inside.number c.in-Some.held found (active_has_request _ kind) in
     let within : c.in-Some.held.lane < length c.self.inside.client_lanes.items = omega (arith, spot.0, length-map c.self.inside.client_lanes.items lane_part) in
     let note = note_read c.self.inside.client_lanes.items c.in-Some.held.lane c.index-in-Some.result.now within c.index-in-Some.ensures c.in-Some.held.slot c.note-note.result c.note-note.ensures in
     of_active p c.args.self.now c.id.inside.number c.args.id.now c.self.view_is c.id.view_is c.in-Some.held found (λ number. c.is_pending.result ≡ is_alive c.args.self.now number) kind
@@ -57,12 +57,12 @@ returns-in-None-get_at g c =
     let p = parts_of c.self.inside in
     let found = sym c.get.ensures ∙ c.in-Some.is in
     let kind = of_kind p c.args.self.now c.id.inside.number c.args.id.now c.self.view_is c.id.view_is Kind.ActiveRequest (λ e. cc) (λ e. cc) c.requires c.in-Some.held found in
-    let spot = request_spot p empty_hand c.self.invariant.counted c.id.inside.number c.in-Some.held found (active_has_request _ kind) in
+    let spot = request_spot p empty_hand c.self.invariant.sound.counted c.id.inside.number c.in-Some.held found (active_has_request _ kind) in
     let within : c.in-Some.held.lane < length c.self.inside.client_lanes.items = omega (arith, spot.0, length-map c.self.inside.client_lanes.items lane_part) in
     let note = note_read c.self.inside.client_lanes.items c.in-Some.held.lane c.index-in-Some.result.now within c.index-in-Some.ensures c.in-Some.held.slot c.note-note.result c.note-note.ensures in
     let row = lane_read c.self.inside.client_lanes.items c.in-Some.held.lane c.index.result.now within c.index.ensures in
-    let uses = used p empty_hand c.self.invariant c.id.inside.number c.in-Some.held found (active_has_request _ kind) in
+    let uses = used p empty_hand c.self.invariant.sound c.id.inside.number c.in-Some.held found (active_has_request _ kind) in
     of_active p c.args.self.now c.id.inside.number c.args.id.now c.self.view_is c.id.view_is c.in-Some.held found (λ number. false ≡ is_alive c.args.self.now number) kind
-    (sym (alive_not p empty_hand c.self.invariant c.in-Some.held.lane c.in-Some.held.slot c.note-note.result.number (record { row = c.index.result.now.row; index = c.in-Some.held.slot }) uses
+    (sym (alive_not p empty_hand c.self.invariant.sound c.in-Some.held.lane c.in-Some.held.slot c.note-note.result.number (record { row = c.index.result.now.row; index = c.in-Some.held.slot }) uses
     (ap (λ (n : RequestNote). n.number) (sym note)) (ap (λ l. record { row = l.row; index = c.in-Some.held.slot }) (sym row)) (sym c.get_at.ensures ∙ c.in-None-get_at.is))
     ∙ ap (λ s. is_alive s c.note-note.result.number) c.self.view_is ∙ ap (λ (n : RequestNote). is_alive c.args.self.now n.number) (sym note))

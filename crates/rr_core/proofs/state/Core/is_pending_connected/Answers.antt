@@ -14,18 +14,18 @@ index-requires g c =
     let p = parts_of c.self.inside in
     let found = sym c.get.ensures ∙ c.in-Some.is in
     let kind = of_kind p c.args.self.now c.id.inside.number c.args.id.now c.self.view_is c.id.view_is Kind.PendingResponse (λ e. cc) (λ e. cc) c.requires c.in-Some.held found in
-    let spot = request_spot p empty_hand c.self.invariant.counted c.id.inside.number c.in-Some.held found (pending_has_request _ kind) in
-    omega (arith, spot.0, c.self.invariant.sized.waiting, length-map c.self.inside.waiting.items marks_of, c.self.inside.waiting.ok.0)
+    let spot = request_spot p empty_hand c.self.invariant.sound.counted c.id.inside.number c.in-Some.held found (pending_has_request _ kind) in
+    omega (arith, spot.0, c.self.invariant.sound.sized.waiting, length-map c.self.inside.waiting.items marks_of, c.self.inside.waiting.ok.0)
 
 pub overflow_mul-held : goal.overflow_mul-held
 overflow_mul-held g c =
     let p = parts_of c.self.inside in
     let found = sym c.get.ensures ∙ c.in-Some.is in
     let kind = of_kind p c.args.self.now c.id.inside.number c.args.id.now c.self.view_is c.id.view_is Kind.PendingResponse (λ e. cc) (λ e. cc) c.requires c.in-Some.held found in
-    let spot = request_spot p empty_hand c.self.invariant.counted c.id.inside.number c.in-Some.held found (pending_has_request _ kind) in
-    let within : c.in-Some.held.lane < length c.self.inside.waiting.items = omega (arith, spot.0, c.self.invariant.sized.waiting, length-map c.self.inside.waiting.items marks_of) in
+    let spot = request_spot p empty_hand c.self.invariant.sound.counted c.id.inside.number c.in-Some.held found (pending_has_request _ kind) in
+    let within : c.in-Some.held.lane < length c.self.inside.waiting.items = omega (arith, spot.0, c.self.invariant.sound.sized.waiting, length-map c.self.inside.waiting.items marks_of) in
     let marks = marks_read c.self.inside.waiting.items c.in-Some.held.lane c.index.result.now c.as_slice-in-Some.result.now within c.index.ensures c.as_slice-in-Some.ensures.value in
-    let many = ap length (sym marks) ∙ c.self.invariant.sized.waiting_slots c.in-Some.held.lane spot.0 in
+    let many = ap length (sym marks) ∙ c.self.invariant.sound.sized.waiting_slots c.in-Some.held.lane spot.0 in
     omega (arith, marks_before c.in-Some.held.slot _ c.self.inside.limits.max_servers (length c.as_slice-in-Some.result.now) spot.1 many, c.as_slice-in-Some.type_inv.0)
 
 pub is_any_marked-requires : goal.is_any_marked-requires
@@ -33,12 +33,12 @@ is_any_marked-requires g c i s at =
     let p = parts_of c.self.inside in
     let found = sym c.get.ensures ∙ c.in-Some.is in
     let kind = of_kind p c.args.self.now c.id.inside.number c.args.id.now c.self.view_is c.id.view_is Kind.PendingResponse (λ e. cc) (λ e. cc) c.requires c.in-Some.held found in
-    let spot = request_spot p empty_hand c.self.invariant.counted c.id.inside.number c.in-Some.held found (pending_has_request _ kind) in
-    let within : c.in-Some.held.lane < length c.self.inside.waiting.items = omega (arith, spot.0, c.self.invariant.sized.waiting, length-map c.self.inside.waiting.items marks_of) in
+    let spot = request_spot p empty_hand c.self.invariant.sound.counted c.id.inside.number c.in-Some.held found (pending_has_request _ kind) in
+    let within : c.in-Some.held.lane < length c.self.inside.waiting.items = omega (arith, spot.0, c.self.invariant.sound.sized.waiting, length-map c.self.inside.waiting.items marks_of) in
     let marks = marks_read c.self.inside.waiting.items c.in-Some.held.lane c.index.result.now c.as_slice-in-Some.result.now within c.index.ensures c.as_slice-in-Some.ensures.value in
-    let many = ap length (sym marks) ∙ c.self.invariant.sized.waiting_slots c.in-Some.held.lane spot.0 in
+    let many = ap length (sym marks) ∙ c.self.invariant.sound.sized.waiting_slots c.in-Some.held.lane spot.0 in
     mark_within c.in-Some.held.slot _ c.self.inside.limits.max_servers s.port.place (length c.as_slice-in-Some.result.now) spot.1
-    (server_place_within p.next c.self.inside.limits.max_servers c.self.inside.servers.items c.as_slice.result.now p.server_lanes c.self.invariant.server_ports c.as_slice.ensures.value i s at) many
+    (server_place_within p.next c.self.inside.limits.max_servers c.self.inside.servers.items c.as_slice.result.now p.server_lanes c.self.invariant.sound.server_ports c.as_slice.ensures.value i s at) many
 
 pub unreachable-requires : goal.unreachable-requires
 unreachable-requires g c =
@@ -49,8 +49,8 @@ returns g c =
     let p = parts_of c.self.inside in
     let found = sym c.get.ensures ∙ c.in-Some.is in
     let kind = of_kind p c.args.self.now c.id.inside.number c.args.id.now c.self.view_is c.id.view_is Kind.PendingResponse (λ e. cc) (λ e. cc) c.requires c.in-Some.held found in
-    let spot = request_spot p empty_hand c.self.invariant.counted c.id.inside.number c.in-Some.held found (pending_has_request _ kind) in
-    let within : c.in-Some.held.lane < length c.self.inside.waiting.items = omega (arith, spot.0, c.self.invariant.sized.waiting, length-map c.self.inside.waiting.items marks_of) in
+    let spot = request_spot p empty_hand c.self.invariant.sound.counted c.id.inside.number c.in-Some.held found (pending_has_request _ kind) in
+    let within : c.in-Some.held.lane < length c.self.inside.waiting.items = omega (arith, spot.0, c.self.invariant.sound.sized.waiting, length-map c.self.inside.waiting.items marks_of) in
     let marks = marks_read c.self.inside.waiting.items c.in-Some.held.lane c.index.result.now c.as_slice-in-Some.result.now within c.index.ensures c.as_slice-in-Some.ensures.value in
     of_pending p c.args.self.now c.id.inside.number c.args.id.now c.self.view_is c.id.view_is c.in-Some.held found (λ servers. c.is_any_marked.result ≡ nat_lt 0 (length servers)) kind
     (c.is_any_marked.ensures

@@ -1,4 +1,4 @@
-use Rattle.std.proofs.Common.{◌≡◌, ◌<◌, ◌+◌, ◌^◌, ℕ, true, false, None, Some, Err, length, get_or, map, refl, sym, ap, ◌∙◌, subst, arith}
+use Rattle.std.proofs.Common.{◌≡◌, ◌<◌, ◌+◌, ◌^◌, ℕ, true, false, None, Some, Err, length, get_or, map, refl, sym, ap, ◌∙◌, subst, arith, Ok}
 use Rattle.std.specs.List.{position}
 use Rattle.std.specs.Prelude.{◌==◌, ◌↔◌, IsErrOf, slice_get, slice_index, slice_index_or, slice_set}
 use Rattle.std.proofs.lemmas.Bool.{eqb-true}
@@ -31,6 +31,10 @@ use Rattle.rr_core_laws.proofs.LoanRefusals.{refusal_stored, refuses, lends, fir
 use Rattle.rr_core_laws.proofs.Numbers.{client_there}
 use Rattle.rr_core_laws.proofs.Places.{standing_nowhere, map-set_one}
 use Rattle.rr_core_laws.proofs.Vacant.{own_vacant}
+use Rattle.rr_laws.specs.Reached.{IsReached}
+use Rattle.rr_laws.proofs.Loaning.{loans_request_reached}
+use Rattle.rr_laws.proofs.Memory.{request_finds_memory}
+use Rattle.rr_core.specs.Reaching.{IsCore}
 use Rattle.rr_core.proofs.state.Core.loan_request.Goals as goal
 
 pub unreachable-requires : goal.unreachable-requires
@@ -45,8 +49,8 @@ index-requires g c =
     let it = standing_at (λ (x : ClientPort _). x.port.id == c.args.client) c.in-Some.index c.as_slice.result.now items c.index_of.result c.index_of.ensures c.as_slice.ensures.value c.in-Some.is in
     omega (arith, slice_get_within items c.in-Some.index it.it it.at, c.self.inside.clients.ok.0)
 
-pub returns-then-is_too_long : goal.returns-then-is_too_long
-returns-then-is_too_long g c =
+pub returns-then-is_too_long-clause-loans : goal.returns-then-is_too_long-clause-loans
+returns-then-is_too_long-clause-loans g c =
     let p = parts_of c.self.inside in
     let items = c.self.inside.clients.items in
     let i = c.in-Some.index in
@@ -55,12 +59,12 @@ returns-then-is_too_long g c =
     let same : c.index.result.now ≡ it.it = read_at items i it.it c.index.result.now it.at c.index.ensures in
     let client = client_part it.it in
     let long : is_too_long client.port c.args.len ≡ true = ap (λ (x : ClientPort _). is_too_long (client_part x).port c.args.len) (sym same) ∙ sym c.is_too_long.ensures ∙ c.if-is_too_long.true in
-    refuses p c.self.invariant i client at c.args.client c.args.len LoanError.ExceedsMaxLoanSize (client_seen c.args.client items i it)
-    (due_refusal _ client.port c.args.len LoanError.ExceedsMaxLoanSize (first_due p c.self.invariant i client at c.args.len long))
+    refuses p c.self.invariant.sound i client at c.args.client c.args.len LoanError.ExceedsMaxLoanSize (client_seen c.args.client items i it)
+    (due_refusal _ client.port c.args.len LoanError.ExceedsMaxLoanSize (first_due p c.self.invariant.sound i client at c.args.len long))
     c.args.self.now c.args.self.now c.self.view_is refl
 
-pub returns-then-self-port : goal.returns-then-self-port
-returns-then-self-port g c =
+pub returns-then-self-port-clause-loans : goal.returns-then-self-port-clause-loans
+returns-then-self-port-clause-loans g c =
     let p = parts_of c.self.inside in
     let items = c.self.inside.clients.items in
     let i = c.in-Some.index in
@@ -69,8 +73,8 @@ returns-then-self-port g c =
     let same : c.index.result.now ≡ it.it = read_at items i it.it c.index.result.now it.at c.index.ensures in
     let client = client_part it.it in
     let long : is_too_long client.port c.args.len ≡ false = ap (λ (x : ClientPort _). is_too_long (client_part x).port c.args.len) (sym same) ∙ sym c.is_too_long.ensures ∙ c.if-is_too_long.false in
-    refuses p c.self.invariant i client at c.args.client c.args.len LoanError.ExceedsMaxLoans (client_seen c.args.client items i it)
-    (due_refusal _ client.port c.args.len LoanError.ExceedsMaxLoans (second_due p c.self.invariant i client at c.args.len long (omega (arith, c.if-self-port.true, ap (λ (x : ClientPort _). x.port.loans) same))))
+    refuses p c.self.invariant.sound i client at c.args.client c.args.len LoanError.ExceedsMaxLoans (client_seen c.args.client items i it)
+    (due_refusal _ client.port c.args.len LoanError.ExceedsMaxLoans (second_due p c.self.invariant.sound i client at c.args.len long (omega (arith, c.if-self-port.true, ap (λ (x : ClientPort _). x.port.loans) same))))
     c.args.self.now c.args.self.now c.self.view_is refl
 
 pub index-requires-2 : goal.index-requires-2
@@ -88,7 +92,7 @@ index_mut-requires g c =
     let at = listed client_part items i it.it it.at in
     let same : c.index.result.now ≡ it.it = read_at items i it.it c.index.result.now it.at c.index.ensures in
     let client = client_part it.it in
-    let own = c.self.invariant.client_ports.own i client.connected (listed (λ (c : ClientPart _). c.connected) p.clients i client at) in
+    let own = c.self.invariant.sound.client_ports.own i client.connected (listed (λ (c : ClientPart _). c.connected) p.clients i client at) in
     let lanes = c.self.inside.client_lanes.items in
     let lane : c.index.result.now.port.lane ≡ client.lane = ap (λ (x : ClientPort _). x.port.lane) same in
     let there : client.lane < length lanes = lanes_many lanes client.lane own.0 in
@@ -103,7 +107,7 @@ index-requires-in-Ok g c =
     let at = listed client_part items i it.it it.at in
     let same : c.index.result.now ≡ it.it = read_at items i it.it c.index.result.now it.at c.index.ensures in
     let client = client_part it.it in
-    let own = c.self.invariant.client_ports.own i client.connected (listed (λ (c : ClientPart _). c.connected) p.clients i client at) in
+    let own = c.self.invariant.sound.client_ports.own i client.connected (listed (λ (c : ClientPart _). c.connected) p.clients i client at) in
     let lanes = c.self.inside.client_lanes.items in
     let lane : c.index.result.now.port.lane ≡ client.lane = ap (λ (x : ClientPort _). x.port.lane) same in
     let there : client.lane < length lanes = lanes_many lanes client.lane own.0 in
@@ -119,7 +123,7 @@ row g c =
     let at = listed client_part items i it.it it.at in
     let same : c.index.result.now ≡ it.it = read_at items i it.it c.index.result.now it.at c.index.ensures in
     let client = client_part it.it in
-    let own = c.self.invariant.client_ports.own i client.connected (listed (λ (c : ClientPart _). c.connected) p.clients i client at) in
+    let own = c.self.invariant.sound.client_ports.own i client.connected (listed (λ (c : ClientPart _). c.connected) p.clients i client at) in
     let lanes = c.self.inside.client_lanes.items in
     let lane : c.index.result.now.port.lane ≡ client.lane = ap (λ (x : ClientPort _). x.port.lane) same in
     let there : client.lane < length lanes = lanes_many lanes client.lane own.0 in
@@ -134,13 +138,13 @@ insert-requires-clause-place g c =
     let at = listed client_part items i it.it it.at in
     let same : c.index.result.now ≡ it.it = read_at items i it.it c.index.result.now it.at c.index.ensures in
     let client = client_part it.it in
-    let own = c.self.invariant.client_ports.own i client.connected (listed (λ (c : ClientPart _). c.connected) p.clients i client at) in
+    let own = c.self.invariant.sound.client_ports.own i client.connected (listed (λ (c : ClientPart _). c.connected) p.clients i client at) in
     let lanes = c.self.inside.client_lanes.items in
     let lane : c.index.result.now.port.lane ≡ client.lane = ap (λ (x : ClientPort _). x.port.lane) same in
     let there : client.lane < length lanes = lanes_many lanes client.lane own.0 in
     let old : lane_of client.lane p.client_lanes ≡ lane_part c.index_mut.result.now =
     lane_is lanes client.lane c.index_mut.result.now there (c.index_mut.ensures.value ∙ ap (λ l. get_or lanes l c.index_mut.result.now) lane) in
-    let rows = c.self.invariant.seated.client_rows client.lane own.0 in
+    let rows = c.self.invariant.sound.seated.client_rows client.lane own.0 in
     let row_is : c.index-in-Ok.result.now.row ≡ (lane_of client.lane p.client_lanes).row = row g c ∙ sym (ap (λ (l : Lane _ _ _). l.row) old) in
     let slots : length (lane_of client.lane p.client_lanes).messages.held ≡ length c.index_mut.result.now.messages.held = ap (λ (l : Lane _ _ _). length l.messages.held) old in
     let within : c.in-Ok.slot < length c.index_mut.result.now.messages.held = slice_get_within _ c.in-Ok.slot 0 c.in-Ok.ensures.free in
@@ -155,7 +159,7 @@ insert-requires-clause-vacant g c k s e is =
     let at = listed client_part items i it.it it.at in
     let same : c.index.result.now ≡ it.it = read_at items i it.it c.index.result.now it.at c.index.ensures in
     let client = client_part it.it in
-    let own = c.self.invariant.client_ports.own i client.connected (listed (λ (c : ClientPart _). c.connected) p.clients i client at) in
+    let own = c.self.invariant.sound.client_ports.own i client.connected (listed (λ (c : ClientPart _). c.connected) p.clients i client at) in
     let lanes = c.self.inside.client_lanes.items in
     let lane : c.index.result.now.port.lane ≡ client.lane = ap (λ (x : ClientPort _). x.port.lane) same in
     let there : client.lane < length lanes = lanes_many lanes client.lane own.0 in
@@ -165,11 +169,11 @@ insert-requires-clause-vacant g c k s e is =
     let slots : length (lane_of client.lane p.client_lanes).messages.held ≡ length c.index_mut.result.now.messages.held = ap (λ (l : Lane _ _ _). length l.messages.held) old in
     let none : slice_index (lane_of client.lane p.client_lanes).messages.held c.in-Ok.slot ≡ 0 =
     ap (λ (l : Lane _ _ _). slice_index l.messages.held c.in-Ok.slot) old ∙ get_or_from_slice_get _ c.in-Ok.slot 0 0 c.in-Ok.ensures.free in
-    own_vacant p c.self.invariant client.lane c.in-Ok.slot own.0 (omega (arith, slots, slice_get_within _ c.in-Ok.slot 0 c.in-Ok.ensures.free)) none k s e
+    own_vacant p c.self.invariant.sound client.lane c.in-Ok.slot own.0 (omega (arith, slots, slice_get_within _ c.in-Ok.slot 0 c.in-Ok.ensures.free)) none k s e
     (is ∙ ap (λ r. record { row = r; index = c.in-Ok.slot }) row_is)
 
 pub insert-requires-clause-fresh : goal.insert-requires-clause-fresh
-insert-requires-clause-fresh g c = c.self.invariant.numbered.fresh c.self.inside.next (omega arith)
+insert-requires-clause-fresh g c = c.self.invariant.sound.numbered.fresh c.self.inside.next (omega arith)
 
 pub index_mut-port-requires : goal.index_mut-port-requires
 index_mut-port-requires g c =
@@ -187,7 +191,7 @@ overflow_add-port g c =
     let same : c.index.result.now ≡ it.it = read_at items i it.it c.index.result.now it.at c.index.ensures in
     let client = client_part it.it in
     let again : c.index_mut-port.result.now ≡ it.it = read_at items i it.it c.index_mut-port.result.now it.at c.index_mut-port.ensures.value in
-    omega (arith, loans_fit p.limits c.self.invariant.sized.limits_fit c.index_mut-port.result.now.port.loans (omega (arith, c.if-self-port.false, ap (λ (x : ClientPort _). x.port.loans) same, ap (λ (x : ClientPort _). x.port.loans) again)))
+    omega (arith, loans_fit p.limits c.self.invariant.sound.sized.limits_fit c.index_mut-port.result.now.port.loans (omega (arith, c.if-self-port.false, ap (λ (x : ClientPort _). x.port.loans) same, ap (λ (x : ClientPort _). x.port.loans) again)))
 
 pub overflow_add-port-in-Ok : goal.overflow_add-port-in-Ok
 overflow_add-port-in-Ok g c =
@@ -199,7 +203,7 @@ overflow_add-port-in-Ok g c =
     let same : c.index.result.now ≡ it.it = read_at items i it.it c.index.result.now it.at c.index.ensures in
     let client = client_part it.it in
     let again : c.index_mut-port.result.now ≡ it.it = read_at items i it.it c.index_mut-port.result.now it.at c.index_mut-port.ensures.value in
-    omega (arith, c.self.invariant.sized.loans_made i client at, c.self.invariant.sized.next_fits, ap (λ (x : ClientPort _). x.loans_made) again)
+    omega (arith, c.self.invariant.sound.sized.loans_made i client at, c.self.invariant.sound.sized.next_fits, ap (λ (x : ClientPort _). x.loans_made) again)
 
 -- the parts after it
 parts : (g : _) (c : goal.After-new g)
@@ -221,7 +225,7 @@ parts g c =
     let at = listed client_part items i it.it it.at in
     let same : c.index.result.now ≡ it.it = read_at items i it.it c.index.result.now it.at c.index.ensures in
     let client = client_part it.it in
-    let own = c.self.invariant.client_ports.own i client.connected (listed (λ (c : ClientPart _). c.connected) p.clients i client at) in
+    let own = c.self.invariant.sound.client_ports.own i client.connected (listed (λ (c : ClientPart _). c.connected) p.clients i client at) in
     let lanes = c.self.inside.client_lanes.items in
     let lane : c.index.result.now.port.lane ≡ client.lane = ap (λ (x : ClientPort _). x.port.lane) same in
     let there : client.lane < length lanes = lanes_many lanes client.lane own.0 in
@@ -244,14 +248,14 @@ parts g c =
     let long : is_too_long client.port c.args.len ≡ false = ap (λ (x : ClientPort _). is_too_long (client_part x).port c.args.len) (sym same) ∙ sym c.is_too_long.ensures ∙ c.if-is_too_long.false in
     let used : used_count (lane_of client.lane p.client_lanes).messages < client.port.pool_size = not_full own.2 (used_le (lane_of client.lane p.client_lanes).messages _)
     (λ full. no_error (c.in-Ok.ensures.full.1 (sym (ap (λ (l : Lane _ _ _). used_count l.messages) old) ∙ full ∙ ap (λ (l : Lane _ _ _). length l.messages.held) old))) in
-    let due = none_due p c.self.invariant i client at c.args.len long (omega (arith, c.if-self-port.false, ap (λ (x : ClientPort _). x.port.loans) same)) used in (
+    let due = none_due p c.self.invariant.sound i client at c.args.len long (omega (arith, c.if-self-port.false, ap (λ (x : ClientPort _). x.port.loans) same)) used in (
       i,
       client,
       at,
       free,
       unused,
       client_seen c.args.client items i it,
-      refusal_stored p c.self.invariant i client at c.args.len ∙ due,
+      refusal_stored p c.self.invariant.sound i client at c.args.len ∙ due,
       same_vectors p (with_request_loan p i client c.in-Ok.slot c.args.len c.default.result) _ _ p.waiting c.insert.new.self (p.next + 1)
           (map-set_one client_part items i _ ∙ ap (λ (x : ClientPort _). slice_set p.clients i (client_part (record { port = record x.port { loans = x.port.loans + 1 }; loans_made = x.loans_made + 1; pendings = x.pendings }))) again)
           (map-set_one lane_part lanes c.index.result.now.port.lane _
@@ -269,11 +273,6 @@ parts g c =
 left : (g : _) (c : goal.After-new g) → c.self.inside.next < 2 ^ 62
 left g c = let some = subst (λ s. 0 < numbers_left s) (sym c.self.view_is) c.requires.number in omega (arith, some)
 
-pub invariant_of-self : goal.invariant_of-self
-invariant_of-self g c =
-    let r = parts g c in
-    subst (λ p. IsSound p empty_hand) (sym r.7) (loan_sound (parts_of c.self.inside) c.self.invariant r.0 r.1 r.2 c.in-Ok.slot c.args.len c.default.result r.3 r.4 (left g c))
-
 -- nothing changed
 unchanged : (g : _) (c : goal.In-Err g)
     → with_vectors (parts_of c.self.inside) (parts_of c.self.inside).clients
@@ -289,16 +288,13 @@ unchanged g c =
     ∙ set-get_or lanes c.index.result.now.port.lane c.index_mut.result.now))
     refl refl refl refl
 
-pub invariant_of-self-in-Err : goal.invariant_of-self-in-Err
-invariant_of-self-in-Err g c = subst (λ p. IsSound p empty_hand) (sym (unchanged g c)) c.self.invariant
-
-pub returns-in-Ok : goal.returns-in-Ok
-returns-in-Ok g c =
+pub returns-in-Ok-clause-loans : goal.returns-in-Ok-clause-loans
+returns-in-Ok-clause-loans g c =
     let r = parts g c in
-    lends (parts_of c.self.inside) c.self.invariant r.0 r.1 r.2 _ c.args.client c.args.len c.in-Ok.slot _ c.default.result r.5 r.6 c.default.ensures r.3 r.4 c.args.self.now _ c.self.view_is c.new.ensures (ap state_of r.7)
+    lends (parts_of c.self.inside) c.self.invariant.sound r.0 r.1 r.2 _ c.args.client c.args.len c.in-Ok.slot _ c.default.result r.5 r.6 c.default.ensures r.3 r.4 c.args.self.now _ c.self.view_is c.new.ensures (ap state_of r.7)
 
-pub returns-in-Err : goal.returns-in-Err
-returns-in-Err g c =
+pub returns-in-Err-clause-loans : goal.returns-in-Err-clause-loans
+returns-in-Err-clause-loans g c =
     let p = parts_of c.self.inside in
     let items = c.self.inside.clients.items in
     let i = c.in-Some.index in
@@ -306,7 +302,7 @@ returns-in-Err g c =
     let at = listed client_part items i it.it it.at in
     let same : c.index.result.now ≡ it.it = read_at items i it.it c.index.result.now it.at c.index.ensures in
     let client = client_part it.it in
-    let own = c.self.invariant.client_ports.own i client.connected (listed (λ (c : ClientPart _). c.connected) p.clients i client at) in
+    let own = c.self.invariant.sound.client_ports.own i client.connected (listed (λ (c : ClientPart _). c.connected) p.clients i client at) in
     let lanes = c.self.inside.client_lanes.items in
     let lane : c.index.result.now.port.lane ≡ client.lane = ap (λ (x : ClientPort _). x.port.lane) same in
     let there : client.lane < length lanes = lanes_many lanes client.lane own.0 in
@@ -314,8 +310,32 @@ returns-in-Err g c =
     lane_is lanes client.lane c.index_mut.result.now there (c.index_mut.ensures.value ∙ ap (λ l. get_or lanes l c.index_mut.result.now) lane) in
     let long : is_too_long client.port c.args.len ≡ false = ap (λ (x : ClientPort _). is_too_long (client_part x).port c.args.len) (sym same) ∙ sym c.is_too_long.ensures ∙ c.if-is_too_long.false in
     let few : client.loans < p.limits.max_loaned_requests = omega (arith, c.if-self-port.false, ap (λ (x : ClientPort _). x.port.loans) same) in
-    refuses p c.self.invariant i client at c.args.client c.args.len LoanError.OutOfMemory (client_seen c.args.client items i it)
-    (pool_refusal p c.self.invariant i client at c.args.len c.in-Err.field-0 long few
+    refuses p c.self.invariant.sound i client at c.args.client c.args.len LoanError.OutOfMemory (client_seen c.args.client items i it)
+    (pool_refusal p c.self.invariant.sound i client at c.args.len c.in-Err.field-0 long few
     (let R : Lane _ _ _ → Type 0 = λ l. IsErrOf {T = ℕ} (Err c.in-Err.field-0) AcquireError.Full ↔ (used_count l.messages ≡ length l.messages.held) in subst R (sym old) c.in-Err.ensures.full)
     (let R : Lane _ _ _ → Type 0 = λ l. IsErrOf {T = ℕ} (Err c.in-Err.field-0) AcquireError.NoRoom → l.messages.room < c.args.len in subst R (sym old) c.in-Err.ensures.no_room))
     c.args.self.now _ c.self.view_is (ap state_of (unchanged g c) ∙ c.self.view_is)
+
+pub invariant_of-self : goal.invariant_of-self
+invariant_of-self g c =
+    let r = parts g c in
+    record {
+      sound = subst (λ p. IsSound p empty_hand) (sym r.7) (loan_sound (parts_of c.self.inside) c.self.invariant.sound r.0 r.1 r.2 c.in-Ok.slot c.args.len c.default.result r.3 r.4 (left g c));
+      reached = loans_request_reached c.args.self.now (subst (λ s. IsReached s) c.self.view_is c.self.invariant.reached) g.QH.Default.is_default c.args.client c.args.len (Ok c.new.result) _ (returns-in-Ok-clause-loans g c);
+    }
+
+pub invariant_of-self-in-Err : goal.invariant_of-self-in-Err
+invariant_of-self-in-Err g c = subst (λ p. IsCore p) (sym (unchanged g c)) c.self.invariant
+
+pub returns-then-is_too_long-clause-unreduced : goal.returns-then-is_too_long-clause-unreduced
+returns-then-is_too_long-clause-unreduced g c pool same = cc
+
+pub returns-then-self-port-clause-unreduced : goal.returns-then-self-port-clause-unreduced
+returns-then-self-port-clause-unreduced g c pool same = cc
+
+pub returns-in-Ok-clause-unreduced : goal.returns-in-Ok-clause-unreduced
+returns-in-Ok-clause-unreduced g c pool same = cc
+
+pub returns-in-Err-clause-unreduced : goal.returns-in-Err-clause-unreduced
+returns-in-Err-clause-unreduced g c pool same =
+    request_finds_memory c.args.self.now (subst (λ s. IsReached s) c.self.view_is c.self.invariant.reached) g.QH.Default.is_default c.args.client c.args.len _ pool (returns-in-Err-clause-loans g c)

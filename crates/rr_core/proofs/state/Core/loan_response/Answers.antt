@@ -1,4 +1,4 @@
-use Rattle.std.proofs.Common.{◌≡◌, ◌<◌, ◌+◌, ◌^◌, ℕ, true, false, None, Some, Err, length, get_or, map, nat_le, refl, sym, ap, ◌∙◌, subst, ⊎_elim, arith}
+use Rattle.std.proofs.Common.{◌≡◌, ◌<◌, ◌+◌, ◌^◌, ℕ, true, false, None, Some, Err, length, get_or, map, nat_le, refl, sym, ap, ◌∙◌, subst, ⊎_elim, arith, Ok}
 use Rattle.std.specs.Prelude.{◌||◌, ◌↔◌, IfSome, IsErrOf, slice_get, slice_index, slice_index_or, slice_set}
 use Rattle.std.specs.FinMap as fin_map
 use Rattle.std.proofs.lemmas.List.{get_or-set_same, set-get_or}
@@ -30,11 +30,15 @@ use Rattle.rr_core_laws.proofs.Asking.{read_at, due_refusal, lane_is, lanes_many
 use Rattle.rr_core_laws.proofs.Entries.{used_le}
 use Rattle.rr_core_laws.proofs.Places.{map-set_one}
 use Rattle.rr_core_laws.proofs.Vacant.{response_vacant}
+use Rattle.rr_laws.specs.Reached.{IsReached}
+use Rattle.rr_laws.proofs.Loaning.{loans_response_reached}
+use Rattle.rr_laws.proofs.Memory.{response_finds_memory}
+use Rattle.rr_core.specs.Reaching.{IsCore}
 use Rattle.rr_core.proofs.state.Core.loan_response.Goals as goal
 
 pub asked_from-asked-requires : goal.asked_from-asked-requires
 asked_from-asked-requires g c =
-    active_of_one (parts_of c.self.inside) c.self.invariant c.args.self.now c.active.inside.number c.args.active.now c.self.view_is c.active.view_is c.requires.kind c.self.inside.servers.items refl
+    active_of_one (parts_of c.self.inside) c.self.invariant.sound c.args.self.now c.active.inside.number c.args.active.now c.self.view_is c.active.view_is c.requires.kind c.self.inside.servers.items refl
 
 pub index-port-requires : goal.index-port-requires
 index-port-requires g c =
@@ -42,36 +46,36 @@ index-port-requires g c =
     let items = c.self.inside.servers.items in
     let n = c.active.inside.number in
     let a = c.asked_from-asked.result in
-    let f = found p c.self.invariant items refl n a.server a.index a.lane a.slot a.loans c.asked_from-asked.ensures.held c.asked_from-asked.ensures.server in
+    let f = found p c.self.invariant.sound items refl n a.server a.index a.lane a.slot a.loans c.asked_from-asked.ensures.held c.asked_from-asked.ensures.server in
     omega (arith, slice_get_within items a.index f.it f.there, c.self.inside.servers.ok.0)
 
-pub returns-then-is_too_long : goal.returns-then-is_too_long
-returns-then-is_too_long g c =
+pub returns-then-is_too_long-clause-loans : goal.returns-then-is_too_long-clause-loans
+returns-then-is_too_long-clause-loans g c =
     let p = parts_of c.self.inside in
     let items = c.self.inside.servers.items in
     let n = c.active.inside.number in
     let a = c.asked_from-asked.result in
-    let f = found p c.self.invariant items refl n a.server a.index a.lane a.slot a.loans c.asked_from-asked.ensures.held c.asked_from-asked.ensures.server in
+    let f = found p c.self.invariant.sound items refl n a.server a.index a.lane a.slot a.loans c.asked_from-asked.ensures.held c.asked_from-asked.ensures.server in
     let same : c.index-port.result.now ≡ f.it = read_at items a.index f.it c.index-port.result.now f.there c.index-port.ensures in
     let server = server_part f.it in
     let long : is_too_long server.port c.args.len ≡ true = ap (λ (x : ServerPort _). is_too_long (server_part x).port c.args.len) (sym same) ∙ sym c.is_too_long.ensures ∙ c.if-is_too_long.true in
-    refuses p c.self.invariant a.index server f.at n a.lane a.slot a.loans f.seat f.here f.is c.args.len LoanError.ExceedsMaxLoanSize
-    (due_refusal _ server.port c.args.len LoanError.ExceedsMaxLoanSize (first_due p c.self.invariant a.index server f.at n a.lane a.slot a.loans f.seat f.here f.is c.args.len long))
+    refuses p c.self.invariant.sound a.index server f.at n a.lane a.slot a.loans f.seat f.here f.is c.args.len LoanError.ExceedsMaxLoanSize
+    (due_refusal _ server.port c.args.len LoanError.ExceedsMaxLoanSize (first_due p c.self.invariant.sound a.index server f.at n a.lane a.slot a.loans f.seat f.here f.is c.args.len long))
     c.args.self.now c.args.self.now c.args.active.now c.self.view_is c.active.view_is refl
 
-pub returns-then-is_at_loan_limit : goal.returns-then-is_at_loan_limit
-returns-then-is_at_loan_limit g c =
+pub returns-then-is_at_loan_limit-clause-loans : goal.returns-then-is_at_loan_limit-clause-loans
+returns-then-is_at_loan_limit-clause-loans g c =
     let p = parts_of c.self.inside in
     let items = c.self.inside.servers.items in
     let n = c.active.inside.number in
     let a = c.asked_from-asked.result in
-    let f = found p c.self.invariant items refl n a.server a.index a.lane a.slot a.loans c.asked_from-asked.ensures.held c.asked_from-asked.ensures.server in
+    let f = found p c.self.invariant.sound items refl n a.server a.index a.lane a.slot a.loans c.asked_from-asked.ensures.held c.asked_from-asked.ensures.server in
     let same : c.index-port.result.now ≡ f.it = read_at items a.index f.it c.index-port.result.now f.there c.index-port.ensures in
     let server = server_part f.it in
     let long : is_too_long server.port c.args.len ≡ false = ap (λ (x : ServerPort _). is_too_long (server_part x).port c.args.len) (sym same) ∙ sym c.is_too_long.ensures ∙ c.if-is_too_long.false in
     let reached = ap (λ (x : ServerPort _). nat_le x.max_loaned_responses_per_request a.loans || nat_le (max_loaned_responses p.limits x.max_loaned_responses_per_request) x.port.loans) (sym same) ∙ sym c.is_at_loan_limit.ensures ∙ c.if-is_at_loan_limit.true in
-    refuses p c.self.invariant a.index server f.at n a.lane a.slot a.loans f.seat f.here f.is c.args.len LoanError.ExceedsMaxLoans
-    (due_refusal _ server.port c.args.len LoanError.ExceedsMaxLoans (second_due p c.self.invariant a.index server f.at n a.lane a.slot a.loans f.seat f.here f.is c.args.len long reached))
+    refuses p c.self.invariant.sound a.index server f.at n a.lane a.slot a.loans f.seat f.here f.is c.args.len LoanError.ExceedsMaxLoans
+    (due_refusal _ server.port c.args.len LoanError.ExceedsMaxLoans (second_due p c.self.invariant.sound a.index server f.at n a.lane a.slot a.loans f.seat f.here f.is c.args.len long reached))
     c.args.self.now c.args.self.now c.args.active.now c.self.view_is c.active.view_is refl
 
 pub index-requires : goal.index-requires
@@ -80,7 +84,7 @@ index-requires g c =
     let items = c.self.inside.servers.items in
     let n = c.active.inside.number in
     let a = c.asked_from-asked.result in
-    let f = found p c.self.invariant items refl n a.server a.index a.lane a.slot a.loans c.asked_from-asked.ensures.held c.asked_from-asked.ensures.server in
+    let f = found p c.self.invariant.sound items refl n a.server a.index a.lane a.slot a.loans c.asked_from-asked.ensures.held c.asked_from-asked.ensures.server in
     omega (arith, lanes_many c.self.inside.client_lanes.items a.lane f.asked.0, c.self.inside.client_lanes.ok.0)
 
 pub note-request-requires : goal.note-request-requires
@@ -89,7 +93,7 @@ note-request-requires g c =
     let items = c.self.inside.servers.items in
     let n = c.active.inside.number in
     let a = c.asked_from-asked.result in
-    let f = found p c.self.invariant items refl n a.server a.index a.lane a.slot a.loans c.asked_from-asked.ensures.held c.asked_from-asked.ensures.server in
+    let f = found p c.self.invariant.sound items refl n a.server a.index a.lane a.slot a.loans c.asked_from-asked.ensures.held c.asked_from-asked.ensures.server in
     let lanes = c.self.inside.client_lanes.items in
     let old : lane_of a.lane p.client_lanes ≡ lane_part c.index.result.now = lane_is lanes a.lane c.index.result.now (lanes_many lanes a.lane f.asked.0) c.index.ensures in
     omega (arith, f.asked.1, ap (λ (l : Lane _ _ _). length l.messages.held) old)
@@ -100,7 +104,7 @@ index_mut-requires g c =
     let items = c.self.inside.servers.items in
     let n = c.active.inside.number in
     let a = c.asked_from-asked.result in
-    let f = found p c.self.invariant items refl n a.server a.index a.lane a.slot a.loans c.asked_from-asked.ensures.held c.asked_from-asked.ensures.server in
+    let f = found p c.self.invariant.sound items refl n a.server a.index a.lane a.slot a.loans c.asked_from-asked.ensures.held c.asked_from-asked.ensures.server in
     let same : c.index-port.result.now ≡ f.it = read_at items a.index f.it c.index-port.result.now f.there c.index-port.ensures in
     let server = server_part f.it in
     let lanes = c.self.inside.server_lanes.items in
@@ -114,7 +118,7 @@ index-requires-in-Ok g c =
     let items = c.self.inside.servers.items in
     let n = c.active.inside.number in
     let a = c.asked_from-asked.result in
-    let f = found p c.self.invariant items refl n a.server a.index a.lane a.slot a.loans c.asked_from-asked.ensures.held c.asked_from-asked.ensures.server in
+    let f = found p c.self.invariant.sound items refl n a.server a.index a.lane a.slot a.loans c.asked_from-asked.ensures.held c.asked_from-asked.ensures.server in
     let same : c.index-port.result.now ≡ f.it = read_at items a.index f.it c.index-port.result.now f.there c.index-port.ensures in
     let server = server_part f.it in
     let lanes = c.self.inside.server_lanes.items in
@@ -128,8 +132,8 @@ with_one_loan-requires g c =
     let items = c.self.inside.servers.items in
     let n = c.active.inside.number in
     let a = c.asked_from-asked.result in
-    let f = found p c.self.invariant items refl n a.server a.index a.lane a.slot a.loans c.asked_from-asked.ensures.held c.asked_from-asked.ensures.server in
-    loans_from_fit p c.self.invariant n f.it.port.id a.loans f.seat f.here (ap (λ (h : Held). h.stage) f.is)
+    let f = found p c.self.invariant.sound items refl n a.server a.index a.lane a.slot a.loans c.asked_from-asked.ensures.held c.asked_from-asked.ensures.server in
+    loans_from_fit p c.self.invariant.sound n f.it.port.id a.loans f.seat f.here (ap (λ (h : Held). h.stage) f.is)
 
 pub insert-requires-clause-place : goal.insert-requires-clause-place
 insert-requires-clause-place g c =
@@ -137,7 +141,7 @@ insert-requires-clause-place g c =
     let items = c.self.inside.servers.items in
     let n = c.active.inside.number in
     let a = c.asked_from-asked.result in
-    let f = found p c.self.invariant items refl n a.server a.index a.lane a.slot a.loans c.asked_from-asked.ensures.held c.asked_from-asked.ensures.server in
+    let f = found p c.self.invariant.sound items refl n a.server a.index a.lane a.slot a.loans c.asked_from-asked.ensures.held c.asked_from-asked.ensures.server in
     let same : c.index-port.result.now ≡ f.it = read_at items a.index f.it c.index-port.result.now f.there c.index-port.ensures in
     let server = server_part f.it in
     let lanes = c.self.inside.server_lanes.items in
@@ -149,7 +153,7 @@ insert-requires-clause-place g c =
     ap (λ (x : OwnedLane _ _ _ _). x.row) (c.index-in-Ok.ensures ∙ get_or-set_same lanes c.index-port.result.now.port.lane _ _ (omega (arith, there, lane))) ∙ sym (ap (λ (l : Lane _ _ _). l.row) old) in
     let told : c.set.new.self ≡ seated p.table n f.seat.place c.with_one_loan.result = subst (λ o. IfSome o (λ s. c.set.new.self ≡ seated p.table n s.place c.with_one_loan.result)) f.here c.set.ensures in
     let rows : c.set.new.self.rows ≡ p.table.rows = ap (λ (t : Seats Held). t.rows) told in
-    let its = c.self.invariant.seated.server_rows f.it.port.lane f.own.0 in
+    let its = c.self.invariant.sound.seated.server_rows f.it.port.lane f.own.0 in
     let slots : length (lane_of f.it.port.lane p.server_lanes).messages.held ≡ length c.index_mut.result.now.messages.held = ap (λ (l : Lane _ _ _). length l.messages.held) old in (
       omega (arith, its.0, row_is, ap length rows),
       omega (
@@ -168,7 +172,7 @@ insert-requires-clause-vacant g c k s e is =
     let items = c.self.inside.servers.items in
     let n = c.active.inside.number in
     let a = c.asked_from-asked.result in
-    let f = found p c.self.invariant items refl n a.server a.index a.lane a.slot a.loans c.asked_from-asked.ensures.held c.asked_from-asked.ensures.server in
+    let f = found p c.self.invariant.sound items refl n a.server a.index a.lane a.slot a.loans c.asked_from-asked.ensures.held c.asked_from-asked.ensures.server in
     let same : c.index-port.result.now ≡ f.it = read_at items a.index f.it c.index-port.result.now f.there c.index-port.ensures in
     let server = server_part f.it in
     let lanes = c.self.inside.server_lanes.items in
@@ -183,8 +187,8 @@ insert-requires-clause-vacant g c k s e is =
     ap (λ (l : Lane _ _ _). slice_index l.messages.held c.in-Ok.slot) old ∙ get_or_from_slice_get _ c.in-Ok.slot 0 0 c.in-Ok.ensures.free in
     let place : s.place ≡ answer_place p server c.in-Ok.slot = is ∙ ap (λ r. record { row = r; index = c.in-Ok.slot }) row_is in
     ⊎_elim
-    (λ now. response_vacant p c.self.invariant f.it.port.lane c.in-Ok.slot f.own.0 none n f.seat f.here (ap (λ (t : Seat Held). t.place) now.1 ∙ place))
-    (λ before. response_vacant p c.self.invariant f.it.port.lane c.in-Ok.slot f.own.0 none k s before.1 place)
+    (λ now. response_vacant p c.self.invariant.sound f.it.port.lane c.in-Ok.slot f.own.0 none n f.seat f.here (ap (λ (t : Seat Held). t.place) now.1 ∙ place))
+    (λ before. response_vacant p c.self.invariant.sound f.it.port.lane c.in-Ok.slot f.own.0 none k s before.1 place)
     (get-insert_cases p.table.seats n (seat f.seat.place c.with_one_loan.result) k s (sym (ap (λ (t : Seats Held). fin_map.get t.seats k) told) ∙ e))
 
 pub insert-requires-clause-fresh : goal.insert-requires-clause-fresh
@@ -193,11 +197,11 @@ insert-requires-clause-fresh g c =
     let items = c.self.inside.servers.items in
     let n = c.active.inside.number in
     let a = c.asked_from-asked.result in
-    let f = found p c.self.invariant items refl n a.server a.index a.lane a.slot a.loans c.asked_from-asked.ensures.held c.asked_from-asked.ensures.server in
+    let f = found p c.self.invariant.sound items refl n a.server a.index a.lane a.slot a.loans c.asked_from-asked.ensures.held c.asked_from-asked.ensures.server in
     let told : c.set.new.self ≡ seated p.table n f.seat.place c.with_one_loan.result = subst (λ o. IfSome o (λ s. c.set.new.self ≡ seated p.table n s.place c.with_one_loan.result)) f.here c.set.ensures in
     ap (λ (t : Seats Held). fin_map.get t.seats p.next) told
     ∙ get-insert_other p.table.seats n (seat f.seat.place c.with_one_loan.result) p.next (λ e. omega (arith, e, f.given))
-    ∙ c.self.invariant.numbered.fresh p.next (omega arith)
+    ∙ c.self.invariant.sound.numbered.fresh p.next (omega arith)
 
 pub index_mut-requires-in-Ok : goal.index_mut-requires-in-Ok
 index_mut-requires-in-Ok g c =
@@ -205,7 +209,7 @@ index_mut-requires-in-Ok g c =
     let items = c.self.inside.servers.items in
     let n = c.active.inside.number in
     let a = c.asked_from-asked.result in
-    let f = found p c.self.invariant items refl n a.server a.index a.lane a.slot a.loans c.asked_from-asked.ensures.held c.asked_from-asked.ensures.server in
+    let f = found p c.self.invariant.sound items refl n a.server a.index a.lane a.slot a.loans c.asked_from-asked.ensures.held c.asked_from-asked.ensures.server in
     omega (arith, slice_get_within items a.index f.it f.there, c.self.inside.servers.ok.0)
 
 pub overflow_add-index_mut : goal.overflow_add-index_mut
@@ -214,9 +218,9 @@ overflow_add-index_mut g c =
     let items = c.self.inside.servers.items in
     let n = c.active.inside.number in
     let a = c.asked_from-asked.result in
-    let f = found p c.self.invariant items refl n a.server a.index a.lane a.slot a.loans c.asked_from-asked.ensures.held c.asked_from-asked.ensures.server in
+    let f = found p c.self.invariant.sound items refl n a.server a.index a.lane a.slot a.loans c.asked_from-asked.ensures.held c.asked_from-asked.ensures.server in
     let again : c.index_mut-in-Ok.result.now ≡ f.it = read_at items a.index f.it c.index_mut-in-Ok.result.now f.there c.index_mut-in-Ok.ensures.value in
-    omega (arith, answers_fit p c.self.invariant a.index (server_part f.it) f.at, ap (λ (x : ServerPort _). x.port.loans) again)
+    omega (arith, answers_fit p c.self.invariant.sound a.index (server_part f.it) f.at, ap (λ (x : ServerPort _). x.port.loans) again)
 
 -- the parts after it
 parts : (g : _) (c : goal.After-new g)
@@ -224,7 +228,7 @@ parts : (g : _) (c : goal.After-new g)
     (f : Found p c.self.inside.servers.items n a.server a.index a.lane a.slot a.loans)
     × (slice_get (lane_of f.it.port.lane p.server_lanes).messages.held c.in-Ok.slot ≡ Some 0)
     × (times c.in-Ok.slot (all_entries (lane_of f.it.port.lane p.server_lanes).messages.queues) ≡ 0)
-    × (stored_refusal p c.self.invariant a.index (server_part f.it) f.at n a.lane a.slot a.loans f.seat f.here f.is c.args.len ≡ None)
+    × (stored_refusal p c.self.invariant.sound a.index (server_part f.it) f.at n a.lane a.slot a.loans f.seat f.here f.is c.args.len ≡ None)
     × (with_servers p
     (map server_part (slice_set c.self.inside.servers.items a.index (record { port = record c.index_mut-in-Ok.result.now.port { loans = c.index_mut-in-Ok.result.now.port.loans + 1 }; max_loaned_responses_per_request = c.index_mut-in-Ok.result.now.max_loaned_responses_per_request })))
     (map lane_part (slice_set c.self.inside.server_lanes.items c.index-port.result.now.port.lane (record { owner = c.index_mut.result.now.owner; row = c.index_mut.result.now.row; messages = c.loan.new.self })))
@@ -235,7 +239,7 @@ parts g c =
     let items = c.self.inside.servers.items in
     let n = c.active.inside.number in
     let a = c.asked_from-asked.result in
-    let f = found p c.self.invariant items refl n a.server a.index a.lane a.slot a.loans c.asked_from-asked.ensures.held c.asked_from-asked.ensures.server in
+    let f = found p c.self.invariant.sound items refl n a.server a.index a.lane a.slot a.loans c.asked_from-asked.ensures.held c.asked_from-asked.ensures.server in
     let same : c.index-port.result.now ≡ f.it = read_at items a.index f.it c.index-port.result.now f.there c.index-port.ensures in
     let server = server_part f.it in
     let lanes = c.self.inside.server_lanes.items in
@@ -268,7 +272,7 @@ parts g c =
       f,
       free,
       unused,
-      none_due p c.self.invariant a.index server f.at n a.lane a.slot a.loans f.seat f.here f.is c.args.len long reached used,
+      none_due p c.self.invariant.sound a.index server f.at n a.lane a.slot a.loans f.seat f.here f.is c.args.len long reached used,
       same_servers p (with_response_loan p a.index server n f.seat.place (active_held f.it.port.id a.lane a.slot (a.loans + 1)) (answer_note p server n a.lane a.slot) slot c.args.len c.default.result) _ _ c.insert.new.self (p.next + 1)
           (map-set_one server_part items a.index _ ∙ ap (λ (x : ServerPort _). slice_set p.servers a.index (server_part (record { port = record x.port { loans = x.port.loans + 1 }; max_loaned_responses_per_request = x.max_loaned_responses_per_request }))) again)
           (map-set_one lane_part lanes c.index-port.result.now.port.lane _
@@ -286,15 +290,6 @@ parts g c =
 left : (g : _) (c : goal.After-new g) → c.self.inside.next < 2 ^ 62
 left g c = let some = subst (λ s. 0 < numbers_left s) (sym c.self.view_is) c.requires.number in omega (arith, some)
 
-pub invariant_of-self : goal.invariant_of-self
-invariant_of-self g c =
-    let p = parts_of c.self.inside in
-    let a = c.asked_from-asked.result in
-    let r = parts g c in
-    let f = r.0 in
-    subst (λ p. IsSound p empty_hand) (sym r.4)
-    (answer_sound p c.self.invariant a.index (server_part f.it) f.at c.active.inside.number a.lane a.slot a.loans f.seat f.here f.is f.given c.in-Ok.slot c.args.len c.default.result r.1 r.2 (left g c))
-
 -- nothing changed
 unchanged : (g : _) (c : goal.In-Err g)
     → with_servers (parts_of c.self.inside) (parts_of c.self.inside).servers
@@ -310,25 +305,22 @@ unchanged g c =
     ∙ set-get_or lanes c.index-port.result.now.port.lane c.index_mut.result.now))
     refl refl refl
 
-pub invariant_of-self-in-Err : goal.invariant_of-self-in-Err
-invariant_of-self-in-Err g c = subst (λ p. IsSound p empty_hand) (sym (unchanged g c)) c.self.invariant
-
-pub returns-in-Ok : goal.returns-in-Ok
-returns-in-Ok g c =
+pub returns-in-Ok-clause-loans : goal.returns-in-Ok-clause-loans
+returns-in-Ok-clause-loans g c =
     let p = parts_of c.self.inside in
     let a = c.asked_from-asked.result in
     let r = parts g c in
     let f = r.0 in
-    lends p c.self.invariant a.index (server_part f.it) f.at c.active.inside.number a.lane a.slot a.loans f.seat f.here f.is _ c.args.len c.in-Ok.slot _ c.default.result r.3 c.default.ensures r.1 r.2
+    lends p c.self.invariant.sound a.index (server_part f.it) f.at c.active.inside.number a.lane a.slot a.loans f.seat f.here f.is _ c.args.len c.in-Ok.slot _ c.default.result r.3 c.default.ensures r.1 r.2
     c.args.self.now _ c.args.active.now c.self.view_is c.active.view_is c.new.ensures (ap state_of r.4)
 
-pub returns-in-Err : goal.returns-in-Err
-returns-in-Err g c =
+pub returns-in-Err-clause-loans : goal.returns-in-Err-clause-loans
+returns-in-Err-clause-loans g c =
     let p = parts_of c.self.inside in
     let items = c.self.inside.servers.items in
     let n = c.active.inside.number in
     let a = c.asked_from-asked.result in
-    let f = found p c.self.invariant items refl n a.server a.index a.lane a.slot a.loans c.asked_from-asked.ensures.held c.asked_from-asked.ensures.server in
+    let f = found p c.self.invariant.sound items refl n a.server a.index a.lane a.slot a.loans c.asked_from-asked.ensures.held c.asked_from-asked.ensures.server in
     let same : c.index-port.result.now ≡ f.it = read_at items a.index f.it c.index-port.result.now f.there c.index-port.ensures in
     let server = server_part f.it in
     let lanes = c.self.inside.server_lanes.items in
@@ -338,8 +330,36 @@ returns-in-Err g c =
     lane_is lanes f.it.port.lane c.index_mut.result.now there (c.index_mut.ensures.value ∙ ap (λ l. get_or lanes l c.index_mut.result.now) lane) in
     let long : is_too_long server.port c.args.len ≡ false = ap (λ (x : ServerPort _). is_too_long (server_part x).port c.args.len) (sym same) ∙ sym c.is_too_long.ensures ∙ c.if-is_too_long.false in
     let reached = ap (λ (x : ServerPort _). nat_le x.max_loaned_responses_per_request a.loans || nat_le (max_loaned_responses p.limits x.max_loaned_responses_per_request) x.port.loans) (sym same) ∙ sym c.is_at_loan_limit.ensures ∙ c.if-is_at_loan_limit.false in
-    refuses p c.self.invariant a.index server f.at n a.lane a.slot a.loans f.seat f.here f.is c.args.len LoanError.OutOfMemory
-    (pool_refusal p c.self.invariant a.index server f.at n a.lane a.slot a.loans f.seat f.here f.is c.args.len c.in-Err.field-0 long reached
+    refuses p c.self.invariant.sound a.index server f.at n a.lane a.slot a.loans f.seat f.here f.is c.args.len LoanError.OutOfMemory
+    (pool_refusal p c.self.invariant.sound a.index server f.at n a.lane a.slot a.loans f.seat f.here f.is c.args.len c.in-Err.field-0 long reached
     (let R : Lane _ _ _ → Type 0 = λ l. IsErrOf {T = ℕ} (Err c.in-Err.field-0) AcquireError.Full ↔ (used_count l.messages ≡ length l.messages.held) in subst R (sym old) c.in-Err.ensures.full)
     (let R : Lane _ _ _ → Type 0 = λ l. IsErrOf {T = ℕ} (Err c.in-Err.field-0) AcquireError.NoRoom → l.messages.room < c.args.len in subst R (sym old) c.in-Err.ensures.no_room))
     c.args.self.now _ c.args.active.now c.self.view_is c.active.view_is (ap state_of (unchanged g c) ∙ c.self.view_is)
+
+pub invariant_of-self : goal.invariant_of-self
+invariant_of-self g c =
+    let p = parts_of c.self.inside in
+    let a = c.asked_from-asked.result in
+    let r = parts g c in
+    let f = r.0 in
+    record {
+      sound = subst (λ p. IsSound p empty_hand) (sym r.4)
+          (answer_sound p c.self.invariant.sound a.index (server_part f.it) f.at c.active.inside.number a.lane a.slot a.loans f.seat f.here f.is f.given c.in-Ok.slot c.args.len c.default.result r.1 r.2 (left g c));
+      reached = loans_response_reached c.args.self.now (subst (λ s. IsReached s) c.self.view_is c.self.invariant.reached) g.PH.Default.is_default c.args.active.now c.args.len (Ok c.new.result) _ (returns-in-Ok-clause-loans g c);
+    }
+
+pub invariant_of-self-in-Err : goal.invariant_of-self-in-Err
+invariant_of-self-in-Err g c = subst (λ p. IsCore p) (sym (unchanged g c)) c.self.invariant
+
+pub returns-then-is_too_long-clause-unreduced : goal.returns-then-is_too_long-clause-unreduced
+returns-then-is_too_long-clause-unreduced g c pool same = cc
+
+pub returns-then-is_at_loan_limit-clause-unreduced : goal.returns-then-is_at_loan_limit-clause-unreduced
+returns-then-is_at_loan_limit-clause-unreduced g c pool same = cc
+
+pub returns-in-Ok-clause-unreduced : goal.returns-in-Ok-clause-unreduced
+returns-in-Ok-clause-unreduced g c pool same = cc
+
+pub returns-in-Err-clause-unreduced : goal.returns-in-Err-clause-unreduced
+returns-in-Err-clause-unreduced g c pool same =
+    response_finds_memory c.args.self.now (subst (λ s. IsReached s) c.self.view_is c.self.invariant.reached) g.PH.Default.is_default c.args.active.now c.args.len _ pool (returns-in-Err-clause-loans g c)

@@ -29,6 +29,8 @@ use Rattle.rr_core_laws.proofs.Receivable.{IsAsking, asking, reaches, receives, 
 use Rattle.rr_core_laws.proofs.Seating.{entry_waits, not_held, no_handle, received_sound}
 use Rattle.rr_core_laws.proofs.Shown.{request_spot}
 use Rattle.rr_core_laws.proofs.Vacant.{response_vacant}
+use Rattle.rr_laws.specs.Reached.{IsReached}
+use Rattle.rr_laws.proofs.Receiving.{receives_response_reached}
 use Rattle.rr_core.proofs.state.Core.receive_response.Goals as goal
 
 pub unreachable-requires : goal.unreachable-requires
@@ -58,8 +60,8 @@ unreachable-requires-in-None-index_of_lane g c =
     let is_pending = of_kind p c.args.self.now c.id.inside.number c.args.id.now c.self.view_is c.id.view_is kind.PendingResponse (λ e. cc) (λ e. cc) c.requires held found in
     let items = c.self.inside.clients.items in
     let none = standing_nowhere (λ (x : ClientPort _). x.port.lane == held.lane) items (ap (position _) (sym c.as_slice.ensures.value) ∙ sym c.index_of_lane.ensures ∙ c.in-None-index_of_lane.is) in
-    let spot = request_spot p empty_hand c.self.invariant.counted c.id.inside.number held found (pending_has_request _ is_pending) in
-    let port = c.self.invariant.client_ports.ported held.lane spot.0 in
+    let spot = request_spot p empty_hand c.self.invariant.sound.counted c.id.inside.number held found (pending_has_request _ is_pending) in
+    let port = c.self.invariant.sound.client_ports.ported held.lane spot.0 in
     no_port c.self.inside.clients.items held.lane none port.0 port.1 port.2 port.3
 
 pub next_sender-requires : goal.next_sender-requires
@@ -74,8 +76,8 @@ next_sender-requires g c lane h =
     let at = listed client_part items i it.it it.at in
     let client = client_part it.it in
     let same : c.index.result.now ≡ it.it = read_at items i it.it c.index.result.now it.at c.index.ensures in
-    let asks = asking p c.self.invariant c.id.inside.number held found is_pending c.args.id.now c.id.view_is i client at (eqb-true it.it.port.lane held.lane it.passes) in
-    let r = reaches p c.self.invariant i client at held.slot asks.inside lane h in
+    let asks = asking p c.self.invariant.sound c.id.inside.number held found is_pending c.args.id.now c.id.view_is i client at (eqb-true it.it.port.lane held.lane it.passes) in
+    let r = reaches p c.self.invariant.sound i client at held.slot asks.inside lane h in
     let place : c.index.result.now.port.place ≡ client.place = ap (λ (x : ClientPort _). x.port.place) same in
     (omega (arith, r.0, place), omega (arith, r.1, ap (λ r. length (slice_index_or (lane_of lane p.server_lanes).messages.queues r [])) place))
 
@@ -91,14 +93,14 @@ take-slot-requires-clause-receiver g c =
     let at = listed client_part items i it.it it.at in
     let client = client_part it.it in
     let same : c.index.result.now ≡ it.it = read_at items i it.it c.index.result.now it.at c.index.ensures in
-    let asks = asking p c.self.invariant c.id.inside.number held found is_pending c.args.id.now c.id.view_is i client at (eqb-true it.it.port.lane held.lane it.passes) in
+    let asks = asking p c.self.invariant.sound c.id.inside.number held found is_pending c.args.id.now c.id.view_is i client at (eqb-true it.it.port.lane held.lane it.passes) in
     let lane = c.in-Ok-Some.lane in
     let next : IsNextSender p.server_lanes c.index.result.now.port.place held.slot p.limits.max_borrowed_responses_per_pending_response (Ok (Some lane)) = subst (λ o. IsNextSender p.server_lanes c.index.result.now.port.place held.slot p.limits.max_borrowed_responses_per_pending_response (Ok o)) c.in-Ok-Some.field-0-is c.in-Ok-Some.ensures in
     let lanes = c.self.inside.server_lanes.items in
     let there : lane < length lanes = lanes_many lanes lane next.0 in
     let old : lane_of lane p.server_lanes ≡ lane_part c.index_mut.result.now = lane_is lanes lane c.index_mut.result.now there c.index_mut.ensures.value in
     let place : c.index.result.now.port.place ≡ client.place = ap (λ (x : ClientPort _). x.port.place) same in
-    let r = reaches p c.self.invariant i client at held.slot asks.inside lane next.0 in
+    let r = reaches p c.self.invariant.sound i client at held.slot asks.inside lane next.0 in
     omega (arith, r.0, place, ap (λ (l : Lane _ _ _). length l.messages.queues) old)
 
 pub take-slot-requires-clause-fits : goal.take-slot-requires-clause-fits
@@ -113,14 +115,14 @@ take-slot-requires-clause-fits g c =
     let at = listed client_part items i it.it it.at in
     let client = client_part it.it in
     let same : c.index.result.now ≡ it.it = read_at items i it.it c.index.result.now it.at c.index.ensures in
-    let asks = asking p c.self.invariant c.id.inside.number held found is_pending c.args.id.now c.id.view_is i client at (eqb-true it.it.port.lane held.lane it.passes) in
+    let asks = asking p c.self.invariant.sound c.id.inside.number held found is_pending c.args.id.now c.id.view_is i client at (eqb-true it.it.port.lane held.lane it.passes) in
     let lane = c.in-Ok-Some.lane in
     let next : IsNextSender p.server_lanes c.index.result.now.port.place held.slot p.limits.max_borrowed_responses_per_pending_response (Ok (Some lane)) = subst (λ o. IsNextSender p.server_lanes c.index.result.now.port.place held.slot p.limits.max_borrowed_responses_per_pending_response (Ok o)) c.in-Ok-Some.field-0-is c.in-Ok-Some.ensures in
     let lanes = c.self.inside.server_lanes.items in
     let there : lane < length lanes = lanes_many lanes lane next.0 in
     let old : lane_of lane p.server_lanes ≡ lane_part c.index_mut.result.now = lane_is lanes lane c.index_mut.result.now there c.index_mut.ensures.value in
     let place : c.index.result.now.port.place ≡ client.place = ap (λ (x : ClientPort _). x.port.place) same in
-    omega (arith, next.2, borrows_fit p.limits c.self.invariant.sized.limits_fit, ap (λ (l : Lane _ _ _). borrowed_at l.messages c.index.result.now.port.place held.slot) old)
+    omega (arith, next.2, borrows_fit p.limits c.self.invariant.sound.sized.limits_fit, ap (λ (l : Lane _ _ _). borrowed_at l.messages c.index.result.now.port.place held.slot) old)
 
 pub note-number-requires : goal.note-number-requires
 note-number-requires g c =
@@ -134,7 +136,7 @@ note-number-requires g c =
     let at = listed client_part items i it.it it.at in
     let client = client_part it.it in
     let same : c.index.result.now ≡ it.it = read_at items i it.it c.index.result.now it.at c.index.ensures in
-    let asks = asking p c.self.invariant c.id.inside.number held found is_pending c.args.id.now c.id.view_is i client at (eqb-true it.it.port.lane held.lane it.passes) in
+    let asks = asking p c.self.invariant.sound c.id.inside.number held found is_pending c.args.id.now c.id.view_is i client at (eqb-true it.it.port.lane held.lane it.passes) in
     let lane = c.in-Ok-Some.lane in
     let next : IsNextSender p.server_lanes c.index.result.now.port.place held.slot p.limits.max_borrowed_responses_per_pending_response (Ok (Some lane)) = subst (λ o. IsNextSender p.server_lanes c.index.result.now.port.place held.slot p.limits.max_borrowed_responses_per_pending_response (Ok o)) c.in-Ok-Some.field-0-is c.in-Ok-Some.ensures in
     let lanes = c.self.inside.server_lanes.items in
@@ -161,7 +163,7 @@ insert-requires-clause-place g c =
     let at = listed client_part items i it.it it.at in
     let client = client_part it.it in
     let same : c.index.result.now ≡ it.it = read_at items i it.it c.index.result.now it.at c.index.ensures in
-    let asks = asking p c.self.invariant c.id.inside.number held found is_pending c.args.id.now c.id.view_is i client at (eqb-true it.it.port.lane held.lane it.passes) in
+    let asks = asking p c.self.invariant.sound c.id.inside.number held found is_pending c.args.id.now c.id.view_is i client at (eqb-true it.it.port.lane held.lane it.passes) in
     let lane = c.in-Ok-Some.lane in
     let next : IsNextSender p.server_lanes c.index.result.now.port.place held.slot p.limits.max_borrowed_responses_per_pending_response (Ok (Some lane)) = subst (λ o. IsNextSender p.server_lanes c.index.result.now.port.place held.slot p.limits.max_borrowed_responses_per_pending_response (Ok o)) c.in-Ok-Some.field-0-is c.in-Ok-Some.ensures in
     let lanes = c.self.inside.server_lanes.items in
@@ -175,7 +177,7 @@ insert-requires-clause-place g c =
     omega (arith, entry_waits (queue_from p.server_lanes client.place held.slot lane) slot first, times_queue (lane_of lane p.server_lanes).messages slot client.place held.slot) in
     let row : c.index-in-Ok-Some.result.now.row ≡ (lane_of lane p.server_lanes).row =
     ap (λ (x : OwnedLane _ _ _ _). x.row) (c.index-in-Ok-Some.ensures ∙ get_or-set_same lanes lane _ _ there) ∙ sym (ap (λ (l : Lane _ _ _). l.row) old) in
-    let rows = c.self.invariant.seated.server_rows lane next.0 in (
+    let rows = c.self.invariant.sound.seated.server_rows lane next.0 in (
       omega (arith, rows.0, row),
       omega (arith, c.take-slot.ensures.within, ap (λ (l : Lane _ _ _). length l.messages.held) old, ap (slice_index c.self.inside.table.rows) row, rows.1),
     )
@@ -192,7 +194,7 @@ insert-requires-clause-vacant g c k s e is =
     let at = listed client_part items i it.it it.at in
     let client = client_part it.it in
     let same : c.index.result.now ≡ it.it = read_at items i it.it c.index.result.now it.at c.index.ensures in
-    let asks = asking p c.self.invariant c.id.inside.number held found is_pending c.args.id.now c.id.view_is i client at (eqb-true it.it.port.lane held.lane it.passes) in
+    let asks = asking p c.self.invariant.sound c.id.inside.number held found is_pending c.args.id.now c.id.view_is i client at (eqb-true it.it.port.lane held.lane it.passes) in
     let lane = c.in-Ok-Some.lane in
     let next : IsNextSender p.server_lanes c.index.result.now.port.place held.slot p.limits.max_borrowed_responses_per_pending_response (Ok (Some lane)) = subst (λ o. IsNextSender p.server_lanes c.index.result.now.port.place held.slot p.limits.max_borrowed_responses_per_pending_response (Ok o)) c.in-Ok-Some.field-0-is c.in-Ok-Some.ensures in
     let lanes = c.self.inside.server_lanes.items in
@@ -206,7 +208,7 @@ insert-requires-clause-vacant g c k s e is =
     omega (arith, entry_waits (queue_from p.server_lanes client.place held.slot lane) slot first, times_queue (lane_of lane p.server_lanes).messages slot client.place held.slot) in
     let row : c.index-in-Ok-Some.result.now.row ≡ (lane_of lane p.server_lanes).row =
     ap (λ (x : OwnedLane _ _ _ _). x.row) (c.index-in-Ok-Some.ensures ∙ get_or-set_same lanes lane _ _ there) ∙ sym (ap (λ (l : Lane _ _ _). l.row) old) in
-    response_vacant p c.self.invariant lane slot next.0 (not_held p c.self.invariant lane slot waits) k s e (is ∙ ap (λ r. record { row = r; index = slot }) row)
+    response_vacant p c.self.invariant.sound lane slot next.0 (not_held p c.self.invariant.sound lane slot waits) k s e (is ∙ ap (λ r. record { row = r; index = slot }) row)
 
 pub insert-requires-clause-fresh : goal.insert-requires-clause-fresh
 insert-requires-clause-fresh g c =
@@ -220,7 +222,7 @@ insert-requires-clause-fresh g c =
     let at = listed client_part items i it.it it.at in
     let client = client_part it.it in
     let same : c.index.result.now ≡ it.it = read_at items i it.it c.index.result.now it.at c.index.ensures in
-    let asks = asking p c.self.invariant c.id.inside.number held found is_pending c.args.id.now c.id.view_is i client at (eqb-true it.it.port.lane held.lane it.passes) in
+    let asks = asking p c.self.invariant.sound c.id.inside.number held found is_pending c.args.id.now c.id.view_is i client at (eqb-true it.it.port.lane held.lane it.passes) in
     let lane = c.in-Ok-Some.lane in
     let next : IsNextSender p.server_lanes c.index.result.now.port.place held.slot p.limits.max_borrowed_responses_per_pending_response (Ok (Some lane)) = subst (λ o. IsNextSender p.server_lanes c.index.result.now.port.place held.slot p.limits.max_borrowed_responses_per_pending_response (Ok o)) c.in-Ok-Some.field-0-is c.in-Ok-Some.ensures in
     let lanes = c.self.inside.server_lanes.items in
@@ -238,7 +240,7 @@ insert-requires-clause-fresh g c =
     ∙ ap (λ (x : OwnedLane _ _ _ _). get_or x.messages.notes slot no_response) (c.index-in-Ok-Some-2.ensures ∙ get_or-set_same lanes lane _ _ there)
     ∙ ap (λ (m : Messages _ _ _). get_or m.notes slot no_response) c.take-slot.ensures.state
     ∙ sym (ap (λ (l : Lane _ _ _). get_or l.messages.notes slot no_response) old)) in
-    ap (fin_map.get p.table.seats) number ∙ no_handle p c.self.invariant lane slot waits
+    ap (fin_map.get p.table.seats) number ∙ no_handle p c.self.invariant.sound lane slot waits
 
 -- the parts after it
 parts : (g : _) (c : goal.After-new g)
@@ -261,7 +263,7 @@ parts g c =
     let at = listed client_part items i it.it it.at in
     let client = client_part it.it in
     let same : c.index.result.now ≡ it.it = read_at items i it.it c.index.result.now it.at c.index.ensures in
-    let asks = asking p c.self.invariant c.id.inside.number held found is_pending c.args.id.now c.id.view_is i client at (eqb-true it.it.port.lane held.lane it.passes) in
+    let asks = asking p c.self.invariant.sound c.id.inside.number held found is_pending c.args.id.now c.id.view_is i client at (eqb-true it.it.port.lane held.lane it.passes) in
     let lane = c.in-Ok-Some.lane in
     let next : IsNextSender p.server_lanes c.index.result.now.port.place held.slot p.limits.max_borrowed_responses_per_pending_response (Ok (Some lane)) = subst (λ o. IsNextSender p.server_lanes c.index.result.now.port.place held.slot p.limits.max_borrowed_responses_per_pending_response (Ok o)) c.in-Ok-Some.field-0-is c.in-Ok-Some.ensures in
     let lanes = c.self.inside.server_lanes.items in
@@ -306,15 +308,10 @@ parts g c =
           refl refl,
     )
 
-pub invariant_of-self : goal.invariant_of-self
-invariant_of-self g c =
-    let r = parts g c in
-    subst (λ p. IsSound p empty_hand) (sym r.9) (received_sound (parts_of c.self.inside) c.self.invariant r.0 r.4 r.1 r.2 r.5.at r.3 c.take-slot.result r.5.inside r.6)
-
 pub returns-in-Ok-Some : goal.returns-in-Ok-Some
 returns-in-Ok-Some g c =
     let r = parts g c in
-    receives (parts_of c.self.inside) c.self.invariant r.1 r.2 r.5.at r.3 c.args.id.now r.5.pending r.5.seen r.5.its_client r.5.its_channel c.args.self.now c.self.view_is
+    receives (parts_of c.self.inside) c.self.invariant.sound r.1 r.2 r.5.at r.3 c.args.id.now r.5.pending r.5.seen r.5.its_client r.5.its_channel c.args.self.now c.self.view_is
     r.0 r.4 c.take-slot.result r.5.inside r.6 r.7 _ (c.new.ensures ∙ r.8) _ (ap state_of r.9)
 
 pub returns-in-Ok-None : goal.returns-in-Ok-None
@@ -329,10 +326,10 @@ returns-in-Ok-None g c =
     let at = listed client_part items i it.it it.at in
     let client = client_part it.it in
     let same : c.index.result.now ≡ it.it = read_at items i it.it c.index.result.now it.at c.index.ensures in
-    let asks = asking p c.self.invariant c.id.inside.number held found is_pending c.args.id.now c.id.view_is i client at (eqb-true it.it.port.lane held.lane it.passes) in
+    let asks = asking p c.self.invariant.sound c.id.inside.number held found is_pending c.args.id.now c.id.view_is i client at (eqb-true it.it.port.lane held.lane it.passes) in
     let place : c.index.result.now.port.place ≡ client.place = ap (λ (x : ClientPort _). x.port.place) same in
     let next : IsNextSender p.server_lanes c.index.result.now.port.place held.slot p.limits.max_borrowed_responses_per_pending_response (Ok None) = subst (λ o. IsNextSender p.server_lanes c.index.result.now.port.place held.slot p.limits.max_borrowed_responses_per_pending_response (Ok o)) c.in-Ok-None.field-0-is c.in-Ok-None.ensures in
-    receives_nothing p c.self.invariant i client at held.slot c.args.id.now asks.pending asks.seen asks.its_client asks.its_channel c.args.self.now c.self.view_is
+    receives_nothing p c.self.invariant.sound i client at held.slot c.args.id.now asks.pending asks.seen asks.its_client asks.its_channel c.args.self.now c.self.view_is
     (λ lane h. ap (λ r. queue_from p.server_lanes r held.slot lane) (sym place) ∙ next lane h) _ refl
 
 pub returns-in-Err : goal.returns-in-Err
@@ -347,7 +344,15 @@ returns-in-Err g c =
     let at = listed client_part items i it.it it.at in
     let client = client_part it.it in
     let same : c.index.result.now ≡ it.it = read_at items i it.it c.index.result.now it.at c.index.ensures in
-    let asks = asking p c.self.invariant c.id.inside.number held found is_pending c.args.id.now c.id.view_is i client at (eqb-true it.it.port.lane held.lane it.passes) in
+    let asks = asking p c.self.invariant.sound c.id.inside.number held found is_pending c.args.id.now c.id.view_is i client at (eqb-true it.it.port.lane held.lane it.passes) in
     let place : c.index.result.now.port.place ≡ client.place = ap (λ (x : ClientPort _). x.port.place) same in
-    by_error p c.self.invariant i client at held.slot c.args.id.now asks c.args.self.now c.self.view_is c.in-Err.error
+    by_error p c.self.invariant.sound i client at held.slot c.args.id.now asks c.args.self.now c.self.view_is c.in-Err.error
     (subst (λ r. IsNextSender p.server_lanes r held.slot p.limits.max_borrowed_responses_per_pending_response (Err c.in-Err.error)) place c.in-Err.ensures)
+
+pub invariant_of-self : goal.invariant_of-self
+invariant_of-self g c =
+    let r = parts g c in
+    record {
+      sound = subst (λ p. IsSound p empty_hand) (sym r.9) (received_sound (parts_of c.self.inside) c.self.invariant.sound r.0 r.4 r.1 r.2 r.5.at r.3 c.take-slot.result r.5.inside r.6);
+      reached = receives_response_reached c.args.self.now (subst (λ s. IsReached s) c.self.view_is c.self.invariant.reached) c.args.id.now (Ok (Some c.new.result)) _ (returns-in-Ok-Some g c);
+    }

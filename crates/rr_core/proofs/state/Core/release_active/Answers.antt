@@ -15,26 +15,28 @@ use Rattle.rr_core_laws.proofs.Adding.{with_vectors}
 use Rattle.rr_core_laws.proofs.ReceivedFields.{queue_there}
 use Rattle.rr_core_laws.proofs.ReleaseFields.{lane_asked, lanes_then, handle_there}
 use Rattle.rr_core_laws.proofs.Senders.{of_found}
+use Rattle.rr_laws.specs.Reached.{IsReached}
+use Rattle.rr_laws.proofs.Leaving.{after_release_reached}
 use Rattle.rr_core.proofs.state.Core.release_active.Goals as goal
 
 pub place_of-place-requires : goal.place_of-place-requires
 place_of-place-requires g c =
     let p = parts_of c.self.inside in
     let held = c.in-Some.held in
-    let f = active_found p c.self.invariant c.args.self.now c.id.inside.number c.args.id.now c.self.view_is c.id.view_is c.requires held (sym c.get.ensures ∙ c.in-Some.is) in
+    let f = active_found p c.self.invariant.sound c.args.self.now c.id.inside.number c.args.id.now c.self.view_is c.id.view_is c.requires held (sym c.get.ensures ∙ c.in-Some.is) in
     let servers = c.as_slice.result.now in
     let are : p.servers ≡ map server_part servers = ap (map server_part) (sym c.as_slice.ensures.value) in
-    let s = server_of_active p c.self.invariant servers are c.id.inside.number held f c.server.result c.server.ensures in
+    let s = server_of_active p c.self.invariant.sound servers are c.id.inside.number held f c.server.result c.server.ensures in
     subst IsSome (sym s.found) refl
 
 pub end_borrow_in-requires-clause-receiver : goal.end_borrow_in-requires-clause-receiver
 end_borrow_in-requires-clause-receiver g c =
     let p = parts_of c.self.inside in
     let held = c.in-Some.held in
-    let f = active_found p c.self.invariant c.args.self.now c.id.inside.number c.args.id.now c.self.view_is c.id.view_is c.requires held (sym c.get.ensures ∙ c.in-Some.is) in
+    let f = active_found p c.self.invariant.sound c.args.self.now c.id.inside.number c.args.id.now c.self.view_is c.id.view_is c.requires held (sym c.get.ensures ∙ c.in-Some.is) in
     let servers = c.as_slice.result.now in
     let are : p.servers ≡ map server_part servers = ap (map server_part) (sym c.as_slice.ensures.value) in
-    let s = server_of_active p c.self.invariant servers are c.id.inside.number held f c.server.result c.server.ensures in
+    let s = server_of_active p c.self.invariant.sound servers are c.id.inside.number held f c.server.result c.server.ensures in
     let place : c.place_of-place.result ≡ server_place p f.server =
     of_found (λ (x : ServerPort _). x.port.id == c.server.result) servers s.index s.it s.found s.at (λ _ x. c.place_of-place.result ≡ x.port.place) c.place_of-place.ensures ∙ s.placed in
     let here : 0 < borrowed_at (lane_of held.lane p.client_lanes).messages c.place_of-place.result 0 =
@@ -42,16 +44,16 @@ end_borrow_in-requires-clause-receiver g c =
     lane_asked c.self.inside.client_lanes.items held.lane f.lane
     (λ l. (c.place_of-place.result < length l.messages.queues) × (0 < length (slice_index_or l.messages.queues c.place_of-place.result [])))
     (λ l. (c.place_of-place.result < length l.messages.queues) × (0 < length (slice_index_or l.messages.queues c.place_of-place.result []))) (λ l h. h)
-    (queue_there (lane_of held.lane p.client_lanes).messages (c.self.invariant.sized.client_lanes held.lane f.lane) c.place_of-place.result 0 here)
+    (queue_there (lane_of held.lane p.client_lanes).messages (c.self.invariant.sound.sized.client_lanes held.lane f.lane) c.place_of-place.result 0 here)
 
 pub end_borrow_in-requires-clause-counted : goal.end_borrow_in-requires-clause-counted
 end_borrow_in-requires-clause-counted g c =
     let p = parts_of c.self.inside in
     let held = c.in-Some.held in
-    let f = active_found p c.self.invariant c.args.self.now c.id.inside.number c.args.id.now c.self.view_is c.id.view_is c.requires held (sym c.get.ensures ∙ c.in-Some.is) in
+    let f = active_found p c.self.invariant.sound c.args.self.now c.id.inside.number c.args.id.now c.self.view_is c.id.view_is c.requires held (sym c.get.ensures ∙ c.in-Some.is) in
     let servers = c.as_slice.result.now in
     let are : p.servers ≡ map server_part servers = ap (map server_part) (sym c.as_slice.ensures.value) in
-    let s = server_of_active p c.self.invariant servers are c.id.inside.number held f c.server.result c.server.ensures in
+    let s = server_of_active p c.self.invariant.sound servers are c.id.inside.number held f c.server.result c.server.ensures in
     let place : c.place_of-place.result ≡ server_place p f.server =
     of_found (λ (x : ServerPort _). x.port.id == c.server.result) servers s.index s.it s.found s.at (λ _ x. c.place_of-place.result ≡ x.port.place) c.place_of-place.ensures ∙ s.placed in
     let here : 0 < borrowed_at (lane_of held.lane p.client_lanes).messages c.place_of-place.result 0 =
@@ -64,37 +66,32 @@ pub clear_mark-requires : goal.clear_mark-requires
 clear_mark-requires g c =
     let p = parts_of c.self.inside in
     let held = c.in-Some.held in
-    let f = active_found p c.self.invariant c.args.self.now c.id.inside.number c.args.id.now c.self.view_is c.id.view_is c.requires held (sym c.get.ensures ∙ c.in-Some.is) in
+    let f = active_found p c.self.invariant.sound c.args.self.now c.id.inside.number c.args.id.now c.self.view_is c.id.view_is c.requires held (sym c.get.ensures ∙ c.in-Some.is) in
     let servers = c.as_slice.result.now in
     let are : p.servers ≡ map server_part servers = ap (map server_part) (sym c.as_slice.ensures.value) in
-    let s = server_of_active p c.self.invariant servers are c.id.inside.number held f c.server.result c.server.ensures in
+    let s = server_of_active p c.self.invariant.sound servers are c.id.inside.number held f c.server.result c.server.ensures in
     let place : c.place_of-place.result ≡ server_place p f.server =
     of_found (λ (x : ServerPort _). x.port.id == c.server.result) servers s.index s.it s.found s.at (λ _ x. c.place_of-place.result ≡ x.port.place) c.place_of-place.ensures ∙ s.placed in
-    marks_asked p c.self.invariant c.self.inside.waiting.items refl c.id.inside.number held f c.place_of-place.result place
+    marks_asked p c.self.invariant.sound c.self.inside.waiting.items refl c.id.inside.number held f c.place_of-place.result place
 
 -- the parts after it
 parts : (g : _) (c : goal.After-clear_mark g) → (f : ActiveFound (parts_of c.self.inside) c.id.inside.number c.in-Some.held)
     × (with_vectors (parts_of c.self.inside) (parts_of c.self.inside).clients (map lane_part c.end_borrow_in.new.lanes.items) (map marks_of c.clear_mark.new.waiting.items) c.remove.new.self c.self.inside.next
-    ≡ after_active (parts_of c.self.inside) c.self.invariant c.id.inside.number f.seat f.at f.server f.loans f.active)
+    ≡ after_active (parts_of c.self.inside) c.self.invariant.sound c.id.inside.number f.seat f.at f.server f.loans f.active)
 parts g c =
     let p = parts_of c.self.inside in
     let held = c.in-Some.held in
-    let f = active_found p c.self.invariant c.args.self.now c.id.inside.number c.args.id.now c.self.view_is c.id.view_is c.requires held (sym c.get.ensures ∙ c.in-Some.is) in
+    let f = active_found p c.self.invariant.sound c.args.self.now c.id.inside.number c.args.id.now c.self.view_is c.id.view_is c.requires held (sym c.get.ensures ∙ c.in-Some.is) in
     let servers = c.as_slice.result.now in
     let are : p.servers ≡ map server_part servers = ap (map server_part) (sym c.as_slice.ensures.value) in
-    let s = server_of_active p c.self.invariant servers are c.id.inside.number held f c.server.result c.server.ensures in
+    let s = server_of_active p c.self.invariant.sound servers are c.id.inside.number held f c.server.result c.server.ensures in
     let place : c.place_of-place.result ≡ server_place p f.server =
     of_found (λ (x : ServerPort _). x.port.id == c.server.result) servers s.index s.it s.found s.at (λ _ x. c.place_of-place.result ≡ x.port.place) c.place_of-place.ensures ∙ s.placed in (
       f,
-      active_parts p c.self.invariant c.id.inside.number held f c.place_of-place.result place (map lane_part c.end_borrow_in.new.lanes.items) (map marks_of c.clear_mark.new.waiting.items) c.remove.new.self
+      active_parts p c.self.invariant.sound c.id.inside.number held f c.place_of-place.result place (map lane_part c.end_borrow_in.new.lanes.items) (map marks_of c.clear_mark.new.waiting.items) c.remove.new.self
           (lanes_then c.self.inside.client_lanes.items held.lane f.lane c.end_borrow_in.new.lanes.items (λ m. borrow_ended m c.place_of-place.result 0 held.slot) c.end_borrow_in.ensures)
           c.clear_mark.ensures c.remove.ensures.gone,
     )
-
-pub invariant_of-self : goal.invariant_of-self
-invariant_of-self g c =
-    let r = parts g c in
-    subst (λ p. IsSound p empty_hand) (sym r.1) (active_sound (parts_of c.self.inside) c.self.invariant c.id.inside.number r.0.seat r.0.at r.0.server r.0.loans r.0.active)
 
 pub unreachable-requires : goal.unreachable-requires
 unreachable-requires g c =
@@ -104,5 +101,13 @@ pub returns : goal.returns
 returns g c =
     let r = parts g c in
     ap state_of r.1
-    ∙ active_view (parts_of c.self.inside) c.self.invariant c.id.inside.number r.0.seat r.0.at r.0.server r.0.loans r.0.active
+    ∙ active_view (parts_of c.self.inside) c.self.invariant.sound c.id.inside.number r.0.seat r.0.at r.0.server r.0.loans r.0.active
     ∙ ap (λ s. after_release s c.id.inside.number) c.self.view_is ∙ ap (after_release c.args.self.now) c.id.view_is
+
+pub invariant_of-self : goal.invariant_of-self
+invariant_of-self g c =
+    let r = parts g c in
+    record {
+      sound = subst (λ p. IsSound p empty_hand) (sym r.1) (active_sound (parts_of c.self.inside) c.self.invariant.sound c.id.inside.number r.0.seat r.0.at r.0.server r.0.loans r.0.active);
+      reached = subst (λ s. IsReached s) (sym (returns g c)) (after_release_reached c.args.self.now c.args.id.now (subst (λ s. IsReached s) c.self.view_is c.self.invariant.reached));
+    }

@@ -11,14 +11,14 @@ index-requires g c =
     let p = parts_of c.self.inside in
     let found = sym c.get.ensures ∙ c.in-Some.is in
     let is = is_request p c.args.self.now c.id.inside.number c.args.id.now c.self.view_is c.id.view_is c.in-Some.held found c.requires in
-    omega (arith, (request_spot p empty_hand c.self.invariant.counted c.id.inside.number c.in-Some.held found is).0, length-map c.self.inside.client_lanes.items lane_part, c.self.inside.client_lanes.ok.0)
+    omega (arith, (request_spot p empty_hand c.self.invariant.sound.counted c.id.inside.number c.in-Some.held found is).0, length-map c.self.inside.client_lanes.items lane_part, c.self.inside.client_lanes.ok.0)
 
 pub body-requires : goal.body-requires
 body-requires g c =
     let p = parts_of c.self.inside in
     let found = sym c.get.ensures ∙ c.in-Some.is in
     let is = is_request p c.args.self.now c.id.inside.number c.args.id.now c.self.view_is c.id.view_is c.in-Some.held found c.requires in
-    let spot = request_spot p empty_hand c.self.invariant.counted c.id.inside.number c.in-Some.held found is in
+    let spot = request_spot p empty_hand c.self.invariant.sound.counted c.id.inside.number c.in-Some.held found is in
     let within : c.in-Some.held.lane < length c.self.inside.client_lanes.items = omega (arith, spot.0, length-map c.self.inside.client_lanes.items lane_part) in
     omega (arith, spot.1, ap (λ l. length l.messages.held) (lane_read c.self.inside.client_lanes.items c.in-Some.held.lane c.index.result.now within c.index.ensures))
 
@@ -31,7 +31,7 @@ returns-clause-asked g c =
     let p = parts_of c.self.inside in
     let found = sym c.get.ensures ∙ c.in-Some.is in
     let is = is_request p c.args.self.now c.id.inside.number c.args.id.now c.self.view_is c.id.view_is c.in-Some.held found c.requires in
-    let spot = request_spot p empty_hand c.self.invariant.counted c.id.inside.number c.in-Some.held found is in
+    let spot = request_spot p empty_hand c.self.invariant.sound.counted c.id.inside.number c.in-Some.held found is in
     let within : c.in-Some.held.lane < length c.self.inside.client_lanes.items = omega (arith, spot.0, length-map c.self.inside.client_lanes.items lane_part) in
     of_request p c.args.self.now c.id.inside.number c.args.id.now c.self.view_is c.id.view_is c.in-Some.held found _ is
     (ap (λ w. w.asked_len) (sym (content_read c.self.inside.client_lanes.items c.in-Some.held.lane c.index.result.now within c.index.ensures c.in-Some.held.slot _ c.body.ensures)))
@@ -41,7 +41,7 @@ returns-clause-elements g c =
     let p = parts_of c.self.inside in
     let found = sym c.get.ensures ∙ c.in-Some.is in
     let is = is_request p c.args.self.now c.id.inside.number c.args.id.now c.self.view_is c.id.view_is c.in-Some.held found c.requires in
-    let spot = request_spot p empty_hand c.self.invariant.counted c.id.inside.number c.in-Some.held found is in
+    let spot = request_spot p empty_hand c.self.invariant.sound.counted c.id.inside.number c.in-Some.held found is in
     let within : c.in-Some.held.lane < length c.self.inside.client_lanes.items = omega (arith, spot.0, length-map c.self.inside.client_lanes.items lane_part) in
     of_request p c.args.self.now c.id.inside.number c.args.id.now c.self.view_is c.id.view_is c.in-Some.held found _ is
     (ap (λ w. w.elements) (sym (content_read c.self.inside.client_lanes.items c.in-Some.held.lane c.index.result.now within c.index.ensures c.in-Some.held.slot _ c.body.ensures)))

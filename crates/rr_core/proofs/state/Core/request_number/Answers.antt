@@ -14,7 +14,7 @@ index-requires g c =
     let p = parts_of c.self.inside in
     let found = sym c.get.ensures ∙ c.in-Some.is in
     let kind = is_active p c.args.self.now c.id.inside.number c.args.id.now c.self.view_is c.id.view_is c.in-Some.held found c.requires in
-    let spot = request_spot p empty_hand c.self.invariant.counted c.id.inside.number c.in-Some.held found (active_has_request _ kind) in
+    let spot = request_spot p empty_hand c.self.invariant.sound.counted c.id.inside.number c.in-Some.held found (active_has_request _ kind) in
     omega (arith, spot.0, length-map c.self.inside.client_lanes.items lane_part, c.self.inside.client_lanes.ok.0)
 
 pub note-requires : goal.note-requires
@@ -22,7 +22,7 @@ note-requires g c =
     let p = parts_of c.self.inside in
     let found = sym c.get.ensures ∙ c.in-Some.is in
     let kind = is_active p c.args.self.now c.id.inside.number c.args.id.now c.self.view_is c.id.view_is c.in-Some.held found c.requires in
-    let spot = request_spot p empty_hand c.self.invariant.counted c.id.inside.number c.in-Some.held found (active_has_request _ kind) in
+    let spot = request_spot p empty_hand c.self.invariant.sound.counted c.id.inside.number c.in-Some.held found (active_has_request _ kind) in
     let within : c.in-Some.held.lane < length c.self.inside.client_lanes.items = omega (arith, spot.0, length-map c.self.inside.client_lanes.items lane_part) in
     omega (arith, spot.1, ap (λ l. length l.messages.held) (lane_read c.self.inside.client_lanes.items c.in-Some.held.lane c.index.result.now within c.index.ensures))
 
@@ -35,7 +35,7 @@ returns g c =
     let p = parts_of c.self.inside in
     let found = sym c.get.ensures ∙ c.in-Some.is in
     let kind = is_active p c.args.self.now c.id.inside.number c.args.id.now c.self.view_is c.id.view_is c.in-Some.held found c.requires in
-    let spot = request_spot p empty_hand c.self.invariant.counted c.id.inside.number c.in-Some.held found (active_has_request _ kind) in
+    let spot = request_spot p empty_hand c.self.invariant.sound.counted c.id.inside.number c.in-Some.held found (active_has_request _ kind) in
     let within : c.in-Some.held.lane < length c.self.inside.client_lanes.items = omega (arith, spot.0, length-map c.self.inside.client_lanes.items lane_part) in
     let note = note_read c.self.inside.client_lanes.items c.in-Some.held.lane c.index.result.now within c.index.ensures c.in-Some.held.slot c.note.result c.note.ensures in
     of_active p c.args.self.now c.id.inside.number c.args.id.now c.self.view_is c.id.view_is c.in-Some.held found (λ number. c.note.result.number ≡ number) kind

@@ -25,42 +25,42 @@ index-requires g c =
 pub unreachable-requires-in-None-index_of_lane : goal.unreachable-requires-in-None-index_of_lane
 unreachable-requires-in-None-index_of_lane g c =
     let p = parts_of c.self.inside in
-    let sender = client p c.self.invariant c.args.self.now c.id.inside.number c.args.id.now c.self.view_is c.id.view_is c.requires c.self.inside.clients.items refl c.self.inside.servers.items refl c.in-Some.held (sym c.get.ensures ∙ c.in-Some.is) in
+    let sender = client p c.self.invariant.sound c.args.self.now c.id.inside.number c.args.id.now c.self.view_is c.id.view_is c.requires c.self.inside.clients.items refl c.self.inside.servers.items refl c.in-Some.held (sym c.get.ensures ∙ c.in-Some.is) in
     let none : None ≡ Some sender.index = sym c.in-None-index_of_lane.is ∙ c.index_of_lane.ensures ∙ ap (position _) c.as_slice.ensures.value ∙ sender.found in cc
 
 pub returns-then-self-client : goal.returns-then-self-client
 returns-then-self-client g c =
     let p = parts_of c.self.inside in
-    too_many p c.self.invariant c.args.self.now c.id.inside.number c.args.id.now c.self.view_is c.id.view_is c.requires c.self.inside.clients.items refl c.self.inside.servers.items refl c.in-Some.held (sym c.get.ensures ∙ c.in-Some.is) g.K.BackpressureFn.answer c.index.result.now
-    (read_client p c.self.invariant c.args.self.now c.id.inside.number c.args.id.now c.self.view_is c.id.view_is c.requires c.self.inside.clients.items refl c.self.inside.servers.items refl c.in-Some.held (sym c.get.ensures ∙ c.in-Some.is) c.in-Some-index_of_lane.index c.as_slice.result.now c.index_of_lane.result c.index_of_lane.ensures c.as_slice.ensures.value c.in-Some-index_of_lane.is c.index.result.now c.index.ensures)
+    too_many p c.self.invariant.sound c.args.self.now c.id.inside.number c.args.id.now c.self.view_is c.id.view_is c.requires c.self.inside.clients.items refl c.self.inside.servers.items refl c.in-Some.held (sym c.get.ensures ∙ c.in-Some.is) g.K.BackpressureFn.answer c.index.result.now
+    (read_client p c.self.invariant.sound c.args.self.now c.id.inside.number c.args.id.now c.self.view_is c.id.view_is c.requires c.self.inside.clients.items refl c.self.inside.servers.items refl c.in-Some.held (sym c.get.ensures ∙ c.in-Some.is) c.in-Some-index_of_lane.index c.as_slice.result.now c.index_of_lane.result c.index_of_lane.ensures c.as_slice.ensures.value c.in-Some-index_of_lane.is c.index.result.now c.index.ensures)
     c.if-self-client.true
 
 pub index-requires-2 : goal.index-requires-2
 index-requires-2 g c =
     let p = parts_of c.self.inside in
-    omega (arith, lanes_many c.self.inside.client_lanes.items c.in-Some.held.lane (spot p c.self.invariant c.args.self.now c.id.inside.number c.args.id.now c.self.view_is c.id.view_is c.requires c.self.inside.clients.items refl c.self.inside.servers.items refl c.in-Some.held (sym c.get.ensures ∙ c.in-Some.is)).0, c.self.inside.client_lanes.ok.0)
+    omega (arith, lanes_many c.self.inside.client_lanes.items c.in-Some.held.lane (spot p c.self.invariant.sound c.args.self.now c.id.inside.number c.args.id.now c.self.view_is c.id.view_is c.requires c.self.inside.clients.items refl c.self.inside.servers.items refl c.in-Some.held (sym c.get.ensures ∙ c.in-Some.is)).0, c.self.inside.client_lanes.ok.0)
 
 pub is_refused-requires : goal.is_refused-requires
 is_refused-requires g c =
     let p = parts_of c.self.inside in
     let lanes = c.self.inside.client_lanes.items in
-    let is = lane_is lanes c.in-Some.held.lane c.index-2.result.now (lanes_many lanes c.in-Some.held.lane (spot p c.self.invariant c.args.self.now c.id.inside.number c.args.id.now c.self.view_is c.id.view_is c.requires c.self.inside.clients.items refl c.self.inside.servers.items refl c.in-Some.held (sym c.get.ensures ∙ c.in-Some.is)).0) c.index-2.ensures in
-    queues_of p c.self.invariant c.args.self.now c.id.inside.number c.args.id.now c.self.view_is c.id.view_is c.requires c.self.inside.clients.items refl c.self.inside.servers.items refl c.in-Some.held (sym c.get.ensures ∙ c.in-Some.is) c.index-2.result.now.messages c.as_slice-2.result.now (ap (λ (l : Lane _ _ _). l.messages) is) c.as_slice-2.ensures.value
+    let is = lane_is lanes c.in-Some.held.lane c.index-2.result.now (lanes_many lanes c.in-Some.held.lane (spot p c.self.invariant.sound c.args.self.now c.id.inside.number c.args.id.now c.self.view_is c.id.view_is c.requires c.self.inside.clients.items refl c.self.inside.servers.items refl c.in-Some.held (sym c.get.ensures ∙ c.in-Some.is)).0) c.index-2.ensures in
+    queues_of p c.self.invariant.sound c.args.self.now c.id.inside.number c.args.id.now c.self.view_is c.id.view_is c.requires c.self.inside.clients.items refl c.self.inside.servers.items refl c.in-Some.held (sym c.get.ensures ∙ c.in-Some.is) c.index-2.result.now.messages c.as_slice-2.result.now (ap (λ (l : Lane _ _ _). l.messages) is) c.as_slice-2.ensures.value
 
 pub returns-then-is_refused : goal.returns-then-is_refused
 returns-then-is_refused g c =
     let p = parts_of c.self.inside in
     let lanes = c.self.inside.client_lanes.items in
-    let is = lane_is lanes c.in-Some.held.lane c.index-2.result.now (lanes_many lanes c.in-Some.held.lane (spot p c.self.invariant c.args.self.now c.id.inside.number c.args.id.now c.self.view_is c.id.view_is c.requires c.self.inside.clients.items refl c.self.inside.servers.items refl c.in-Some.held (sym c.get.ensures ∙ c.in-Some.is)).0) c.index-2.ensures in
-    not_too_many p c.self.invariant c.args.self.now c.id.inside.number c.args.id.now c.self.view_is c.id.view_is c.requires c.self.inside.clients.items refl c.self.inside.servers.items refl c.in-Some.held (sym c.get.ensures ∙ c.in-Some.is) g.K.BackpressureFn.answer c.index.result.now
-    (read_client p c.self.invariant c.args.self.now c.id.inside.number c.args.id.now c.self.view_is c.id.view_is c.requires c.self.inside.clients.items refl c.self.inside.servers.items refl c.in-Some.held (sym c.get.ensures ∙ c.in-Some.is) c.in-Some-index_of_lane.index c.as_slice.result.now c.index_of_lane.result c.index_of_lane.ensures c.as_slice.ensures.value c.in-Some-index_of_lane.is c.index.result.now c.index.ensures)
+    let is = lane_is lanes c.in-Some.held.lane c.index-2.result.now (lanes_many lanes c.in-Some.held.lane (spot p c.self.invariant.sound c.args.self.now c.id.inside.number c.args.id.now c.self.view_is c.id.view_is c.requires c.self.inside.clients.items refl c.self.inside.servers.items refl c.in-Some.held (sym c.get.ensures ∙ c.in-Some.is)).0) c.index-2.ensures in
+    not_too_many p c.self.invariant.sound c.args.self.now c.id.inside.number c.args.id.now c.self.view_is c.id.view_is c.requires c.self.inside.clients.items refl c.self.inside.servers.items refl c.in-Some.held (sym c.get.ensures ∙ c.in-Some.is) g.K.BackpressureFn.answer c.index.result.now
+    (read_client p c.self.invariant.sound c.args.self.now c.id.inside.number c.args.id.now c.self.view_is c.id.view_is c.requires c.self.inside.clients.items refl c.self.inside.servers.items refl c.in-Some.held (sym c.get.ensures ∙ c.in-Some.is) c.in-Some-index_of_lane.index c.as_slice.result.now c.index_of_lane.result c.index_of_lane.ensures c.as_slice.ensures.value c.in-Some-index_of_lane.is c.index.result.now c.index.ensures)
     c.if-self-client.false c.index-2.result.now.messages (ap (λ (l : Lane _ _ _). l.messages) is) c.as_slice-2.result.now c.as_slice-2.ensures.value true (sym c.if-is_refused.true ∙ c.is_refused.ensures)
 
 pub returns : goal.returns
 returns g c =
     let p = parts_of c.self.inside in
     let lanes = c.self.inside.client_lanes.items in
-    let is = lane_is lanes c.in-Some.held.lane c.index-2.result.now (lanes_many lanes c.in-Some.held.lane (spot p c.self.invariant c.args.self.now c.id.inside.number c.args.id.now c.self.view_is c.id.view_is c.requires c.self.inside.clients.items refl c.self.inside.servers.items refl c.in-Some.held (sym c.get.ensures ∙ c.in-Some.is)).0) c.index-2.ensures in
-    not_too_many p c.self.invariant c.args.self.now c.id.inside.number c.args.id.now c.self.view_is c.id.view_is c.requires c.self.inside.clients.items refl c.self.inside.servers.items refl c.in-Some.held (sym c.get.ensures ∙ c.in-Some.is) g.K.BackpressureFn.answer c.index.result.now
-    (read_client p c.self.invariant c.args.self.now c.id.inside.number c.args.id.now c.self.view_is c.id.view_is c.requires c.self.inside.clients.items refl c.self.inside.servers.items refl c.in-Some.held (sym c.get.ensures ∙ c.in-Some.is) c.in-Some-index_of_lane.index c.as_slice.result.now c.index_of_lane.result c.index_of_lane.ensures c.as_slice.ensures.value c.in-Some-index_of_lane.is c.index.result.now c.index.ensures)
+    let is = lane_is lanes c.in-Some.held.lane c.index-2.result.now (lanes_many lanes c.in-Some.held.lane (spot p c.self.invariant.sound c.args.self.now c.id.inside.number c.args.id.now c.self.view_is c.id.view_is c.requires c.self.inside.clients.items refl c.self.inside.servers.items refl c.in-Some.held (sym c.get.ensures ∙ c.in-Some.is)).0) c.index-2.ensures in
+    not_too_many p c.self.invariant.sound c.args.self.now c.id.inside.number c.args.id.now c.self.view_is c.id.view_is c.requires c.self.inside.clients.items refl c.self.inside.servers.items refl c.in-Some.held (sym c.get.ensures ∙ c.in-Some.is) g.K.BackpressureFn.answer c.index.result.now
+    (read_client p c.self.invariant.sound c.args.self.now c.id.inside.number c.args.id.now c.self.view_is c.id.view_is c.requires c.self.inside.clients.items refl c.self.inside.servers.items refl c.in-Some.held (sym c.get.ensures ∙ c.in-Some.is) c.in-Some-index_of_lane.index c.as_slice.result.now c.index_of_lane.result c.index_of_lane.ensures c.as_slice.ensures.value c.in-Some-index_of_lane.is c.index.result.now c.index.ensures)
     c.if-self-client.false c.index-2.result.now.messages (ap (λ (l : Lane _ _ _). l.messages) is) c.as_slice-2.result.now c.as_slice-2.ensures.value false (sym c.if-is_refused.false ∙ c.is_refused.ensures)

@@ -33,16 +33,16 @@ take-slot-requires-clause-fits g c =
     let ready : IsReady p q server = elim c.if-not-self.branch [
       | then-not-self w ↦
           subst (λ x. IsReady p (parts_of x) server) (sym w.self-inside-is)
-          (ready_skimmed p c.self.invariant i server at w.if-not-self.true c.index.result.now.port.place place (length c.self.inside.client_lanes.items) (map lane_part w.skim.new.lanes.items)
+          (ready_skimmed p c.self.invariant.sound i server at w.if-not-self.true c.index.result.now.port.place place (length c.self.inside.client_lanes.items) (map lane_part w.skim.new.lanes.items)
           (omega (arith, length-map c.self.inside.client_lanes.items lane_part)) w.skim.ensures)
-      | else-not-self w ↦ subst (λ x. IsReady p (parts_of x) server) (sym w.self-inside-is) (ready_as_is p c.self.invariant i server at w.if-not-self.false)
+      | else-not-self w ↦ subst (λ x. IsReady p (parts_of x) server) (sym w.self-inside-is) (ready_as_is p c.self.invariant.sound i server at w.if-not-self.false)
     ] in
     let lane = c.in-Ok-Some.lane in
     let next : IsNextSender q.client_lanes c.index.result.now.port.place 0 p.limits.max_active_requests_per_client (Ok (Some lane)) = subst (λ o. IsNextSender q.client_lanes c.index.result.now.port.place 0 p.limits.max_active_requests_per_client (Ok o)) c.in-Ok-Some.field-0-is c.in-Ok-Some.ensures in
     let lanes = c.if-not-self.self-inside.client_lanes.items in
     let there : lane < length lanes = lanes_many lanes lane next.0 in
     let old : lane_of lane q.client_lanes ≡ lane_part c.index_mut.result.now = lane_is lanes lane c.index_mut.result.now there c.index_mut.ensures.value in
-    omega (arith, next.2, requests_fit p.limits c.self.invariant.sized.limits_fit, ap (λ (l : Lane _ _ _). borrowed_at l.messages c.index.result.now.port.place 0) old)
+    omega (arith, next.2, requests_fit p.limits c.self.invariant.sound.sized.limits_fit, ap (λ (l : Lane _ _ _). borrowed_at l.messages c.index.result.now.port.place 0) old)
 
 pub active_place-hint-requires-clause-place : goal.active_place-hint-requires-clause-place
 active_place-hint-requires-clause-place g c =
@@ -58,9 +58,9 @@ active_place-hint-requires-clause-place g c =
     let ready : IsReady p q server = elim c.if-not-self.branch [
       | then-not-self w ↦
           subst (λ x. IsReady p (parts_of x) server) (sym w.self-inside-is)
-          (ready_skimmed p c.self.invariant i server at w.if-not-self.true c.index.result.now.port.place place (length c.self.inside.client_lanes.items) (map lane_part w.skim.new.lanes.items)
+          (ready_skimmed p c.self.invariant.sound i server at w.if-not-self.true c.index.result.now.port.place place (length c.self.inside.client_lanes.items) (map lane_part w.skim.new.lanes.items)
           (omega (arith, length-map c.self.inside.client_lanes.items lane_part)) w.skim.ensures)
-      | else-not-self w ↦ subst (λ x. IsReady p (parts_of x) server) (sym w.self-inside-is) (ready_as_is p c.self.invariant i server at w.if-not-self.false)
+      | else-not-self w ↦ subst (λ x. IsReady p (parts_of x) server) (sym w.self-inside-is) (ready_as_is p c.self.invariant.sound i server at w.if-not-self.false)
     ] in
     let lane = c.in-Ok-Some.lane in
     let next : IsNextSender q.client_lanes c.index.result.now.port.place 0 p.limits.max_active_requests_per_client (Ok (Some lane)) = subst (λ o. IsNextSender q.client_lanes c.index.result.now.port.place 0 p.limits.max_active_requests_per_client (Ok o)) c.in-Ok-Some.field-0-is c.in-Ok-Some.ensures in
@@ -70,7 +70,7 @@ active_place-hint-requires-clause-place g c =
     let slot = c.take-slot.result in
     let first : slice_get (queue_from q.client_lanes server.place 0 lane) 0 ≡ Some slot =
     ap (λ (l : Lane _ _ _). slice_get (queue_at l.messages server.place 0) 0) old ∙ ap (λ r. slice_get (queue_at c.index_mut.result.now.messages r 0) 0) (sym place) ∙ c.take-slot.ensures.first in
-    let in_q = its_server p q i server at (its_self p c.self.invariant i server at) ready in
+    let in_q = its_server p q i server at (its_self p c.self.invariant.sound i server at) ready in
     let within : slot < length (lane_of lane q.client_lanes).messages.held = omega (arith, c.take-slot.ensures.within, ap (λ (l : Lane _ _ _). length l.messages.held) old) in
     let placed : server.place < q.limits.max_servers = own_place q ready.sound i server in_q in
     let more = within_row server.place q.limits.max_servers (length (lane_of lane q.client_lanes).messages.held) slot placed within in
@@ -91,9 +91,9 @@ active_place-hint-requires-clause-index g c =
     let ready : IsReady p q server = elim c.if-not-self.branch [
       | then-not-self w ↦
           subst (λ x. IsReady p (parts_of x) server) (sym w.self-inside-is)
-          (ready_skimmed p c.self.invariant i server at w.if-not-self.true c.index.result.now.port.place place (length c.self.inside.client_lanes.items) (map lane_part w.skim.new.lanes.items)
+          (ready_skimmed p c.self.invariant.sound i server at w.if-not-self.true c.index.result.now.port.place place (length c.self.inside.client_lanes.items) (map lane_part w.skim.new.lanes.items)
           (omega (arith, length-map c.self.inside.client_lanes.items lane_part)) w.skim.ensures)
-      | else-not-self w ↦ subst (λ x. IsReady p (parts_of x) server) (sym w.self-inside-is) (ready_as_is p c.self.invariant i server at w.if-not-self.false)
+      | else-not-self w ↦ subst (λ x. IsReady p (parts_of x) server) (sym w.self-inside-is) (ready_as_is p c.self.invariant.sound i server at w.if-not-self.false)
     ] in
     let lane = c.in-Ok-Some.lane in
     let next : IsNextSender q.client_lanes c.index.result.now.port.place 0 p.limits.max_active_requests_per_client (Ok (Some lane)) = subst (λ o. IsNextSender q.client_lanes c.index.result.now.port.place 0 p.limits.max_active_requests_per_client (Ok o)) c.in-Ok-Some.field-0-is c.in-Ok-Some.ensures in
@@ -103,7 +103,7 @@ active_place-hint-requires-clause-index g c =
     let slot = c.take-slot.result in
     let first : slice_get (queue_from q.client_lanes server.place 0 lane) 0 ≡ Some slot =
     ap (λ (l : Lane _ _ _). slice_get (queue_at l.messages server.place 0) 0) old ∙ ap (λ r. slice_get (queue_at c.index_mut.result.now.messages r 0) 0) (sym place) ∙ c.take-slot.ensures.first in
-    let in_q = its_server p q i server at (its_self p c.self.invariant i server at) ready in
+    let in_q = its_server p q i server at (its_self p c.self.invariant.sound i server at) ready in
     let within : slot < length (lane_of lane q.client_lanes).messages.held = omega (arith, c.take-slot.ensures.within, ap (λ (l : Lane _ _ _). length l.messages.held) old) in
     let placed : server.place < q.limits.max_servers = own_place q ready.sound i server in_q in
     let more = within_row server.place q.limits.max_servers (length (lane_of lane q.client_lanes).messages.held) slot placed within in
@@ -127,9 +127,9 @@ insert-requires-clause-place g c =
     let ready : IsReady p q server = elim c.if-not-self.branch [
       | then-not-self w ↦
           subst (λ x. IsReady p (parts_of x) server) (sym w.self-inside-is)
-          (ready_skimmed p c.self.invariant i server at w.if-not-self.true c.index.result.now.port.place place (length c.self.inside.client_lanes.items) (map lane_part w.skim.new.lanes.items)
+          (ready_skimmed p c.self.invariant.sound i server at w.if-not-self.true c.index.result.now.port.place place (length c.self.inside.client_lanes.items) (map lane_part w.skim.new.lanes.items)
           (omega (arith, length-map c.self.inside.client_lanes.items lane_part)) w.skim.ensures)
-      | else-not-self w ↦ subst (λ x. IsReady p (parts_of x) server) (sym w.self-inside-is) (ready_as_is p c.self.invariant i server at w.if-not-self.false)
+      | else-not-self w ↦ subst (λ x. IsReady p (parts_of x) server) (sym w.self-inside-is) (ready_as_is p c.self.invariant.sound i server at w.if-not-self.false)
     ] in
     let lane = c.in-Ok-Some.lane in
     let next : IsNextSender q.client_lanes c.index.result.now.port.place 0 p.limits.max_active_requests_per_client (Ok (Some lane)) = subst (λ o. IsNextSender q.client_lanes c.index.result.now.port.place 0 p.limits.max_active_requests_per_client (Ok o)) c.in-Ok-Some.field-0-is c.in-Ok-Some.ensures in
@@ -139,7 +139,7 @@ insert-requires-clause-place g c =
     let slot = c.take-slot.result in
     let first : slice_get (queue_from q.client_lanes server.place 0 lane) 0 ≡ Some slot =
     ap (λ (l : Lane _ _ _). slice_get (queue_at l.messages server.place 0) 0) old ∙ ap (λ r. slice_get (queue_at c.index_mut.result.now.messages r 0) 0) (sym place) ∙ c.take-slot.ensures.first in
-    let in_q = its_server p q i server at (its_self p c.self.invariant i server at) ready in
+    let in_q = its_server p q i server at (its_self p c.self.invariant.sound i server at) ready in
     let within : slot < length (lane_of lane q.client_lanes).messages.held = omega (arith, c.take-slot.ensures.within, ap (λ (l : Lane _ _ _). length l.messages.held) old) in
     let placed : server.place < q.limits.max_servers = own_place q ready.sound i server in_q in
     let more = within_row server.place q.limits.max_servers (length (lane_of lane q.client_lanes).messages.held) slot placed within in
@@ -180,9 +180,9 @@ insert-requires-clause-vacant g c k s e is =
     let ready : IsReady p q server = elim c.if-not-self.branch [
       | then-not-self w ↦
           subst (λ x. IsReady p (parts_of x) server) (sym w.self-inside-is)
-          (ready_skimmed p c.self.invariant i server at w.if-not-self.true c.index.result.now.port.place place (length c.self.inside.client_lanes.items) (map lane_part w.skim.new.lanes.items)
+          (ready_skimmed p c.self.invariant.sound i server at w.if-not-self.true c.index.result.now.port.place place (length c.self.inside.client_lanes.items) (map lane_part w.skim.new.lanes.items)
           (omega (arith, length-map c.self.inside.client_lanes.items lane_part)) w.skim.ensures)
-      | else-not-self w ↦ subst (λ x. IsReady p (parts_of x) server) (sym w.self-inside-is) (ready_as_is p c.self.invariant i server at w.if-not-self.false)
+      | else-not-self w ↦ subst (λ x. IsReady p (parts_of x) server) (sym w.self-inside-is) (ready_as_is p c.self.invariant.sound i server at w.if-not-self.false)
     ] in
     let lane = c.in-Ok-Some.lane in
     let next : IsNextSender q.client_lanes c.index.result.now.port.place 0 p.limits.max_active_requests_per_client (Ok (Some lane)) = subst (λ o. IsNextSender q.client_lanes c.index.result.now.port.place 0 p.limits.max_active_requests_per_client (Ok o)) c.in-Ok-Some.field-0-is c.in-Ok-Some.ensures in
@@ -192,7 +192,7 @@ insert-requires-clause-vacant g c k s e is =
     let slot = c.take-slot.result in
     let first : slice_get (queue_from q.client_lanes server.place 0 lane) 0 ≡ Some slot =
     ap (λ (l : Lane _ _ _). slice_get (queue_at l.messages server.place 0) 0) old ∙ ap (λ r. slice_get (queue_at c.index_mut.result.now.messages r 0) 0) (sym place) ∙ c.take-slot.ensures.first in
-    let in_q = its_server p q i server at (its_self p c.self.invariant i server at) ready in
+    let in_q = its_server p q i server at (its_self p c.self.invariant.sound i server at) ready in
     let within : slot < length (lane_of lane q.client_lanes).messages.held = omega (arith, c.take-slot.ensures.within, ap (λ (l : Lane _ _ _). length l.messages.held) old) in
     let placed : server.place < q.limits.max_servers = own_place q ready.sound i server in_q in
     let more = within_row server.place q.limits.max_servers (length (lane_of lane q.client_lanes).messages.held) slot placed within in
@@ -222,8 +222,8 @@ insert-requires-clause-fresh g c =
     let ready : IsReady p q server = elim c.if-not-self.branch [
       | then-not-self w ↦
           subst (λ x. IsReady p (parts_of x) server) (sym w.self-inside-is)
-          (ready_skimmed p c.self.invariant i server at w.if-not-self.true c.index.result.now.port.place place (length c.self.inside.client_lanes.items) (map lane_part w.skim.new.lanes.items)
+          (ready_skimmed p c.self.invariant.sound i server at w.if-not-self.true c.index.result.now.port.place place (length c.self.inside.client_lanes.items) (map lane_part w.skim.new.lanes.items)
           (omega (arith, length-map c.self.inside.client_lanes.items lane_part)) w.skim.ensures)
-      | else-not-self w ↦ subst (λ x. IsReady p (parts_of x) server) (sym w.self-inside-is) (ready_as_is p c.self.invariant i server at w.if-not-self.false)
+      | else-not-self w ↦ subst (λ x. IsReady p (parts_of x) server) (sym w.self-inside-is) (ready_as_is p c.self.invariant.sound i server at w.if-not-self.false)
     ] in
     ready.sound.numbered.fresh q.next (omega arith)
