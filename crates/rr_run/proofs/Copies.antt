@@ -14,7 +14,7 @@ use Rattle.rr_hub.specs.Queries.{kind_of, kind_at}
 use Rattle.rr_hub.specs.Loans.{LoansRequest, LoansResponse, empty_content, with_loan_counted}
 use Rattle.rr_core.specs.Writing.{is_ready}
 use Rattle.rr_steps.specs.Step.{with_content, with_complete}
-use Rattle.rr_run.proofs.Steps.{some_and}
+use Rattle.rr_laws.proofs.Opening.{some_and}
 
 -- a client's value lives as before, once a loan was counted
 counted_one : {K : Type 0} (n k : ℕ) (c : Client K) → ((with_loan_counted k c).id == n && (with_loan_counted k c).is_held) ≡ (c.id == n && c.is_held)

@@ -1,6 +1,6 @@
 -- Which steps a runner may take, by what a command's number names.
-use Rattle.std.proofs.Common.{◌≡◌, ℕ, false, refl, sym, ap, ◌∙◌, subst, Some, None, Option, MatchOption}
-use Rattle.std.specs.Prelude.{◌==◌, option_and_then, IsSomeAnd}
+use Rattle.std.proofs.Common.{◌≡◌, ℕ, false, refl, sym, ap, ◌∙◌, subst, Some, None, MatchOption}
+use Rattle.std.specs.Prelude.{◌==◌, option_and_then}
 use Rattle.std.specs.Option.{option_map_or}
 use Rattle.rr_slots.specs.declared.family.Family.{Family}
 use Rattle.rr_hub.specs.declared.settings.BackpressureAction.{BackpressureAction}
@@ -11,11 +11,6 @@ use Rattle.rr_steps.specs.declared.command.Command.{Command}
 use Rattle.rr_steps.specs.declared.reply.Reply.{Reply}
 use Rattle.rr_steps.specs.Refusals.{number_in, refusal, refusal_of_kind}
 use Rattle.rr_steps.specs.Step.{Acts, Step}
-
--- what holds of an element that is there
-pub some_and : {X : Type 0} (o : Option X) (P : X → Type 0) → IsSomeAnd o P → (x : X) × (o ≡ Some x) × P x
-some_and None P h = absurd h
-some_and (Some x) P h = (x, refl, h)
 
 module _ {T H K : Type 0} (answer : K → ℕ → ℕ → BackpressureAction) (IsDefaultElement : T → Type 0) (IsDefaultHeader : H → Type 0) (family : Family) where
   module _ (old : State T H T H K) (command : Command T H K) (n : ℕ) (k : Kind) (reply : Reply T H) (new : State T H T H K) where
