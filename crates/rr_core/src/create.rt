@@ -1,17 +1,21 @@
 //! Creating ports.
-ghost use Rattle.std.specs.Prelude.{◌≡◌, ◌≢◌, ℕ, ◌+◌, ◌*◌, ◌^◌, ◌<◌, ◌≤◌, None, Some, length, map, true, IsTrue, IfOk, OnOk, OnErr, slice_get, ◌==◌};
+ghost use Rattle.std.specs.Prelude.{◌≡◌, ◌≢◌, ℕ, ◌+◌, ◌*◌, ◌^◌, ◌<◌, ◌++◌, ◌∷◌, [], None, Some, length, replicate, true, false, if◌then◌else◌, is_ok, IsTrue, IfOk, OnOk, OnErr, slice_get, ◌==◌};
 ghost use Rattle.rr_slots.specs.Families.{takes_len};
+ghost use Rattle.rr_table.specs.Seats.{with_row};
 ghost use Rattle.rr_hub.specs.Creation.{CreatesClient, client_refusal, with_client, pool_size_of};
 ghost use Rattle.rr_hub.specs.Limits.{hub_refusal, worst_case_requests};
 ghost use Rattle.std.specs.List.{list_any};
+ghost use Rattle.rr_parts.specs.Creating.{IsNew};
 ghost use Rattle.rr_parts.specs.Ports.{connected_of};
+ghost use Rattle.rr_parts.specs.Views.{no_request};
 
 use crate::state::Core;
 use rr_hub::{BackpressureFn, ClientCreateError, ClientSettings, Limits};
 use rr_lanes::{Lane, LaneSize};
-use rr_parts::{ClientPort, OwnedLane, Placed, Port, RequestNote};
+use rr_parts::{ClientPort, Held, OwnedLane, Placed, Port, RequestNote};
 use rr_slots::Body;
-use std::alloc::AllocError;
+use rr_table::Table;
+use std::alloc::{AllocError, Global};
 
 mod server;
 
@@ -56,34 +60,24 @@ impl<QB: Body, QH: Default + Drop, PB: Body, PH: Default + Drop, K: Backpressure
         ensures err { OnErr result (self.new ≡ self.old) }
     {
         let slots = pool_size(worst_case_requests(&self.limits), settings.pool);
-        let row_len = row_len(slots, self.limits.max_servers)?;
         let place = free_place(self.clients.as_slice(), self.limits.max_clients);
-        let size = LaneSize {
+        let store = client_store(
+            self.alloc,
+            &self.limits,
             slots,
-            room: settings.initial_max_slice_len,
-            receivers: self.limits.max_servers,
-            channels: 1,
-            capacity: self.limits.max_active_requests_per_client,
-        };
-        let messages = Lane::new(self.alloc, size, NO_REQUEST)?;
-        let marks = vec![in self.alloc; false; row_len - slots]?;
-        self.clients.reserve(1)?;
-        self.client_lanes.reserve(1)?;
-        self.waiting.reserve(1)?;
-        let row = self.table.add_row(self.alloc, row_len)?;
+            settings.initial_max_slice_len,
+        )?;
         let number = self.next;
         let port = client_port(number, settings, slots, self.client_lanes.len(), place);
-        self.clients.push_reserved(ClientPort {
+        insert_client(
+            self.alloc,
+            &mut self.clients,
+            &mut self.client_lanes,
+            &mut self.waiting,
+            &mut self.table,
             port,
-            loans_made: 0,
-            pendings: 0,
-        });
-        self.client_lanes.push_reserved(OwnedLane {
-            owner: number,
-            row,
-            messages,
-        });
-        self.waiting.push_reserved(marks);
+            store,
+        )?;
         self.next += 1;
         Ok(number)
     }
@@ -136,6 +130,105 @@ fn row_len(slots: usize, servers: usize) -> Result<usize, AllocError>
         },
         None => Err(AllocError),
     }
+}
+
+/// Where a client's requests stand: the lane from which it sends, and the marks beside it.
+#[derive(Drop)]
+struct ClientStore<B: Body, H: Default + Drop> {
+    messages: Lane<B, RequestNote, H>,
+    marks: Vec<bool>,
+    row_len: usize,
+}
+
+/// The store of a client with so many slots, each with room for `room` elements, a length that the body's family takes. `Err`
+/// if memory was refused.
+fn client_store<B: Body, H: Default + Drop>(
+    alloc: Global,
+    limits: &Limits,
+    slots: usize,
+    room: usize,
+) -> Result<ClientStore<B, H>, AllocError>
+    requires { IsTrue (takes_len B.family room) }
+    ensures messages { IfOk result (λ store. IsNew slots room limits.now.max_servers 1 limits.now.max_active_requests_per_client no_request store.messages) }
+    ensures marks { IfOk result (λ store. store.marks.items ≡ replicate (slots * limits.now.max_servers) false) }
+    ensures row { IfOk result (λ store. store.row_len ≡ (limits.now.max_servers + 1) * slots) }
+    ensures fits { IfOk result (λ store. store.row_len < 2 ^ 64) }
+{
+    let row_len = row_len(slots, limits.max_servers)?;
+    let size = LaneSize {
+        slots,
+        room,
+        receivers: limits.max_servers,
+        channels: 1,
+        capacity: limits.max_active_requests_per_client,
+    };
+    Ok(ClientStore {
+        messages: Lane::new(alloc, size, NO_REQUEST)?,
+        marks: vec![in alloc; false; row_len - slots]?,
+        row_len,
+    })
+}
+
+/// Adds a client with its store. `Err` if memory was refused; the lists and the table are unchanged then.
+fn insert_client<B: Body, H: Default + Drop, K: Drop>(
+    alloc: Global,
+    clients: &mut Vec<ClientPort<K>>,
+    lanes: &mut Vec<OwnedLane<B, RequestNote, H>>,
+    waiting: &mut Vec<Vec<bool>>,
+    table: &mut Table<Held>,
+    port: Port<K>,
+    store: ClientStore<B, H>,
+) -> Result<(), AllocError>
+    ensures clients { clients.new.items ≡ (if is_ok result then clients.old.items ++ record { port = port; loans_made = 0; pendings = 0 } ∷ [] else clients.old.items) }
+    ensures lanes { lanes.new.items ≡ (if is_ok result then lanes.old.items ++ record { owner = port.id; row = length table.old.rows; messages = store.messages } ∷ [] else lanes.old.items) }
+    ensures waiting { waiting.new.items ≡ (if is_ok result then waiting.old.items ++ store.marks ∷ [] else waiting.old.items) }
+    ensures table { table.new ≡ (if is_ok result then with_row table.old store.row_len else table.old) }
+{
+    let ClientStore {
+        messages,
+        marks,
+        row_len,
+    } = store;
+    waiting.reserve(1)?;
+    let owner = port.id;
+    let client = ClientPort {
+        port,
+        loans_made: 0,
+        pendings: 0,
+    };
+    insert_port(
+        alloc, clients, lanes, table, client, owner, messages, row_len,
+    )?;
+    waiting.push_reserved(marks);
+    Ok(())
+}
+
+/// Adds a port, the lane from which it sends, and a row of the table for its messages. `Err` if memory was refused; the lists
+/// and the table are unchanged then.
+pub(crate) fn insert_port<P: Drop, B: Body, N: Copy, H: Drop>(
+    alloc: Global,
+    ports: &mut Vec<P>,
+    lanes: &mut Vec<OwnedLane<B, N, H>>,
+    table: &mut Table<Held>,
+    port: P,
+    owner: u64,
+    messages: Lane<B, N, H>,
+    row_len: usize,
+) -> Result<(), AllocError>
+    ensures ports { ports.new.items ≡ (if is_ok result then ports.old.items ++ port ∷ [] else ports.old.items) }
+    ensures lanes { lanes.new.items ≡ (if is_ok result then lanes.old.items ++ record { owner = owner; row = length table.old.rows; messages = messages } ∷ [] else lanes.old.items) }
+    ensures table { table.new ≡ (if is_ok result then with_row table.old row_len else table.old) }
+{
+    ports.reserve(1)?;
+    lanes.reserve(1)?;
+    let row = table.add_row(alloc, row_len)?;
+    ports.push_reserved(port);
+    lanes.push_reserved(OwnedLane {
+        owner,
+        row,
+        messages,
+    });
+    Ok(())
 }
 
 /// A client's port.

@@ -26,44 +26,60 @@ use Rattle.rr_core_laws.proofs.RequestReleased.{unmarked, request_there}
 
 module _ {Q QH P PH K : Type 0} (p : Parts Q QH P PH K) (sound : IsSound p empty_hand) where
   -- a server with a place is connected
-  pub server_placed : (server : ℕ) → server_place p server < p.limits.max_servers → (i : ℕ) × (s : ServerPart K) × (slice_get p.servers i ≡ Some s) × (s.port.id ≡ server) × (server_place p server ≡ s.place)
+  pub server_placed : (server : ℕ) → server_place p server < p.limits.max_servers → (i : ℕ) × (s : ServerPart K)
+      × (slice_get p.servers i ≡ Some s) × (s.port.id ≡ server) × (server_place p server ≡ s.place)
   server_placed server h = go (find (λ s. s.port.id == server) p.servers) refl h
     where
-      go : (o : Option (ServerPart K)) → find (λ s. s.port.id == server) p.servers ≡ o → option_map_or (λ s. s.place) o p.limits.max_servers < p.limits.max_servers
+      go : (o : Option (ServerPart K)) → find (λ s. s.port.id == server) p.servers ≡ o
+          → option_map_or (λ s. s.place) o p.limits.max_servers < p.limits.max_servers
           → (i : ℕ) × (s : ServerPart K) × (slice_get p.servers i ≡ Some s) × (s.port.id ≡ server) × (server_place p server ≡ s.place)
       go None e h = absurd (omega (arith, h))
       go (Some s) e h =
-          let f = found_somewhere (λ s. s.port.id == server) p.servers s e in
-          (f.0, s, f.1, eqb-true _ _ (found_passes (λ s. s.port.id == server) p.servers s e), ap (λ o. option_map_or (λ s. s.place) o p.limits.max_servers) e)
+          let f = found_somewhere (λ s. s.port.id == server) p.servers s e in (
+            f.0,
+            s,
+            f.1,
+            eqb-true _ _ (found_passes (λ s. s.port.id == server) p.servers s e),
+            ap (λ o. option_map_or (λ s. s.place) o p.limits.max_servers) e,
+          )
 
   -- a connected server is the one in its place
-  pub server_is : (server : ℕ) → server_place p server < p.limits.max_servers → (i : ℕ) (d : ServerPart K) → slice_get p.servers i ≡ Some d → (server_place p server == d.place) ≡ (d.port.id == server)
+  pub server_is : (server : ℕ) → server_place p server < p.limits.max_servers → (i : ℕ) (d : ServerPart K) → slice_get p.servers i ≡ Some d
+      → (server_place p server == d.place) ≡ (d.port.id == server)
   server_is server h i d e =
       let f = server_placed server h in
-      let l : (j : ℕ) (b : ServerPart K) → slice_get p.servers j ≡ Some b → slice_get (map (λ c. c.connected) p.servers) j ≡ Some b.connected = λ j b g. listed (λ c. c.connected) p.servers j b g in
+      let l : (j : ℕ) (b : ServerPart K) → slice_get p.servers j ≡ Some b
+      → slice_get (map (λ c. c.connected) p.servers) j ≡ Some b.connected = λ j b g. listed (λ c. c.connected) p.servers j b g in
       ⊎_elim
       (λ is. let same : f.1 ≡ d = let g : Some f.1 ≡ Some d = sym f.2 ∙ ap (slice_get p.servers) (sym is) ∙ e in cc in
-      eq-eqb (server_place p server) d.place (f.4 ∙ ap (λ (d : ServerPart K). d.place) same) ∙ sym (eq-eqb d.port.id server (sym (ap (λ (d : ServerPart K). d.port.id) same) ∙ f.3)))
+      eq-eqb (server_place p server) d.place (f.4 ∙ ap (λ (d : ServerPart K). d.place) same)
+      ∙ sym (eq-eqb d.port.id server (sym (ap (λ (d : ServerPart K). d.port.id) same) ∙ f.3)))
       (λ n.
-      ne_eqb (server_place p server) d.place (λ g. n (sound.server_ports.placed_once i f.0 d.connected f.1.connected (l i d e) (l f.0 f.1 f.2) (sym g ∙ f.4)))
-      ∙ sym (ne_eqb d.port.id server (λ g. n (sound.server_ports.numbered_once i f.0 d.connected f.1.connected (l i d e) (l f.0 f.1 f.2) (g ∙ sym f.3)))))
+      ne_eqb (server_place p server) d.place (λ g. n (sound.server_ports.placed_once i f.0 d.connected f.1.connected (l i d e)
+      (l f.0 f.1 f.2) (sym g ∙ f.4)))
+      ∙ sym (ne_eqb d.port.id server (λ g. n (sound.server_ports.numbered_once i f.0 d.connected f.1.connected (l i d e) (l f.0 f.1 f.2)
+      (g ∙ sym f.3)))))
       (cases_eq i f.0)
 
   -- two servers of one place, which one of them has, are one
-  pub servers_apart : (server other : ℕ) → server_place p server < p.limits.max_servers → (server == other) ≡ (server_place p server == server_place p other)
+  pub servers_apart : (server other : ℕ) → server_place p server < p.limits.max_servers
+      → (server == other) ≡ (server_place p server == server_place p other)
   servers_apart server other h =
       ⊎_elim
       (λ e. eq-eqb server other e ∙ sym (eq-eqb (server_place p server) (server_place p other) (ap (server_place p) e)))
       (λ n. ne_eqb server other n ∙ sym (ne_eqb (server_place p server) (server_place p other) (λ g.
       let f = server_placed server h in
       let o = server_placed other (omega (arith, h, g)) in
-      let l : (j : ℕ) (b : ServerPart K) → slice_get p.servers j ≡ Some b → slice_get (map (λ c. c.connected) p.servers) j ≡ Some b.connected = λ j b g. listed (λ c. c.connected) p.servers j b g in
-      let at : f.0 ≡ o.0 = sound.server_ports.placed_once f.0 o.0 f.1.connected o.1.connected (l f.0 f.1 f.2) (l o.0 o.1 o.2) (sym f.4 ∙ g ∙ o.4) in
+      let l : (j : ℕ) (b : ServerPart K) → slice_get p.servers j ≡ Some b
+      → slice_get (map (λ c. c.connected) p.servers) j ≡ Some b.connected = λ j b g. listed (λ c. c.connected) p.servers j b g in
+      let at : f.0 ≡ o.0 = sound.server_ports.placed_once f.0 o.0 f.1.connected o.1.connected (l f.0 f.1 f.2) (l o.0 o.1 o.2)
+      (sym f.4 ∙ g ∙ o.4) in
       let same : f.1 ≡ o.1 = let e : Some f.1 ≡ Some o.1 = sym f.2 ∙ ap (slice_get p.servers) at ∙ o.2 in cc in
       n (sym f.3 ∙ ap (λ (d : ServerPart K). d.port.id) same ∙ o.3))))
       (cases_eq server other)
 
-module _ {Q QH P PH K : Type 0} (p : Parts Q QH P PH K) (sound : IsSound p empty_hand) (k : ℕ) (s : Seat Held) (at : fin_map.get p.table.seats k ≡ Some s) (server loans : ℕ) (is : s.value.stage ≡ stage.ActiveRequest server loans) where
+module _ {Q QH P PH K : Type 0} (p : Parts Q QH P PH K) (sound : IsSound p empty_hand) (k : ℕ) (s : Seat Held)
+    (at : fin_map.get p.table.seats k ≡ Some s) (server loans : ℕ) (is : s.value.stage ≡ stage.ActiveRequest server loans) where
   abbrev held : Held
   held = s.value
 
@@ -96,13 +112,20 @@ module _ {Q QH P PH K : Type 0} (p : Parts Q QH P PH K) (sound : IsSound p empty
   inside = sound.seated.active_servers k server s at (ap (is_active_of server) is ∙ eq-eqb server server refl)
 
   counted_here : mark (is_in_lane (is_active_of server) held.lane held) ≡ 1
-  counted_here = ap (λ g. mark (is_active_of server g && held.lane == held.lane)) is ∙ ap mark (λ i. eq-eqb server server refl i && eq-eqb held.lane held.lane refl i)
+  counted_here = ap (λ g. mark (is_active_of server g && held.lane == held.lane)) is
+      ∙ ap mark (λ i. eq-eqb server server refl i && eq-eqb held.lane held.lane refl i)
 
   -- the server has it from the client
   pub has_active : 0 < borrowed_at (lane_of held.lane p.client_lanes).messages place 0
-  has_active = omega (arith, in_hand.stored.borrowed_requests held.lane server spot.0, count-cons (is_in_lane (is_active_of server) held.lane) held [], counted_here)
+  has_active = omega (
+    arith,
+    in_hand.stored.borrowed_requests held.lane server spot.0,
+    count-cons (is_in_lane (is_active_of server) held.lane) held [],
+    counted_here,
+  )
 
-  same : {Y : Type 0} (f : Lane Q RequestNote QH → Y) → f (less p.client_lanes held.lane held.slot borrowed) ≡ f (lane_of held.lane p.client_lanes) → (l : ℕ) → f (lane_of l lanes) ≡ f (lane_of l p.client_lanes)
+  same : {Y : Type 0} (f : Lane Q RequestNote QH → Y) → f (less p.client_lanes held.lane held.slot borrowed) ≡ f
+      (lane_of held.lane p.client_lanes) → (l : ℕ) → f (lane_of l lanes) ≡ f (lane_of l p.client_lanes)
   same = same_of p.client_lanes held.lane held.slot borrowed
 
   dropped : IsDropped taken held p.clients p.servers lanes p.server_lanes marks
@@ -111,7 +134,8 @@ module _ {Q QH P PH K : Type 0} (p : Parts Q QH P PH K) (sound : IsSound p empty
       clients_alike = refl;
       servers_alike = refl;
       client_lanes_alike = less_lanes p.client_lanes held.lane held.slot borrowed
-          (less_rows (lane_of held.lane p.client_lanes).messages.borrowed place 0) (less_row (lane_of held.lane p.client_lanes).messages.borrowed place 0);
+          (less_rows (lane_of held.lane p.client_lanes).messages.borrowed place 0)
+          (less_row (lane_of held.lane p.client_lanes).messages.borrowed place 0);
       server_lanes_alike = lanes_same p.server_lanes;
       marks = as_many_rows p.waiting held.lane (held.slot * p.limits.max_servers + place);
       marks_each = as_many_marks p.waiting held.lane (held.slot * p.limits.max_servers + place);
@@ -140,7 +164,16 @@ module _ {Q QH P PH K : Type 0} (p : Parts Q QH P PH K) (sound : IsSound p empty
       omega (arith, unmarked (is_request_loan held.stage) (held.lane == d.lane) (ap is_request_loan is)),
       omega (arith, unmarked (is_pending held.stage) (held.lane == d.lane) (ap is_pending is)),
     );
-    server_counts = λ i d e. (d, e, refl, omega (arith, unmarked (is_response_loan held.stage) (held.lane == d.lane) (ap is_response_loan is)));
+    server_counts = λ i d e. (
+      d,
+      e,
+      refl,
+      omega (
+        arith,
+        unmarked (is_response_loan held.stage) (held.lane == d.lane)
+            (ap is_response_loan is),
+      ),
+    );
     loans_from = λ n other loans t e _. ap (λ g. is_response_loan g && (response_note p held.lane held.slot).active_request == n) is;
     request_borrows = λ l other h. omega (
       arith,
@@ -150,7 +183,8 @@ module _ {Q QH P PH K : Type 0} (p : Parts Q QH P PH K) (sound : IsSound p empty
     );
     response_borrows = λ l i channel d h e. omega (
       arith,
-      unmarked (is_received held.stage) (held.lane == l && ((response_note p held.lane held.slot).client == d.port.id && (response_note p held.lane held.slot).channel == channel)) (ap is_received is),
+      unmarked (is_received held.stage) (held.lane == l && ((response_note p held.lane held.slot).client == d.port.id
+          && (response_note p held.lane held.slot).channel == channel)) (ap is_received is),
     );
   }
     where

@@ -22,7 +22,15 @@ use Rattle.rr_core_laws.proofs.Shown.{held_within}
 
 -- in rows of equal length, an index tells the row
 apart : (a b n i j : ℕ) → i < n → a * n + i ≡ b * n + j → a < b → ⊥
-apart a b n i j h e less = omega (arith, h, e, mul-le-mul_right {m = a + 1} {n = b} n (omega (arith, less)), mul_comm (a + 1) n, mul-add n a 1, mul_comm a n)
+apart a b n i j h e less = omega (
+  arith,
+  h,
+  e,
+  mul-le-mul_right {m = a + 1} {n = b} n (omega (arith, less)),
+  mul_comm (a + 1) n,
+  mul-add n a 1,
+  mul_comm a n,
+)
 
 pub same_row : (a b n i j : ℕ) → i < n → j < n → a * n + i ≡ b * n + j → (a ≡ b) × (i ≡ j)
 same_row a b n i j h g e =
@@ -33,15 +41,25 @@ same_row a b n i j h g e =
     (same, omega (arith, e, ap (λ a. a * n) same))
 
 -- a handle's place is within its row
-pub within_row : (place servers slots slot : ℕ) → place < servers → slot < slots → ((place + 1) * slots + slot < (servers + 1) * slots) × (place + 1 ≤ (servers + 1) * slots)
+pub within_row : (place servers slots slot : ℕ) → place < servers → slot < slots → ((place + 1) * slots + slot < (servers + 1) * slots)
+    × (place + 1 ≤ (servers + 1) * slots)
 within_row place servers slots slot h g =
     let most = mul-le-mul_right {m = place + 1 + 1} {n = servers + 1} slots (omega (arith, h)) in
     let more = mul-le-mul_right {m = 1} {n = slots} (place + 1) (omega (arith, g)) in (
       omega (arith, g, most, mul_comm (place + 1 + 1) slots, mul-add slots (place + 1) 1, mul_comm (place + 1) slots),
-      omega (arith, more, mul_comm slots (place + 1), most, mul_comm (place + 1 + 1) slots, mul-add slots (place + 1) 1, mul_comm (place + 1) slots),
+      omega (
+        arith,
+        more,
+        mul_comm slots (place + 1),
+        most,
+        mul_comm (place + 1 + 1) slots,
+        mul-add slots (place + 1) 1,
+        mul_comm (place + 1) slots,
+      ),
     )
 
-module _ {Q QH P PH K : Type 0} (p : Parts Q QH P PH K) (sound : IsSound p empty_hand) (lane : ℕ) (there : lane < length p.client_lanes) (server slot : ℕ) (within : slot < length (lane_of lane p.client_lanes).messages.held)
+module _ {Q QH P PH K : Type 0} (p : Parts Q QH P PH K) (sound : IsSound p empty_hand) (lane : ℕ) (there : lane < length p.client_lanes)
+    (server slot : ℕ) (within : slot < length (lane_of lane p.client_lanes).messages.held)
     (first : slice_get (queue_from p.client_lanes (server_place p server) 0 lane) 0 ≡ Some slot) where
   abbrev slots : ℕ
   slots = length (lane_of lane p.client_lanes).messages.held
@@ -55,31 +73,48 @@ module _ {Q QH P PH K : Type 0} (p : Parts Q QH P PH K) (sound : IsSound p empty
       index_of : {a b : Place} → a ≡ b → a.index ≡ b.index
       index_of e = ap (λ (x : Place). x.index) e
 
-      same_lane : is_of_request s.value.stage ≡ true → (lane_of s.value.lane p.client_lanes).row ≡ (lane_of lane p.client_lanes).row → s.value.lane ≡ lane
+      same_lane : is_of_request s.value.stage ≡ true → (lane_of s.value.lane p.client_lanes).row ≡ (lane_of lane p.client_lanes).row
+          → s.value.lane ≡ lane
       same_lane kind row = sound.seated.client_rows_apart s.value.lane lane (request_lane p empty_hand sound.counted k s at kind) there row
 
       inside : is_of_request s.value.stage ≡ true → s.value.lane ≡ lane → s.value.slot < slots
       inside kind same =
           let spot = request_there p sound k s at kind in
-          omega (arith, held_within (lane_of s.value.lane p.client_lanes).messages.held s.value.slot spot.1, ap (λ l. length (lane_of l p.client_lanes).messages.held) same)
+          omega (
+            arith,
+            held_within (lane_of s.value.lane p.client_lanes).messages.held s.value.slot spot.1,
+            ap (λ l. length (lane_of l p.client_lanes).messages.held) same,
+          )
 
-      of_own : is_of_request s.value.stage ≡ true → (lane_of s.value.lane p.client_lanes).row ≡ (lane_of lane p.client_lanes).row → s.value.slot ≡ (server_place p server + 1) * slots + slot → ⊥
+      of_own : is_of_request s.value.stage ≡ true → (lane_of s.value.lane p.client_lanes).row ≡ (lane_of lane p.client_lanes).row
+          → s.value.slot ≡ (server_place p server + 1) * slots + slot → ⊥
       of_own kind row e =
-          omega (arith, inside kind (same_lane kind row), e, mul_comm (server_place p server + 1) slots, mul-add slots (server_place p server) 1)
+          omega (
+            arith,
+            inside kind (same_lane kind row),
+            e,
+            mul_comm (server_place p server + 1) slots,
+            mul-add slots (server_place p server) 1,
+          )
 
       of_response : is_of_response s.value.stage ≡ true → (lane_of s.value.lane p.server_lanes).row ≡ (lane_of lane p.client_lanes).row → ⊥
-      of_response kind row = sound.seated.rows_apart lane s.value.lane there (response_lane p empty_hand sound.counted k s at kind) (sym row)
+      of_response kind row = sound.seated.rows_apart lane s.value.lane there (response_lane p empty_hand sound.counted k s at kind)
+          (sym row)
 
-      of_active : (other loans : ℕ) → s.value.stage ≡ stage.ActiveRequest other loans → (lane_of s.value.lane p.client_lanes).row ≡ (lane_of lane p.client_lanes).row
-          → (server_place p other + 1) * length (lane_of s.value.lane p.client_lanes).messages.held + s.value.slot ≡ (server_place p server + 1) * slots + slot → ⊥
+      of_active : (other loans : ℕ) → s.value.stage ≡ stage.ActiveRequest other loans
+          → (lane_of s.value.lane p.client_lanes).row ≡ (lane_of lane p.client_lanes).row
+          → (server_place p other + 1) * length (lane_of s.value.lane p.client_lanes).messages.held + s.value.slot ≡
+          (server_place p server + 1) * slots + slot → ⊥
       of_active other loans g row e =
           let kind : is_of_request s.value.stage ≡ true = ap is_of_request g in
           let same = same_lane kind row in
           let both = same_row (server_place p other + 1) (server_place p server + 1) slots s.value.slot slot (inside kind same) within
           (ap (λ l. (server_place p other + 1) * length (lane_of l p.client_lanes).messages.held + s.value.slot) (sym same) ∙ e) in
           let placed = sound.seated.active_servers k other s at (ap (is_active_of other) g ∙ eq-eqb other other refl) in
-          let one = servers_apart p sound other server placed ∙ eq-eqb (server_place p other) (server_place p server) (omega (arith, both.0)) in
-          let here : is_active_at lane slot server s.value ≡ true = rw g (rw (eq-eqb s.value.lane lane same) (rw (eq-eqb s.value.slot slot both.1) one)) in
+          let one = servers_apart p sound other server placed
+          ∙ eq-eqb (server_place p other) (server_place p server) (omega (arith, both.0)) in
+          let here : is_active_at lane slot server s.value ≡ true = rw g
+          (rw (eq-eqb s.value.lane lane same) (rw (eq-eqb s.value.slot slot both.1) one)) in
           omega (
             arith,
             sound.held_once.servers lane slot server,

@@ -31,7 +31,8 @@ true_beside : (b : Bool) → (b && not false) ≡ b
 true_beside true = refl
 true_beside false = refl
 
-module _ {Q QH P PH K : Type 0} (p : Parts Q QH P PH K) (sound : IsSound p empty_hand) (k : ℕ) (s : Seat Held) (at : fin_map.get p.table.seats k ≡ Some s) (server loans : ℕ) (is : s.value.stage ≡ stage.ActiveRequest server loans) where
+module _ {Q QH P PH K : Type 0} (p : Parts Q QH P PH K) (sound : IsSound p empty_hand) (k : ℕ) (s : Seat Held)
+    (at : fin_map.get p.table.seats k ≡ Some s) (server loans : ℕ) (is : s.value.stage ≡ stage.ActiveRequest server loans) where
   abbrev held : Held
   held = s.value
 
@@ -48,7 +49,8 @@ module _ {Q QH P PH K : Type 0} (p : Parts Q QH P PH K) (sound : IsSound p empty
   abbrev unmarked : Parts Q QH P PH K
   unmarked = record taken { waiting = marks p sound k s at server loans is }
 
-  awaited_is : (l i r : ℕ) → is_awaited unmarked l i r ≡ (is_awaited p l i r && not (held.lane == l && (held.slot * p.limits.max_servers + place) == (i * p.limits.max_servers + r)))
+  awaited_is : (l i r : ℕ) → is_awaited unmarked l i r ≡ (is_awaited p l i r
+      && not (held.lane == l && (held.slot * p.limits.max_servers + place) == (i * p.limits.max_servers + r)))
   awaited_is l i r = mark_cleared p.waiting held.lane (held.slot * p.limits.max_servers + place) l (i * p.limits.max_servers + r)
 
   placed : (j : ℕ) (d : ServerPart K) → slice_get p.servers j ≡ Some d → d.place < p.limits.max_servers
@@ -56,31 +58,42 @@ module _ {Q QH P PH K : Type 0} (p : Parts Q QH P PH K) (sound : IsSound p empty
 
   -- of another request as many servers are waited for
   awaits_there : (l i : ℕ) → (held.lane ≡ l → held.slot ≡ i → ⊥) → waiting_at unmarked l i ≡ waiting_at taken l i
-  awaits_there l i n = ap (map (λ (d : ServerPart K). d.port.id)) (filter_same (λ d. is_awaited unmarked l i d.place) (λ d. is_awaited taken l i d.place) p.servers (λ j d e.
-      awaited_is l i d.place ∙ ap (λ b. is_awaited p l i d.place && not b) (other d.place (placed j d e)) ∙ true_beside (is_awaited p l i d.place)))
+  awaits_there l i n = ap (map (λ (d : ServerPart K). d.port.id))
+      (filter_same (λ d. is_awaited unmarked l i d.place) (λ d. is_awaited taken l i d.place) p.servers (λ j d e.
+      awaited_is l i d.place ∙ ap (λ b. is_awaited p l i d.place && not b) (other d.place (placed j d e))
+      ∙ true_beside (is_awaited p l i d.place)))
     where
-      other : (r : ℕ) → r < p.limits.max_servers → (held.lane == l && (held.slot * p.limits.max_servers + place) == (i * p.limits.max_servers + r)) ≡ false
+      other : (r : ℕ) → r < p.limits.max_servers → (held.lane == l
+          && (held.slot * p.limits.max_servers + place) == (i * p.limits.max_servers + r)) ≡ false
       other r h =
           ⊎_elim
           (λ e. ap (λ b. b && (held.slot * p.limits.max_servers + place) == (i * p.limits.max_servers + r)) (eq-eqb held.lane l e)
-          ∙ ne_eqb (held.slot * p.limits.max_servers + place) (i * p.limits.max_servers + r) (λ f. n e (mark_of p.limits.max_servers held.slot place i r within h f).0))
+          ∙ ne_eqb (held.slot * p.limits.max_servers + place) (i * p.limits.max_servers + r)
+          (λ f. n e (mark_of p.limits.max_servers held.slot place i r within h f).0))
           (λ m. ap (λ b. b && (held.slot * p.limits.max_servers + place) == (i * p.limits.max_servers + r)) (ne_eqb held.lane l m))
           (cases_eq held.lane l)
 
   -- of this one the server is waited for no more
   awaits_here : waiting_at unmarked held.lane held.slot ≡ filter (λ n. not (n == server)) (waiting_at taken held.lane held.slot)
   awaits_here =
-      ap (map (λ (d : ServerPart K). d.port.id)) (filter_same (λ d. is_awaited unmarked held.lane held.slot d.place) (λ d. is_awaited taken held.lane held.slot d.place && not (d.port.id == server)) p.servers (λ j d e.
+      ap (map (λ (d : ServerPart K). d.port.id)) (filter_same (λ d. is_awaited unmarked held.lane held.slot d.place)
+      (λ d. is_awaited taken held.lane held.slot d.place && not (d.port.id == server)) p.servers (λ j d e.
       awaited_is held.lane held.slot d.place
-      ∙ ap (λ b. is_awaited p held.lane held.slot d.place && not (b && (held.slot * p.limits.max_servers + place) == (held.slot * p.limits.max_servers + d.place))) (eq-eqb held.lane held.lane refl)
-      ∙ ap (λ b. is_awaited p held.lane held.slot d.place && not b) (same_mark d.place (placed j d e) ∙ server_is p sound server within j d e)))
+      ∙ ap (λ b. is_awaited p held.lane held.slot d.place && not
+      (b && (held.slot * p.limits.max_servers + place) == (held.slot * p.limits.max_servers + d.place)))
+      (eq-eqb held.lane held.lane refl)
+      ∙ ap (λ b. is_awaited p held.lane held.slot d.place && not b)
+      (same_mark d.place (placed j d e) ∙ server_is p sound server within j d e)))
       ∙ filter_twice (λ d. is_awaited taken held.lane held.slot d.place) (λ d. d.port.id) (λ n. not (n == server)) p.servers
     where
-      same_mark : (r : ℕ) → r < p.limits.max_servers → ((held.slot * p.limits.max_servers + place) == (held.slot * p.limits.max_servers + r)) ≡ (place == r)
+      same_mark : (r : ℕ) → r < p.limits.max_servers → ((held.slot * p.limits.max_servers + place) ==
+          (held.slot * p.limits.max_servers + r)) ≡ (place == r)
       same_mark r h =
           ⊎_elim
-          (λ e. eq-eqb (held.slot * p.limits.max_servers + place) (held.slot * p.limits.max_servers + r) (ap (λ n. held.slot * p.limits.max_servers + n) e) ∙ sym (eq-eqb place r e))
-          (λ n. ne_eqb (held.slot * p.limits.max_servers + place) (held.slot * p.limits.max_servers + r) (λ f. n (mark_of p.limits.max_servers held.slot place held.slot r within h f).1) ∙ sym (ne_eqb place r n))
+          (λ e. eq-eqb (held.slot * p.limits.max_servers + place) (held.slot * p.limits.max_servers + r)
+          (ap (λ n. held.slot * p.limits.max_servers + n) e) ∙ sym (eq-eqb place r e))
+          (λ n. ne_eqb (held.slot * p.limits.max_servers + place) (held.slot * p.limits.max_servers + r)
+          (λ f. n (mark_of p.limits.max_servers held.slot place held.slot r within h f).1) ∙ sym (ne_eqb place r n))
           (cases_eq place r)
 
   -- the number of the request
@@ -91,13 +104,16 @@ module _ {Q QH P PH K : Type 0} (p : Parts Q QH P PH K) (sound : IsSound p empty
   used = handle_uses_request p empty_hand sound.counted k s at (ap is_of_request is)
 
   -- a pending response under the request's number is of the request
-  pending_here : (j : ℕ) (t : Seat Held) → fin_map.get p.table.seats j ≡ Some t → is_pending t.value.stage ≡ true → j ≡ number → (held.lane ≡ t.value.lane) × (held.slot ≡ t.value.slot)
+  pending_here : (j : ℕ) (t : Seat Held) → fin_map.get p.table.seats j ≡ Some t → is_pending t.value.stage ≡ true → j ≡ number
+      → (held.lane ≡ t.value.lane) × (held.slot ≡ t.value.slot)
   pending_here j t e pends its =
-      sound.numbered.requests_apart held.lane held.slot t.value.lane t.value.slot used (handle_uses_request p empty_hand sound.counted j t e (pending_is_request t.value.stage pends))
+      sound.numbered.requests_apart held.lane held.slot t.value.lane t.value.slot used
+      (handle_uses_request p empty_hand sound.counted j t e (pending_is_request t.value.stage pends))
       (sym its ∙ sound.numbered.pendings j t e pends)
 
   -- and one under another number is of another
-  pending_there : (j : ℕ) (t : Seat Held) → fin_map.get p.table.seats j ≡ Some t → is_pending t.value.stage ≡ true → j ≢ number → held.lane ≡ t.value.lane → held.slot ≡ t.value.slot → ⊥
+  pending_there : (j : ℕ) (t : Seat Held) → fin_map.get p.table.seats j ≡ Some t → is_pending t.value.stage ≡ true → j ≢ number
+      → held.lane ≡ t.value.lane → held.slot ≡ t.value.slot → ⊥
   pending_there j t e pends n l i = n (sound.numbered.pendings j t e pends ∙ sym (λ x. (request_note p (l x) (i x)).number))
 
   still : (j : ℕ) (t : Seat Held) → fin_map.get taken.table.seats j ≡ Some t → fin_map.get p.table.seats j ≡ Some t
@@ -105,25 +121,31 @@ module _ {Q QH P PH K : Type 0} (p : Parts Q QH P PH K) (sound : IsSound p empty
 
   -- a pending response with these servers
   abbrev handle_with : Bool → ℕ → List ℕ → ℕ → ℕ → Handle Q QH P PH
-  handle_with hint connections servers l i = PendingResponse (record { message = request_at p l i; hint = hint; connections = connections; servers = servers })
+  handle_with hint connections servers l i = PendingResponse
+      (record { message = request_at p l i; hint = hint; connections = connections; servers = servers })
 
   -- every other handle shows what it did
-  shown_there : (g : Stage) (l i : ℕ) → (is_pending g ≡ true → held.lane ≡ l → held.slot ≡ i → ⊥) → handle_in taken g l i ≡ handle_in unmarked g l i
+  shown_there : (g : Stage) (l i : ℕ) → (is_pending g ≡ true → held.lane ≡ l → held.slot ≡ i → ⊥)
+      → handle_in taken g l i ≡ handle_in unmarked g l i
   shown_there stage.RequestMutUninit l i n = refl
   shown_there stage.RequestMut l i n = refl
-  shown_there (stage.PendingResponse hint connections) l i n = ap (λ servers. handle_with hint connections servers l i) (sym (awaits_there l i (n refl)))
+  shown_there (stage.PendingResponse hint connections) l i n = ap (λ servers. handle_with hint connections servers l i)
+      (sym (awaits_there l i (n refl)))
   shown_there (stage.ActiveRequest server loans) l i n = refl
   shown_there stage.ResponseMutUninit l i n = refl
   shown_there stage.ResponseMut l i n = refl
   shown_there stage.Response l i n = refl
 
   -- and the pending response of the request doesn't wait for the server
-  shown_here : (g : Stage) (l i : ℕ) → (is_pending g ≡ true → (held.lane ≡ l) × (held.slot ≡ i)) → handle_in unmarked g l i ≡ without_server server (handle_in taken g l i)
+  shown_here : (g : Stage) (l i : ℕ) → (is_pending g ≡ true → (held.lane ≡ l) × (held.slot ≡ i))
+      → handle_in unmarked g l i ≡ without_server server (handle_in taken g l i)
   shown_here stage.RequestMutUninit l i h = refl
   shown_here stage.RequestMut l i h = refl
   shown_here (stage.PendingResponse hint connections) l i h =
       let e = h refl in
-      ap (λ servers. handle_with hint connections servers l i) (sym (λ x. waiting_at unmarked (e.0 x) (e.1 x)) ∙ awaits_here ∙ (λ x. filter (λ n. not (n == server)) (waiting_at taken (e.0 x) (e.1 x))))
+      ap (λ servers. handle_with hint connections servers l i)
+      (sym (λ x. waiting_at unmarked (e.0 x) (e.1 x)) ∙ awaits_here
+      ∙ (λ x. filter (λ n. not (n == server)) (waiting_at taken (e.0 x) (e.1 x))))
   shown_here (stage.ActiveRequest server loans) l i h = refl
   shown_here stage.ResponseMutUninit l i h = refl
   shown_here stage.ResponseMut l i h = refl
@@ -133,23 +155,31 @@ module _ {Q QH P PH K : Type 0} (p : Parts Q QH P PH K) (sound : IsSound p empty
   changed : (state_of unmarked).handles ≡ (with_changed (state_of taken) number (without_server server)).handles
   changed = go (fin_map.get taken.table.seats number) refl
     where
-      seen : (o : Option (Seat Held)) → fin_map.get taken.table.seats number ≡ o → fin_map.get (state_of taken).handles number ≡ option_map (handle_of taken) o
+      seen : (o : Option (Seat Held)) → fin_map.get taken.table.seats number ≡ o
+          → fin_map.get (state_of taken).handles number ≡ option_map (handle_of taken) o
       seen o e = get-map_values (handle_of taken) taken.table.seats number ∙ ap (option_map (handle_of taken)) e
 
       others : (j : ℕ) (t : Seat Held) → fin_map.get taken.table.seats j ≡ Some t → j ≢ number → handle_of taken t ≡ handle_of unmarked t
       others j t e n = shown_there t.value.stage t.value.lane t.value.slot (λ pends. pending_there j t (still j t e) pends n)
 
-      go : (o : Option (Seat Held)) → fin_map.get taken.table.seats number ≡ o → (state_of unmarked).handles ≡ (with_changed (state_of taken) number (without_server server)).handles
+      go : (o : Option (Seat Held)) → fin_map.get taken.table.seats number ≡ o
+          → (state_of unmarked).handles ≡ (with_changed (state_of taken) number (without_server server)).handles
       go None e =
-          map_values-same (handle_of unmarked) (handle_of taken) taken.table.seats (λ j t f. sym (others j t f (λ same. absurd (let g : None ≡ Some t = sym e ∙ ap (fin_map.get taken.table.seats) (sym same) ∙ f in cc))))
-          ∙ sym (ap (λ o. option_map_or (λ handle. fin_map.insert (state_of taken).handles number (without_server server handle)) o (state_of taken).handles) (seen None e))
+          map_values-same (handle_of unmarked) (handle_of taken) taken.table.seats
+          (λ j t f. sym (others j t f (λ same. absurd (let g : None ≡ Some t = sym e ∙ ap (fin_map.get taken.table.seats) (sym same)
+          ∙ f in cc))))
+          ∙ sym (ap (λ o. option_map_or (λ handle. fin_map.insert (state_of taken).handles number (without_server server handle)) o
+          (state_of taken).handles) (seen None e))
       go (Some t) e =
           map_values-but (handle_of taken) (handle_of unmarked) taken.table.seats number t e others
-          ∙ ap (fin_map.insert (state_of taken).handles number) (shown_here t.value.stage t.value.lane t.value.slot (λ pends. pending_here number t (still number t e) pends refl))
-          ∙ sym (ap (λ o. option_map_or (λ handle. fin_map.insert (state_of taken).handles number (without_server server handle)) o (state_of taken).handles) (seen (Some t) e))
+          ∙ ap (fin_map.insert (state_of taken).handles number)
+          (shown_here t.value.stage t.value.lane t.value.slot (λ pends. pending_here number t (still number t e) pends refl))
+          ∙ sym (ap (λ o. option_map_or (λ handle. fin_map.insert (state_of taken).handles number (without_server server handle)) o
+          (state_of taken).handles) (seen (Some t) e))
 
   unmarked_view : state_of unmarked ≡ with_changed (state_of taken) number (without_server server)
-  unmarked_view = same_state (state_of unmarked) (with_changed (state_of taken) number (without_server server)) refl refl refl refl changed refl refl refl refl
+  unmarked_view = same_state (state_of unmarked) (with_changed (state_of taken) number (without_server server)) refl refl refl refl changed
+      refl refl refl refl
 
   abbrev without : State Q QH P PH K
   without = record (state_of p) { handles = fin_map.remove (state_of p).handles k }
@@ -160,8 +190,10 @@ module _ {Q QH P PH K : Type 0} (p : Parts Q QH P PH K) (sound : IsSound p empty
   active_is : after_release (state_of p) k ≡ with_changed without number (without_server server)
   active_is =
       let f = server_placed p sound server within in
-      release_is (state_of p) k (handle_in p (stage.ActiveRequest server loans) held.lane held.slot) (seat_shown p k s at ∙ ap Some seen_active)
-      (server_in_use (with_changed without number (without_server server)) f.0 (server_of f.1) (listed server_of p.servers f.0 f.1 f.2) (sound.held_by_value.servers f.0 f.1 f.2) server f.3)
+      release_is (state_of p) k (handle_in p (stage.ActiveRequest server loans) held.lane held.slot)
+      (seat_shown p k s at ∙ ap Some seen_active)
+      (server_in_use (with_changed without number (without_server server)) f.0 (server_of f.1) (listed server_of p.servers f.0 f.1 f.2)
+      (sound.held_by_value.servers f.0 f.1 f.2) server f.3)
 
   -- contracts see the handle go, and that the request's pending response doesn't wait for the server any more
   pub active_view : state_of (after_active p sound k s at server loans is) ≡ after_release (state_of p) k

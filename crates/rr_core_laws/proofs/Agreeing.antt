@@ -19,7 +19,8 @@ use Rattle.rr_core_laws.proofs.KeyedViews.{at_requests, at_responses}
 
 module _ {T N H : Type 0} where
   -- a lane with a slot that is held is there
-  pub lane_within : (lanes : List (Lane T N H)) (lane slot : ℕ) → 0 < slice_index (lane_of lane lanes).messages.held slot → lane < length lanes
+  pub lane_within : (lanes : List (Lane T N H)) (lane slot : ℕ) → 0 < slice_index (lane_of lane lanes).messages.held slot
+      → lane < length lanes
   lane_within lanes lane slot held =
       ⊎_elim (λ h. h)
       (λ h. absurd (omega (arith, held, ap (λ (l : Lane T N H). slice_index l.messages.held slot) (get_or_past lanes lane no_lane h))))
@@ -27,22 +28,30 @@ module _ {T N H : Type 0} where
 
 module _ {Q QH P PH K : Type 0} where
   -- the lane of a handle's message is there
-  pub request_lane : (p : Parts Q QH P PH K) (hand : Hand) → IsCounted p hand → (k : ℕ) (s : Seat Held) → fin_map.get p.table.seats k ≡ Some s → is_of_request s.value.stage ≡ true → s.value.lane < length p.client_lanes
+  pub request_lane : (p : Parts Q QH P PH K) (hand : Hand) → IsCounted p hand → (k : ℕ) (s : Seat Held)
+      → fin_map.get p.table.seats k ≡ Some s → is_of_request s.value.stage ≡ true → s.value.lane < length p.client_lanes
   request_lane p hand c k s at is =
-      let here : has_request_at s.value.lane s.value.slot s ≡ true = rw is (rw (eq-eqb s.value.lane s.value.lane refl) (rw (eq-eqb s.value.slot s.value.slot refl) refl)) in
+      let here : has_request_at s.value.lane s.value.slot s ≡ true = rw is
+      (rw (eq-eqb s.value.lane s.value.lane refl) (rw (eq-eqb s.value.slot s.value.slot refl) refl)) in
       lane_within p.client_lanes s.value.lane s.value.slot
       (omega (arith, c.requests s.value.lane s.value.slot, tally-at (has_request_at s.value.lane s.value.slot) p.table.seats k s at here))
 
-  pub response_lane : (p : Parts Q QH P PH K) (hand : Hand) → IsCounted p hand → (k : ℕ) (s : Seat Held) → fin_map.get p.table.seats k ≡ Some s → is_of_response s.value.stage ≡ true → s.value.lane < length p.server_lanes
+  pub response_lane : (p : Parts Q QH P PH K) (hand : Hand) → IsCounted p hand → (k : ℕ) (s : Seat Held)
+      → fin_map.get p.table.seats k ≡ Some s → is_of_response s.value.stage ≡ true → s.value.lane < length p.server_lanes
   response_lane p hand c k s at is =
-      let here : has_response_at s.value.lane s.value.slot s ≡ true = rw is (rw (eq-eqb s.value.lane s.value.lane refl) (rw (eq-eqb s.value.slot s.value.slot refl) refl)) in
+      let here : has_response_at s.value.lane s.value.slot s ≡ true = rw is
+      (rw (eq-eqb s.value.lane s.value.lane refl) (rw (eq-eqb s.value.slot s.value.slot refl) refl)) in
       lane_within p.server_lanes s.value.lane s.value.slot
       (omega (arith, c.responses s.value.lane s.value.slot, tally-at (has_response_at s.value.lane s.value.slot) p.table.seats k s at here))
 
   -- a handle shows the same where its message and what waits for it are the same
   pub same_handle : (p q : Parts Q QH P PH K) (g : Stage) (lane slot : ℕ)
-      → (is_of_request g ≡ true → (request_in_slot p.spare_request_header (lane_of lane p.client_lanes).messages slot ≡ request_in_slot q.spare_request_header (lane_of lane q.client_lanes).messages slot) × (waiting_at p lane slot ≡ waiting_at q lane slot))
-      → (is_of_response g ≡ true → response_in_slot p.spare_response_header (lane_of lane p.server_lanes).messages slot ≡ response_in_slot q.spare_response_header (lane_of lane q.server_lanes).messages slot)
+      → (is_of_request g ≡ true → (request_in_slot p.spare_request_header
+      (lane_of lane p.client_lanes).messages slot ≡ request_in_slot q.spare_request_header (lane_of lane q.client_lanes).messages slot)
+      × (waiting_at p lane slot ≡ waiting_at q lane slot))
+      → (is_of_response g ≡ true → response_in_slot p.spare_response_header
+      (lane_of lane p.server_lanes).messages slot ≡ response_in_slot q.spare_response_header
+      (lane_of lane q.server_lanes).messages slot)
       → handle_in p g lane slot ≡ handle_in q g lane slot
   same_handle p q stage.RequestMutUninit lane slot r s = rw (r refl).0 refl
   same_handle p q stage.RequestMut lane slot r s = rw (r refl).0 refl
@@ -53,13 +62,18 @@ module _ {Q QH P PH K : Type 0} where
   same_handle p q stage.Response lane slot r s = rw (s refl) refl
 
   -- what waits is the same where it is the same at each key
-  pub same_requests : (p q : Parts Q QH P PH K) → ((key : _) → requests_at p key ≡ requests_at q key) → (state_of p).requests ≡ (state_of q).requests
-  same_requests p q each = same_lists request_keys_total request_keys_exact (state_of p).requests (state_of q).requests (λ key. at_requests p key ∙ each key ∙ sym (at_requests q key))
+  pub same_requests : (p q : Parts Q QH P PH K) → ((key : _) → requests_at p key ≡ requests_at q key)
+      → (state_of p).requests ≡ (state_of q).requests
+  same_requests p q each = same_lists request_keys_total request_keys_exact (state_of p).requests (state_of q).requests
+      (λ key. at_requests p key ∙ each key ∙ sym (at_requests q key))
 
-  pub same_responses : (p q : Parts Q QH P PH K) → ((key : _) → responses_at p key ≡ responses_at q key) → (state_of p).responses ≡ (state_of q).responses
-  same_responses p q each = same_lists response_keys_total response_keys_exact (state_of p).responses (state_of q).responses (λ key. at_responses p key ∙ each key ∙ sym (at_responses q key))
+  pub same_responses : (p q : Parts Q QH P PH K) → ((key : _) → responses_at p key ≡ responses_at q key)
+      → (state_of p).responses ≡ (state_of q).responses
+  same_responses p q each = same_lists response_keys_total response_keys_exact (state_of p).responses (state_of q).responses
+      (λ key. at_responses p key ∙ each key ∙ sym (at_responses q key))
 
   -- a state is what it has
-  pub same_state : (s t : State Q QH P PH K) → s.limits ≡ t.limits → s.node_id ≡ t.node_id → s.clients ≡ t.clients → s.servers ≡ t.servers → s.handles ≡ t.handles
+  pub same_state : (s t : State Q QH P PH K) → s.limits ≡ t.limits → s.node_id ≡ t.node_id → s.clients ≡ t.clients → s.servers ≡ t.servers
+      → s.handles ≡ t.handles
       → s.requests ≡ t.requests → s.responses ≡ t.responses → s.expired ≡ t.expired → s.next ≡ t.next → s ≡ t
   same_state s t a b c d e f g h i = rw a (rw b (rw c (rw d (rw e (rw f (rw g (rw h (rw i refl))))))))

@@ -28,10 +28,13 @@ not_true : (b : Bool) → (b ≡ true → ⊥) → b ≡ false
 not_true true h = absurd (h refl)
 not_true false h = refl
 
-module _ {B H T : Type 0} (lanes : List (OwnedLane B RequestNote H T)) (i : ℕ) (lane : OwnedLane B RequestNote H T) (within : i < length lanes) (is : lane ≡ get_or lanes i lane) where
+module _ {B H T : Type 0} (lanes : List (OwnedLane B RequestNote H T)) (i : ℕ) (lane : OwnedLane B RequestNote H T)
+    (within : i < length lanes) (is : lane ≡ get_or lanes i lane) where
   -- the note that was read of a slot
-  pub note_read : (slot : ℕ) (note : RequestNote) → slice_get lane.messages.notes slot ≡ Some note → get_or (lane_of i (map lane_part lanes)).messages.notes slot no_request ≡ note
-  note_read slot note at = ap (λ (l : Lane T RequestNote H). get_or l.messages.notes slot no_request) (lane_read lanes i lane within is) ∙ get_or_from_slice_get lane.messages.notes slot note no_request at
+  pub note_read : (slot : ℕ) (note : RequestNote) → slice_get lane.messages.notes slot ≡ Some note
+      → get_or (lane_of i (map lane_part lanes)).messages.notes slot no_request ≡ note
+  note_read slot note at = ap (λ (l : Lane T RequestNote H). get_or l.messages.notes slot no_request) (lane_read lanes i lane within is)
+      ∙ get_or_from_slice_get lane.messages.notes slot note no_request at
 
 module _ {Q QH P PH K : Type 0} (p : Parts Q QH P PH K) where
   -- a pending response is what shows as one
@@ -55,40 +58,48 @@ module _ {Q QH P PH K : Type 0} (p : Parts Q QH P PH K) where
   pending_place stage.Response lane slot h = absurd (false≢true h)
 
   -- a request is alive if a pending response stands under its number
-  alive_is : (k : ℕ) → is_alive (state_of p) k ≡ is_some (option_and_then as_pending (option_map (handle_of p) (fin_map.get p.table.seats k)))
+  alive_is : (k : ℕ) → is_alive (state_of p) k ≡ is_some (option_and_then as_pending
+      (option_map (handle_of p) (fin_map.get p.table.seats k)))
   alive_is k = ap (λ o. is_some (option_and_then as_pending o)) (handle_at-state_of p k)
 
   -- what stands in a place tells it
   alive_by : (k : ℕ) (s : Seat Held) → fin_map.get p.table.seats k ≡ Some s → is_alive (state_of p) k ≡ is_pending s.value.stage
   alive_by k s at =
-      alive_is k ∙ ap (λ o. is_some (option_and_then as_pending (option_map (handle_of p) o))) at ∙ pending-handle_in s.value.stage s.value.lane s.value.slot
+      alive_is k ∙ ap (λ o. is_some (option_and_then as_pending (option_map (handle_of p) o))) at
+      ∙ pending-handle_in s.value.stage s.value.lane s.value.slot
 
   -- what stands in the place under its number tells whether a request is alive
   pub alive_here : (k : ℕ) (own : Place) (v : Held) → value_in p.table k own ≡ Some v → is_alive (state_of p) k ≡ is_pending v.stage
   alive_here k own v h =
       ⊎_elim
       (λ n. absurd (let f : None ≡ Some v = sym (ap (option_and_then (kept_in own)) n) ∙ h in cc))
-      (λ f. let kept = kept_in_place own f.0 v (sym (ap (option_and_then (kept_in own)) f.1) ∙ h) in alive_by k f.0 f.1 ∙ ap (λ (x : Held). is_pending x.stage) kept.1)
+      (λ f. let kept = kept_in_place own f.0 v (sym (ap (option_and_then (kept_in own)) f.1) ∙ h) in alive_by k f.0 f.1
+      ∙ ap (λ (x : Held). is_pending x.stage) kept.1)
       (none_or_some (fin_map.get p.table.seats k))
 
   module _ (hand : Hand) (sound : IsSound p hand) where
     -- a request with a handle is used
-    pub used : (n : ℕ) (held : Held) → value_at p.table n ≡ Some held → is_of_request held.stage ≡ true → 0 < request_uses p held.lane held.slot
+    pub used : (n : ℕ) (held : Held) → value_at p.table n ≡ Some held → is_of_request held.stage ≡ true
+        → 0 < request_uses p held.lane held.slot
     used n held h is =
         let f = seat_under p.table n held h in
         subst (λ (v : Held). 0 < request_uses p v.lane v.slot) f.2
         (handle_uses_request p hand sound.counted n f.0 f.1 (ap (λ (v : Held). is_of_request v.stage) f.2 ∙ is))
 
     -- a pending response of a number stands in the own place of the request with that number
-    stands_own : (lane slot k : ℕ) (s : Seat Held) → 0 < request_uses p lane slot → k ≡ (request_note p lane slot).number → fin_map.get p.table.seats k ≡ Some s → is_pending s.value.stage ≡ true
+    stands_own : (lane slot k : ℕ) (s : Seat Held) → 0 < request_uses p lane slot → k ≡ (request_note p lane slot).number
+        → fin_map.get p.table.seats k ≡ Some s → is_pending s.value.stage ≡ true
         → s.place ≡ own_place p lane slot
     stands_own lane slot k s uses number at is =
         let its = handle_uses_request p hand sound.counted k s at (pending_is_request s.value.stage is) in
-        let same = sound.numbered.requests_apart s.value.lane s.value.slot lane slot its uses (sym (sound.numbered.pendings k s at is) ∙ number) in
-        sound.seated.placed k s at ∙ pending_place s.value.stage s.value.lane s.value.slot is ∙ ap (λ l. own_place p l s.value.slot) same.0 ∙ ap (own_place p lane) same.1
+        let same = sound.numbered.requests_apart s.value.lane s.value.slot lane slot its uses
+        (sym (sound.numbered.pendings k s at is) ∙ number) in
+        sound.seated.placed k s at ∙ pending_place s.value.stage s.value.lane s.value.slot is ∙ ap (λ l. own_place p l s.value.slot) same.0
+        ∙ ap (own_place p lane) same.1
 
     -- where nothing of its number stands in its own place, a request is not alive
-    pub alive_not : (lane slot k : ℕ) (own : Place) → 0 < request_uses p lane slot → k ≡ (request_note p lane slot).number → own ≡ own_place p lane slot → value_in p.table k own ≡ None → is_alive (state_of p) k ≡ false
+    pub alive_not : (lane slot k : ℕ) (own : Place) → 0 < request_uses p lane slot → k ≡ (request_note p lane slot).number
+        → own ≡ own_place p lane slot → value_in p.table k own ≡ None → is_alive (state_of p) k ≡ false
     alive_not lane slot k own uses number place h =
         ⊎_elim
         (λ n. alive_is k ∙ ap (λ o. is_some (option_and_then as_pending (option_map (handle_of p) o))) n)

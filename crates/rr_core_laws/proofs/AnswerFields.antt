@@ -45,14 +45,22 @@ pub record Sending {K : Type 0} (servers : List (ServerPort K)) (l : ℕ) : Type
 
 module _ {Q QH P PH K : Type 0} (p : Parts Q QH P PH K) (sound : IsSound p empty_hand) where
   -- each lane has one
-  pub server_sending : (servers : List (ServerPort K)) → p.servers ≡ map server_part servers → (l : ℕ) → l < length p.server_lanes → Sending servers l
+  pub server_sending : (servers : List (ServerPort K)) → p.servers ≡ map server_part servers → (l : ℕ) → l < length p.server_lanes
+      → Sending servers l
   server_sending servers are l h =
       let b = sound.server_ports.ported l h in
       let c = mapped (λ (c : ServerPart K). c.connected) p.servers b.0 b.1 b.2 in
       let x = mapped server_part servers b.0 c.0 (ap (λ (cs : List (ServerPart K)). slice_get cs b.0) (sym are) ∙ c.1) in
       let lane : x.0.port.lane ≡ l = ap (λ (c : ServerPart K). c.lane) x.2 ∙ ap (λ (c : Connected K). c.lane) c.2 ∙ b.3 in
       let r = sender_found (λ (c : ServerPort K). c.port.lane == l) servers b.0 x.0 x.1 (eq-eqb x.0.port.lane l lane) in
-      record { index = r.0; it = r.2.it; found = r.1; at = r.2.at; there = listed server_part servers r.0 r.2.it r.2.at; sends = eqb-true _ _ r.2.passes }
+      record {
+        index = r.0;
+        it = r.2.it;
+        found = r.1;
+        at = r.2.at;
+        there = listed server_part servers r.0 r.2.it r.2.at;
+        sends = eqb-true _ _ r.2.passes;
+      }
 
 module _ {Q QH P PH K : Type 0} (p : Parts Q QH P PH K) where
   -- contracts see a response on loan where its stage is one
@@ -74,11 +82,13 @@ module _ {Q QH P PH K : Type 0} (p : Parts Q QH P PH K) where
     pub lane : held.lane < length p.server_lanes
     pub slot : 0 < slice_index (lane_of held.lane p.server_lanes).messages.held held.slot
 
-  pub answer_found : IsSound p empty_hand → (s : State Q QH P PH K) (n m : ℕ) → state_of p ≡ s → n ≡ m → IsSomeAnd (handle_at s m) (λ handle. is_loaned_response handle ≡ true)
+  pub answer_found : IsSound p empty_hand → (s : State Q QH P PH K) (n m : ℕ) → state_of p ≡ s → n ≡ m
+      → IsSomeAnd (handle_at s m) (λ handle. is_loaned_response handle ≡ true)
       → (held : Held) → value_at p.table n ≡ Some held → AnswerFound n held
   answer_found sound s n m view same told held h =
       let f = seat_under p.table n held h in
-      let stage = answer_stage held.stage held.lane held.slot (of_handle p s n m view same (λ handle. is_loaned_response handle ≡ true) told held h) in
+      let stage = answer_stage held.stage held.lane held.slot
+      (of_handle p s n m view same (λ handle. is_loaned_response handle ≡ true) told held h) in
       let loan : is_response_loan f.0.value.stage ≡ true = ap (λ (v : Held). is_response_loan v.stage) f.2 ∙ stage in
       let spot = response_there p sound n f.0 f.1 (answer_is_response f.0.value.stage loan) in
       record {
@@ -90,7 +100,8 @@ module _ {Q QH P PH K : Type 0} (p : Parts Q QH P PH K) where
         slot = subst (λ (v : Held). 0 < slice_index (lane_of v.lane p.server_lanes).messages.held v.slot) f.2 spot.1;
       }
 
-  module _ (sound : IsSound p empty_hand) (k : ℕ) (held : Held) (f : AnswerFound k held) (index : ℕ) (c : ServerPart K) (there : slice_get p.servers index ≡ Some c) (sends : c.lane ≡ held.lane) where
+  module _ (sound : IsSound p empty_hand) (k : ℕ) (held : Held) (f : AnswerFound k held) (index : ℕ) (c : ServerPart K)
+      (there : slice_get p.servers index ≡ Some c) (sends : c.lane ≡ held.lane) where
     abbrev taken : Parts Q QH P PH K
     taken = record p { table = unseated p.table k }
 
@@ -105,20 +116,30 @@ module _ {Q QH P PH K : Type 0} (p : Parts Q QH P PH K) where
     pub has_loan : 0 < c.loans
     has_loan =
         let here : is_in_lane is_response_loan c.lane held ≡ true = rw loan_is (eq-eqb held.lane c.lane (sym sends)) in
-        omega (arith, taken_sound.stored.response_loans index c there, count-cons (is_in_lane is_response_loan c.lane) held [], ap mark here)
+        omega (
+          arith,
+          taken_sound.stored.response_loans index c there,
+          count-cons (is_in_lane is_response_loan c.lane) held [],
+          ap mark here,
+        )
 
     -- the parts without it
-    pub answer_parts : (note : ResponseNote) → response_note p held.lane held.slot ≡ note → (servers : List (ServerPart K)) (lanes : List (Lane P ResponseNote PH)) (table : Seats Held)
+    pub answer_parts : (note : ResponseNote) → response_note p held.lane held.slot ≡ note
+        → (servers : List (ServerPart K)) (lanes : List (Lane P ResponseNote PH)) (table : Seats Held)
         → servers ≡ slice_set p.servers index (without_answer c)
-        → lanes ≡ slice_set p.server_lanes held.lane (part.with_messages (lane_of held.lane p.server_lanes) (given_back (lane_of held.lane p.server_lanes).messages held.slot))
+        → lanes ≡ slice_set p.server_lanes held.lane (part.with_messages (lane_of held.lane p.server_lanes)
+        (given_back (lane_of held.lane p.server_lanes).messages held.slot))
         → (place : Option Place) → IfSome place (IsAskedPlace p.client_lanes note c.place)
         → IsLoanEnded note.active_request (found_under (unseated p.table k) note.active_request place) (unseated p.table k) table
-        → IsSound (with_servers p servers lanes table p.next) empty_hand × (state_of (with_servers p servers lanes table p.next) ≡ after_release (state_of p) k)
+        → IsSound (with_servers p servers lanes table p.next) empty_hand
+        × (state_of (with_servers p servers lanes table p.next) ≡ after_release (state_of p) k)
     answer_parts note noted servers lanes table ss ls place asked told =
-        let R : ResponseNote → Type 0 = λ n. IfSome place (IsAskedPlace p.client_lanes n c.place) × IsLoanEnded n.active_request (found_under (unseated p.table k) n.active_request place) (unseated p.table k) table in
+        let R : ResponseNote → Type 0 = λ n. IfSome place (IsAskedPlace p.client_lanes n c.place)
+        × IsLoanEnded n.active_request (found_under (unseated p.table k) n.active_request place) (unseated p.table k) table in
         let r = subst R (sym noted) (asked, told) in
         let e = ended_well taken held taken_sound loan_is index c there sends place
-        (λ server loans t here is. asked_right taken held taken_sound loan_is index c there sends server loans t here is place r.0) table r.1 in
+        (λ server loans t here is. asked_right taken held taken_sound loan_is index c there sends server loans t here is place r.0) table
+        r.1 in
         let same : with_servers p servers lanes table p.next ≡ ended taken held taken_sound loan_is index c there sends table =
         same_servers p (ended taken held taken_sound loan_is index c there sends table) servers lanes table p.next ss ls refl refl refl in
         let gone : after_release (state_of p) k ≡ record (state_of p) { handles = fin_map.remove (state_of p).handles k } =

@@ -20,7 +20,8 @@ use Rattle.rr_core_laws.proofs.Released.{release_is, server_in_use, seat_shown}
 use Rattle.rr_core_laws.proofs.Stages.{answer_is_response, handle_uses_response}
 
 module _ {Q QH P PH K : Type 0} (p : Parts Q QH P PH K) where
-  gone_alone : (t : State Q QH P PH K) (g : Stage) (lane slot : ℕ) → is_response_loan g ≡ true → after_handle_gone t (handle_in p g lane slot) ≡ t
+  gone_alone : (t : State Q QH P PH K) (g : Stage) (lane slot : ℕ) → is_response_loan g ≡ true
+      → after_handle_gone t (handle_in p g lane slot) ≡ t
   gone_alone t stage.ResponseMutUninit lane slot h = refl
   gone_alone t stage.ResponseMut lane slot h = refl
   gone_alone t stage.RequestMutUninit lane slot h = absurd (false≢true h)
@@ -38,13 +39,15 @@ module _ {Q QH P PH K : Type 0} (p : Parts Q QH P PH K) where
   port_is (stage.ActiveRequest server loans) lane slot h = absurd (false≢true h)
   port_is stage.Response lane slot h = absurd (false≢true h)
 
-  module _ (sound : IsSound p empty_hand) (k : ℕ) (s : Seat Held) (at : fin_map.get p.table.seats k ≡ Some s) (loan : is_response_loan s.value.stage ≡ true)
+  module _ (sound : IsSound p empty_hand) (k : ℕ) (s : Seat Held) (at : fin_map.get p.table.seats k ≡ Some s)
+      (loan : is_response_loan s.value.stage ≡ true)
       (index : ℕ) (c : ServerPart K) (there : slice_get p.servers index ≡ Some c) (sends : c.lane ≡ s.value.lane) where
     -- its server
     pub its_server : (response_note p s.value.lane s.value.slot).server ≡ c.port.id
     its_server =
         let own = sound.server_ports.own index c.connected (listed (λ c. c.connected) p.servers index c there) in
-        sound.addressed.responses s.value.lane s.value.slot (handle_uses_response p empty_hand sound.counted k s at (answer_is_response s.value.stage loan))
+        sound.addressed.responses s.value.lane s.value.slot (handle_uses_response p empty_hand sound.counted k s at
+        (answer_is_response s.value.stage loan))
         ∙ sym (ap (λ l. (lane_of l p.server_lanes).owner) sends) ∙ own.1
 
     -- whatever waits, nothing else changes
@@ -56,5 +59,6 @@ module _ {Q QH P PH K : Type 0} (p : Parts Q QH P PH K) where
         release_is (record (state_of p) { responses = waits }) k (handle_of p s) (seat_shown p k s at)
         (server_in_use (after_handle_gone without (handle_of p s)) index (server_of c)
         (ap (λ (t : State Q QH P PH K). slice_get t.servers index) stays ∙ listed server_of p.servers index c there)
-        (sound.held_by_value.servers index c there) (port_of (handle_of p s)) (sym its_server ∙ sym (port_is s.value.stage s.value.lane s.value.slot loan)))
+        (sound.held_by_value.servers index c there) (port_of (handle_of p s))
+        (sym its_server ∙ sym (port_is s.value.stage s.value.lane s.value.slot loan)))
         ∙ stays

@@ -37,11 +37,13 @@ none_reached true b x y h = absurd (let f : true ≡ false = h in cc)
 none_reached false true x y h = absurd (let f : true ≡ false = h in cc)
 none_reached false false x y h = refl
 
-module _ {Q QH P PH K : Type 0} (p : Parts Q QH P PH K) (sound : IsSound p empty_hand) (index : ℕ) (c : ServerPart K) (at : slice_get p.servers index ≡ Some c) (n rl rs loans : ℕ)
+module _ {Q QH P PH K : Type 0} (p : Parts Q QH P PH K) (sound : IsSound p empty_hand) (index : ℕ) (c : ServerPart K)
+    (at : slice_get p.servers index ≡ Some c) (n rl rs loans : ℕ)
     (s : Seat Held) (here : fin_map.get p.table.seats n ≡ Some s) (is : s.value ≡ active_held c.port.id rl rs loans) where
   -- whether a limit of loans was reached
   abbrev pub is_reached : Bool
-  is_reached = nat_le c.max_loaned_responses_per_request loans || nat_le (max_loaned_responses p.limits c.max_loaned_responses_per_request) c.loans
+  is_reached = nat_le c.max_loaned_responses_per_request loans
+      || nat_le (max_loaned_responses p.limits c.max_loaned_responses_per_request) c.loans
 
   -- the reasons by what is stored
   abbrev pub stored_refusal : ℕ → Option LoanError
@@ -63,7 +65,8 @@ module _ {Q QH P PH K : Type 0} (p : Parts Q QH P PH K) (sound : IsSound p empty
   -- they are the reasons by what is seen
   pub refusal_stored : (len : ℕ) → response_loan_refusal (state_of p) (server_of c) n len ≡ stored_refusal len
   refusal_stored len =
-      ap (λ k. refusal_of len k (loaned_responses (state_of p) c.port.id) (live_responses (state_of p) c.port.id)) (loans_from_counted p sound n c.port.id loans s here (ap (λ (h : Held). h.stage) is))
+      ap (λ k. refusal_of len k (loaned_responses (state_of p) c.port.id) (live_responses (state_of p) c.port.id))
+      (loans_from_counted p sound n c.port.id loans s here (ap (λ (h : Held). h.stage) is))
       ∙ ap (λ k. refusal_of len loans k (live_responses (state_of p) c.port.id)) (responses_counted p sound index c at)
       ∙ ap (λ k. refusal_of len loans c.loans k) (live_responses_used p sound index c at)
 
@@ -72,16 +75,20 @@ module _ {Q QH P PH K : Type 0} (p : Parts Q QH P PH K) (sound : IsSound p empty
   active = record { message = request_at p rl rs; server = c.port.id }
 
   active_seen : active_at (state_of p) n ≡ Some active
-  active_seen = ap (option_and_then as_active) (get-map_values (handle_of p) p.table.seats n ∙ ap (option_map (handle_of p)) here ∙ ap (λ (h : Held). Some (handle_in p h.stage h.lane h.slot)) is)
+  active_seen = ap (option_and_then as_active) (get-map_values (handle_of p) p.table.seats n ∙ ap (option_map (handle_of p)) here
+      ∙ ap (λ (h : Held). Some (handle_in p h.stage h.lane h.slot)) is)
 
   server_seen : server_at (state_of p) c.port.id ≡ Some (server_of c)
   server_seen =
       find_mapped server_of (λ d. d.id == c.port.id) p.servers
-      ∙ ap (option_map server_of) (found_alone (λ (d : ServerPart K). d.port.id == c.port.id) p.servers index c at (eq-eqb c.port.id c.port.id refl)
-      (λ k t e same. sound.server_ports.numbered_once k index t.connected c.connected (listed (λ d. d.connected) p.servers k t e) (listed (λ d. d.connected) p.servers index c at) (eqb-true t.port.id c.port.id same)))
+      ∙ ap (option_map server_of) (found_alone (λ (d : ServerPart K). d.port.id == c.port.id) p.servers index c at
+      (eq-eqb c.port.id c.port.id refl)
+      (λ k t e same. sound.server_ports.numbered_once k index t.connected c.connected (listed (λ d. d.connected) p.servers k t e)
+      (listed (λ d. d.connected) p.servers index c at) (eqb-true t.port.id c.port.id same)))
 
   -- what holds of both holds of what is seen
-  of_active : (R : State Q QH P PH K → ℕ → Server K → Active Q QH → Type 0) → R (state_of p) n (server_of c) active → (t : State Q QH P PH K) (j : ℕ) → state_of p ≡ t → n ≡ j → IsActiveAnd t j (R t j)
+  of_active : (R : State Q QH P PH K → ℕ → Server K → Active Q QH → Type 0) → R (state_of p) n (server_of c) active
+      → (t : State Q QH P PH K) (j : ℕ) → state_of p ≡ t → n ≡ j → IsActiveAnd t j (R t j)
   of_active R r t j view same =
       subst (λ t. IsActiveAnd t j (R t j)) view
       (subst (λ j. IsActiveAnd (state_of p) j (R (state_of p) j)) same
@@ -89,7 +96,8 @@ module _ {Q QH P PH K : Type 0} (p : Parts Q QH P PH K) (sound : IsSound p empty
       (subst (λ o. IsSomeAnd o (λ server. R (state_of p) n server active)) (sym server_seen) r)))
 
   -- a refusal by what is stored
-  pub refuses : (len : ℕ) (error : LoanError) → IsLoanRefusal (stored_refusal len) c.port len error → (t new : State Q QH P PH K) (j : ℕ) → state_of p ≡ t → n ≡ j → new ≡ t
+  pub refuses : (len : ℕ) (error : LoanError) → IsLoanRefusal (stored_refusal len) c.port len error → (t new : State Q QH P PH K) (j : ℕ)
+      → state_of p ≡ t → n ≡ j → new ≡ t
       → IsActiveAnd t j (λ server active. IsLoanRefusal (response_loan_refusal t server j len) server.port len error × (new ≡ t))
   refuses len error due t new j view same stays =
       of_active (λ t j server active. IsLoanRefusal (response_loan_refusal t server j len) server.port len error × (new ≡ t))
@@ -97,13 +105,25 @@ module _ {Q QH P PH K : Type 0} (p : Parts Q QH P PH K) (sound : IsSound p empty
 
   -- a loan, after which contracts see the response
   pub lends : (IsDefault : PH → Type 0) (len slot k : ℕ) (header : PH) → stored_refusal len ≡ None → IsDefault header
-      → slice_get (lane_of c.lane p.server_lanes).messages.held slot ≡ Some 0 → times slot (all_entries (lane_of c.lane p.server_lanes).messages.queues) ≡ 0
-      → (t new : State Q QH P PH K) (j : ℕ) → state_of p ≡ t → n ≡ j → k ≡ p.next → new ≡ state_of (with_response_loan p index c n s.place (active_held c.port.id rl rs (loans + 1)) (answer_note p c n rl rs) slot len header)
+      → slice_get (lane_of c.lane p.server_lanes).messages.held slot ≡ Some 0
+      → times slot (all_entries (lane_of c.lane p.server_lanes).messages.queues) ≡ 0
+      → (t new : State Q QH P PH K) (j : ℕ) → state_of p ≡ t → n ≡ j → k ≡ p.next
+      → new ≡ state_of (with_response_loan p index c n s.place (active_held c.port.id rl rs (loans + 1))
+      (answer_note p c n rl rs) slot len header)
       → IsActiveAnd t j (λ server active. (response_loan_refusal t server j len ≡ None) × (k ≡ t.next)
       × ((h : PH) × IsDefault h × (new ≡ with_loaned_response t j active len h)))
   lends IsDefault len slot k header due default free unused t new j view same number now =
-      of_active (λ t j server active. (response_loan_refusal t server j len ≡ None) × (k ≡ t.next) × ((h : PH) × IsDefault h × (new ≡ with_loaned_response t j active len h)))
-      (refusal_stored len ∙ due, number, (header, default, now ∙ answer_view p sound index c at n rl rs loans s here is slot len header free unused)) t j view same
+      of_active (λ t j server active. (response_loan_refusal t server j len ≡ None) × (k ≡ t.next)
+      × ((h : PH) × IsDefault h × (new ≡ with_loaned_response t j active len h))) (
+        refusal_stored len ∙ due,
+        number,
+        (
+          header,
+          default,
+          now
+              ∙ answer_view p sound index c at n rl rs loans s here is slot len header free unused,
+        ),
+      ) t j view same
 
   -- a slice that is too long comes first
   pub first_due : (len : ℕ) → is_too_long c.port len ≡ true → stored_refusal len ≡ Some LoanError.ExceedsMaxLoanSize
@@ -111,24 +131,34 @@ module _ {Q QH P PH K : Type 0} (p : Parts Q QH P PH K) (sound : IsSound p empty
 
   -- then a limit of loans
   pub second_due : (len : ℕ) → is_too_long c.port len ≡ false → is_reached ≡ true → stored_refusal len ≡ Some LoanError.ExceedsMaxLoans
-  second_due len h g = rw h (one_reached (nat_le c.max_loaned_responses_per_request loans) (nat_le (max_loaned_responses p.limits c.max_loaned_responses_per_request) c.loans) (Some LoanError.ExceedsMaxLoans) _ g)
+  second_due len h g = rw h (one_reached (nat_le c.max_loaned_responses_per_request loans)
+      (nat_le (max_loaned_responses p.limits c.max_loaned_responses_per_request) c.loans) (Some LoanError.ExceedsMaxLoans) _ g)
 
   -- where no limit of loans was reached, the pool decides
-  past_limits : (len : ℕ) → is_too_long c.port len ≡ false → is_reached ≡ false → stored_refusal len ≡ cond (nat_le c.port.pool_size (used_count (lane_of c.lane p.server_lanes).messages)) (Some LoanError.OutOfMemory) None
-  past_limits len h g = rw h (none_reached (nat_le c.max_loaned_responses_per_request loans) (nat_le (max_loaned_responses p.limits c.max_loaned_responses_per_request) c.loans) (Some LoanError.ExceedsMaxLoans) _ g)
+  past_limits : (len : ℕ) → is_too_long c.port len ≡ false → is_reached ≡ false
+      → stored_refusal len ≡ cond (nat_le c.port.pool_size (used_count (lane_of c.lane p.server_lanes).messages))
+      (Some LoanError.OutOfMemory) None
+  past_limits len h g = rw h (none_reached (nat_le c.max_loaned_responses_per_request loans)
+      (nat_le (max_loaned_responses p.limits c.max_loaned_responses_per_request) c.loans) (Some LoanError.ExceedsMaxLoans) _ g)
 
   -- then a full pool
-  pub third_due : (len : ℕ) → is_too_long c.port len ≡ false → is_reached ≡ false → c.port.pool_size ≤ used_count (lane_of c.lane p.server_lanes).messages → stored_refusal len ≡ Some LoanError.OutOfMemory
-  third_due len h g l = past_limits len h g ∙ ap {B = Option LoanError} (λ b. cond b (Some LoanError.OutOfMemory) None) (le-leb c.port.pool_size (used_count (lane_of c.lane p.server_lanes).messages) l)
+  pub third_due : (len : ℕ) → is_too_long c.port len ≡ false → is_reached ≡ false
+      → c.port.pool_size ≤ used_count (lane_of c.lane p.server_lanes).messages → stored_refusal len ≡ Some LoanError.OutOfMemory
+  third_due len h g l = past_limits len h g ∙ ap {B = Option LoanError} (λ b. cond b (Some LoanError.OutOfMemory) None)
+      (le-leb c.port.pool_size (used_count (lane_of c.lane p.server_lanes).messages) l)
 
   -- or no reason is due
-  pub none_due : (len : ℕ) → is_too_long c.port len ≡ false → is_reached ≡ false → used_count (lane_of c.lane p.server_lanes).messages < c.port.pool_size → stored_refusal len ≡ None
-  none_due len h g l = past_limits len h g ∙ ap {B = Option LoanError} (λ b. cond b (Some LoanError.OutOfMemory) None) (lt-leb c.port.pool_size (used_count (lane_of c.lane p.server_lanes).messages) l)
+  pub none_due : (len : ℕ) → is_too_long c.port len ≡ false → is_reached ≡ false
+      → used_count (lane_of c.lane p.server_lanes).messages < c.port.pool_size → stored_refusal len ≡ None
+  none_due len h g l = past_limits len h g ∙ ap {B = Option LoanError} (λ b. cond b (Some LoanError.OutOfMemory) None)
+      (lt-leb c.port.pool_size (used_count (lane_of c.lane p.server_lanes).messages) l)
 
   -- what a lane that lends nothing tells is want of memory
   pub pool_refusal : (len : ℕ) (error : AcquireError) → is_too_long c.port len ≡ false → is_reached ≡ false
-      → (IsErrOf {T = ℕ} (Err error) AcquireError.Full ↔ (used_count (lane_of c.lane p.server_lanes).messages ≡ length (lane_of c.lane p.server_lanes).messages.held))
-      → (IsErrOf {T = ℕ} (Err error) AcquireError.NoRoom → (lane_of c.lane p.server_lanes).messages.room < len) → IsLoanRefusal (stored_refusal len) c.port len LoanError.OutOfMemory
+      → (IsErrOf {T = ℕ} (Err error) AcquireError.Full ↔ (used_count (lane_of c.lane p.server_lanes).messages ≡ length
+      (lane_of c.lane p.server_lanes).messages.held))
+      → (IsErrOf {T = ℕ} (Err error) AcquireError.NoRoom → (lane_of c.lane p.server_lanes).messages.room < len)
+      → IsLoanRefusal (stored_refusal len) c.port len LoanError.OutOfMemory
   pool_refusal len AcquireError.Full long few full room =
       let own = sound.server_ports.own index c.connected (listed (λ c. c.connected) p.servers index c at) in
       due_refusal (stored_refusal len) c.port len LoanError.OutOfMemory (third_due len long few (omega (arith, full.0 refl, own.2)))

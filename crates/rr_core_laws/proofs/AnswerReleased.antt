@@ -45,10 +45,12 @@ answer_alone (stage.ActiveRequest server loans) h = absurd (false≢true h)
 answer_alone stage.Response h = absurd (false≢true h)
 
 -- a response on loan in hand, before others, whose active request is not in the table
-module _ {Q QH P PH K : Type 0} (p : Parts Q QH P PH K) (held : Held) (hand : Hand) (sound : IsSound p (held ∷ hand)) (loan : is_response_loan held.stage ≡ true)
+module _ {Q QH P PH K : Type 0} (p : Parts Q QH P PH K) (held : Held) (hand : Hand) (sound : IsSound p (held ∷ hand))
+    (loan : is_response_loan held.stage ≡ true)
     (there : held.lane < length p.server_lanes) (some : 0 < slice_index (lane_of held.lane p.server_lanes).messages.held held.slot)
     (index : ℕ) (c : ServerPart K) (at : slice_get p.servers index ≡ Some c) (sends : c.lane ≡ held.lane)
-    (apart : (k server loans : ℕ) (t : Seat Held) → fin_map.get p.table.seats k ≡ Some t → t.value.stage ≡ stage.ActiveRequest server loans → (response_note p held.lane held.slot).active_request ≢ k) where
+    (apart : (k server loans : ℕ) (t : Seat Held) → fin_map.get p.table.seats k ≡ Some t → t.value.stage ≡ stage.ActiveRequest server loans
+    → (response_note p held.lane held.slot).active_request ≢ k) where
   alone : IsAnswerAlone held.stage
   alone = answer_alone held.stage loan
 
@@ -67,9 +69,15 @@ module _ {Q QH P PH K : Type 0} (p : Parts Q QH P PH K) (held : Held) (hand : Ha
 
   -- the server has it on loan
   pub has_answer : 0 < c.loans
-  has_answer = omega (arith, sound.stored.response_loans index c at, count-cons (is_in_lane is_response_loan c.lane) held hand, counted_here)
+  has_answer = omega (
+    arith,
+    sound.stored.response_loans index c at,
+    count-cons (is_in_lane is_response_loan c.lane) held hand,
+    counted_here,
+  )
 
-  same : {Y : Type 0} (f : Lane P ResponseNote PH → Y) → f (less p.server_lanes held.lane held.slot (lane_of held.lane p.server_lanes).messages.borrowed) ≡ f (lane_of held.lane p.server_lanes)
+  same : {Y : Type 0} (f : Lane P ResponseNote PH → Y) → f (less p.server_lanes held.lane held.slot
+      (lane_of held.lane p.server_lanes).messages.borrowed) ≡ f (lane_of held.lane p.server_lanes)
       → (l : ℕ) → f (lane_of l lanes) ≡ f (lane_of l p.server_lanes)
   same = same_of p.server_lanes held.lane held.slot (lane_of held.lane p.server_lanes).messages.borrowed
 
@@ -77,7 +85,8 @@ module _ {Q QH P PH K : Type 0} (p : Parts Q QH P PH K) (held : Held) (hand : Ha
   other_lane i d n e is =
       let a = sound.server_ports.own i d.connected (listed (λ c. c.connected) p.servers i d e) in
       let b = sound.server_ports.own index c.connected (listed (λ c. c.connected) p.servers index c at) in
-      ids_apart (λ (c : ServerPart K). c.connected) p.next p.limits.max_servers p.servers p.server_lanes sound.server_ports i index d c e at n
+      ids_apart (λ (c : ServerPart K). c.connected) p.next p.limits.max_servers p.servers p.server_lanes sound.server_ports i index d c e at
+      n
       (sym a.1 ∙ ap (λ l. (lane_of l p.server_lanes).owner) (sym is ∙ sym sends) ∙ b.1)
 
   pub dropped : IsDropped p held p.clients servers p.client_lanes lanes p.waiting
@@ -86,7 +95,8 @@ module _ {Q QH P PH K : Type 0} (p : Parts Q QH P PH K) (held : Held) (hand : Ha
       clients_alike = refl;
       servers_alike = ports_set (λ (c : ServerPart K). c.connected) p.servers index c (without_answer c) at refl;
       client_lanes_alike = lanes_same p.client_lanes;
-      server_lanes_alike = less_lanes p.server_lanes held.lane held.slot (lane_of held.lane p.server_lanes).messages.borrowed refl (λ r. refl);
+      server_lanes_alike = less_lanes p.server_lanes held.lane held.slot (lane_of held.lane p.server_lanes).messages.borrowed refl
+          (λ r. refl);
       marks = refl;
       marks_each = λ l. refl;
       numbers = omega arith;
@@ -101,7 +111,11 @@ module _ {Q QH P PH K : Type 0} (p : Parts Q QH P PH K) (held : Held) (hand : Ha
     request_notes = λ l. refl;
     response_notes = λ l. same (λ x. x.messages.notes) refl l;
     requests_wait = λ l. refl;
-    responses_used = λ l i. omega (arith, ap (λ (qs : List (List (List ℕ))). times i (all_entries qs)) (same (λ x. x.messages.queues) refl l));
+    responses_used = λ l i. omega (
+      arith,
+      ap (λ (qs : List (List (List ℕ))). times i (all_entries qs))
+          (same (λ x. x.messages.queues) refl l),
+    );
     responses_wait = λ l place channel i. omega (arith, ap (times i) (same (λ x. queue_at x.messages place channel) refl l));
     responses_none = λ l place channel e. same (λ x. queue_at x.messages place channel) refl l ∙ e;
     requests_borrowed = λ l place channel. omega arith;
@@ -115,15 +129,31 @@ module _ {Q QH P PH K : Type 0} (p : Parts Q QH P PH K) (held : Held) (hand : Ha
       omega (arith, unmarked (is_pending held.stage) (held.lane == d.lane) alone.pending),
     );
     server_counts = λ i d e. set_cases p.servers index (without_answer c) i d e
-        (λ j is. (c, ap (slice_get p.servers) j ∙ at, ap (λ (d : ServerPart K). frame_of d.connected) is, omega (arith, has_answer, counted_here, ap (λ (d : ServerPart K). d.loans) is)))
-        (λ n b. (d, b, refl, omega (arith, ap (λ a. mark (a && held.lane == d.lane)) loan, ap mark (ne_eqb held.lane d.lane (other_lane i d n b)))));
+        (λ j is. (
+          c,
+          ap (slice_get p.servers) j ∙ at,
+          ap (λ (d : ServerPart K). frame_of d.connected) is,
+          omega (arith, has_answer, counted_here, ap (λ (d : ServerPart K). d.loans) is),
+        ))
+        (λ n b. (
+          d,
+          b,
+          refl,
+          omega (
+            arith,
+            ap (λ a. mark (a && held.lane == d.lane)) loan,
+            ap mark (ne_eqb held.lane d.lane (other_lane i d n b)),
+          ),
+        ));
     loans_from = λ n server loans t e is.
-        ap (λ a. a && (response_note p held.lane held.slot).active_request == n) loan ∙ ne_eqb (response_note p held.lane held.slot).active_request n (apart n server loans t e is);
+        ap (λ a. a && (response_note p held.lane held.slot).active_request == n) loan
+        ∙ ne_eqb (response_note p held.lane held.slot).active_request n (apart n server loans t e is);
     request_borrows = λ l server h. omega (arith, unmarked (is_active_of server held.stage) (held.lane == l) (alone.active server));
     response_borrows = λ l i channel d h e. omega (
       arith,
       same (λ x. borrowed_at x.messages d.place channel) refl l,
-      unmarked (is_received held.stage) (held.lane == l && ((response_note p held.lane held.slot).client == d.port.id && (response_note p held.lane held.slot).channel == channel)) alone.received,
+      unmarked (is_received held.stage) (held.lane == l && ((response_note p held.lane held.slot).client == d.port.id
+          && (response_note p held.lane held.slot).channel == channel)) alone.received,
     );
   }
 
@@ -134,7 +164,8 @@ module _ {Q QH P PH K : Type 0} (p : Parts Q QH P PH K) (held : Held) (hand : Ha
   -- and contracts see the same
   pub answer_view : state_of after_answer ≡ state_of p
   answer_view =
-      uncounted p p.clients servers p.client_lanes lanes refl (map-set_alike bare_server p.servers index (without_answer c) c (ap bare_server (sym it))) refl
+      uncounted p p.clients servers p.client_lanes lanes refl
+      (map-set_alike bare_server p.servers index (without_answer c) c (ap bare_server (sym it))) refl
       (bare_less p.server_lanes held.lane held.slot (lane_of held.lane p.server_lanes).messages.borrowed)
     where
       it : get_or p.servers index c ≡ c

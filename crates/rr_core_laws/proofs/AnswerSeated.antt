@@ -21,9 +21,12 @@ use Rattle.rr_core_laws.proofs.LoanSound.{slot_cases, both_true}
 use Rattle.rr_core_laws.proofs.Recounted.{recounted_sound}
 use Rattle.rr_core_laws.proofs.AnswerSound as answer
 
-module _ {Q QH P PH K : Type 0} (p : Parts Q QH P PH K) (sound : IsSound p empty_hand) (index : ℕ) (c : ServerPart K) (at : slice_get p.servers index ≡ Some c) (n rl rs loans : ℕ)
-    (s : Seat Held) (here : fin_map.get p.table.seats n ≡ Some s) (is : s.value ≡ active_held c.port.id rl rs loans) (given : n < p.next) (slot len : ℕ) (header : PH)
-    (free : slice_get (lane_of c.lane p.server_lanes).messages.held slot ≡ Some 0) (unused : times slot (all_entries (lane_of c.lane p.server_lanes).messages.queues) ≡ 0) (left : p.next < 2 ^ 62) where
+module _ {Q QH P PH K : Type 0} (p : Parts Q QH P PH K) (sound : IsSound p empty_hand) (index : ℕ) (c : ServerPart K)
+    (at : slice_get p.servers index ≡ Some c) (n rl rs loans : ℕ)
+    (s : Seat Held) (here : fin_map.get p.table.seats n ≡ Some s) (is : s.value ≡ active_held c.port.id rl rs loans) (given : n < p.next)
+    (slot len : ℕ) (header : PH)
+    (free : slice_get (lane_of c.lane p.server_lanes).messages.held slot ≡ Some 0)
+    (unused : times slot (all_entries (lane_of c.lane p.server_lanes).messages.queues) ≡ 0) (left : p.next < 2 ^ 62) where
   abbrev taken : Parts Q QH P PH K
   taken = record p { table = unseated p.table n }
 
@@ -63,7 +66,8 @@ module _ {Q QH P PH K : Type 0} (p : Parts Q QH P PH K) (sound : IsSound p empty
     ap (λ (h : Held). mark (is_loan_from p n h)) is,
     answer.loans_same taken index c at n rl rs (loans + 1) in_hand gone given slot len header free unused n,
     count-cons (is_loan_from answered n) more (loan ∷ []),
-    one_in_hand (is_loan_from answered n) loan (ap (λ (a : ResponseNote). a.active_request == n) (answer.note_here taken index c at n rl rs (loans + 1) in_hand gone given slot len header free unused) ∙ eq-eqb n n refl),
+    one_in_hand (is_loan_from answered n) loan (ap (λ (a : ResponseNote). a.active_request == n)
+        (answer.note_here taken index c at n rl rs (loans + 1) in_hand gone given slot len header free unused) ∙ eq-eqb n n refl),
   )
 
   seats_active : IsSeatable answered (loan ∷ []) n s.place more
@@ -71,7 +75,8 @@ module _ {Q QH P PH K : Type 0} (p : Parts Q QH P PH K) (sound : IsSound p empty
     fresh = gone;
     below = omega (arith, given);
     placed = sound.seated.placed n s here ∙ ap (place_of p) is
-        ∙ sym (same_placing taken (more ∷ []) in_hand p.clients answered.servers p.client_lanes answered.server_lanes p.waiting (p.next + 1) (answer.frame taken index c at n rl rs (loans + 1) in_hand gone given slot len header free unused) more.stage rl rs);
+        ∙ sym (same_placing taken (more ∷ []) in_hand p.clients answered.servers p.client_lanes answered.server_lanes p.waiting (p.next + 1)
+        (answer.frame taken index c at n rl rs (loans + 1) in_hand gone given slot len header free unused) more.stage rl rs);
     loan = λ h. absurd (false≢true h);
     pending = λ h. absurd (false≢true h);
     response = λ h. absurd (false≢true h);
@@ -98,7 +103,8 @@ module _ {Q QH P PH K : Type 0} (p : Parts Q QH P PH K) (sound : IsSound p empty
         answer.used_cases taken index c at n rl rs (loans + 1) in_hand gone given slot len header free unused k j u
         (λ _ _ v. (sym (ap (λ (a : ResponseNote). a.request) v), ap (λ (a : ResponseNote). a.server) v ∙ same))
         (λ w v.
-        let b = sound.numbered.answering k j n c.port.id loans s w here (ap (λ (h : Held). h.stage) is) (sym (ap (λ (a : ResponseNote). a.active_request) v) ∙ f) in (
+        let b = sound.numbered.answering k j n c.port.id loans s w here (ap (λ (h : Held). h.stage) is)
+        (sym (ap (λ (a : ResponseNote). a.active_request) v) ∙ f) in (
           sym (ap (λ (h : Held). (request_note p h.lane h.slot).number) is) ∙ b.0 ∙ sym (ap (λ (a : ResponseNote). a.request) v),
           ap (λ (a : ResponseNote). a.server) v ∙ b.1 ∙ same,
         ));
@@ -115,10 +121,12 @@ module _ {Q QH P PH K : Type 0} (p : Parts Q QH P PH K) (sound : IsSound p empty
     fresh = get-insert_other taken.table.seats n (seat s.place more) p.next (λ e. omega (arith, e, given))
         ∙ get-remove_other p.table.seats n p.next (λ e. omega (arith, e, given)) ∙ sound.numbered.fresh p.next (omega arith);
     below = omega arith;
-    placed = ap (λ r. record { row = r; index = slot }) (sym (answer.same_of taken index c at n rl rs (loans + 1) in_hand gone given slot len header free unused (λ x. x.row) refl c.lane));
+    placed = ap (λ r. record { row = r; index = slot }) (sym (answer.same_of taken index c at n rl rs
+        (loans + 1) in_hand gone given slot len header free unused (λ x. x.row) refl c.lane));
     loan = λ h. absurd (false≢true h);
     pending = λ h. absurd (false≢true h);
-    response = λ h. sym (ap (λ (a : ResponseNote). a.number) (answer.note_here taken index c at n rl rs (loans + 1) in_hand gone given slot len header free unused));
+    response = λ h. sym (ap (λ (a : ResponseNote). a.number)
+        (answer.note_here taken index c at n rl rs (loans + 1) in_hand gone given slot len header free unused));
     once = λ k j. slot_cases c.lane slot k j
         (λ e f. omega (
           arith,
@@ -139,5 +147,8 @@ module _ {Q QH P PH K : Type 0} (p : Parts Q QH P PH K) (sound : IsSound p empty
   -- both in the table
   pub answer_sound : IsSound (with_response_loan p index c n s.place more note slot len header) empty_hand
   answer_sound =
-      let R : fin_map.FinMap _ (Seat Held) → Type 0 = λ m. IsSound (record answered { table = record { seats = fin_map.insert m p.next (seat (answer_place p c slot) loan); rows = p.table.rows } }) empty_hand in
-      subst R (insert-remove p.table.seats n (seat s.place more)) (seated_sound counted [] p.next (answer_place p c slot) loan one_seated seats_loan)
+      let R : fin_map.FinMap _ (Seat Held) → Type 0 = λ m. IsSound
+      (record answered { table = record { seats = fin_map.insert m p.next (seat (answer_place p c slot) loan); rows = p.table.rows } })
+      empty_hand in
+      subst R (insert-remove p.table.seats n (seat s.place more))
+      (seated_sound counted [] p.next (answer_place p c slot) loan one_seated seats_loan)

@@ -29,9 +29,12 @@ use Rattle.rr_core_laws.proofs.Queues.{times_queue}
 use Rattle.rr_core_laws.proofs.Tallies.{tally-same}
 
 -- a response loaned from an active request, whose own handle is in hand
-module _ {Q QH P PH K : Type 0} (p : Parts Q QH P PH K) (index : ℕ) (c : ServerPart K) (at : slice_get p.servers index ≡ Some c) (n rl rs loans : ℕ)
-    (sound : IsSound p (active_held c.port.id rl rs loans ∷ [])) (taken : fin_map.get p.table.seats n ≡ None) (given : n < p.next) (slot len : ℕ) (header : PH)
-    (free : slice_get (lane_of c.lane p.server_lanes).messages.held slot ≡ Some 0) (unused : times slot (all_entries (lane_of c.lane p.server_lanes).messages.queues) ≡ 0) where
+module _ {Q QH P PH K : Type 0} (p : Parts Q QH P PH K) (index : ℕ) (c : ServerPart K) (at : slice_get p.servers index ≡ Some c)
+    (n rl rs loans : ℕ)
+    (sound : IsSound p (active_held c.port.id rl rs loans ∷ [])) (taken : fin_map.get p.table.seats n ≡ None) (given : n < p.next)
+    (slot len : ℕ) (header : PH)
+    (free : slice_get (lane_of c.lane p.server_lanes).messages.held slot ≡ Some 0)
+    (unused : times slot (all_entries (lane_of c.lane p.server_lanes).messages.queues) ≡ 0) where
   abbrev m : Messages P ResponseNote PH
   m = (lane_of c.lane p.server_lanes).messages
 
@@ -58,7 +61,8 @@ module _ {Q QH P PH K : Type 0} (p : Parts Q QH P PH K) (index : ℕ) (c : Serve
   hand_after = active ∷ held ∷ []
 
   -- the server's lane
-  own : (c.lane < length p.server_lanes) × ((lane_of c.lane p.server_lanes).owner ≡ c.port.id) × (length m.held ≡ c.port.pool_size) × (m.room ≡ c.port.initial_max_slice_len)
+  own : (c.lane < length p.server_lanes) × ((lane_of c.lane p.server_lanes).owner ≡ c.port.id) × (length m.held ≡ c.port.pool_size)
+      × (m.room ≡ c.port.initial_max_slice_len)
   own = sound.server_ports.own index c.connected (listed (λ c. c.connected) p.servers index c at)
 
   shaped : IsShaped p.limits.max_clients (worst_case_requests p.limits) p.limits.max_response_buffer_size m
@@ -118,7 +122,8 @@ module _ {Q QH P PH K : Type 0} (p : Parts Q QH P PH K) (index : ℕ) (c : Serve
   same_place = place_kept p hand sound p.clients after.servers p.client_lanes after.server_lanes p.waiting p.table.seats (p.next + 1) frame
 
   -- what is the same of the new lane is the same of each
-  pub same_of : {Y : Type 0} (f : Lane P ResponseNote PH → Y) → f fresh ≡ f (lane_of c.lane p.server_lanes) → (k : ℕ) → f (lane_of k after.server_lanes) ≡ f (lane_of k p.server_lanes)
+  pub same_of : {Y : Type 0} (f : Lane P ResponseNote PH → Y) → f fresh ≡ f (lane_of c.lane p.server_lanes) → (k : ℕ)
+      → f (lane_of k after.server_lanes) ≡ f (lane_of k p.server_lanes)
   same_of f same k = set_alike p.server_lanes c.lane fresh no_lane f same k
 
   here_is : lane_of c.lane after.server_lanes ≡ fresh
@@ -128,12 +133,15 @@ module _ {Q QH P PH K : Type 0} (p : Parts Q QH P PH K) (index : ℕ) (c : Serve
   there_is k n = get_or-set_other p.server_lanes c.lane k fresh no_lane (λ e. n (sym e))
 
   -- one slot is held once more
-  held_is : (k j : ℕ) → slice_index (lane_of k after.server_lanes).messages.held j ≡ slice_index (lane_of k p.server_lanes).messages.held j + mark (c.lane == k && slot == j)
+  held_is : (k j : ℕ) → slice_index (lane_of k after.server_lanes).messages.held j ≡ slice_index
+      (lane_of k p.server_lanes).messages.held j + mark (c.lane == k && slot == j)
   held_is k j =
       ⊎_elim
       (λ e. let lane : lane_of k after.server_lanes ≡ fresh = sym (ap (λ k. lane_of k after.server_lanes) e) ∙ here_is in
-      let old : slice_index (lane_of k p.server_lanes).messages.held j ≡ slice_index m.held j = sym (ap (λ k. slice_index (lane_of k p.server_lanes).messages.held j) e) in
-      let new : slice_index (lane_of k after.server_lanes).messages.held j ≡ slice_index (slice_set m.held slot 1) j = ap (λ (x : Lane P ResponseNote PH). slice_index x.messages.held j) lane in
+      let old : slice_index (lane_of k p.server_lanes).messages.held j ≡ slice_index m.held j = sym
+      (ap (λ k. slice_index (lane_of k p.server_lanes).messages.held j) e) in
+      let new : slice_index (lane_of k after.server_lanes).messages.held j ≡ slice_index (slice_set m.held slot 1) j = ap
+      (λ (x : Lane P ResponseNote PH). slice_index x.messages.held j) lane in
       ⊎_elim
       (λ f. omega (
         arith,
@@ -147,7 +155,11 @@ module _ {Q QH P PH K : Type 0} (p : Parts Q QH P PH K) (index : ℕ) (c : Serve
       ))
       (λ n. omega (arith, new, old, get_or-set_other m.held slot j 1 0 (λ f. n (sym f)), ap mark (other_slot c.lane slot k j e n)))
       (cases_eq slot j))
-      (λ n. omega (arith, ap (λ (x : Lane P ResponseNote PH). slice_index x.messages.held j) (there_is k n), ap mark (other_lanes c.lane slot k j n)))
+      (λ n. omega (
+        arith,
+        ap (λ (x : Lane P ResponseNote PH). slice_index x.messages.held j) (there_is k n),
+        ap mark (other_lanes c.lane slot k j n),
+      ))
       (cases_eq c.lane k)
 
   -- and used once more
@@ -158,7 +170,8 @@ module _ {Q QH P PH K : Type 0} (p : Parts Q QH P PH K) (index : ℕ) (c : Serve
   note_there : (k j : ℕ) → ((c.lane ≡ k) → (slot ≡ j) → ⊥) → response_note after k j ≡ response_note p k j
   note_there k j n =
       ⊎_elim
-      (λ e. ap (λ (x : Lane P ResponseNote PH). get_or x.messages.notes j no_response) (sym (ap (λ k. lane_of k after.server_lanes) e) ∙ here_is)
+      (λ e. ap (λ (x : Lane P ResponseNote PH). get_or x.messages.notes j no_response)
+      (sym (ap (λ k. lane_of k after.server_lanes) e) ∙ here_is)
       ∙ get_or-set_other m.notes slot j note no_response (λ f. n e (sym f))
       ∙ ap (λ k. get_or (lane_of k p.server_lanes).messages.notes j no_response) e)
       (λ far. ap (λ (x : Lane P ResponseNote PH). get_or x.messages.notes j no_response) (there_is k far))
@@ -171,7 +184,8 @@ module _ {Q QH P PH K : Type 0} (p : Parts Q QH P PH K) (index : ℕ) (c : Serve
       ∙ get_or-set_same m.notes slot note no_response (omega (arith, within, shaped.notes))
 
   -- a response that is used was used before, or is this one
-  pub used_cases : {Z : Type 0} (k j : ℕ) → 0 < response_uses after k j → (c.lane ≡ k → slot ≡ j → response_note after k j ≡ note → Z) → (0 < response_uses p k j → response_note after k j ≡ response_note p k j → Z) → Z
+  pub used_cases : {Z : Type 0} (k j : ℕ) → 0 < response_uses after k j → (c.lane ≡ k → slot ≡ j → response_note after k j ≡ note → Z)
+      → (0 < response_uses p k j → response_note after k j ≡ response_note p k j → Z) → Z
   used_cases k j used here before =
       slot_cases c.lane slot k j
       (λ e f. here e f (sym (ap (λ k. response_note after k j) e) ∙ sym (ap (λ j. response_note after c.lane j) f) ∙ note_here))
@@ -181,7 +195,8 @@ module _ {Q QH P PH K : Type 0} (p : Parts Q QH P PH K) (index : ℕ) (c : Serve
   noted_before k j used = note_there k j (not_here k j used)
 
   -- what is noted of a response with a handle
-  noted_of : (k : ℕ) (s : Seat Held) → fin_map.get p.table.seats k ≡ Some s → is_of_response s.value.stage ≡ true → response_note after s.value.lane s.value.slot ≡ response_note p s.value.lane s.value.slot
+  noted_of : (k : ℕ) (s : Seat Held) → fin_map.get p.table.seats k ≡ Some s → is_of_response s.value.stage ≡ true
+      → response_note after s.value.lane s.value.slot ≡ response_note p s.value.lane s.value.slot
   noted_of k s e is = noted_before s.value.lane s.value.slot (handle_uses_response p hand sound.counted k s e is)
 
   -- one more in hand
@@ -192,25 +207,32 @@ module _ {Q QH P PH K : Type 0} (p : Parts Q QH P PH K) (index : ℕ) (c : Serve
   no_more test e = omega (arith, in_hand test, none_in_hand test held e)
 
   -- the handles of the table are loaned from where they were, and received where they were
-  pub loans_same : (k : ℕ) → tally (λ (s : Seat Held). is_loan_from after k s.value) p.table.seats ≡ tally (λ (s : Seat Held). is_loan_from p k s.value) p.table.seats
+  pub loans_same : (k : ℕ) → tally (λ (s : Seat Held). is_loan_from after k s.value) p.table.seats ≡ tally
+      (λ (s : Seat Held). is_loan_from p k s.value) p.table.seats
   loans_same k = tally-same p.table.seats _ _ (λ j s e. go j s e (is_response_loan s.value.stage) refl)
     where
-      go : (j : ℕ) (s : Seat Held) → fin_map.get p.table.seats j ≡ Some s → (b : Bool) → is_response_loan s.value.stage ≡ b → is_loan_from after k s.value ≡ is_loan_from p k s.value
-      go j s e true is = ap (λ (n : ResponseNote). is_response_loan s.value.stage && n.active_request == k) (noted_of j s e (answer_is_response s.value.stage is))
+      go : (j : ℕ) (s : Seat Held) → fin_map.get p.table.seats j ≡ Some s → (b : Bool) → is_response_loan s.value.stage ≡ b
+          → is_loan_from after k s.value ≡ is_loan_from p k s.value
+      go j s e true is = ap (λ (n : ResponseNote). is_response_loan s.value.stage && n.active_request == k)
+          (noted_of j s e (answer_is_response s.value.stage is))
       go j s e false is = rw is refl
 
-  received_same : (lane client channel : ℕ) → tally (λ (s : Seat Held). is_received_at after lane client channel s.value) p.table.seats ≡ tally (λ (s : Seat Held). is_received_at p lane client channel s.value) p.table.seats
+  received_same : (lane client channel : ℕ) → tally (λ (s : Seat Held). is_received_at after lane client channel s.value) p.table.seats
+      ≡ tally (λ (s : Seat Held). is_received_at p lane client channel s.value) p.table.seats
   received_same lane client channel = tally-same p.table.seats _ _ (λ j s e. go j s e (is_received s.value.stage) refl)
     where
-      go : (j : ℕ) (s : Seat Held) → fin_map.get p.table.seats j ≡ Some s → (b : Bool) → is_received s.value.stage ≡ b → is_received_at after lane client channel s.value ≡ is_received_at p lane client channel s.value
+      go : (j : ℕ) (s : Seat Held) → fin_map.get p.table.seats j ≡ Some s → (b : Bool) → is_received s.value.stage ≡ b
+          → is_received_at after lane client channel s.value ≡ is_received_at p lane client channel s.value
       go j s e true is =
-          ap (λ (n : ResponseNote). is_received s.value.stage && (s.value.lane == lane && (n.client == client && n.channel == channel))) (noted_of j s e (received_is_response s.value.stage is))
+          ap (λ (n : ResponseNote). is_received s.value.stage && (s.value.lane == lane && (n.client == client && n.channel == channel)))
+          (noted_of j s e (received_is_response s.value.stage is))
       go j s e false is = rw is refl
 
   counted : IsCounted after hand_after
   counted = record {
     requests = λ k j. omega (arith, sound.counted.requests k j, no_more (is_request_at k j) refl);
-    responses = λ k j. let e : count_by (is_response_at k j) (held ∷ []) ≡ mark (c.lane == k && slot == j) + 0 = count-cons (is_response_at k j) held [] in
+    responses = λ k j. let e : count_by (is_response_at k j) (held ∷ []) ≡ mark (c.lane == k && slot == j) + 0 = count-cons
+        (is_response_at k j) held [] in
         omega (arith, held_is k j, sound.counted.responses k j, in_hand (is_response_at k j), e);
   }
 
@@ -223,7 +245,8 @@ module _ {Q QH P PH K : Type 0} (p : Parts Q QH P PH K) (index : ℕ) (c : Serve
       ap (λ r. times j (queue_at (lane_of k p.client_lanes).messages r 0)) (same_place server),
       no_more (is_active_at k j server) refl,
     );
-    responses = λ k j. let e : count_by (is_response_at k j) (held ∷ []) ≡ mark (c.lane == k && slot == j) + 0 = count-cons (is_response_at k j) held [] in
+    responses = λ k j. let e : count_by (is_response_at k j) (held ∷ []) ≡ mark (c.lane == k && slot == j) + 0 = count-cons
+        (is_response_at k j) held [] in
         omega (arith, sound.held_once.responses k j, used_is k j, in_hand (is_response_at k j), e);
   }
 
@@ -243,7 +266,8 @@ module _ {Q QH P PH K : Type 0} (p : Parts Q QH P PH K) (index : ℕ) (c : Serve
         pendings = n.pendings;
         responses = λ k s e is. n.responses k s e is ∙ sym (number_of (noted_of k s e is));
         requests_below = λ k j h. omega (arith, n.requests_below k j h);
-        responses_below = λ k j h. used_cases k j h (λ _ _ f. omega (arith, number_of f)) (λ u f. omega (arith, number_of f, n.responses_below k j u));
+        responses_below = λ k j h. used_cases k j h (λ _ _ f. omega (arith, number_of f))
+            (λ u f. omega (arith, number_of f, n.responses_below k j u));
         requests_apart = n.requests_apart;
         responses_apart = λ a i b j h g e. used_cases a i h
             (λ ea ei f. used_cases b j g
@@ -257,13 +281,15 @@ module _ {Q QH P PH K : Type 0} (p : Parts Q QH P PH K) (index : ℕ) (c : Serve
             (λ u v. n.kinds_apart a i b j h u (e ∙ number_of v));
         actives_apart = λ k server a i s e is. (
           (n.actives_apart k server a i s e is).0,
-          (λ h f. used_cases a i h (λ _ _ v. omega (arith, number_of v, f, before_next k s e)) (λ u v. (n.actives_apart k server a i s e is).1 u (sym (number_of v) ∙ f))),
+          (λ h f. used_cases a i h (λ _ _ v. omega (arith, number_of v, f, before_next k s e))
+              (λ u v. (n.actives_apart k server a i s e is).1 u (sym (number_of v) ∙ f))),
         );
         received = λ k s e is.
             let r = n.received k s e is in
             (r.0, r.1, r.2, r.3 ∙ sym (ap (λ (a : ResponseNote). a.client) (noted_of k s e (received_is_response s.value.stage is))));
         answering = λ a i k server loans s u e is f. used_cases a i u
-            (λ _ _ v. absurd (let g : None ≡ Some s = sym taken ∙ ap (fin_map.get p.table.seats) (sym (ap (λ (a : ResponseNote). a.active_request) v) ∙ f) ∙ e in cc))
+            (λ _ _ v. absurd (let g : None ≡ Some s = sym taken
+            ∙ ap (fin_map.get p.table.seats) (sym (ap (λ (a : ResponseNote). a.active_request) v) ∙ f) ∙ e in cc))
             (λ w v.
             let b = n.answering a i k server loans s w e is (sym (ap (λ (a : ResponseNote). a.active_request) v) ∙ f) in
             (b.0 ∙ sym (ap (λ (a : ResponseNote). a.request) v), ap (λ (a : ResponseNote). a.server) v ∙ b.1));
@@ -275,7 +301,8 @@ module _ {Q QH P PH K : Type 0} (p : Parts Q QH P PH K) (index : ℕ) (c : Serve
       record {
         requests = n.requests;
         responses = λ k j h. used_cases k j h
-            (λ e _ f. ap (λ (n : ResponseNote). n.server) f ∙ sym own.1 ∙ ap (λ k. (lane_of k p.server_lanes).owner) e ∙ sym (same_of (λ x. x.owner) refl k))
+            (λ e _ f. ap (λ (n : ResponseNote). n.server) f ∙ sym own.1 ∙ ap (λ k. (lane_of k p.server_lanes).owner) e
+            ∙ sym (same_of (λ x. x.owner) refl k))
             (λ u f. ap (λ (n : ResponseNote). n.server) f ∙ n.responses k j u ∙ sym (same_of (λ x. x.owner) refl k));
         clients_below = λ k j h. used_cases k j h
             (λ _ _ f. omega (arith, ap (λ (n : ResponseNote). n.client) f, n.requests rl rs asked, sound.client_ports.numbered rl there))
@@ -287,25 +314,34 @@ module _ {Q QH P PH K : Type 0} (p : Parts Q QH P PH K) (index : ℕ) (c : Serve
             (λ _ _ f. omega (arith, ap (λ (n : ResponseNote). n.request) f, sound.numbered.requests_below rl rs asked))
             (λ u f. omega (arith, ap (λ (n : ResponseNote). n.request) f, n.answered_below k j u));
         answers = λ a i k j h g e. used_cases a i h
-            (λ _ _ f. let same = sound.numbered.requests_apart k j rl rs g asked (e ∙ ap (λ (n : ResponseNote). n.request) f) in
-            (ap (λ (n : ResponseNote). n.channel) f ∙ sym same.1, ap (λ (n : ResponseNote). n.client) f ∙ n.requests rl rs asked ∙ sym (ap (λ l. (lane_of l p.client_lanes).owner) same.0)))
+            (λ _ _ f. let same = sound.numbered.requests_apart k j rl rs g asked (e ∙ ap (λ (n : ResponseNote). n.request) f) in (
+              ap (λ (n : ResponseNote). n.channel) f ∙ sym same.1,
+              ap (λ (n : ResponseNote). n.client) f ∙ n.requests rl rs asked
+                  ∙ sym (ap (λ l. (lane_of l p.client_lanes).owner) same.0),
+            ))
             (λ u f. let r = n.answers a i k j u g (e ∙ ap (λ (n : ResponseNote). n.request) f) in
             (ap (λ (n : ResponseNote). n.channel) f ∙ r.0, ap (λ (n : ResponseNote). n.client) f ∙ r.1));
         entries = λ l i channel j d e some.
-            let old : 0 < times i (queue_at (lane_of l p.server_lanes).messages d.place channel) = omega (arith, some, same_of (λ x. times i (queue_at x.messages d.place channel)) refl l) in
+            let old : 0 < times i (queue_at (lane_of l p.server_lanes).messages d.place channel) = omega
+            (arith, some, same_of (λ x. times i (queue_at x.messages d.place channel)) refl l) in
             let noted = noted_before l i (omega (arith, old, times_queue (lane_of l p.server_lanes).messages i d.place channel)) in
             let r = n.entries l i channel j d e old in
             (ap (λ (n : ResponseNote). n.client) noted ∙ r.0, ap (λ (n : ResponseNote). n.channel) noted ∙ r.1);
       }
     where
       there : rl < length p.client_lanes
-      there = lane_within p.client_lanes rl rs (omega (arith, sound.counted.requests rl rs, one_in_hand (is_request_at rl rs) active (both_true rl rs rl rs refl refl)))
+      there = lane_within p.client_lanes rl rs (omega (
+        arith,
+        sound.counted.requests rl rs,
+        one_in_hand (is_request_at rl rs) active (both_true rl rs rl rs refl refl),
+      ))
 
   -- another server has another lane
   other_lane : (j : ℕ) (d : ServerPart K) → j ≢ index → slice_get p.servers j ≡ Some d → c.lane ≢ d.lane
   other_lane j d n e same =
       let o = sound.server_ports.own j d.connected (listed (λ c. c.connected) p.servers j d e) in
-      n (sound.server_ports.numbered_once j index d.connected c.connected (listed (λ c. c.connected) p.servers j d e) (listed (λ c. c.connected) p.servers index c at) (sym o.1 ∙ sym (ap (λ k. (lane_of k p.server_lanes).owner) same) ∙ own.1))
+      n (sound.server_ports.numbered_once j index d.connected c.connected (listed (λ c. c.connected) p.servers j d e)
+      (listed (λ c. c.connected) p.servers index c at) (sym o.1 ∙ sym (ap (λ k. (lane_of k p.server_lanes).owner) same) ∙ own.1))
 
   stored : IsStored after hand_after
   stored =
@@ -315,10 +351,20 @@ module _ {Q QH P PH K : Type 0} (p : Parts Q QH P PH K) (index : ℕ) (c : Serve
         pendings = λ j d e. omega (arith, old.pendings j d e, no_more (is_in_lane is_pending d.lane) refl);
         response_loans = λ j d e. set_cases p.servers index (with_one_answer c) j d e
             (λ _ is. let R : ServerPart K → Type 0 = λ d. d.loans ≡ handles after (is_in_lane is_response_loan d.lane) hand_after in
-            subst R is (omega (arith, old.response_loans index c at, in_hand (is_in_lane is_response_loan c.lane), one_in_hand (is_in_lane is_response_loan c.lane) held (eq-eqb c.lane c.lane refl))))
-            (λ far b. omega (arith, old.response_loans j d b, no_more (is_in_lane is_response_loan d.lane) (ne_eqb c.lane d.lane (other_lane j d far b))));
+            subst R is (omega (
+              arith,
+              old.response_loans index c at,
+              in_hand (is_in_lane is_response_loan c.lane),
+              one_in_hand (is_in_lane is_response_loan c.lane) held (eq-eqb c.lane c.lane refl),
+            )))
+            (λ far b. omega (
+              arith,
+              old.response_loans j d b,
+              no_more (is_in_lane is_response_loan d.lane) (ne_eqb c.lane d.lane (other_lane j d far b)),
+            ));
         active_loans = λ k server loans s e is.
-            let other : is_loan_from after k held ≡ false = ap (λ (a : ResponseNote). a.active_request == k) note_here ∙ ne_eqb n k (λ f. absurd (let g : None ≡ Some s = sym (ap (fin_map.get p.table.seats) (sym f) ∙ taken) ∙ e in cc)) in
+            let other : is_loan_from after k held ≡ false = ap (λ (a : ResponseNote). a.active_request == k) note_here
+            ∙ ne_eqb n k (λ f. absurd (let g : None ≡ Some s = sym (ap (fin_map.get p.table.seats) (sym f) ∙ taken) ∙ e in cc)) in
             omega (arith, old.active_loans k server loans s e is, loans_same k, no_more (is_loan_from after k) other, same_hand k);
         borrowed_requests = λ k server h. omega (
           arith,
@@ -339,8 +385,13 @@ module _ {Q QH P PH K : Type 0} (p : Parts Q QH P PH K) (index : ℕ) (c : Serve
       same_hand : (k : ℕ) → count_by (is_loan_from after k) hand ≡ count_by (is_loan_from p k) hand
       same_hand k = omega (arith, none_in_hand (is_loan_from after k) active refl, none_in_hand (is_loan_from p k) active refl)
 
-      same_received : (lane client channel : ℕ) → count_by (is_received_at after lane client channel) hand ≡ count_by (is_received_at p lane client channel) hand
-      same_received lane client channel = omega (arith, none_in_hand (is_received_at after lane client channel) active refl, none_in_hand (is_received_at p lane client channel) active refl)
+      same_received : (lane client channel : ℕ) → count_by (is_received_at after lane client channel) hand ≡ count_by
+          (is_received_at p lane client channel) hand
+      same_received lane client channel = omega (
+        arith,
+        none_in_hand (is_received_at after lane client channel) active refl,
+        none_in_hand (is_received_at p lane client channel) active refl,
+      )
 
   vacated : IsVacated after
   vacated = record {
@@ -351,9 +402,11 @@ module _ {Q QH P PH K : Type 0} (p : Parts Q QH P PH K) (index : ℕ) (c : Serve
     awaits_none = λ k j place none. sound.vacated.awaits_none k j place (nowhere place none);
   }
     where
-      nowhere : (place : ℕ) → ((i : ℕ) (d : ServerPart K) → slice_get after.servers i ≡ Some d → d.place ≢ place) → (i : ℕ) (b : ServerPart K) → slice_get p.servers i ≡ Some b → b.place ≢ place
+      nowhere : (place : ℕ) → ((i : ℕ) (d : ServerPart K) → slice_get after.servers i ≡ Some d → d.place ≢ place)
+          → (i : ℕ) (b : ServerPart K) → slice_get p.servers i ≡ Some b → b.place ≢ place
       nowhere place none i b e is =
-          let d = server_after p hand sound p.clients after.servers p.client_lanes after.server_lanes p.waiting p.table.seats (p.next + 1) frame i b e in
+          let d = server_after p hand sound p.clients after.servers p.client_lanes after.server_lanes p.waiting p.table.seats
+          (p.next + 1) frame i b e in
           none i d.0 d.1 (ap (λ (f : Frame K). f.place) d.2 ∙ is)
 
   -- the loan in hand beside the active request
@@ -365,10 +418,14 @@ module _ {Q QH P PH K : Type 0} (p : Parts Q QH P PH K) (index : ℕ) (c : Serve
     addressed = addressed;
     seated = framed_seated p hand sound p.clients after.servers p.client_lanes after.server_lanes p.waiting (p.next + 1) frame;
     stored = stored;
-    sized = framed_sized p hand sound p.clients after.servers p.client_lanes after.server_lanes p.waiting p.table.seats (p.next + 1) frame (omega (arith, left))
+    sized = framed_sized p hand sound p.clients after.servers p.client_lanes after.server_lanes p.waiting p.table.seats (p.next + 1) frame
+        (omega (arith, left))
         (λ i d e. omega (arith, sound.sized.loans_made i d e));
     vacated = vacated;
-    held_by_value = framed_by_value p hand sound p.clients after.servers p.client_lanes after.server_lanes p.waiting p.table.seats (p.next + 1) frame;
-    client_ports = framed_client_ports p hand sound p.clients after.servers p.client_lanes after.server_lanes p.waiting p.table.seats (p.next + 1) frame;
-    server_ports = framed_server_ports p hand sound p.clients after.servers p.client_lanes after.server_lanes p.waiting p.table.seats (p.next + 1) frame;
+    held_by_value = framed_by_value p hand sound p.clients after.servers p.client_lanes after.server_lanes p.waiting p.table.seats
+        (p.next + 1) frame;
+    client_ports = framed_client_ports p hand sound p.clients after.servers p.client_lanes after.server_lanes p.waiting p.table.seats
+        (p.next + 1) frame;
+    server_ports = framed_server_ports p hand sound p.clients after.servers p.client_lanes after.server_lanes p.waiting p.table.seats
+        (p.next + 1) frame;
   }

@@ -30,7 +30,8 @@ use Rattle.rr_core_laws.proofs.Queues.{times_queue}
 use Rattle.rr_core_laws.proofs.Stages.{handle_uses_response}
 
 -- what is read of the elements that pass is as it was, if neither the test nor the reading tells a new element from the old one
-passing_set : {X Y : Type 0} (test : X → Bool) (f : X → Y) (xs : List X) (i : ℕ) (y d : X) → test y ≡ test (get_or xs i d) → f y ≡ f (get_or xs i d)
+passing_set : {X Y : Type 0} (test : X → Bool) (f : X → Y) (xs : List X) (i : ℕ) (y d : X) → test y ≡ test (get_or xs i d)
+    → f y ≡ f (get_or xs i d)
     → map f (filter test (slice_set xs i y)) ≡ map f (filter test xs)
 passing_set test f [] i y d t e = refl
 passing_set {X} {Y} test f (x ∷ xs) zero y d t e =
@@ -42,13 +43,17 @@ passing_set {X} {Y} test f (x ∷ xs) zero y d t e =
 passing_set {X} {Y} test f (x ∷ xs) (suc i) y d t e = go (test x) (passing_set test f xs i y d t e)
   where
     go : (b : Bool) → map f (filter test (slice_set xs i y)) ≡ map f (filter test xs)
-        → map f (cond b (x ∷ filter test (slice_set xs i y)) (filter test (slice_set xs i y))) ≡ map f (cond b (x ∷ filter test xs) (filter test xs))
+        → map f (cond b (x ∷ filter test (slice_set xs i y)) (filter test (slice_set xs i y))) ≡ map f
+        (cond b (x ∷ filter test xs) (filter test xs))
     go true rest = ap (λ (ys : List Y). f x ∷ ys) rest
     go false rest = rest
 
-module _ {Q QH P PH K : Type 0} (p : Parts Q QH P PH K) (sound : IsSound p empty_hand) (index : ℕ) (c : ServerPart K) (at : slice_get p.servers index ≡ Some c) (n rl rs loans : ℕ)
-    (s : Seat Held) (here : fin_map.get p.table.seats n ≡ Some s) (is : s.value ≡ active_held c.port.id rl rs loans) (slot len : ℕ) (header : PH)
-    (free : slice_get (lane_of c.lane p.server_lanes).messages.held slot ≡ Some 0) (unused : times slot (all_entries (lane_of c.lane p.server_lanes).messages.queues) ≡ 0) where
+module _ {Q QH P PH K : Type 0} (p : Parts Q QH P PH K) (sound : IsSound p empty_hand) (index : ℕ) (c : ServerPart K)
+    (at : slice_get p.servers index ≡ Some c) (n rl rs loans : ℕ)
+    (s : Seat Held) (here : fin_map.get p.table.seats n ≡ Some s) (is : s.value ≡ active_held c.port.id rl rs loans) (slot len : ℕ)
+    (header : PH)
+    (free : slice_get (lane_of c.lane p.server_lanes).messages.held slot ≡ Some 0)
+    (unused : times slot (all_entries (lane_of c.lane p.server_lanes).messages.queues) ≡ 0) where
   abbrev m : Messages P ResponseNote PH
   m = (lane_of c.lane p.server_lanes).messages
 
@@ -64,7 +69,8 @@ module _ {Q QH P PH K : Type 0} (p : Parts Q QH P PH K) (sound : IsSound p empty
   abbrev after : Parts Q QH P PH K
   after = with_response_loan p index c n s.place more note slot len header
 
-  own : (c.lane < length p.server_lanes) × ((lane_of c.lane p.server_lanes).owner ≡ c.port.id) × (length m.held ≡ c.port.pool_size) × (m.room ≡ c.port.initial_max_slice_len)
+  own : (c.lane < length p.server_lanes) × ((lane_of c.lane p.server_lanes).owner ≡ c.port.id) × (length m.held ≡ c.port.pool_size)
+      × (m.room ≡ c.port.initial_max_slice_len)
   own = sound.server_ports.own index c.connected (listed (λ c. c.connected) p.servers index c at)
 
   shaped : IsShaped p.limits.max_clients (worst_case_requests p.limits) p.limits.max_response_buffer_size m
@@ -92,8 +98,10 @@ module _ {Q QH P PH K : Type 0} (p : Parts Q QH P PH K) (sound : IsSound p empty
       (get_or-set_other m.user_headers slot j header p.spare_response_header n)
       (get_or-set_other m.contents slot j (nothing_written len) (nothing_written 0) n)
     where
-      same_message : (j : ℕ) → get_or new.notes j no_response ≡ get_or m.notes j no_response → get_or new.user_headers j p.spare_response_header ≡ get_or m.user_headers j p.spare_response_header
-          → content_at new j ≡ content_at m j → response_in_slot p.spare_response_header new j ≡ response_in_slot p.spare_response_header m j
+      same_message : (j : ℕ) → get_or new.notes j no_response ≡ get_or m.notes j no_response
+          → get_or new.user_headers j p.spare_response_header ≡ get_or m.user_headers j p.spare_response_header
+          → content_at new j ≡ content_at m j → response_in_slot p.spare_response_header new j
+          ≡ response_in_slot p.spare_response_header m j
       same_message j a b d = rw a (rw b (rw d refl))
 
   -- the active request, and the response that was loaned from it
@@ -120,7 +128,8 @@ module _ {Q QH P PH K : Type 0} (p : Parts Q QH P PH K) (sound : IsSound p empty
       (get_or-set_same m.user_headers slot header p.spare_response_header (omega (arith, inside, shaped.user_headers)))
       (get_or-set_same m.contents slot (nothing_written len) (nothing_written 0) (omega (arith, inside, shaped.contents)))
     where
-      built : (j : ℕ) → get_or new.notes j no_response ≡ note → get_or new.user_headers j p.spare_response_header ≡ header → content_at new j ≡ nothing_written len
+      built : (j : ℕ) → get_or new.notes j no_response ≡ note → get_or new.user_headers j p.spare_response_header ≡ header
+          → content_at new j ≡ nothing_written len
           → response_in_slot p.spare_response_header new j ≡ message
       built j a b d = rw a (rw b (rw d refl))
 
@@ -137,7 +146,8 @@ module _ {Q QH P PH K : Type 0} (p : Parts Q QH P PH K) (sound : IsSound p empty
       ∙ ap (λ (x : Lane P ResponseNote PH). response_in_slot p.spare_response_header x.messages j) here_is
       ∙ other_slot j (λ f. not_here k j used e (sym f))
       ∙ ap (λ k. response_in_slot p.spare_response_header (lane_of k p.server_lanes).messages j) e)
-      (λ n. ap (λ (x : Lane P ResponseNote PH). response_in_slot p.spare_response_header x.messages j) (get_or-set_other p.server_lanes c.lane k (with_messages (lane_of c.lane p.server_lanes) new) no_lane (λ e. n (sym e))))
+      (λ n. ap (λ (x : Lane P ResponseNote PH). response_in_slot p.spare_response_header x.messages j)
+      (get_or-set_other p.server_lanes c.lane k (with_messages (lane_of c.lane p.server_lanes) new) no_lane (λ e. n (sym e))))
       (cases_eq c.lane k)
 
   -- the server stands at its index
@@ -146,7 +156,9 @@ module _ {Q QH P PH K : Type 0} (p : Parts Q QH P PH K) (sound : IsSound p empty
 
   -- the servers that may answer are who they were
   same_waiting : (lane slot : ℕ) → waiting_at after lane slot ≡ waiting_at p lane slot
-  same_waiting lane slot = passing_set (λ (d : ServerPart K). is_awaited p lane slot d.place) (λ d. d.port.id) p.servers index (with_one_answer c) c (ap (λ (d : ServerPart K). is_awaited p lane slot d.place) (sym it)) (ap (λ (d : ServerPart K). d.port.id) (sym it))
+  same_waiting lane slot = passing_set (λ (d : ServerPart K). is_awaited p lane slot d.place) (λ d. d.port.id) p.servers index
+      (with_one_answer c) c (ap (λ (d : ServerPart K). is_awaited p lane slot d.place) (sym it))
+      (ap (λ (d : ServerPart K). d.port.id) (sym it))
 
   -- the handles show what they did
   shows : (k : ℕ) (t : Seat Held) → fin_map.get p.table.seats k ≡ Some t → handle_of after t ≡ handle_of p t
@@ -157,16 +169,21 @@ module _ {Q QH P PH K : Type 0} (p : Parts Q QH P PH K) (sound : IsSound p empty
 
   -- the active request is shown as it was
   still : fin_map.insert (state_of p).handles n (ActiveRequest active) ≡ (state_of p).handles
-  still = insert_itself (state_of p).handles n (ActiveRequest active) (get-map_values (handle_of p) p.table.seats n ∙ ap (option_map (handle_of p)) here ∙ ap (λ (h : Held). Some (handle_in p h.stage h.lane h.slot)) is)
+  still = insert_itself (state_of p).handles n (ActiveRequest active)
+      (get-map_values (handle_of p) p.table.seats n ∙ ap (option_map (handle_of p)) here
+      ∙ ap (λ (h : Held). Some (handle_in p h.stage h.lane h.slot)) is)
 
   all_handles : (state_of after).handles ≡ fin_map.insert (state_of p).handles p.next (ResponseMutUninit message)
   all_handles =
-      map_values-insert (handle_of after) (fin_map.insert p.table.seats n (seat s.place more)) p.next (seat (answer_place p c slot) (answer_held c slot))
-      ∙ ap (λ (x : ResponseMessage P PH). fin_map.insert (map_values (handle_of after) (fin_map.insert p.table.seats n (seat s.place more))) p.next (ResponseMutUninit x))
+      map_values-insert (handle_of after) (fin_map.insert p.table.seats n (seat s.place more)) p.next
+      (seat (answer_place p c slot) (answer_held c slot))
+      ∙ ap (λ (x : ResponseMessage P PH). fin_map.insert (map_values (handle_of after) (fin_map.insert p.table.seats n (seat s.place more)))
+      p.next (ResponseMutUninit x))
       (ap (λ (x : Lane P ResponseNote PH). response_in_slot p.spare_response_header x.messages slot) here_is ∙ this_slot)
       ∙ ap (λ (hs : fin_map.FinMap _ (Handle Q QH P PH)). fin_map.insert hs p.next (ResponseMutUninit message))
       (map_values-insert (handle_of after) p.table.seats n (seat s.place more)
-      ∙ ap (λ (hs : fin_map.FinMap _ (Handle Q QH P PH)). fin_map.insert hs n (ActiveRequest active)) (map_values-same (handle_of after) (handle_of p) p.table.seats shows)
+      ∙ ap (λ (hs : fin_map.FinMap _ (Handle Q QH P PH)). fin_map.insert hs n (ActiveRequest active))
+      (map_values-same (handle_of after) (handle_of p) p.table.seats shows)
       ∙ still)
 
   -- what waits is as it was
@@ -177,7 +194,8 @@ module _ {Q QH P PH K : Type 0} (p : Parts Q QH P PH K) (sound : IsSound p empty
       (ap waits (sym it))
     where
       waits : ServerPart K → List (RequestMessage Q QH)
-      waits d = option_map_or (λ (lane : Lane Q RequestNote QH). map (request_in_slot p.spare_request_header lane.messages) (queue_at lane.messages d.place 0)) (find (λ (lane : Lane Q RequestNote QH). lane.owner == key.client) p.client_lanes) []
+      waits d = option_map_or (λ (lane : Lane Q RequestNote QH). map (request_in_slot p.spare_request_header lane.messages)
+          (queue_at lane.messages d.place 0)) (find (λ (lane : Lane Q RequestNote QH). lane.owner == key.client) p.client_lanes) []
 
   responses : (key : ResponseKey) → responses_at after key ≡ responses_at p key
   responses key = go (find (λ d. d.port.id == key.client) p.clients)
@@ -190,8 +208,10 @@ module _ {Q QH P PH K : Type 0} (p : Parts Q QH P PH K) (sound : IsSound p empty
           ≡ option_map_or (λ d. option_map_or (waits d.place) (find (λ lane. lane.owner == key.server) p.server_lanes) []) client []
       go None = refl
       go (Some d) =
-          find_read (λ (lane : Lane P ResponseNote PH). lane.owner == key.server) (waits d.place) [] p.server_lanes c.lane (with_messages (lane_of c.lane p.server_lanes) new) no_lane refl
-          (map_without (response_in_slot p.spare_response_header m) (response_in_slot p.spare_response_header new) slot other_slot (queue_at m d.place key.channel) (omega (arith, unused, times_queue m slot d.place key.channel)))
+          find_read (λ (lane : Lane P ResponseNote PH). lane.owner == key.server) (waits d.place) [] p.server_lanes c.lane
+          (with_messages (lane_of c.lane p.server_lanes) new) no_lane refl
+          (map_without (response_in_slot p.spare_response_header m) (response_in_slot p.spare_response_header new) slot other_slot
+          (queue_at m d.place key.channel) (omega (arith, unused, times_queue m slot d.place key.channel)))
 
   -- the servers are seen as they were
   servers : map server_of after.servers ≡ map server_of p.servers

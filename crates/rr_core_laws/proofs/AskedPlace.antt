@@ -12,18 +12,24 @@ use Rattle.rr_core_laws.proofs.Asking.{read_at}
 use Rattle.rr_core_laws.proofs.Places.{standing, find_mapped}
 
 -- the client with a number, as a part
-pub client_found : {K : Type 0} (clients : List (ClientPort K)) (n i : ℕ) (c : ClientPort K) → position (λ (c : ClientPort K). c.port.id == n) clients ≡ Some i → c ≡ get_or clients i c
+pub client_found : {K : Type 0} (clients : List (ClientPort K)) (n i : ℕ) (c : ClientPort K)
+    → position (λ (c : ClientPort K). c.port.id == n) clients ≡ Some i → c ≡ get_or clients i c
     → find (λ c. c.port.id == n) (map client_part clients) ≡ Some (client_part c)
 client_found {K} clients n i c found read =
     let s = standing (λ (c : ClientPort K). c.port.id == n) clients i found in
-    find_mapped client_part (λ c. c.port.id == n) clients ∙ ap (option_map client_part) (s.found ∙ ap Some (sym (read_at clients i s.it c s.at read)))
+    find_mapped client_part (λ c. c.port.id == n) clients ∙ ap (option_map client_part)
+    (s.found ∙ ap Some (sym (read_at clients i s.it c s.at read)))
 
 -- the place that was computed is the one
-pub asked_is : {B N H T : Type 0} (lanes : List (OwnedLane B N H T)) (note : ResponseNote) (i : ℕ) (l : OwnedLane B N H T) → position (λ (l : OwnedLane B N H T). l.owner == note.client) lanes ≡ Some i → l ≡ get_or lanes i l
-    → (place index : ℕ) → index ≡ (place + 1) * length l.messages.held + note.channel → IsAskedPlace (map lane_part lanes) note place (record { row = l.row; index = index })
+pub asked_is : {B N H T : Type 0} (lanes : List (OwnedLane B N H T)) (note : ResponseNote) (i : ℕ) (l : OwnedLane B N H T)
+    → position (λ (l : OwnedLane B N H T). l.owner == note.client) lanes ≡ Some i → l ≡ get_or lanes i l
+    → (place index : ℕ) → index ≡ (place + 1) * length l.messages.held + note.channel
+    → IsAskedPlace (map lane_part lanes) note place (record { row = l.row; index = index })
 asked_is {B} {N} {H} {T} lanes note i l found read place index computed =
     let s = standing (λ (l : OwnedLane B N H T). l.owner == note.client) lanes i found in
     let lane : find (λ l. l.owner == note.client) (map lane_part lanes) ≡ Some (lane_part l) =
-    find_mapped lane_part (λ l. l.owner == note.client) lanes ∙ ap (option_map lane_part) (s.found ∙ ap Some (sym (read_at lanes i s.it l s.at read))) in
-    subst (λ o. IsSomeAnd o (λ x. ◌≡◌ {A = Place} (record { row = l.row; index = index }) (record { row = x.row; index = (place + 1) * length x.messages.held + note.channel }))) (sym lane)
+    find_mapped lane_part (λ l. l.owner == note.client) lanes
+    ∙ ap (option_map lane_part) (s.found ∙ ap Some (sym (read_at lanes i s.it l s.at read))) in
+    subst (λ o. IsSomeAnd o (λ x. ◌≡◌ {A = Place} (record { row = l.row; index = index })
+    (record { row = x.row; index = (place + 1) * length x.messages.held + note.channel }))) (sym lane)
     (ap (λ j. record { row = l.row; index = j }) computed)

@@ -42,7 +42,8 @@ module _ (rows : List (List ℕ)) (i j : ℕ) where
     pub less_at : (r q : ℕ) → at_two 0 one_less r q + mark (i == r && j == q) ≡ at_two 0 rows r q
     less_at r q =
         ⊎_elim
-        (λ e. let row : get_or one_less r [] ≡ new_row = sym (ap (λ r. get_or one_less r []) e) ∙ get_or-set_same rows i new_row [] row_there in
+        (λ e. let row : get_or one_less r [] ≡ new_row = sym (ap (λ r. get_or one_less r []) e)
+        ∙ get_or-set_same rows i new_row [] row_there in
         ⊎_elim
         (λ f. omega (
           arith,
@@ -61,10 +62,15 @@ module _ (rows : List (List ℕ)) (i j : ℕ) where
           ap mark (λ k. eq-eqb i r e k && ne_eqb j q n k),
         ))
         (cases_eq j q))
-        (λ n. omega (arith, ap (λ (row : List ℕ). get_or row q 0) (get_or-set_other rows i r new_row [] (λ e. n (sym e))), ap (λ b. mark (b && j == q)) (ne_eqb i r n)))
+        (λ n. omega (
+          arith,
+          ap (λ (row : List ℕ). get_or row q 0) (get_or-set_other rows i r new_row [] (λ e. n (sym e))),
+          ap (λ b. mark (b && j == q)) (ne_eqb i r n),
+        ))
         (cases_eq i r)
 
-module _ {T N H : Type 0} (lanes : List (Lane T N H)) (lane slot place channel : ℕ) (there : lane < length lanes) (held : 0 < slice_index_or (lane_of lane lanes).messages.held slot 0)
+module _ {T N H : Type 0} (lanes : List (Lane T N H)) (lane slot place channel : ℕ) (there : lane < length lanes)
+    (held : 0 < slice_index_or (lane_of lane lanes).messages.held slot 0)
     (some : 0 < borrowed_at (lane_of lane lanes).messages place channel) where
   abbrev rows : List (List ℕ)
   rows = (lane_of lane lanes).messages.borrowed
@@ -73,12 +79,14 @@ module _ {T N H : Type 0} (lanes : List (Lane T N H)) (lane slot place channel :
   after = lanes_less lanes lane slot (one_less rows place channel)
 
   -- one receiver has one less from one channel of one lane
-  pub borrowed_less : (l r q : ℕ) → borrowed_at (lane_of l after).messages r q + mark (lane == l && (place == r && channel == q)) ≡ borrowed_at (lane_of l lanes).messages r q
+  pub borrowed_less : (l r q : ℕ) → borrowed_at (lane_of l after).messages r q + mark
+      (lane == l && (place == r && channel == q)) ≡ borrowed_at (lane_of l lanes).messages r q
   borrowed_less l r q =
       ⊎_elim
       (λ e. omega (
         arith,
-        ap (λ (x : Lane T N H). borrowed_at x.messages r q) (sym (ap (λ l. lane_of l after) e) ∙ here_is lanes lane slot (one_less rows place channel) there held),
+        ap (λ (x : Lane T N H). borrowed_at x.messages r q) (sym (ap (λ l. lane_of l after) e)
+            ∙ here_is lanes lane slot (one_less rows place channel) there held),
         less_at rows place channel some r q,
         ap (λ l. borrowed_at (lane_of l lanes).messages r q) e,
         ap (λ b. mark (b && (place == r && channel == q))) (eq-eqb lane l e),

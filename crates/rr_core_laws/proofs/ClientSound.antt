@@ -29,7 +29,8 @@ use Rattle.rr_core_laws.proofs.Tallies.{and_none, tally-none, last_at, snoc_case
 
 module _ {Q QH P PH K : Type 0} (p : Parts Q QH P PH K) (settings : ClientSettings K) (place : ℕ) (m : Messages Q RequestNote QH)
     (sound : IsSound p empty_hand)
-    (new : IsNew (client_port p settings).pool_size settings.initial_max_slice_len p.limits.max_servers 1 p.limits.max_active_requests_per_client no_request m)
+    (new : IsNew (client_port p settings).pool_size settings.initial_max_slice_len p.limits.max_servers 1
+    p.limits.max_active_requests_per_client no_request m)
     (inside : place < p.limits.max_clients)
     (vacant : (i : ℕ) (c : ClientPart K) → slice_get p.clients i ≡ Some c → c.place ≢ place)
     (few : length p.clients < p.limits.max_clients)
@@ -39,7 +40,11 @@ module _ {Q QH P PH K : Type 0} (p : Parts Q QH P PH K) (settings : ClientSettin
   after = with_client_part p settings place m
 
   abbrev last_client : ClientPart K
-  last_client = record { connected = record { port = client_port p settings; lane = length p.client_lanes; place = place; loans = 0 }; loans_made = 0; pendings = 0 }
+  last_client = record {
+    connected = record { port = client_port p settings; lane = length p.client_lanes; place = place; loans = 0 };
+    loans_made = 0;
+    pendings = 0;
+  }
 
   abbrev last : Lane Q RequestNote QH
   last = record { owner = p.next; row = length p.table.rows; messages = m }
@@ -65,29 +70,41 @@ module _ {Q QH P PH K : Type 0} (p : Parts Q QH P PH K) (settings : ClientSettin
       let n = sound.numbered in
       record {
         fresh = λ k h. n.fresh k (omega arith);
-        requests = λ k s at is. n.requests k s at is ∙ sym (number_kept s.value.lane s.value.slot (handle_uses_request p empty_hand sound.counted k s at (loan_is_request s.value.stage is)));
-        pendings = λ k s at is. n.pendings k s at is ∙ sym (number_kept s.value.lane s.value.slot (handle_uses_request p empty_hand sound.counted k s at (pending_is_request s.value.stage is)));
+        requests = λ k s at is. n.requests k s at is ∙ sym (number_kept s.value.lane s.value.slot
+            (handle_uses_request p empty_hand sound.counted k s at (loan_is_request s.value.stage is)));
+        pendings = λ k s at is. n.pendings k s at is ∙ sym (number_kept s.value.lane s.value.slot
+            (handle_uses_request p empty_hand sound.counted k s at (pending_is_request s.value.stage is)));
         responses = n.responses;
         requests_below = λ l i h. omega (arith, number_kept l i (used_before l i h), n.requests_below l i (used_before l i h));
         responses_below = λ l i h. omega (arith, n.responses_below l i h);
-        requests_apart = λ l i k j h g e. n.requests_apart l i k j (used_before l i h) (used_before k j g) (sym (number_kept l i (used_before l i h)) ∙ e ∙ number_kept k j (used_before k j g));
+        requests_apart = λ l i k j h g e. n.requests_apart l i k j (used_before l i h) (used_before k j g)
+            (sym (number_kept l i (used_before l i h)) ∙ e ∙ number_kept k j (used_before k j g));
         responses_apart = n.responses_apart;
         kinds_apart = λ l i k j h g e. n.kinds_apart l i k j (used_before l i h) g (sym (number_kept l i (used_before l i h)) ∙ e);
-        actives_apart = λ k server l i s at is. ((λ h e. (n.actives_apart k server l i s at is).0 (used_before l i h) (sym (number_kept l i (used_before l i h)) ∙ e)), (n.actives_apart k server l i s at is).1);
+        actives_apart = λ k server l i s at is. (
+          (λ h e. (n.actives_apart k server l i s at is).0 (used_before l i h)
+              (sym (number_kept l i (used_before l i h)) ∙ e)),
+          (n.actives_apart k server l i s at is).1,
+        );
         received = λ k s at is. let r = n.received k s at is in (r.0, r.1, snoc_keeps p.clients _ r.0 r.1 r.2, r.3);
         answering = λ l i k server loans s u at is f.
-            let a = n.answering l i k server loans s u at is f in
-            (number_kept s.value.lane s.value.slot (handle_uses_request p empty_hand sound.counted k s at (ap is_of_request is)) ∙ a.0, a.1);
+            let a = n.answering l i k server loans s u at is f in (
+              number_kept s.value.lane s.value.slot (handle_uses_request p empty_hand sound.counted k s at (ap is_of_request is))
+                  ∙ a.0,
+              a.1,
+            );
       }
 
   addressed : IsAddressed after
   addressed = record {
-    requests = λ l i h. ap (λ (n : RequestNote). n.client) (note_kept l i (used_before l i h)) ∙ sound.addressed.requests l i (used_before l i h) ∙ sym (like.owned l i (used_before l i h));
+    requests = λ l i h. ap (λ (n : RequestNote). n.client) (note_kept l i (used_before l i h))
+        ∙ sound.addressed.requests l i (used_before l i h) ∙ sym (like.owned l i (used_before l i h));
     responses = sound.addressed.responses;
     clients_below = λ l i h. omega (arith, sound.addressed.clients_below l i h);
     actives_below = λ l i h. omega (arith, sound.addressed.actives_below l i h);
     answered_below = λ l i h. omega (arith, sound.addressed.answered_below l i h);
-    answers = λ l i k j h g e. let a = sound.addressed.answers l i k j h (used_before k j g) (sym (number_kept k j (used_before k j g)) ∙ e) in (a.0, a.1 ∙ sym (like.owned k j (used_before k j g)));
+    answers = λ l i k j h g e. let a = sound.addressed.answers l i k j h (used_before k j g)
+        (sym (number_kept k j (used_before k j g)) ∙ e) in (a.0, a.1 ∙ sym (like.owned k j (used_before k j g)));
     entries = λ l i channel j c at some. snoc_cases p.clients _ j c at
         (λ before h. sound.addressed.entries l i channel j c before some)
         (λ e is. absurd (omega (
@@ -99,12 +116,20 @@ module _ {Q QH P PH K : Type 0} (p : Parts Q QH P PH K) (settings : ClientSettin
   }
 
   -- a handle's place follows from the same row
-  place_kept : (k : ℕ) (s : Seat Held) → fin_map.get p.table.seats k ≡ Some s → (g : Stage) → s.value.stage ≡ g → place_at after g s.value.lane s.value.slot ≡ place_at p g s.value.lane s.value.slot
-  place_kept k s at stage.RequestMutUninit e = ap (λ (l : Lane Q RequestNote QH). record { row = l.row; index = s.value.slot }) (lane_before p.client_lanes last s.value.lane (request_lane p empty_hand sound.counted k s at (ap is_of_request e)))
-  place_kept k s at stage.RequestMut e = ap (λ (l : Lane Q RequestNote QH). record { row = l.row; index = s.value.slot }) (lane_before p.client_lanes last s.value.lane (request_lane p empty_hand sound.counted k s at (ap is_of_request e)))
-  place_kept k s at (stage.PendingResponse hint connections) e = ap (λ (l : Lane Q RequestNote QH). record { row = l.row; index = s.value.slot }) (lane_before p.client_lanes last s.value.lane (request_lane p empty_hand sound.counted k s at (ap is_of_request e)))
+  place_kept : (k : ℕ) (s : Seat Held) → fin_map.get p.table.seats k ≡ Some s → (g : Stage) → s.value.stage ≡ g
+      → place_at after g s.value.lane s.value.slot ≡ place_at p g s.value.lane s.value.slot
+  place_kept k s at stage.RequestMutUninit e = ap (λ (l : Lane Q RequestNote QH). record { row = l.row; index = s.value.slot })
+      (lane_before p.client_lanes last s.value.lane (request_lane p empty_hand sound.counted k s at (ap is_of_request e)))
+  place_kept k s at stage.RequestMut e = ap (λ (l : Lane Q RequestNote QH). record { row = l.row; index = s.value.slot })
+      (lane_before p.client_lanes last s.value.lane (request_lane p empty_hand sound.counted k s at (ap is_of_request e)))
+  place_kept k s at (stage.PendingResponse hint connections) e = ap
+      (λ (l : Lane Q RequestNote QH). record { row = l.row; index = s.value.slot })
+      (lane_before p.client_lanes last s.value.lane (request_lane p empty_hand sound.counted k s at (ap is_of_request e)))
   place_kept k s at (stage.ActiveRequest server loans) e =
-      ap (λ (l : Lane Q RequestNote QH). record { row = l.row; index = (server_place p server + 1) * length l.messages.held + s.value.slot })
+      ap (λ (l : Lane Q RequestNote QH). record {
+        row = l.row;
+        index = (server_place p server + 1) * length l.messages.held + s.value.slot;
+      })
       (lane_before p.client_lanes last s.value.lane (request_lane p empty_hand sound.counted k s at (ap is_of_request e)))
   place_kept k s at stage.ResponseMutUninit e = refl
   place_kept k s at stage.ResponseMut e = refl
@@ -128,22 +153,38 @@ module _ {Q QH P PH K : Type 0} (p : Parts Q QH P PH K) (settings : ClientSettin
         placed = λ k s at. n.placed k s at ∙ sym (place_kept k s at s.value.stage refl);
         client_rows = λ l h. lane_cases p.client_lanes last new l
             (λ before e. let r = n.client_rows l before in
-            let P : Lane Q RequestNote QH → Type 0 = λ x. (x.row < length after.table.rows) × (slice_index after.table.rows x.row ≡ (p.limits.max_servers + 1) * length x.messages.held) in
+            let P : Lane Q RequestNote QH → Type 0 = λ x. (x.row < length after.table.rows)
+            × (slice_index after.table.rows x.row ≡ (p.limits.max_servers + 1) * length x.messages.held) in
             subst P (sym e) (more_rows _ r.0, row_before _ r.0 ∙ r.1))
-            (λ is e g. let P : Lane Q RequestNote QH → Type 0 = λ x. (x.row < length after.table.rows) × (slice_index after.table.rows x.row ≡ (p.limits.max_servers + 1) * length x.messages.held) in
+            (λ is e g. let P : Lane Q RequestNote QH → Type 0 = λ x. (x.row < length after.table.rows)
+            × (slice_index after.table.rows x.row ≡ (p.limits.max_servers + 1) * length x.messages.held) in
             subst P (sym e) (
               omega (arith, length-append p.table.rows ((p.limits.max_servers + 1) * (client_port p settings).pool_size ∷ [])),
-              get_or-append_seam p.table.rows ((p.limits.max_servers + 1) * (client_port p settings).pool_size) [] 0 ∙ ap (λ n. (p.limits.max_servers + 1) * n) (sym slots_are),
+              get_or-append_seam p.table.rows ((p.limits.max_servers + 1) * (client_port p settings).pool_size) [] 0
+                  ∙ ap (λ n. (p.limits.max_servers + 1) * n) (sym slots_are),
             ))
             (λ far e g. absurd (omega (arith, h, far, length-append p.client_lanes (last ∷ []))));
         server_rows = λ l h. let r = n.server_rows l h in (more_rows _ r.0, row_before _ r.0 ∙ r.1);
         client_rows_apart = λ l k h g same. lane_cases p.client_lanes last new l
             (λ before e. lane_cases p.client_lanes last new k
-            (λ also f. n.client_rows_apart l k before also (sym (ap (λ (x : Lane Q RequestNote QH). x.row) e) ∙ same ∙ ap (λ (x : Lane Q RequestNote QH). x.row) f))
-            (λ is f gone. absurd (omega (arith, (n.client_rows l before).0, ap (λ (x : Lane Q RequestNote QH). x.row) e, same, ap (λ (x : Lane Q RequestNote QH). x.row) f)))
+            (λ also f. n.client_rows_apart l k before also (sym (ap (λ (x : Lane Q RequestNote QH). x.row) e) ∙ same
+            ∙ ap (λ (x : Lane Q RequestNote QH). x.row) f))
+            (λ is f gone. absurd (omega (
+              arith,
+              (n.client_rows l before).0,
+              ap (λ (x : Lane Q RequestNote QH). x.row) e,
+              same,
+              ap (λ (x : Lane Q RequestNote QH). x.row) f,
+            )))
             (λ far f gone. absurd (omega (arith, g, far, length-append p.client_lanes (last ∷ [])))))
             (λ is e gone. lane_cases p.client_lanes last new k
-            (λ also f. absurd (omega (arith, (n.client_rows k also).0, ap (λ (x : Lane Q RequestNote QH). x.row) e, same, ap (λ (x : Lane Q RequestNote QH). x.row) f)))
+            (λ also f. absurd (omega (
+              arith,
+              (n.client_rows k also).0,
+              ap (λ (x : Lane Q RequestNote QH). x.row) e,
+              same,
+              ap (λ (x : Lane Q RequestNote QH). x.row) f,
+            )))
             (λ too f gone. is ∙ sym too)
             (λ far f gone. absurd (omega (arith, g, far, length-append p.client_lanes (last ∷ [])))))
             (λ far e gone. absurd (omega (arith, h, far, length-append p.client_lanes (last ∷ []))));
@@ -156,12 +197,14 @@ module _ {Q QH P PH K : Type 0} (p : Parts Q QH P PH K) (settings : ClientSettin
       }
 
   -- no handle is in the new lane
-  none_last : (test : Stage → Bool) → ((g : Stage) → test g ≡ true → is_of_request g ≡ true) → tally (λ s. test s.value.stage && s.value.lane == length p.client_lanes) p.table.seats ≡ 0
+  none_last : (test : Stage → Bool) → ((g : Stage) → test g ≡ true → is_of_request g ≡ true)
+      → tally (λ s. test s.value.stage && s.value.lane == length p.client_lanes) p.table.seats ≡ 0
   none_last test of_request =
       tally-none p.table.seats (λ s. test s.value.stage && s.value.lane == length p.client_lanes)
       (λ k s at. false_from_ne_true _ (λ t.
       let both = and_parts (test s.value.stage) (s.value.lane == length p.client_lanes) t in
-      let within : s.value.lane < length p.client_lanes = request_lane p empty_hand sound.counted k s at (of_request s.value.stage both.0) in
+      let within : s.value.lane < length p.client_lanes = request_lane p empty_hand sound.counted k s at
+      (of_request s.value.stage both.0) in
       omega (arith, within, eqb-true s.value.lane (length p.client_lanes) both.1)))
 
   stored : IsStored after empty_hand
@@ -179,18 +222,21 @@ module _ {Q QH P PH K : Type 0} (p : Parts Q QH P PH K) (settings : ClientSettin
         borrowed_requests = λ l server h. like.borrowed l (server_place p server) 0 ∙ lane_cases p.client_lanes last new l
             (λ before e. n.borrowed_requests l server before)
             (λ is e gone. ap (λ (x : Lane Q RequestNote QH). borrowed_at x.messages (server_place p server) 0) gone
-            ∙ sym (ap (λ k. tally (λ s. is_active_of server s.value.stage && s.value.lane == k) p.table.seats) is ∙ none_last (is_active_of server) (active_is_request server)) ∙ and_none _)
+            ∙ sym (ap (λ k. tally (λ s. is_active_of server s.value.stage && s.value.lane == k) p.table.seats) is
+            ∙ none_last (is_active_of server) (active_is_request server)) ∙ and_none _)
             (λ far e gone. absurd (omega (arith, h, far, length-append p.client_lanes (last ∷ []))));
         borrowed_responses = λ l i channel c h at. snoc_cases p.clients _ i c at
             (λ before g. n.borrowed_responses l i channel c h before)
-            (λ e is. rw (← is) ((sound.vacated.of_clients l place channel vacant).1 ∙ sym (tally-none p.table.seats (λ s. is_received_at p l p.next channel s.value) (λ k s there. false_from_ne_true _ (λ t.
+            (λ e is. rw (← is) ((sound.vacated.of_clients l place channel vacant).1
+            ∙ sym (tally-none p.table.seats (λ s. is_received_at p l p.next channel s.value) (λ k s there. false_from_ne_true _ (λ t.
             let received = and_parts (is_received s.value.stage) _ t in
             let here = and_parts (s.value.lane == l) _ received.1 in
             let client = and_parts ((response_note p s.value.lane s.value.slot).client == p.next) _ here.1 in
             omega (
               arith,
               eqb-true (response_note p s.value.lane s.value.slot).client p.next client.0,
-              sound.addressed.clients_below s.value.lane s.value.slot (handle_uses_response p empty_hand sound.counted k s there (received_is_response s.value.stage received.0)),
+              sound.addressed.clients_below s.value.lane s.value.slot
+                  (handle_uses_response p empty_hand sound.counted k s there (received_is_response s.value.stage received.0)),
             )))) ∙ and_none _));
       }
 
@@ -202,11 +248,18 @@ module _ {Q QH P PH K : Type 0} (p : Parts Q QH P PH K) (settings : ClientSettin
     user_headers = new.user_headers ∙ sym slots_are;
     queues = ap length new.queues ∙ length-replicate p.limits.max_servers (replicate 1 []);
     borrowed = ap length new.borrowed ∙ length-replicate p.limits.max_servers (replicate 1 0);
-    queue_channels = λ r h. ap (λ (q : List (List (List ℕ))). length (get_or q r [])) new.queues ∙ ap length (get_or-replicate p.limits.max_servers r (replicate 1 []) [] h);
-    borrowed_channels = λ r h. ap (λ (q : List (List ℕ)). length (get_or q r [])) new.borrowed ∙ ap length (get_or-replicate p.limits.max_servers r (replicate 1 0) [] h);
+    queue_channels = λ r h. ap (λ (q : List (List (List ℕ))). length (get_or q r [])) new.queues
+        ∙ ap length (get_or-replicate p.limits.max_servers r (replicate 1 []) [] h);
+    borrowed_channels = λ r h. ap (λ (q : List (List ℕ)). length (get_or q r [])) new.borrowed
+        ∙ ap length (get_or-replicate p.limits.max_servers r (replicate 1 0) [] h);
     capacity_is = new.capacity_is;
     within = λ r c. omega (arith, ap length (new_queue m new r c));
-    inside = λ slot some. absurd (omega (arith, some, ap (λ (q : List (List (List ℕ))). times slot (all_entries q)) new.queues, times-empty slot p.limits.max_servers 1));
+    inside = λ slot some. absurd (omega (
+      arith,
+      some,
+      ap (λ (q : List (List (List ℕ))). times slot (all_entries q)) new.queues,
+      times-empty slot p.limits.max_servers 1,
+    ));
   }
 
   sized : IsSized after
@@ -215,24 +268,47 @@ module _ {Q QH P PH K : Type 0} (p : Parts Q QH P PH K) (settings : ClientSettin
       record {
         limits_fit = n.limits_fit;
         client_lanes = λ l h. lane_cases p.client_lanes last new l
-            (λ before e. let P : Lane Q RequestNote QH → Type 0 = λ x. IsShaped p.limits.max_servers 1 p.limits.max_active_requests_per_client x.messages in subst P (sym e) (n.client_lanes l before))
-            (λ is e gone. let P : Lane Q RequestNote QH → Type 0 = λ x. IsShaped p.limits.max_servers 1 p.limits.max_active_requests_per_client x.messages in subst P (sym e) shaped)
+            (λ before e. let P : Lane Q RequestNote QH → Type 0 = λ x. IsShaped p.limits.max_servers 1
+            p.limits.max_active_requests_per_client x.messages in subst P (sym e) (n.client_lanes l before))
+            (λ is e gone. let P : Lane Q RequestNote QH → Type 0 = λ x. IsShaped p.limits.max_servers 1
+            p.limits.max_active_requests_per_client x.messages in subst P (sym e) shaped)
             (λ far e gone. absurd (omega (arith, h, far, length-append p.client_lanes (last ∷ []))));
         server_lanes = n.server_lanes;
         waiting = length-append p.waiting _ ∙ omega (arith, n.waiting, length-append p.client_lanes (last ∷ []));
         waiting_slots = λ l h. lane_cases p.client_lanes last new l
-            (λ before e. ap (λ (w : List Bool). length w) (get_or-append p.waiting _ [] l (omega (arith, before, n.waiting))) ∙ n.waiting_slots l before ∙ sym (ap (λ (x : Lane Q RequestNote QH). length x.messages.held * p.limits.max_servers) e))
-            (λ is e gone. ap (λ k. length (get_or after.waiting k [])) (is ∙ sym n.waiting) ∙ ap length (get_or-append_seam p.waiting _ [] []) ∙ length-replicate ((client_port p settings).pool_size * p.limits.max_servers) false ∙ ap (λ n. n * p.limits.max_servers) (sym slots_are) ∙ sym (ap (λ (x : Lane Q RequestNote QH). length x.messages.held * p.limits.max_servers) e))
+            (λ before e. ap (λ (w : List Bool). length w) (get_or-append p.waiting _ [] l (omega (arith, before, n.waiting)))
+            ∙ n.waiting_slots l before ∙ sym (ap (λ (x : Lane Q RequestNote QH). length x.messages.held * p.limits.max_servers) e))
+            (λ is e gone. ap (λ k. length (get_or after.waiting k [])) (is ∙ sym n.waiting)
+            ∙ ap length (get_or-append_seam p.waiting _ [] [])
+            ∙ length-replicate ((client_port p settings).pool_size * p.limits.max_servers) false
+            ∙ ap (λ n. n * p.limits.max_servers) (sym slots_are)
+            ∙ sym (ap (λ (x : Lane Q RequestNote QH). length x.messages.held * p.limits.max_servers) e))
             (λ far e gone. absurd (omega (arith, h, far, length-append p.client_lanes (last ∷ []))));
         next_fits = omega (arith, left);
         channels = λ l h. lane_cases p.client_lanes last new l
             (λ before e. omega (arith, n.channels l before, ap (λ (x : Lane Q RequestNote QH). length x.messages.held) e))
-            (λ is e gone. omega (arith, ap (λ (x : Lane Q RequestNote QH). length x.messages.held) e, slots_are, pool_fits (worst_case_requests p.limits) settings.pool (makes_channels p.limits n.limits_fit)))
+            (λ is e gone. omega (
+              arith,
+              ap (λ (x : Lane Q RequestNote QH). length x.messages.held) e,
+              slots_are,
+              pool_fits (worst_case_requests p.limits) settings.pool (makes_channels p.limits n.limits_fit),
+            ))
             (λ far e gone. absurd (omega (arith, h, far, length-append p.client_lanes (last ∷ []))));
-        loans_made = λ i c at. snoc_cases p.clients last_client i c at (λ before h. omega (arith, n.loans_made i c before)) (λ e is. omega (arith, ap (λ (c : ClientPart K). c.loans_made) is));
+        loans_made = λ i c at. snoc_cases p.clients last_client i c at (λ before h. omega (arith, n.loans_made i c before))
+            (λ e is. omega (arith, ap (λ (c : ClientPart K). c.loans_made) is));
         rows_fit = λ l h. lane_cases p.client_lanes last new l
-            (λ before e. omega (arith, n.rows_fit l before, ap (λ (x : Lane Q RequestNote QH). (p.limits.max_servers + 1) * length x.messages.held) e))
-            (λ is e gone. omega (arith, ap (λ (x : Lane Q RequestNote QH). (p.limits.max_servers + 1) * length x.messages.held) e, ap (λ k. (p.limits.max_servers + 1) * k) slots_are, fits))
+            (λ before e. omega (
+              arith,
+              n.rows_fit l before,
+              ap
+                  (λ (x : Lane Q RequestNote QH). (p.limits.max_servers + 1) * length x.messages.held) e,
+            ))
+            (λ is e gone. omega (
+              arith,
+              ap (λ (x : Lane Q RequestNote QH). (p.limits.max_servers + 1) * length x.messages.held) e,
+              ap (λ k. (p.limits.max_servers + 1) * k) slots_are,
+              fits,
+            ))
             (λ far e gone. absurd (omega (arith, h, far, length-append p.client_lanes (last ∷ []))));
       }
 
@@ -241,12 +317,15 @@ module _ {Q QH P PH K : Type 0} (p : Parts Q QH P PH K) (settings : ClientSettin
     of_clients = λ l there channel none. sound.vacated.of_clients l there channel (λ i c e. none i c (snoc_keeps p.clients _ i c e));
     of_servers = λ l there channel none.
         let n = sound.vacated.of_servers l there channel none in (like.queues l there channel ∙ n.0, like.borrowed l there channel ∙ n.1);
-    awaits_none = λ l i there none inside. mark_of_more p.waiting ((client_port p settings).pool_size * p.limits.max_servers) l (i * p.limits.max_servers + there) false ∙ sound.vacated.awaits_none l i there none inside;
+    awaits_none = λ l i there none inside. mark_of_more p.waiting ((client_port p settings).pool_size * p.limits.max_servers) l
+        (i * p.limits.max_servers + there) false ∙ sound.vacated.awaits_none l i there none inside;
   }
 
   -- a port of the longer list is one of the list's, or the new one
   connected_cases : {Z : Type 0} (i : ℕ) (c : Connected K) → slice_get (map (λ c. c.connected) after.clients) i ≡ Some c
-      → (slice_get (map (λ c. c.connected) p.clients) i ≡ Some c → i < length p.clients → Z) → (i ≡ length p.clients → record { port = client_port p settings; lane = length p.client_lanes; place = place; loans = 0 } ≡ c → Z) → Z
+      → (slice_get (map (λ c. c.connected) p.clients) i ≡ Some c → i < length p.clients → Z)
+      → (i ≡ length p.clients → record { port = client_port p settings; lane = length p.client_lanes; place = place; loans = 0 } ≡ c
+      → Z) → Z
   connected_cases i c at before fresh =
       snoc_cases (map (λ (c : ClientPart K). c.connected) p.clients) _ i c
       (sym (ap (λ (cs : List (Connected K)). slice_get cs i) (map-append (λ (c : ClientPart K). c.connected) p.clients _)) ∙ at)
@@ -259,7 +338,8 @@ module _ {Q QH P PH K : Type 0} (p : Parts Q QH P PH K) (settings : ClientSettin
     where
       go : (o : Option (ClientPart K)) → slice_get p.clients i ≡ o → option_map (λ c. c.connected) o ≡ Some c → ⊥
       go None e f = let no : None ≡ Some c = f in cc
-      go (Some x) e f = let is : Some x.connected ≡ Some c = f in let also : x.connected ≡ c = cc in vacant i x e (ap (λ (c : Connected K). c.place) also ∙ same)
+      go (Some x) e f = let is : Some x.connected ≡ Some c = f in let also : x.connected ≡ c = cc in
+          vacant i x e (ap (λ (c : Connected K). c.place) also ∙ same)
 
   client_ports : HasLanes after.next p.limits.max_clients (map (λ c. c.connected) after.clients) after.client_lanes
   client_ports =
@@ -275,7 +355,10 @@ module _ {Q QH P PH K : Type 0} (p : Parts Q QH P PH K) (settings : ClientSettin
               ap (λ (x : Lane Q RequestNote QH). x.messages.room) e ∙ o.3,
             ))
             (λ end is.
-            let P : Connected K → Type 0 = λ c. (c.lane < length after.client_lanes) × ((lane_of c.lane after.client_lanes).owner ≡ c.port.id) × (length (lane_of c.lane after.client_lanes).messages.held ≡ c.port.pool_size) × ((lane_of c.lane after.client_lanes).messages.room ≡ c.port.initial_max_slice_len) in
+            let P : Connected K → Type 0 = λ c. (c.lane < length after.client_lanes)
+            × ((lane_of c.lane after.client_lanes).owner ≡ c.port.id)
+            × (length (lane_of c.lane after.client_lanes).messages.held ≡ c.port.pool_size)
+            × ((lane_of c.lane after.client_lanes).messages.room ≡ c.port.initial_max_slice_len) in
             let e = lane_last p.client_lanes last in
             subst P is (
               omega (arith, length-append p.client_lanes (last ∷ [])),
@@ -284,16 +367,41 @@ module _ {Q QH P PH K : Type 0} (p : Parts Q QH P PH K) (settings : ClientSettin
               ap (λ (x : Lane Q RequestNote QH). x.messages.room) e ∙ new.room_is,
             ));
         ported = λ l h. ⊎_elim
-            (λ b. let o = n.ported l b in (o.0, o.1, ap (λ cs. slice_get cs o.0) (map-append (λ (c : ClientPart K). c.connected) p.clients _) ∙ snoc_keeps _ _ o.0 o.1 o.2, o.3))
-            (λ far. (length p.clients, last_client.connected, ap (λ cs. slice_get cs (length p.clients)) (map-append (λ (c : ClientPart K). c.connected) p.clients _) ∙ last_at _ _ (length p.clients) (length-map p.clients (λ (c : ClientPart K). c.connected)), omega (arith, h, far, length-append p.client_lanes (last ∷ []))))
+            (λ b. let o = n.ported l b in (
+              o.0,
+              o.1,
+              ap (λ cs. slice_get cs o.0)
+                  (map-append (λ (c : ClientPart K). c.connected) p.clients _) ∙ snoc_keeps _ _ o.0 o.1 o.2,
+              o.3,
+            ))
+            (λ far. (
+              length p.clients,
+              last_client.connected,
+              ap (λ cs. slice_get cs (length p.clients)) (map-append (λ (c : ClientPart K). c.connected) p.clients _)
+                  ∙ last_at _ _ (length p.clients) (length-map p.clients (λ (c : ClientPart K). c.connected)),
+              omega (arith, h, far, length-append p.client_lanes (last ∷ [])),
+            ))
             (cases_lt l (length p.client_lanes));
         owned_once = λ l k h g same. lane_cases p.client_lanes last new l
             (λ before e. lane_cases p.client_lanes last new k
-            (λ also f. n.owned_once l k before also (sym (ap (λ (x : Lane Q RequestNote QH). x.owner) e) ∙ same ∙ ap (λ (x : Lane Q RequestNote QH). x.owner) f))
-            (λ is f gone. absurd (omega (arith, n.numbered l before, ap (λ (x : Lane Q RequestNote QH). x.owner) e, same, ap (λ (x : Lane Q RequestNote QH). x.owner) f)))
+            (λ also f. n.owned_once l k before also (sym (ap (λ (x : Lane Q RequestNote QH). x.owner) e) ∙ same
+            ∙ ap (λ (x : Lane Q RequestNote QH). x.owner) f))
+            (λ is f gone. absurd (omega (
+              arith,
+              n.numbered l before,
+              ap (λ (x : Lane Q RequestNote QH). x.owner) e,
+              same,
+              ap (λ (x : Lane Q RequestNote QH). x.owner) f,
+            )))
             (λ far f gone. absurd (omega (arith, g, far, length-append p.client_lanes (last ∷ [])))))
             (λ is e gone. lane_cases p.client_lanes last new k
-            (λ also f. absurd (omega (arith, n.numbered k also, ap (λ (x : Lane Q RequestNote QH). x.owner) e, same, ap (λ (x : Lane Q RequestNote QH). x.owner) f)))
+            (λ also f. absurd (omega (
+              arith,
+              n.numbered k also,
+              ap (λ (x : Lane Q RequestNote QH). x.owner) e,
+              same,
+              ap (λ (x : Lane Q RequestNote QH). x.owner) f,
+            )))
             (λ too f gone. is ∙ sym too)
             (λ far f gone. absurd (omega (arith, g, far, length-append p.client_lanes (last ∷ [])))))
             (λ far e gone. absurd (omega (arith, h, far, length-append p.client_lanes (last ∷ []))));
@@ -301,7 +409,8 @@ module _ {Q QH P PH K : Type 0} (p : Parts Q QH P PH K) (settings : ClientSettin
             (λ before e. omega (arith, n.numbered l before, ap (λ (x : Lane Q RequestNote QH). x.owner) e))
             (λ is e gone. omega (arith, ap (λ (x : Lane Q RequestNote QH). x.owner) e))
             (λ far e gone. absurd (omega (arith, h, far, length-append p.client_lanes (last ∷ []))));
-        placed = λ i c at. connected_cases i c at (λ before h. n.placed i c before) (λ end is. omega (arith, inside, ap (λ (c : Connected K). c.place) is));
+        placed = λ i c at. connected_cases i c at (λ before h. n.placed i c before)
+            (λ end is. omega (arith, inside, ap (λ (c : Connected K). c.place) is));
         placed_once = λ i j c d at there same. connected_cases i c at
             (λ before h. connected_cases j d there
             (λ also g. n.placed_once i j c d before also same)
@@ -312,14 +421,33 @@ module _ {Q QH P PH K : Type 0} (p : Parts Q QH P PH K) (settings : ClientSettin
         numbered_once = λ i j c d at there same. connected_cases i c at
             (λ before h. connected_cases j d there
             (λ also g. n.numbered_once i j c d before also same)
-            (λ end is. absurd (omega (arith, given_before p.next p.limits.max_clients _ p.client_lanes n i c before, same, ap (λ (c : Connected K). c.port.id) is))))
+            (λ end is. absurd (omega (
+              arith,
+              given_before p.next p.limits.max_clients _ p.client_lanes n i c before,
+              same,
+              ap (λ (c : Connected K). c.port.id) is,
+            ))))
             (λ end is. connected_cases j d there
-            (λ also g. absurd (omega (arith, given_before p.next p.limits.max_clients _ p.client_lanes n j d also, same, ap (λ (c : Connected K). c.port.id) is)))
+            (λ also g. absurd (omega (
+              arith,
+              given_before p.next p.limits.max_clients _ p.client_lanes n j d also,
+              same,
+              ap (λ (c : Connected K). c.port.id) is,
+            )))
             (λ too also. end ∙ sym too));
       }
 
   server_ports : HasLanes after.next p.limits.max_servers (map (λ s. s.connected) p.servers) p.server_lanes
-  server_ports = let n = sound.server_ports in record { few = n.few; own = n.own; ported = n.ported; owned_once = n.owned_once; numbered = λ i h. omega (arith, n.numbered i h); placed = n.placed; placed_once = n.placed_once; numbered_once = n.numbered_once }
+  server_ports = let n = sound.server_ports in record {
+    few = n.few;
+    own = n.own;
+    ported = n.ported;
+    owned_once = n.owned_once;
+    numbered = λ i h. omega (arith, n.numbered i h);
+    placed = n.placed;
+    placed_once = n.placed_once;
+    numbered_once = n.numbered_once;
+  }
 
   -- a client was created
   pub client_sound : IsSound after empty_hand
@@ -337,7 +465,8 @@ module _ {Q QH P PH K : Type 0} (p : Parts Q QH P PH K) (settings : ClientSettin
     sized = sized;
     vacated = vacated;
     held_by_value = record {
-      clients = λ i c at. snoc_cases p.clients last_client i c at (λ before h. sound.held_by_value.clients i c before) (λ e is. ap (λ (c : ClientPart K). c.port.is_held) (sym is));
+      clients = λ i c at. snoc_cases p.clients last_client i c at (λ before h. sound.held_by_value.clients i c before)
+          (λ e is. ap (λ (c : ClientPart K). c.port.is_held) (sym is));
       servers = sound.held_by_value.servers;
     };
     client_ports = client_ports;

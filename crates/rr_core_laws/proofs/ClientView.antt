@@ -25,7 +25,8 @@ use Rattle.rr_core_laws.proofs.NewLanes.{new_queue, lane_before}
 use Rattle.rr_core_laws.proofs.Agreeing.{request_lane, same_handle, same_requests, same_responses, same_state}
 
 module _ {Q QH P PH K : Type 0} (p : Parts Q QH P PH K) (settings : ClientSettings K) (place : ℕ) (m : Messages Q RequestNote QH)
-    (sound : IsSound p empty_hand) (slots room receivers channels capacity : ℕ) (new : IsNew slots room receivers channels capacity no_request m)
+    (sound : IsSound p empty_hand) (slots room receivers channels capacity : ℕ)
+    (new : IsNew slots room receivers channels capacity no_request m)
     (vacant : (i : ℕ) (c : ClientPart K) → slice_get p.clients i ≡ Some c → c.place ≢ place) where
   abbrev after : Parts Q QH P PH K
   after = with_client_part p settings place m
@@ -36,23 +37,30 @@ module _ {Q QH P PH K : Type 0} (p : Parts Q QH P PH K) (settings : ClientSettin
       same_handle after p s.value.stage s.value.lane s.value.slot
       (λ is.
       let within = request_lane p empty_hand sound.counted k s at is in (
-        ap (λ (l : Lane Q RequestNote QH). request_in_slot p.spare_request_header l.messages s.value.slot) (lane_before p.client_lanes _ s.value.lane within),
-        ap (λ (w : List Bool). map (λ (x : ServerPart K). x.port.id) (filter (λ (x : ServerPart K). get_or w (s.value.slot * p.limits.max_servers + x.place) false) p.servers)) (get_or-append p.waiting _ [] s.value.lane (omega (arith, within, sound.sized.waiting))),
+        ap (λ (l : Lane Q RequestNote QH). request_in_slot p.spare_request_header l.messages s.value.slot)
+            (lane_before p.client_lanes _ s.value.lane within),
+        ap (λ (w : List Bool). map (λ (x : ServerPart K). x.port.id)
+            (filter (λ (x : ServerPart K). get_or w (s.value.slot * p.limits.max_servers + x.place) false) p.servers))
+            (get_or-append p.waiting _ [] s.value.lane (omega (arith, within, sound.sized.waiting))),
       ))
       (λ is. refl)
 
   -- no request waits in the new lane
   requests : (key : RequestKey) → requests_at after key ≡ requests_at p key
   requests key =
-      ap (λ o. option_map_or (λ (s : ServerPart K). option_map_or (λ (l : Lane Q RequestNote QH). shown l s) o []) (find (λ s. s.port.id == key.server) p.servers) []) (find_last (λ (l : Lane Q RequestNote QH). l.owner == key.client) p.client_lanes _)
+      ap (λ o. option_map_or (λ (s : ServerPart K). option_map_or
+      (λ (l : Lane Q RequestNote QH). shown l s) o []) (find (λ s. s.port.id == key.server) p.servers)
+      []) (find_last (λ (l : Lane Q RequestNote QH). l.owner == key.client) p.client_lanes _)
       ∙ go (find (λ s. s.port.id == key.server) p.servers) (find (λ l. l.owner == key.client) p.client_lanes) (p.next == key.client)
     where
       shown : Lane Q RequestNote QH → ServerPart K → List (RequestMessage Q QH)
       shown l s = map (request_in_slot p.spare_request_header l.messages) (queue_at l.messages s.place 0)
 
       go : (server : Option (ServerPart K)) (lane : Option (Lane Q RequestNote QH)) (b : Bool)
-          → option_map_or (λ s. option_map_or (λ l. map (request_in_slot p.spare_request_header l.messages) (queue_at l.messages s.place 0)) (option_or lane (cond b (Some (record { owner = p.next; row = length p.table.rows; messages = m })) None)) []) server []
-          ≡ option_map_or (λ s. option_map_or (λ l. map (request_in_slot p.spare_request_header l.messages) (queue_at l.messages s.place 0)) lane []) server []
+          → option_map_or (λ s. option_map_or (λ l. map (request_in_slot p.spare_request_header l.messages) (queue_at l.messages s.place 0))
+          (option_or lane (cond b (Some (record { owner = p.next; row = length p.table.rows; messages = m })) None)) []) server []
+          ≡ option_map_or (λ s. option_map_or (λ l. map (request_in_slot p.spare_request_header l.messages) (queue_at l.messages s.place 0))
+          lane []) server []
       go None lane b = refl
       go (Some s) (Some l) b = refl
       go (Some s) None true = ap (map (request_in_slot p.spare_request_header m)) (new_queue m new s.place 0)
@@ -61,18 +69,37 @@ module _ {Q QH P PH K : Type 0} (p : Parts Q QH P PH K) (settings : ClientSettin
   -- no response waits for the new client
   responses : (key : ResponseKey) → responses_at after key ≡ responses_at p key
   responses key =
-      ap (λ o. option_map_or (λ (c : ClientPart K). option_map_or (λ (l : Lane P ResponseNote PH). shown l c) (find (λ (l : Lane P ResponseNote PH). l.owner == key.server) p.server_lanes) []) o []) (find_last (λ (c : ClientPart K). c.port.id == key.client) p.clients _)
+      ap (λ o. option_map_or (λ (c : ClientPart K). option_map_or (λ (l : Lane P ResponseNote PH). shown l c)
+      (find (λ (l : Lane P ResponseNote PH). l.owner == key.server) p.server_lanes) []) o
+      []) (find_last (λ (c : ClientPart K). c.port.id == key.client) p.clients _)
       ∙ go (find (λ c. c.port.id == key.client) p.clients) (find (λ l. l.owner == key.server) p.server_lanes) (p.next == key.client) refl
     where
       shown : Lane P ResponseNote PH → ClientPart K → List (ResponseMessage P PH)
       shown l c = map (response_in_slot p.spare_response_header l.messages) (queue_at l.messages c.place key.channel)
 
       last : ClientPart K
-      last = record { connected = record { port = client_port p settings; lane = length p.client_lanes; place = place; loans = 0 }; loans_made = 0; pendings = 0 }
+      last = record {
+        connected = record { port = client_port p settings; lane = length p.client_lanes; place = place; loans = 0 };
+        loans_made = 0;
+        pendings = 0;
+      }
 
-      go : (client : Option (ClientPart K)) (lane : Option (Lane P ResponseNote PH)) (b : Bool) → find (λ l. l.owner == key.server) p.server_lanes ≡ lane
-          → option_map_or (λ c. option_map_or (λ l. map (response_in_slot p.spare_response_header l.messages) (queue_at l.messages c.place key.channel)) lane []) (option_or client (cond b (Some (record { connected = record { port = client_port p settings; lane = length p.client_lanes; place = place; loans = 0 }; loans_made = 0; pendings = 0 })) None)) []
-          ≡ option_map_or (λ c. option_map_or (λ l. map (response_in_slot p.spare_response_header l.messages) (queue_at l.messages c.place key.channel)) lane []) client []
+      go : (client : Option (ClientPart K)) (lane : Option (Lane P ResponseNote PH)) (b : Bool)
+          → find (λ l. l.owner == key.server) p.server_lanes ≡ lane
+          → option_map_or (λ c. option_map_or (λ l. map (response_in_slot p.spare_response_header l.messages)
+          (queue_at l.messages c.place key.channel)) lane []) (option_or client
+          (cond b (Some (record {
+            connected = record {
+              port = client_port p settings;
+              lane = length p.client_lanes;
+              place = place;
+              loans = 0;
+            };
+            loans_made = 0;
+            pendings = 0;
+          })) None)) []
+          ≡ option_map_or (λ c. option_map_or (λ l. map (response_in_slot p.spare_response_header l.messages)
+          (queue_at l.messages c.place key.channel)) lane []) client []
       go (Some c) lane b e = refl
       go None lane false e = refl
       go None None true e = refl
@@ -80,7 +107,8 @@ module _ {Q QH P PH K : Type 0} (p : Parts Q QH P PH K) (settings : ClientSettin
           let there = found_somewhere (λ l. l.owner == key.server) p.server_lanes l e in
           let is : lane_of there.0 p.server_lanes ≡ l = get_or_from_slice_get p.server_lanes there.0 l no_lane there.1 in
           let empty : queue_at l.messages place key.channel ≡ [] =
-          ap (λ (x : Lane P ResponseNote PH). queue_at x.messages place key.channel) (sym is) ∙ (sound.vacated.of_clients there.0 place key.channel vacant).0 in
+          ap (λ (x : Lane P ResponseNote PH). queue_at x.messages place key.channel) (sym is)
+          ∙ (sound.vacated.of_clients there.0 place key.channel vacant).0 in
           ap (map (response_in_slot p.spare_response_header l.messages)) empty
 
   -- a client was created

@@ -27,10 +27,13 @@ use Rattle.rr_core_laws.proofs.Shown.{held_within}
 use Rattle.rr_core_laws.proofs.Stages.{handle_uses_request, handle_uses_response}
 use Rattle.rr_core_laws.proofs.Tallies.{tally-same}
 
-module _ {Q QH P PH K : Type 0} (p : Parts Q QH P PH K) (held : Held) (sound : IsSound p (held ∷ [])) (is_response : is_of_response held.stage ≡ true) (there : held.lane < length p.server_lanes)
+module _ {Q QH P PH K : Type 0} (p : Parts Q QH P PH K) (held : Held)
+    (sound : IsSound p (held ∷ [])) (is_response : is_of_response held.stage ≡ true) (there : held.lane < length p.server_lanes)
     (some : 0 < slice_index (lane_of held.lane p.server_lanes).messages.held held.slot) (once : response_uses p held.lane held.slot ≡ 1)
-    (index : ℕ) (c : ClientPart K) (at : slice_get p.clients index ≡ Some c) (channel : ℕ) (inside : channel < worst_case_requests p.limits) (capacity : 0 < (lane_of held.lane p.server_lanes).messages.capacity)
-    (client : (response_note p held.lane held.slot).client ≡ c.port.id) (on_channel : (response_note p held.lane held.slot).channel ≡ channel) where
+    (index : ℕ) (c : ClientPart K) (at : slice_get p.clients index ≡ Some c) (channel : ℕ) (inside : channel < worst_case_requests p.limits)
+    (capacity : 0 < (lane_of held.lane p.server_lanes).messages.capacity)
+    (client : (response_note p held.lane held.slot).client ≡ c.port.id)
+    (on_channel : (response_note p held.lane held.slot).channel ≡ channel) where
   abbrev m : Messages P ResponseNote PH
   m = (lane_of held.lane p.server_lanes).messages
 
@@ -38,7 +41,8 @@ module _ {Q QH P PH K : Type 0} (p : Parts Q QH P PH K) (held : Held) (sound : I
   overflow = p.limits.enable_safe_overflow_for_responses
 
   abbrev fresh : Lane P ResponseNote PH
-  fresh = with_messages (lane_of held.lane p.server_lanes) (with_queue m c.place channel (put overflow m.capacity (queue_at m c.place channel) held.slot))
+  fresh = with_messages (lane_of held.lane p.server_lanes) (with_queue m c.place channel
+      (put overflow m.capacity (queue_at m c.place channel) held.slot))
 
   abbrev after : Parts Q QH P PH K
   after = with_delivered p held.lane channel held.slot (Some c.place)
@@ -57,13 +61,21 @@ module _ {Q QH P PH K : Type 0} (p : Parts Q QH P PH K) (held : Held) (sound : I
     clients_alike = refl;
     servers_alike = refl;
     client_lanes_alike = lanes_same p.client_lanes;
-    server_lanes_alike = lanes_set p.server_lanes held.lane fresh (record { owner = refl; row = refl; slots = refl; room = refl; shaped = put_shaped m shaped capacity overflow c.place channel held.slot placed inside within });
+    server_lanes_alike = lanes_set p.server_lanes held.lane fresh
+        (record {
+          owner = refl;
+          row = refl;
+          slots = refl;
+          room = refl;
+          shaped = put_shaped m shaped capacity overflow c.place channel held.slot placed inside within;
+        });
     marks = refl;
     marks_each = λ l. refl;
     numbers = omega arith;
   }
 
-  pub same_of : {Y : Type 0} (f : Lane P ResponseNote PH → Y) → f fresh ≡ f (lane_of held.lane p.server_lanes) → (k : ℕ) → f (lane_of k after.server_lanes) ≡ f (lane_of k p.server_lanes)
+  pub same_of : {Y : Type 0} (f : Lane P ResponseNote PH → Y) → f fresh ≡ f (lane_of held.lane p.server_lanes) → (k : ℕ)
+      → f (lane_of k after.server_lanes) ≡ f (lane_of k p.server_lanes)
   same_of f same k = set_alike p.server_lanes held.lane fresh no_lane f same k
 
   pub here_is : lane_of held.lane after.server_lanes ≡ fresh
@@ -76,14 +88,17 @@ module _ {Q QH P PH K : Type 0} (p : Parts Q QH P PH K) (held : Held) (sound : I
   pub note_same : (k j : ℕ) → response_note after k j ≡ response_note p k j
   note_same k j = same_of (λ x. get_or x.messages.notes j no_response) refl k
 
-  held_same : (k j : ℕ) → slice_index (lane_of k after.server_lanes).messages.held j ≡ slice_index (lane_of k p.server_lanes).messages.held j
+  held_same : (k j : ℕ) → slice_index (lane_of k after.server_lanes).messages.held j ≡ slice_index
+      (lane_of k p.server_lanes).messages.held j
   held_same k j = same_of (λ x. slice_index x.messages.held j) refl k
 
-  borrowed_same : (k r ch : ℕ) → borrowed_at (lane_of k after.server_lanes).messages r ch ≡ borrowed_at (lane_of k p.server_lanes).messages r ch
+  borrowed_same : (k r ch : ℕ) → borrowed_at (lane_of k after.server_lanes).messages r ch ≡ borrowed_at
+      (lane_of k p.server_lanes).messages r ch
   borrowed_same k r ch = same_of (λ x. borrowed_at x.messages r ch) refl k
 
   -- no slot is used more often, but for the response's, once
-  used_more : (k j : ℕ) → (held.lane ≡ k → held.slot ≡ j → response_uses after k j ≤ 2) × ((held.lane ≡ k → held.slot ≡ j → ⊥) → response_uses after k j ≤ response_uses p k j)
+  used_more : (k j : ℕ) → (held.lane ≡ k → held.slot ≡ j → response_uses after k j ≤ 2)
+      × ((held.lane ≡ k → held.slot ≡ j → ⊥) → response_uses after k j ≤ response_uses p k j)
   used_more k j = (here, there_less)
     where
       at_it : (k : ℕ) → held.lane ≡ k → lane_of k after.server_lanes ≡ fresh
@@ -173,11 +188,14 @@ module _ {Q QH P PH K : Type 0} (p : Parts Q QH P PH K) (held : Held) (sound : I
         pendings = n.pendings;
         response_loans = n.response_loans;
         active_loans = λ k server loans s e is. n.active_loans k server loans s e is
-            ∙ sym (same_count (is_loan_from p k) (is_loan_from after k) (λ h. ap (λ (n : ResponseNote). is_response_loan h.stage && n.active_request == k) (note_same h.lane h.slot)));
+            ∙ sym (same_count (is_loan_from p k) (is_loan_from after k)
+            (λ h. ap (λ (n : ResponseNote). is_response_loan h.stage && n.active_request == k) (note_same h.lane h.slot)));
         borrowed_requests = n.borrowed_requests;
-        borrowed_responses = λ k j ch d h e. borrowed_same k d.place ch ∙ n.borrowed_responses k j ch d (omega (arith, h, length-set p.server_lanes held.lane fresh)) e
+        borrowed_responses = λ k j ch d h e. borrowed_same k d.place ch
+            ∙ n.borrowed_responses k j ch d (omega (arith, h, length-set p.server_lanes held.lane fresh)) e
             ∙ sym (same_count (is_received_at p k d.port.id ch) (is_received_at after k d.port.id ch)
-            (λ h. ap (λ (n : ResponseNote). is_received h.stage && (h.lane == k && (n.client == d.port.id && n.channel == ch))) (note_same h.lane h.slot)));
+            (λ h. ap (λ (n : ResponseNote). is_received h.stage && (h.lane == k && (n.client == d.port.id && n.channel == ch)))
+            (note_same h.lane h.slot)));
       }
 
   vacated : IsVacated after
@@ -185,7 +203,8 @@ module _ {Q QH P PH K : Type 0} (p : Parts Q QH P PH K) (held : Held) (sound : I
     of_clients = λ k r ch none.
         let r_old = sound.vacated.of_clients k r ch none in
         let far : r ≡ c.place → ⊥ = λ e. none index c at (sym e) in (
-          same_of (λ x. queue_at x.messages r ch) (queue_there m shaped capacity overflow c.place channel held.slot placed inside within r ch (λ e _. far e)) k ∙ r_old.0,
+          same_of (λ x. queue_at x.messages r ch) (queue_there m shaped capacity overflow c.place channel held.slot placed inside within r
+              ch (λ e _. far e)) k ∙ r_old.0,
           borrowed_same k r ch ∙ r_old.1,
         );
     of_servers = sound.vacated.of_servers;
@@ -193,7 +212,8 @@ module _ {Q QH P PH K : Type 0} (p : Parts Q QH P PH K) (held : Held) (sound : I
   }
 
   -- an entry stands where its response says
-  addressed : (l i ch j : ℕ) (d : ClientPart K) → slice_get p.clients j ≡ Some d → 0 < times i (queue_at (lane_of l after.server_lanes).messages d.place ch)
+  addressed : (l i ch j : ℕ) (d : ClientPart K) → slice_get p.clients j ≡ Some d
+      → 0 < times i (queue_at (lane_of l after.server_lanes).messages d.place ch)
       → ((response_note after l i).client ≡ d.port.id) × ((response_note after l i).channel ≡ ch)
   addressed l i ch j d e waits =
       ⊎_elim
@@ -201,17 +221,22 @@ module _ {Q QH P PH K : Type 0} (p : Parts Q QH P PH K) (held : Held) (sound : I
       (λ n. before (omega (arith, waits, ap (λ (x : Lane P ResponseNote PH). times i (queue_at x.messages d.place ch)) (there_is l n))))
       (cases_eq held.lane l)
     where
-      before : 0 < times i (queue_at (lane_of l p.server_lanes).messages d.place ch) → ((response_note after l i).client ≡ d.port.id) × ((response_note after l i).channel ≡ ch)
+      before : 0 < times i (queue_at (lane_of l p.server_lanes).messages d.place ch) → ((response_note after l i).client ≡ d.port.id)
+          × ((response_note after l i).channel ≡ ch)
       before waited =
           let r = sound.addressed.entries l i ch j d e waited in
           (ap (λ (n : ResponseNote). n.client) (note_same l i) ∙ r.0, ap (λ (n : ResponseNote). n.channel) (note_same l i) ∙ r.1)
 
-      at_place : held.lane ≡ l → held.slot ≡ i → d.place ≡ c.place → ch ≡ channel → ((response_note after l i).client ≡ d.port.id) × ((response_note after l i).channel ≡ ch)
+      at_place : held.lane ≡ l → held.slot ≡ i → d.place ≡ c.place → ch ≡ channel → ((response_note after l i).client ≡ d.port.id)
+          × ((response_note after l i).channel ≡ ch)
       at_place is slot same on =
-          let one = sound.client_ports.placed_once j index d.connected c.connected (listed (λ (c : ClientPart K). c.connected) p.clients j d e) (listed (λ (c : ClientPart K). c.connected) p.clients index c at) same in
+          let one = sound.client_ports.placed_once j index d.connected c.connected
+          (listed (λ (c : ClientPart K). c.connected) p.clients j d e)
+          (listed (λ (c : ClientPart K). c.connected) p.clients index c at) same in
           let f : Some d ≡ Some c = sym e ∙ ap (slice_get p.clients) one ∙ at in
           let it : d ≡ c = cc in
-          let note : response_note after l i ≡ response_note p held.lane held.slot = note_same l i ∙ sym (ap (λ l. response_note p l i) is) ∙ sym (ap (response_note p held.lane) slot) in (
+          let note : response_note after l i ≡ response_note p held.lane held.slot = note_same l i ∙ sym (ap (λ l. response_note p l i) is)
+          ∙ sym (ap (response_note p held.lane) slot) in (
             ap (λ (n : ResponseNote). n.client) note ∙ client ∙ sym (ap (λ (d : ClientPart K). d.port.id) it),
             ap (λ (n : ResponseNote). n.channel) note ∙ on_channel ∙ sym on,
           )
@@ -219,13 +244,25 @@ module _ {Q QH P PH K : Type 0} (p : Parts Q QH P PH K) (held : Held) (sound : I
       in_lane : held.lane ≡ l → ((response_note after l i).client ≡ d.port.id) × ((response_note after l i).channel ≡ ch)
       in_lane is =
           let now : 0 < times i (queue_at fresh.messages d.place ch) =
-          omega (arith, waits, ap (λ (x : Lane P ResponseNote PH). times i (queue_at x.messages d.place ch)) (sym (ap (λ k. lane_of k after.server_lanes) is) ∙ here_is)) in
-          let old : times i (queue_at m d.place ch) ≡ times i (queue_at (lane_of l p.server_lanes).messages d.place ch) = ap (λ l. times i (queue_at (lane_of l p.server_lanes).messages d.place ch)) is in
+          omega (
+            arith,
+            waits,
+            ap (λ (x : Lane P ResponseNote PH). times i (queue_at x.messages d.place ch))
+                (sym (ap (λ k. lane_of k after.server_lanes) is) ∙ here_is),
+          ) in
+          let old : times i (queue_at m d.place ch) ≡ times i (queue_at (lane_of l p.server_lanes).messages d.place ch) = ap
+          (λ l. times i (queue_at (lane_of l p.server_lanes).messages d.place ch)) is in
           ⊎_elim
           (λ slot. queue_cases m shaped capacity overflow c.place channel held.slot placed inside within d.place ch
           (λ same on _. at_place is slot same on)
           (λ q. before (omega (arith, now, ap (times i) q, old))))
-          (λ n. before (omega (arith, now, times_there m shaped capacity overflow c.place channel held.slot placed inside within i d.place ch n, old)))
+          (λ n. before (omega (
+            arith,
+            now,
+            times_there m shaped capacity overflow c.place channel held.slot placed inside within i d.place
+                ch n,
+            old,
+          )))
           (cases_eq held.slot i)
 
   -- the response is still in hand
@@ -236,12 +273,17 @@ module _ {Q QH P PH K : Type 0} (p : Parts Q QH P PH K) (held : Held) (sound : I
     numbered = kept_numbered p (held ∷ []) sound p.clients p.servers p.client_lanes after.server_lanes p.waiting p.next frame kept
         (handle_uses_request p (held ∷ []) sound.counted)
         (handle_uses_response after (held ∷ []) counted);
-    addressed = kept_addressed p (held ∷ []) sound p.clients p.servers p.client_lanes after.server_lanes p.waiting p.next frame kept addressed;
+    addressed = kept_addressed p (held ∷ []) sound p.clients p.servers p.client_lanes after.server_lanes p.waiting p.next frame kept
+        addressed;
     seated = framed_seated p (held ∷ []) sound p.clients p.servers p.client_lanes after.server_lanes p.waiting p.next frame;
     stored = stored;
-    sized = framed_sized p (held ∷ []) sound p.clients p.servers p.client_lanes after.server_lanes p.waiting p.table.seats p.next frame sound.sized.next_fits sound.sized.loans_made;
+    sized = framed_sized p (held ∷ []) sound p.clients p.servers p.client_lanes after.server_lanes p.waiting p.table.seats p.next frame
+        sound.sized.next_fits sound.sized.loans_made;
     vacated = vacated;
-    held_by_value = framed_by_value p (held ∷ []) sound p.clients p.servers p.client_lanes after.server_lanes p.waiting p.table.seats p.next frame;
-    client_ports = framed_client_ports p (held ∷ []) sound p.clients p.servers p.client_lanes after.server_lanes p.waiting p.table.seats p.next frame;
-    server_ports = framed_server_ports p (held ∷ []) sound p.clients p.servers p.client_lanes after.server_lanes p.waiting p.table.seats p.next frame;
+    held_by_value = framed_by_value p (held ∷ []) sound p.clients p.servers p.client_lanes after.server_lanes p.waiting p.table.seats p.next
+        frame;
+    client_ports = framed_client_ports p (held ∷ []) sound p.clients p.servers p.client_lanes after.server_lanes p.waiting p.table.seats
+        p.next frame;
+    server_ports = framed_server_ports p (held ∷ []) sound p.clients p.servers p.client_lanes after.server_lanes p.waiting p.table.seats
+        p.next frame;
   }

@@ -18,7 +18,8 @@ use Rattle.rr_core_laws.proofs.Kept.{framed_seated, kept_numbered, kept_addresse
 use Rattle.rr_core_laws.proofs.Hands.{count-cons}
 
 module _ {Q QH P PH K : Type 0} (p : Parts Q QH P PH K) (held : Held) (hand : Hand) (sound : IsSound p (held ∷ hand))
-    (clients : List (ClientPart K)) (servers : List (ServerPart K)) (client_lanes : List (Lane Q RequestNote QH)) (server_lanes : List (Lane P ResponseNote PH)) (waiting : List (List Bool))
+    (clients : List (ClientPart K)) (servers : List (ServerPart K)) (client_lanes : List (Lane Q RequestNote QH))
+    (server_lanes : List (Lane P ResponseNote PH)) (waiting : List (List Bool))
     (d : IsDropped p held clients servers client_lanes server_lanes waiting) where
   -- the core without the handle
   abbrev pub dropped : Parts Q QH P PH K
@@ -73,13 +74,15 @@ module _ {Q QH P PH K : Type 0} (p : Parts Q QH P PH K) (held : Held) (hand : Ha
       arith,
       sound.held_once.servers l i server,
       one_less (is_active_at l i server),
-      ap (λ (qs : List (List (List ℕ))). times i (slice_index_or (slice_index_or qs (server_place dropped server) []) 0 [])) (d.requests_wait l),
+      ap (λ (qs : List (List (List ℕ))). times i (slice_index_or (slice_index_or qs (server_place dropped server) []) 0
+          [])) (d.requests_wait l),
       ap (λ place. times i (queue_at (lane_of l p.client_lanes).messages place 0)) (same_place server),
     );
     responses = λ l i. omega (arith, sound.held_once.responses l i, count-cons (is_response_at l i) held hand, fewer_responses l i);
   }
 
-  before : (i : ℕ) (c : ClientPart K) → slice_get clients i ≡ Some c → (b : ClientPart K) × (slice_get p.clients i ≡ Some b) × (frame_of b.connected ≡ frame_of c.connected)
+  before : (i : ℕ) (c : ClientPart K) → slice_get clients i ≡ Some c → (b : ClientPart K) × (slice_get p.clients i ≡ Some b)
+      × (frame_of b.connected ≡ frame_of c.connected)
   before = client_before p (held ∷ hand) sound clients servers client_lanes server_lanes waiting p.table.seats p.next frame
 
   stored : IsStored dropped hand
@@ -97,14 +100,32 @@ module _ {Q QH P PH K : Type 0} (p : Parts Q QH P PH K) (held : Held) (hand : Ha
             );
         pendings = λ i c at.
             let b = d.client_counts i c at in
-            omega (arith, n.pendings i b.0 b.1, one_less (is_in_lane is_pending b.0.lane), b.4, ap (λ (f : Frame K). handles dropped (is_in_lane is_pending f.lane) hand) b.2);
+            omega (
+              arith,
+              n.pendings i b.0 b.1,
+              one_less (is_in_lane is_pending b.0.lane),
+              b.4,
+              ap (λ (f : Frame K). handles dropped (is_in_lane is_pending f.lane) hand) b.2,
+            );
         response_loans = λ i c at.
             let b = d.server_counts i c at in
-            omega (arith, n.response_loans i b.0 b.1, one_less (is_in_lane is_response_loan b.0.lane), b.3, ap (λ (f : Frame K). handles dropped (is_in_lane is_response_loan f.lane) hand) b.2);
+            omega (
+              arith,
+              n.response_loans i b.0 b.1,
+              one_less (is_in_lane is_response_loan b.0.lane),
+              b.3,
+              ap (λ (f : Frame K). handles dropped (is_in_lane is_response_loan f.lane) hand) b.2,
+            );
         active_loans = λ k server loans s at is.
             let same : handles dropped (is_loan_from p k) hand ≡ handles dropped (is_loan_from dropped k) hand =
             sym (λ i. handles dropped (λ h. is_response_loan h.stage && (response_note_same h.lane h.slot i).active_request == k) hand) in
-            omega (arith, n.active_loans k server loans s at is, one_less (is_loan_from p k), ap mark (d.loans_from k server loans s at is), same);
+            omega (
+              arith,
+              n.active_loans k server loans s at is,
+              one_less (is_loan_from p k),
+              ap mark (d.loans_from k server loans s at is),
+              same,
+            );
         borrowed_requests = λ l server h.
             let within : l < length p.client_lanes = omega (arith, h, frame.client_lanes_alike.many) in
             omega (
@@ -117,8 +138,11 @@ module _ {Q QH P PH K : Type 0} (p : Parts Q QH P PH K) (held : Held) (hand : Ha
         borrowed_responses = λ l i channel c h at.
             let b = before i c at in
             let within : l < length p.server_lanes = omega (arith, h, frame.server_lanes_alike.many) in
-            let same : handles dropped (is_received_at p l c.port.id channel) hand ≡ handles dropped (is_received_at dropped l c.port.id channel) hand =
-            sym (λ i. handles dropped (λ h. is_received h.stage && (h.lane == l && ((response_note_same h.lane h.slot i).client == c.port.id && (response_note_same h.lane h.slot i).channel == channel))) hand) in
+            let same : handles dropped (is_received_at p l c.port.id channel) hand ≡ handles dropped
+            (is_received_at dropped l c.port.id channel) hand =
+            sym (λ i. handles dropped (λ h. is_received h.stage
+            && (h.lane == l && ((response_note_same h.lane h.slot i).client == c.port.id
+            && (response_note_same h.lane h.slot i).channel == channel))) hand) in
             omega (
               arith,
               same,
@@ -138,12 +162,17 @@ module _ {Q QH P PH K : Type 0} (p : Parts Q QH P PH K) (held : Held) (hand : Ha
         λ is. none i c.0 c.1 (ap (λ (f : Frame K). f.place) c.2 ∙ is)) in
         (d.responses_none l place channel v.0, omega (arith, v.1, d.responses_borrowed l place channel));
     of_servers = λ l place channel none.
-        let v = sound.vacated.of_servers l place channel (servers_none place none) in
-        (ap (λ (qs : List (List (List ℕ))). slice_index_or (slice_index_or qs place []) channel []) (d.requests_wait l) ∙ v.0, omega (arith, v.1, d.requests_borrowed l place channel));
-    awaits_none = λ l slot place none inside. d.awaited l slot place (sound.vacated.awaits_none l slot place (servers_none place none) inside);
+        let v = sound.vacated.of_servers l place channel (servers_none place none) in (
+          ap (λ (qs : List (List (List ℕ))). slice_index_or (slice_index_or qs place []) channel []) (d.requests_wait l)
+              ∙ v.0,
+          omega (arith, v.1, d.requests_borrowed l place channel),
+        );
+    awaits_none = λ l slot place none inside. d.awaited l slot place
+        (sound.vacated.awaits_none l slot place (servers_none place none) inside);
   }
     where
-      servers_none : (place : ℕ) → ((i : ℕ) (s : ServerPart K) → slice_get servers i ≡ Some s → s.place ≡ place → ⊥) → (i : ℕ) (s : ServerPart K) → slice_get p.servers i ≡ Some s → s.place ≡ place → ⊥
+      servers_none : (place : ℕ) → ((i : ℕ) (s : ServerPart K) → slice_get servers i ≡ Some s → s.place ≡ place → ⊥)
+          → (i : ℕ) (s : ServerPart K) → slice_get p.servers i ≡ Some s → s.place ≡ place → ⊥
       servers_none place none i b e is =
           let c = server_after p (held ∷ hand) sound clients servers client_lanes server_lanes waiting p.table.seats p.next frame i b e in
           none i c.0 c.1 (ap (λ (f : Frame K). f.place) c.2 ∙ is)
@@ -158,11 +187,21 @@ module _ {Q QH P PH K : Type 0} (p : Parts Q QH P PH K) (held : Held) (hand : Ha
     addressed = kept_addressed p (held ∷ hand) sound clients servers client_lanes server_lanes waiting p.next frame notes_kept
         (λ l i channel j c at waits.
         let b = before j c at in
-        let a = sound.addressed.entries l i channel j b.0 b.1 (omega (arith, waits, d.responses_wait l c.place channel i, ap (λ (f : Frame K). times i (queue_at (lane_of l p.server_lanes).messages f.place channel)) b.2)) in
-        (ap (λ (n : ResponseNote). n.client) (response_note_same l i) ∙ a.0 ∙ ap (λ (f : Frame K). f.port.id) b.2, ap (λ (n : ResponseNote). n.channel) (response_note_same l i) ∙ a.1));
+        let a = sound.addressed.entries l i channel j b.0 b.1
+        (omega (
+          arith,
+          waits,
+          d.responses_wait l c.place channel i,
+          ap (λ (f : Frame K). times i (queue_at (lane_of l p.server_lanes).messages f.place channel)) b.2,
+        )) in (
+          ap (λ (n : ResponseNote). n.client) (response_note_same l i) ∙ a.0
+              ∙ ap (λ (f : Frame K). f.port.id) b.2,
+          ap (λ (n : ResponseNote). n.channel) (response_note_same l i) ∙ a.1,
+        ));
     seated = framed_seated p (held ∷ hand) sound clients servers client_lanes server_lanes waiting p.next frame;
     stored = stored;
-    sized = framed_sized p (held ∷ hand) sound clients servers client_lanes server_lanes waiting p.table.seats p.next frame sound.sized.next_fits d.loans_made;
+    sized = framed_sized p (held ∷ hand) sound clients servers client_lanes server_lanes waiting p.table.seats p.next frame
+        sound.sized.next_fits d.loans_made;
     vacated = vacated;
     held_by_value = framed_by_value p (held ∷ hand) sound clients servers client_lanes server_lanes waiting p.table.seats p.next frame;
     client_ports = framed_client_ports p (held ∷ hand) sound clients servers client_lanes server_lanes waiting p.table.seats p.next frame;

@@ -18,19 +18,24 @@ module _ {S A : Type 0} (step : S → A → S) where
   stays f same (a ∷ keys) s = stays f same keys (step s a) ∙ same s a
 
   -- what each step keeps
-  pub along : (P : S → Type 0) (R : A → Type 0) → ((s : S) (a : A) → R a → P s → P (step s a)) → (keys : List A) (s : S) → ((i : ℕ) (a : A) → slice_get keys i ≡ Some a → R a) → P s → P (fold step s keys)
+  pub along : (P : S → Type 0) (R : A → Type 0) → ((s : S) (a : A) → R a → P s → P (step s a)) → (keys : List A) (s : S)
+      → ((i : ℕ) (a : A) → slice_get keys i ≡ Some a → R a) → P s → P (fold step s keys)
   along P R keep [] s each p = p
   along P R keep (a ∷ keys) s each p = along P R keep keys (step s a) (λ i b at. each (suc i) b at) (keep s a (each 0 a refl) p)
 
-  module _ {V X : Type 0} (look : S → A → V) (change : V → V) (Fits : S → A → Type 0) (here : (s : S) (a : A) → Fits s a → look (step s a) a ≡ change (look s a))
-      (there : (s : S) (a b : A) → a ≢ b → look (step s a) b ≡ look s b) (keeps : (s : S) (a b : A) → Fits s b → Fits (step s a) b) (key : X → A) where
+  module _ {V X : Type 0} (look : S → A → V) (change : V → V) (Fits : S → A → Type 0)
+      (here : (s : S) (a : A) → Fits s a → look (step s a) a ≡ change (look s a))
+      (there : (s : S) (a b : A) → a ≢ b → look (step s a) b ≡ look s b) (keeps : (s : S) (a b : A) → Fits s b → Fits (step s a) b)
+      (key : X → A) where
     -- another key has what it had
-    pub passed_by : (xs : List X) (s : S) (b : A) → ((i : ℕ) (x : X) → slice_get xs i ≡ Some x → key x ≢ b) → look (fold step s (map key xs)) b ≡ look s b
+    pub passed_by : (xs : List X) (s : S) (b : A) → ((i : ℕ) (x : X) → slice_get xs i ≡ Some x → key x ≢ b)
+        → look (fold step s (map key xs)) b ≡ look s b
     passed_by [] s b other = refl
     passed_by (x ∷ xs) s b other = passed_by xs (step s (key x)) b (λ i y at. other (suc i) y at) ∙ there s (key x) b (other 0 x refl)
 
     -- each of these was changed once
-    pub reached : (xs : List X) (s : S) → IsApart key xs → (i : ℕ) (x : X) → slice_get xs i ≡ Some x → Fits s (key x) → look (fold step s (map key xs)) (key x) ≡ change (look s (key x))
+    pub reached : (xs : List X) (s : S) → IsApart key xs → (i : ℕ) (x : X) → slice_get xs i ≡ Some x → Fits s (key x)
+        → look (fold step s (map key xs)) (key x) ≡ change (look s (key x))
     reached [] s apart i x at fits = absurd (omega (arith, slice_get_within [] i x at))
     reached (y ∷ ys) s apart zero x at fits =
         let f : Some y ≡ Some x = at in

@@ -17,7 +17,8 @@ pub any_slot : (t : ℕ → Bool) (slots : List ℕ) → list_any t slots ≡ tr
 any_slot t [] h = absurd (false≢true h)
 any_slot t (s ∷ slots) h = go (any_slot t slots) (t s) refl h
   where
-    go : (list_any t slots ≡ true → (j : ℕ) × (0 < times j slots) × (t j ≡ true)) → (b : Bool) → t s ≡ b → (b || list_any t slots) ≡ true → (j : ℕ) × (0 < times j (s ∷ slots)) × (t j ≡ true)
+    go : (list_any t slots ≡ true → (j : ℕ) × (0 < times j slots) × (t j ≡ true)) → (b : Bool) → t s ≡ b → (b || list_any t slots) ≡ true
+        → (j : ℕ) × (0 < times j (s ∷ slots)) × (t j ≡ true)
     go rest true e h = (s, omega (arith, ap {B = ℕ} (λ b. cond b 1 0) (eq-eqb s s refl)), e)
     go rest false e h = let r = rest h in (r.0, omega (arith, r.1), r.2)
 
@@ -31,11 +32,13 @@ slot_there t (s ∷ slots) j h e =
     (cases_eq s j)
 
 -- a slot in some queue
-pub entry_somewhere : (rows : List (List (List ℕ))) (slot : ℕ) → 0 < times slot (all_entries rows) → (r : ℕ) × (c : ℕ) × (0 < times slot (at_two [] rows r c))
+pub entry_somewhere : (rows : List (List (List ℕ))) (slot : ℕ) → 0 < times slot (all_entries rows) → (r : ℕ) × (c : ℕ)
+    × (0 < times slot (at_two [] rows r c))
 entry_somewhere rows slot h =
     let is : ℕ → Bool = λ x. x == slot in
     let any = slot_there is (all_entries rows) slot h (eq-eqb slot slot refl) in
-    let row = any_gives (λ (channels : List (List ℕ)). list_any is (flat_map (λ queue. queue) channels)) rows (sym (any-flat is (λ (channels : List (List ℕ)). flat_map (λ queue. queue) channels) rows) ∙ any) in
+    let row = any_gives (λ (channels : List (List ℕ)). list_any is (flat_map (λ queue. queue) channels)) rows
+    (sym (any-flat is (λ (channels : List (List ℕ)). flat_map (λ queue. queue) channels) rows) ∙ any) in
     let queue = any_gives (λ (queue : List ℕ). list_any is queue) row.1 (sym (any-flat is (λ (queue : List ℕ). queue) row.1) ∙ row.3) in
     let entry = any_slot is queue.1 queue.3 in
     let at_row : get_or rows row.0 [] ≡ row.1 = get_or_from_slice_get rows row.0 row.1 [] row.2 in
@@ -52,7 +55,8 @@ entry_somewhere rows slot h =
     )
 
 -- a slot that is used is one of the lane's
-pub used_inside : {T N H : Type 0} {receivers channels capacity : ℕ} (m : Messages T N H) → IsShaped receivers channels capacity m → (slot : ℕ) → 0 < uses m slot → slot < length m.held
+pub used_inside : {T N H : Type 0} {receivers channels capacity : ℕ} (m : Messages T N H) → IsShaped receivers channels capacity m
+    → (slot : ℕ) → 0 < uses m slot → slot < length m.held
 used_inside m shaped slot used =
     ⊎_elim (λ h. h)
     (λ h. shaped.inside slot (omega (arith, used, get_or_past m.held slot 0 h)))
@@ -73,13 +77,15 @@ module _ {X : Type 0} where
   found_none p [] e j y at = absurd (omega (arith, slice_get_within [] j y at))
   found_none p (z ∷ ys) e j y at = by (found_none p ys) (p z) refl j at
     where
-      by : (find p ys ≡ None → (j : ℕ) (y : X) → slice_get ys j ≡ Some y → p y ≡ false) → (b : Bool) → p z ≡ b → (j : ℕ) → slice_get (z ∷ ys) j ≡ Some y → p y ≡ false
+      by : (find p ys ≡ None → (j : ℕ) (y : X) → slice_get ys j ≡ Some y → p y ≡ false) → (b : Bool) → p z ≡ b → (j : ℕ)
+          → slice_get (z ∷ ys) j ≡ Some y → p y ≡ false
       by rest true t j at = absurd (let f : Some z ≡ None = sym (find_here p z ys t) ∙ e in cc)
       by rest false t zero at = let f : Some z ≡ Some y = at in let is : z ≡ y = cc in ap p (sym is) ∙ t
       by rest false t (suc j) at = rest (sym (find_there p z ys t) ∙ e) j y at
 
   -- an element that passes alone is the first that does
-  pub found_alone : (p : X → Bool) (xs : List X) (i : ℕ) (x : X) → slice_get xs i ≡ Some x → p x ≡ true → ((j : ℕ) (y : X) → slice_get xs j ≡ Some y → p y ≡ true → j ≡ i) → find p xs ≡ Some x
+  pub found_alone : (p : X → Bool) (xs : List X) (i : ℕ) (x : X) → slice_get xs i ≡ Some x → p x ≡ true
+      → ((j : ℕ) (y : X) → slice_get xs j ≡ Some y → p y ≡ true → j ≡ i) → find p xs ≡ Some x
   found_alone p xs i x at h alone = go (find p xs) refl
     where
       go : (o : Option X) → find p xs ≡ o → find p xs ≡ Some x
@@ -91,10 +97,12 @@ module _ {X : Type 0} where
           e ∙ f
 
   -- some element has a number, or none has
-  pub somewhere : (f : X → ℕ) (xs : List X) (r : ℕ) → ((i : ℕ) × (x : X) × (slice_get xs i ≡ Some x) × (f x ≡ r)) ⊎ ((i : ℕ) (x : X) → slice_get xs i ≡ Some x → f x ≢ r)
+  pub somewhere : (f : X → ℕ) (xs : List X) (r : ℕ) → ((i : ℕ) × (x : X) × (slice_get xs i ≡ Some x) × (f x ≡ r))
+      ⊎ ((i : ℕ) (x : X) → slice_get xs i ≡ Some x → f x ≢ r)
   somewhere f xs r = go (list_any (λ x. f x == r) xs) refl
     where
-      go : (b : Bool) → list_any (λ x. f x == r) xs ≡ b → ((i : ℕ) × (x : X) × (slice_get xs i ≡ Some x) × (f x ≡ r)) ⊎ ((i : ℕ) (x : X) → slice_get xs i ≡ Some x → f x ≢ r)
+      go : (b : Bool) → list_any (λ x. f x == r) xs ≡ b → ((i : ℕ) × (x : X) × (slice_get xs i ≡ Some x) × (f x ≡ r))
+          ⊎ ((i : ℕ) (x : X) → slice_get xs i ≡ Some x → f x ≢ r)
       go true e = let g = any_gives (λ x. f x == r) xs e in inl (g.0, g.1, g.2, eqb-true (f g.1) r g.3)
       go false e = inr (λ i x at is. false≢true (sym e ∙ any_there (λ x. f x == r) xs i x at (eq-eqb (f x) r is)))
 

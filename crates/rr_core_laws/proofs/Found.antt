@@ -37,7 +37,8 @@ module _ {X : Type 0} (p : X → Bool) where
     any_flat g [] x e h = absurd (let f : None ≡ Some x = e in cc)
     any_flat g (y ∷ ys) x e h = list_any-append t (g y) (flat_map g ys) ∙ go (λ f. any_flat g ys x f h) (p y) refl
       where
-        go : (find p ys ≡ Some x → list_any t (flat_map g ys) ≡ true) → (b : Bool) → p y ≡ b → (list_any t (g y) || list_any t (flat_map g ys)) ≡ true
+        go : (find p ys ≡ Some x → list_any t (flat_map g ys) ≡ true) → (b : Bool) → p y ≡ b
+            → (list_any t (g y) || list_any t (flat_map g ys)) ≡ true
         go rest true s = let same : Some y ≡ Some x = sym (find_here y ys s) ∙ e in let f : y ≡ x = cc in rw f (rw h refl)
         go rest false s = rw (rest (sym (find_there y ys s) ∙ e)) (or_true (list_any t (g y)))
 
@@ -60,4 +61,5 @@ module _ {X : Type 0} (p : X → Bool) where
 
   -- one more element at the end is found last
   pub find_last : (xs : List X) (y : X) → find p (xs ++ y ∷ []) ≡ option_or (find p xs) (cond (p y) (Some y) None)
-  find_last xs y = find-append p xs (y ∷ []) ∙ ap (option_or (find p xs)) (elim (p y) as (λ b. cond b (Some y) None ≡ cond b (Some y) None) [ true ↦ refl | false ↦ refl ])
+  find_last xs y = find-append p xs (y ∷ []) ∙ ap (option_or (find p xs))
+      (elim (p y) as (λ b. cond b (Some y) None ≡ cond b (Some y) None) [ true ↦ refl | false ↦ refl ])

@@ -27,7 +27,8 @@ module _ {T N H : Type 0} (lanes : List (Lane T N H)) (lane slot : ℕ) (borrowe
   lanes_less = slice_set lanes lane less
 
   -- what is the same of the new lane is the same of each
-  pub same_of : {Y : Type 0} (f : Lane T N H → Y) → f less ≡ f (lane_of lane lanes) → (k : ℕ) → f (lane_of k lanes_less) ≡ f (lane_of k lanes)
+  pub same_of : {Y : Type 0} (f : Lane T N H → Y) → f less ≡ f (lane_of lane lanes) → (k : ℕ)
+      → f (lane_of k lanes_less) ≡ f (lane_of k lanes)
   same_of f same k = set_alike lanes lane less no_lane f same k
 
   -- another lane is as it was
@@ -38,7 +39,8 @@ module _ {T N H : Type 0} (lanes : List (Lane T N H)) (lane slot : ℕ) (borrowe
   pub bare_less : map bare_lane lanes_less ≡ map bare_lane lanes
   bare_less = map-set_alike bare_lane lanes lane less no_lane refl
 
-module _ {T N H : Type 0} (lanes : List (Lane T N H)) (lane slot : ℕ) (borrowed : List (List ℕ)) (many : length borrowed ≡ length (lane_of lane lanes).messages.borrowed)
+module _ {T N H : Type 0} (lanes : List (Lane T N H)) (lane slot : ℕ) (borrowed : List (List ℕ))
+    (many : length borrowed ≡ length (lane_of lane lanes).messages.borrowed)
     (each : (r : ℕ) → length (slice_index_or borrowed r []) ≡ length (slice_index_or (lane_of lane lanes).messages.borrowed r [])) where
   as_many : length (less lanes lane slot borrowed).messages.held ≡ length (lane_of lane lanes).messages.held
   as_many = length-set (m lanes lane slot borrowed).held slot _
@@ -67,7 +69,8 @@ module _ {T N H : Type 0} (lanes : List (Lane T N H)) (lane slot : ℕ) (borrowe
   pub less_lanes : LanesAlike lanes (lanes_less lanes lane slot borrowed)
   less_lanes = lanes_set lanes lane (less lanes lane slot borrowed) less_alike
 
-module _ {T N H : Type 0} (lanes : List (Lane T N H)) (lane slot : ℕ) (borrowed : List (List ℕ)) (there : lane < length lanes) (some : 0 < slice_index (lane_of lane lanes).messages.held slot) where
+module _ {T N H : Type 0} (lanes : List (Lane T N H)) (lane slot : ℕ) (borrowed : List (List ℕ)) (there : lane < length lanes)
+    (some : 0 < slice_index (lane_of lane lanes).messages.held slot) where
   abbrev old : List ℕ
   old = (lane_of lane lanes).messages.held
 
@@ -82,11 +85,14 @@ module _ {T N H : Type 0} (lanes : List (Lane T N H)) (lane slot : ℕ) (borrowe
   here_is = get_or-set_same lanes lane new no_lane there
 
   -- one slot is held once less
-  pub held_less : (k j : ℕ) → slice_index (lane_of k after).messages.held j + mark (lane == k && slot == j) ≡ slice_index (lane_of k lanes).messages.held j
+  pub held_less : (k j : ℕ) → slice_index (lane_of k after).messages.held j + mark (lane == k && slot == j) ≡ slice_index
+      (lane_of k lanes).messages.held j
   held_less k j =
       ⊎_elim
-      (λ e. let now : slice_index (lane_of k after).messages.held j ≡ slice_index new.messages.held j = ap (λ (x : Lane T N H). slice_index x.messages.held j) (sym (ap (λ k. lane_of k after) e) ∙ here_is) in
-      let was : slice_index (lane_of k lanes).messages.held j ≡ slice_index old j = sym (ap (λ k. slice_index (lane_of k lanes).messages.held j) e) in
+      (λ e. let now : slice_index (lane_of k after).messages.held j ≡ slice_index new.messages.held j = ap
+      (λ (x : Lane T N H). slice_index x.messages.held j) (sym (ap (λ k. lane_of k after) e) ∙ here_is) in
+      let was : slice_index (lane_of k lanes).messages.held j ≡ slice_index old j = sym
+      (ap (λ k. slice_index (lane_of k lanes).messages.held j) e) in
       ⊎_elim
       (λ f. omega (
         arith,
@@ -98,7 +104,17 @@ module _ {T N H : Type 0} (lanes : List (Lane T N H)) (lane slot : ℕ) (borrowe
         ap (λ b. slice_index old b) f,
         ap mark (λ i. eq-eqb lane k e i && eq-eqb slot j f i),
       ))
-      (λ n. omega (arith, now, was, get_or-set_other old slot j (slice_index old slot - 1) 0 (λ f. n (sym f)), ap mark (λ i. eq-eqb lane k e i && ne_eqb slot j n i)))
+      (λ n. omega (
+        arith,
+        now,
+        was,
+        get_or-set_other old slot j (slice_index old slot - 1) 0 (λ f. n (sym f)),
+        ap mark (λ i. eq-eqb lane k e i && ne_eqb slot j n i),
+      ))
       (cases_eq slot j))
-      (λ n. omega (arith, ap (λ (x : Lane T N H). slice_index x.messages.held j) (there_is lanes lane slot borrowed k n), ap (λ b. mark (b && slot == j)) (ne_eqb lane k n)))
+      (λ n. omega (
+        arith,
+        ap (λ (x : Lane T N H). slice_index x.messages.held j) (there_is lanes lane slot borrowed k n),
+        ap (λ b. mark (b && slot == j)) (ne_eqb lane k n),
+      ))
       (cases_eq lane k)

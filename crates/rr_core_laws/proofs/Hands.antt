@@ -65,7 +65,11 @@ module _ {Q QH P PH K : Type 0} (p : Parts Q QH P PH K) where
     -- what was under a number is in hand
     pub unseated_sound : IsSound taken with_it
     unseated_sound = record {
-      counted = record { requests = λ l i. sound.counted.requests l i ∙ same_taken (is_request_at l i); responses = λ l i. sound.counted.responses l i ∙ same_taken (is_response_at l i) };
+      counted = record {
+        requests = λ l i. sound.counted.requests l i
+            ∙ same_taken (is_request_at l i);
+        responses = λ l i. sound.counted.responses l i ∙ same_taken (is_response_at l i);
+      };
       held_once = record {
         loans = λ j t e. sound.held_once.loans j t (still j t e);
         servers = λ l i server. omega (arith, sound.held_once.servers l i server, same_taken (is_active_at l i server));
@@ -111,7 +115,17 @@ module _ {Q QH P PH K : Type 0} (p : Parts Q QH P PH K) where
         borrowed_requests = λ l server h. n.borrowed_requests l server h ∙ same_taken _;
         borrowed_responses = λ l i channel c h e. n.borrowed_responses l i channel c h e ∙ same_taken _;
       };
-      sized = let n = sound.sized in record { limits_fit = n.limits_fit; client_lanes = n.client_lanes; server_lanes = n.server_lanes; waiting = n.waiting; waiting_slots = n.waiting_slots; next_fits = n.next_fits; channels = n.channels; loans_made = n.loans_made; rows_fit = n.rows_fit };
+      sized = let n = sound.sized in record {
+        limits_fit = n.limits_fit;
+        client_lanes = n.client_lanes;
+        server_lanes = n.server_lanes;
+        waiting = n.waiting;
+        waiting_slots = n.waiting_slots;
+        next_fits = n.next_fits;
+        channels = n.channels;
+        loans_made = n.loans_made;
+        rows_fit = n.rows_fit;
+      };
       vacated = let n = sound.vacated in record { of_clients = n.of_clients; of_servers = n.of_servers; awaits_none = n.awaits_none };
       held_by_value = let n = sound.held_by_value in record { clients = n.clients; servers = n.servers };
       client_ports = sound.client_ports;
@@ -121,25 +135,36 @@ module _ {Q QH P PH K : Type 0} (p : Parts Q QH P PH K) where
         gone : (j : ℕ) → fin_map.get p.table.seats j ≡ None → fin_map.get taken.table.seats j ≡ None
         gone j none = ⊎_elim (λ e. get-remove_same p.table.seats k j e) (λ e. get-remove_other p.table.seats k j e ∙ none) (cases_eq j k)
 
-  module _ (hand : Hand) (k : ℕ) (place : Place) (held : Held) (sound : IsSound p (held ∷ hand)) (new : IsSeatable p hand k place held) where
+  module _ (hand : Hand) (k : ℕ) (place : Place) (held : Held) (sound : IsSound p (held ∷ hand))
+      (new : IsSeatable p hand k place held) where
     abbrev given : Parts Q QH P PH K
     given = record p { table = seated p.table k place held }
 
     -- as many handles pass a test as before
     same_given : (test : Held → Bool) → handles p test (held ∷ hand) ≡ handles given test hand
-    same_given test = omega (arith, tally-insert (λ (t : Seat Held). test t.value) p.table.seats k (seat place held) new.fresh, count-cons test held hand)
+    same_given test = omega (
+      arith,
+      tally-insert (λ (t : Seat Held). test t.value) p.table.seats k (seat place held) new.fresh,
+      count-cons test held hand,
+    )
 
     -- a handle of the table is the new one or was there
-    cases : {Z : Type 0} (j : ℕ) (t : Seat Held) → fin_map.get given.table.seats j ≡ Some t → (k ≡ j → seat place held ≡ t → Z) → (fin_map.get p.table.seats j ≡ Some t → Z) → Z
+    cases : {Z : Type 0} (j : ℕ) (t : Seat Held) → fin_map.get given.table.seats j ≡ Some t → (k ≡ j → seat place held ≡ t → Z)
+        → (fin_map.get p.table.seats j ≡ Some t → Z) → Z
     cases j t e now before = ⊎_elim (λ c. now (sym c.0) c.1) (λ c. before c.1) (get-insert_cases p.table.seats k (seat place held) j t e)
 
     -- what was in hand is under a number
     pub seated_sound : IsSound given hand
     seated_sound = record {
-      counted = record { requests = λ l i. sound.counted.requests l i ∙ same_given (is_request_at l i); responses = λ l i. sound.counted.responses l i ∙ same_given (is_response_at l i) };
+      counted = record {
+        requests = λ l i. sound.counted.requests l i
+            ∙ same_given (is_request_at l i);
+        responses = λ l i. sound.counted.responses l i ∙ same_given (is_response_at l i);
+      };
       held_once = record {
         loans = λ j t e. cases j t e
-            (λ n is. let R : Seat Held → Type 0 = λ t. is_request_loan t.value.stage ≡ true → request_uses p t.value.lane t.value.slot ≡ 1 in subst R is (λ h. (new.loan h).0))
+            (λ n is. let R : Seat Held → Type 0 = λ t. is_request_loan t.value.stage ≡ true
+            → request_uses p t.value.lane t.value.slot ≡ 1 in subst R is (λ h. (new.loan h).0))
             (λ b. sound.held_once.loans j t b);
         servers = λ l i server. omega (arith, sound.held_once.servers l i server, same_given (is_active_at l i server));
         responses = λ l i. new.once l i;
@@ -147,13 +172,16 @@ module _ {Q QH P PH K : Type 0} (p : Parts Q QH P PH K) where
       numbered = let n = sound.numbered in record {
         fresh = λ j h. get-insert_other p.table.seats k (seat place held) j (λ e. omega (arith, h, e, new.below)) ∙ n.fresh j h;
         requests = λ j t e. cases j t e
-            (λ n is. let R : Seat Held → Type 0 = λ t. is_request_loan t.value.stage ≡ true → j ≡ (request_note p t.value.lane t.value.slot).number in subst R is (λ h. sym n ∙ (new.loan h).1))
+            (λ n is. let R : Seat Held → Type 0 = λ t. is_request_loan t.value.stage ≡ true
+            → j ≡ (request_note p t.value.lane t.value.slot).number in subst R is (λ h. sym n ∙ (new.loan h).1))
             (λ b. n.requests j t b);
         pendings = λ j t e. cases j t e
-            (λ n is. let R : Seat Held → Type 0 = λ t. is_pending t.value.stage ≡ true → j ≡ (request_note p t.value.lane t.value.slot).number in subst R is (λ h. sym n ∙ new.pending h))
+            (λ n is. let R : Seat Held → Type 0 = λ t. is_pending t.value.stage ≡ true
+            → j ≡ (request_note p t.value.lane t.value.slot).number in subst R is (λ h. sym n ∙ new.pending h))
             (λ b. n.pendings j t b);
         responses = λ j t e. cases j t e
-            (λ n is. let R : Seat Held → Type 0 = λ t. is_of_response t.value.stage ≡ true → j ≡ (response_note p t.value.lane t.value.slot).number in subst R is (λ h. sym n ∙ new.response h))
+            (λ n is. let R : Seat Held → Type 0 = λ t. is_of_response t.value.stage ≡ true
+            → j ≡ (response_note p t.value.lane t.value.slot).number in subst R is (λ h. sym n ∙ new.response h))
             (λ b. n.responses j t b);
         requests_below = n.requests_below;
         responses_below = n.responses_below;
@@ -161,15 +189,19 @@ module _ {Q QH P PH K : Type 0} (p : Parts Q QH P PH K) where
         responses_apart = n.responses_apart;
         kinds_apart = n.kinds_apart;
         actives_apart = λ j server l i t e. cases j t e
-            (λ m is. let R : Seat Held → Type 0 = λ t. is_active_of server t.value.stage ≡ true → (0 < request_uses p l i → (request_note p l i).number ≢ j) × (0 < response_uses p l i → (response_note p l i).number ≢ j) in
+            (λ m is. let R : Seat Held → Type 0 = λ t. is_active_of server t.value.stage ≡ true
+            → (0 < request_uses p l i → (request_note p l i).number ≢ j)
+            × (0 < response_uses p l i → (response_note p l i).number ≢ j) in
             subst R is (λ h. ((λ u f. (new.apart server h l i).0 u (f ∙ sym m)), (λ u f. (new.apart server h l i).1 u (f ∙ sym m)))))
             (λ b. n.actives_apart j server l i t b);
         received = λ j t e. cases j t e
-            (λ m is. let R : Seat Held → Type 0 = λ t. is_received t.value.stage ≡ true → (i : ℕ) × (c : ClientPart K) × (slice_get p.clients i ≡ Some c) × (c.port.id ≡ (response_note p t.value.lane t.value.slot).client) in
+            (λ m is. let R : Seat Held → Type 0 = λ t. is_received t.value.stage ≡ true → (i : ℕ) × (c : ClientPart K)
+            × (slice_get p.clients i ≡ Some c) × (c.port.id ≡ (response_note p t.value.lane t.value.slot).client) in
             subst R is new.received)
             (λ b. n.received j t b);
         answering = λ l i j server loans t u e. cases j t e
-            (λ m is. let R : Seat Held → Type 0 = λ t. t.value.stage ≡ stage.ActiveRequest server loans → (response_note p l i).active_request ≡ j →
+            (λ m is. let R : Seat Held → Type 0 = λ t. t.value.stage ≡ stage.ActiveRequest server loans
+            → (response_note p l i).active_request ≡ j →
             ((request_note p t.value.lane t.value.slot).number ≡ (response_note p l i).request) × ((response_note p l i).server ≡ server) in
             subst R is (λ h f. new.answering server loans h l i u (f ∙ sym m)))
             (λ b. n.answering l i j server loans t u b);
@@ -193,7 +225,8 @@ module _ {Q QH P PH K : Type 0} (p : Parts Q QH P PH K) where
         server_rows_apart = n.server_rows_apart;
         rows_apart = n.rows_apart;
         active_servers = λ j server t e. cases j t e
-            (λ m is. let R : Seat Held → Type 0 = λ t. is_active_of server t.value.stage ≡ true → server_place p server < p.limits.max_servers in subst R is (λ h. new.inside server h))
+            (λ m is. let R : Seat Held → Type 0 = λ t. is_active_of server t.value.stage ≡ true
+            → server_place p server < p.limits.max_servers in subst R is (λ h. new.inside server h))
             (λ b. n.active_servers j server t b);
       };
       stored = let n = sound.stored in record {
@@ -201,13 +234,25 @@ module _ {Q QH P PH K : Type 0} (p : Parts Q QH P PH K) where
         pendings = λ i c e. n.pendings i c e ∙ same_given _;
         response_loans = λ i c e. n.response_loans i c e ∙ same_given _;
         active_loans = λ j server loans t e. cases j t e
-            (λ m is. let R : Seat Held → Type 0 = λ t. t.value.stage ≡ stage.ActiveRequest server loans → loans ≡ handles given (is_loan_from given j) hand in
-            subst R is (λ h. new.loans server loans h ∙ ap (λ a. handles p (is_loan_from p a) (held ∷ hand)) m ∙ same_given (is_loan_from p j)))
+            (λ m is. let R : Seat Held → Type 0 = λ t. t.value.stage ≡ stage.ActiveRequest server loans
+            → loans ≡ handles given (is_loan_from given j) hand in
+            subst R is (λ h. new.loans server loans h ∙ ap (λ a. handles p (is_loan_from p a) (held ∷ hand)) m
+            ∙ same_given (is_loan_from p j)))
             (λ b h. n.active_loans j server loans t b h ∙ same_given (is_loan_from p j));
         borrowed_requests = λ l server h. n.borrowed_requests l server h ∙ same_given _;
         borrowed_responses = λ l i channel c h e. n.borrowed_responses l i channel c h e ∙ same_given _;
       };
-      sized = let n = sound.sized in record { limits_fit = n.limits_fit; client_lanes = n.client_lanes; server_lanes = n.server_lanes; waiting = n.waiting; waiting_slots = n.waiting_slots; next_fits = n.next_fits; channels = n.channels; loans_made = n.loans_made; rows_fit = n.rows_fit };
+      sized = let n = sound.sized in record {
+        limits_fit = n.limits_fit;
+        client_lanes = n.client_lanes;
+        server_lanes = n.server_lanes;
+        waiting = n.waiting;
+        waiting_slots = n.waiting_slots;
+        next_fits = n.next_fits;
+        channels = n.channels;
+        loans_made = n.loans_made;
+        rows_fit = n.rows_fit;
+      };
       vacated = let n = sound.vacated in record { of_clients = n.of_clients; of_servers = n.of_servers; awaits_none = n.awaits_none };
       held_by_value = let n = sound.held_by_value in record { clients = n.clients; servers = n.servers };
       client_ports = sound.client_ports;

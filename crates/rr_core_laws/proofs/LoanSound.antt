@@ -42,8 +42,10 @@ slot_cases l i k j here there =
 pub both_true : (l i k j : ℕ) → l ≡ k → i ≡ j → (l == k && i == j) ≡ true
 both_true l i k j e f = rw (eq-eqb l k e) (eq-eqb i j f)
 
-module _ {Q QH P PH K : Type 0} (p : Parts Q QH P PH K) (sound : IsSound p empty_hand) (index : ℕ) (c : ClientPart K) (at : slice_get p.clients index ≡ Some c) (slot len : ℕ) (header : QH)
-    (free : slice_get (lane_of c.lane p.client_lanes).messages.held slot ≡ Some 0) (unused : times slot (all_entries (lane_of c.lane p.client_lanes).messages.queues) ≡ 0) where
+module _ {Q QH P PH K : Type 0} (p : Parts Q QH P PH K) (sound : IsSound p empty_hand) (index : ℕ) (c : ClientPart K)
+    (at : slice_get p.clients index ≡ Some c) (slot len : ℕ) (header : QH)
+    (free : slice_get (lane_of c.lane p.client_lanes).messages.held slot ≡ Some 0)
+    (unused : times slot (all_entries (lane_of c.lane p.client_lanes).messages.queues) ≡ 0) where
   abbrev m : Messages Q RequestNote QH
   m = (lane_of c.lane p.client_lanes).messages
 
@@ -57,8 +59,10 @@ module _ {Q QH P PH K : Type 0} (p : Parts Q QH P PH K) (sound : IsSound p empty
   held = loan_held p c slot
 
   -- the client's lane
-  pub own : (c.lane < length p.client_lanes) × ((lane_of c.lane p.client_lanes).owner ≡ c.port.id) × (length m.held ≡ c.port.pool_size) × (m.room ≡ c.port.initial_max_slice_len)
-  own = sound.client_ports.own index c.connected (slice_get-map (λ (c : ClientPart K). c.connected) p.clients index ∙ ap (option_map (λ c. c.connected)) at)
+  pub own : (c.lane < length p.client_lanes) × ((lane_of c.lane p.client_lanes).owner ≡ c.port.id) × (length m.held ≡ c.port.pool_size)
+      × (m.room ≡ c.port.initial_max_slice_len)
+  own = sound.client_ports.own index c.connected (slice_get-map (λ (c : ClientPart K). c.connected) p.clients index
+      ∙ ap (option_map (λ c. c.connected)) at)
 
   pub shaped : IsShaped p.limits.max_servers 1 p.limits.max_active_requests_per_client m
   shaped = sound.sized.client_lanes c.lane own.0
@@ -105,7 +109,8 @@ module _ {Q QH P PH K : Type 0} (p : Parts Q QH P PH K) (sound : IsSound p empty
   }
 
   -- what is the same of the new lane is the same of each
-  same_of : {Y : Type 0} (f : Lane Q RequestNote QH → Y) → f fresh ≡ f (lane_of c.lane p.client_lanes) → (k : ℕ) → f (lane_of k after.client_lanes) ≡ f (lane_of k p.client_lanes)
+  same_of : {Y : Type 0} (f : Lane Q RequestNote QH → Y) → f fresh ≡ f (lane_of c.lane p.client_lanes) → (k : ℕ)
+      → f (lane_of k after.client_lanes) ≡ f (lane_of k p.client_lanes)
   same_of f same k = set_alike p.client_lanes c.lane fresh no_lane f same k
 
   here_is : lane_of c.lane after.client_lanes ≡ fresh
@@ -115,12 +120,15 @@ module _ {Q QH P PH K : Type 0} (p : Parts Q QH P PH K) (sound : IsSound p empty
   there_is k n = get_or-set_other p.client_lanes c.lane k fresh no_lane (λ e. n (sym e))
 
   -- one slot is held once more
-  held_is : (k j : ℕ) → slice_index (lane_of k after.client_lanes).messages.held j ≡ slice_index (lane_of k p.client_lanes).messages.held j + mark (c.lane == k && slot == j)
+  held_is : (k j : ℕ) → slice_index (lane_of k after.client_lanes).messages.held j ≡ slice_index
+      (lane_of k p.client_lanes).messages.held j + mark (c.lane == k && slot == j)
   held_is k j =
       ⊎_elim
       (λ e. let lane : lane_of k after.client_lanes ≡ fresh = sym (ap (λ k. lane_of k after.client_lanes) e) ∙ here_is in
-      let old : slice_index (lane_of k p.client_lanes).messages.held j ≡ slice_index m.held j = sym (ap (λ k. slice_index (lane_of k p.client_lanes).messages.held j) e) in
-      let new : slice_index (lane_of k after.client_lanes).messages.held j ≡ slice_index (slice_set m.held slot 1) j = ap (λ (x : Lane Q RequestNote QH). slice_index x.messages.held j) lane in
+      let old : slice_index (lane_of k p.client_lanes).messages.held j ≡ slice_index m.held j = sym
+      (ap (λ k. slice_index (lane_of k p.client_lanes).messages.held j) e) in
+      let new : slice_index (lane_of k after.client_lanes).messages.held j ≡ slice_index (slice_set m.held slot 1) j = ap
+      (λ (x : Lane Q RequestNote QH). slice_index x.messages.held j) lane in
       ⊎_elim
       (λ f. omega (
         arith,
@@ -134,7 +142,11 @@ module _ {Q QH P PH K : Type 0} (p : Parts Q QH P PH K) (sound : IsSound p empty
       ))
       (λ n. omega (arith, new, old, get_or-set_other m.held slot j 1 0 (λ f. n (sym f)), ap mark (other_slot c.lane slot k j e n)))
       (cases_eq slot j))
-      (λ n. omega (arith, ap (λ (x : Lane Q RequestNote QH). slice_index x.messages.held j) (there_is k n), ap mark (other_lanes c.lane slot k j n)))
+      (λ n. omega (
+        arith,
+        ap (λ (x : Lane Q RequestNote QH). slice_index x.messages.held j) (there_is k n),
+        ap mark (other_lanes c.lane slot k j n),
+      ))
       (cases_eq c.lane k)
 
   used_is : (k j : ℕ) → request_uses after k j ≡ request_uses p k j + mark (c.lane == k && slot == j)
@@ -144,7 +156,8 @@ module _ {Q QH P PH K : Type 0} (p : Parts Q QH P PH K) (sound : IsSound p empty
   note_there : (k j : ℕ) → ((c.lane ≡ k) → (slot ≡ j) → ⊥) → request_note after k j ≡ request_note p k j
   note_there k j n =
       ⊎_elim
-      (λ e. ap (λ (x : Lane Q RequestNote QH). get_or x.messages.notes j no_request) (sym (ap (λ k. lane_of k after.client_lanes) e) ∙ here_is)
+      (λ e. ap (λ (x : Lane Q RequestNote QH). get_or x.messages.notes j no_request)
+      (sym (ap (λ k. lane_of k after.client_lanes) e) ∙ here_is)
       ∙ get_or-set_other m.notes slot j (loan_note p c) no_request (λ f. n e (sym f))
       ∙ ap (λ k. get_or (lane_of k p.client_lanes).messages.notes j no_request) e)
       (λ far. ap (λ (x : Lane Q RequestNote QH). get_or x.messages.notes j no_request) (there_is k far))
@@ -156,7 +169,8 @@ module _ {Q QH P PH K : Type 0} (p : Parts Q QH P PH K) (sound : IsSound p empty
       ∙ get_or-set_same m.notes slot (loan_note p c) no_request (omega (arith, within, shaped.notes))
 
   -- a request that is used was used before, or is this one
-  used_cases : {Z : Type 0} (k j : ℕ) → 0 < request_uses after k j → (c.lane ≡ k → slot ≡ j → request_note after k j ≡ loan_note p c → Z) → (0 < request_uses p k j → request_note after k j ≡ request_note p k j → Z) → Z
+  used_cases : {Z : Type 0} (k j : ℕ) → 0 < request_uses after k j → (c.lane ≡ k → slot ≡ j → request_note after k j ≡ loan_note p c → Z)
+      → (0 < request_uses p k j → request_note after k j ≡ request_note p k j → Z) → Z
   used_cases k j used here before =
       slot_cases c.lane slot k j
       (λ e f. here e f (sym (ap (λ k. request_note after k j) e) ∙ sym (ap (λ j. request_note after c.lane j) f) ∙ note_here))
@@ -167,7 +181,8 @@ module _ {Q QH P PH K : Type 0} (p : Parts Q QH P PH K) (sound : IsSound p empty
 
   counted : IsCounted after (held ∷ [])
   counted = record {
-    requests = λ k j. let e : count_by (is_request_at k j) (held ∷ []) ≡ mark (c.lane == k && slot == j) + 0 = count-cons (is_request_at k j) held [] in omega (arith, held_is k j, sound.counted.requests k j, e);
+    requests = λ k j. let e : count_by (is_request_at k j) (held ∷ []) ≡ mark (c.lane == k && slot == j) + 0 = count-cons
+        (is_request_at k j) held [] in omega (arith, held_is k j, sound.counted.requests k j, e);
     responses = λ k j. omega (arith, sound.counted.responses k j, none_in_hand (is_response_at k j) held refl);
   }
 
@@ -199,10 +214,13 @@ module _ {Q QH P PH K : Type 0} (p : Parts Q QH P PH K) (sound : IsSound p empty
       let n = sound.numbered in
       record {
         fresh = λ k h. n.fresh k (omega (arith, h));
-        requests = λ k s e is. n.requests k s e is ∙ sym (number_of (noted_before s.value.lane s.value.slot (handle_uses_request p empty_hand sound.counted k s e (loan_is_request s.value.stage is))));
-        pendings = λ k s e is. n.pendings k s e is ∙ sym (number_of (noted_before s.value.lane s.value.slot (handle_uses_request p empty_hand sound.counted k s e (pending_is_request s.value.stage is))));
+        requests = λ k s e is. n.requests k s e is ∙ sym (number_of (noted_before s.value.lane s.value.slot
+            (handle_uses_request p empty_hand sound.counted k s e (loan_is_request s.value.stage is))));
+        pendings = λ k s e is. n.pendings k s e is ∙ sym (number_of (noted_before s.value.lane s.value.slot
+            (handle_uses_request p empty_hand sound.counted k s e (pending_is_request s.value.stage is))));
         responses = n.responses;
-        requests_below = λ k j h. used_cases k j h (λ _ _ f. omega (arith, number_of f)) (λ u f. omega (arith, number_of f, n.requests_below k j u));
+        requests_below = λ k j h. used_cases k j h (λ _ _ f. omega (arith, number_of f))
+            (λ u f. omega (arith, number_of f, n.requests_below k j u));
         responses_below = λ k j h. omega (arith, n.responses_below k j h);
         requests_apart = λ a i b j h g e. used_cases a i h
             (λ ea ei f. used_cases b j g
@@ -216,23 +234,30 @@ module _ {Q QH P PH K : Type 0} (p : Parts Q QH P PH K) (sound : IsSound p empty
             (λ _ _ f. omega (arith, number_of f, e, n.responses_below b j g))
             (λ u v. n.kinds_apart a i b j u g (sym (number_of v) ∙ e));
         actives_apart = λ k server a i s e is. (
-          (λ h f. used_cases a i h (λ _ _ v. omega (arith, number_of v, f, given k s e)) (λ u v. (n.actives_apart k server a i s e is).0 u (sym (number_of v) ∙ f))),
+          (λ h f. used_cases a i h (λ _ _ v. omega (arith, number_of v, f, given k s e))
+              (λ u v. (n.actives_apart k server a i s e is).0 u (sym (number_of v) ∙ f))),
           (n.actives_apart k server a i s e is).1,
         );
         received = λ k s e is.
             let r = n.received k s e is in
-            let d = client_after p empty_hand sound after.clients p.servers after.client_lanes p.server_lanes p.waiting p.table.seats (p.next + 1) frame r.0 r.1 r.2 in
+            let d = client_after p empty_hand sound after.clients p.servers after.client_lanes p.server_lanes p.waiting p.table.seats
+            (p.next + 1) frame r.0 r.1 r.2 in
             (r.0, d.0, d.1, ap (λ (f : Frame K). f.port.id) d.2 ∙ r.3);
         answering = λ l i k server loans s u e is f.
-            let a = n.answering l i k server loans s u e is f in
-            (number_of (noted_before s.value.lane s.value.slot (handle_uses_request p empty_hand sound.counted k s e (ap is_of_request is))) ∙ a.0, a.1);
+            let a = n.answering l i k server loans s u e is f in (
+              number_of (noted_before s.value.lane s.value.slot (handle_uses_request p empty_hand sound.counted k s e (ap is_of_request is)))
+                  ∙ a.0,
+              a.1,
+            );
       }
 
   owner_kept : (k : ℕ) → (lane_of k after.client_lanes).owner ≡ (lane_of k p.client_lanes).owner
   owner_kept k = same_of (λ x. x.owner) refl k
 
-  before : (i : ℕ) (d : ClientPart K) → slice_get after.clients i ≡ Some d → (b : ClientPart K) × (slice_get p.clients i ≡ Some b) × (frame_of b.connected ≡ frame_of d.connected)
-  before = client_before p empty_hand sound after.clients p.servers after.client_lanes p.server_lanes p.waiting p.table.seats (p.next + 1) frame
+  before : (i : ℕ) (d : ClientPart K) → slice_get after.clients i ≡ Some d → (b : ClientPart K) × (slice_get p.clients i ≡ Some b)
+      × (frame_of b.connected ≡ frame_of d.connected)
+  before = client_before p empty_hand sound after.clients p.servers after.client_lanes p.server_lanes p.waiting p.table.seats
+      (p.next + 1) frame
 
   addressed : IsAddressed after
   addressed =
@@ -250,17 +275,23 @@ module _ {Q QH P PH K : Type 0} (p : Parts Q QH P PH K) (sound : IsSound p empty
             (λ u f. let r = n.answers a i k j h u (sym (number_of f) ∙ e) in (r.0, r.1 ∙ sym (owner_kept k)));
         entries = λ l i channel j d e some.
             let b = before j d e in
-            let r = n.entries l i channel j b.0 b.1 (omega (arith, some, ap (λ (f : Frame K). times i (queue_at (lane_of l p.server_lanes).messages f.place channel)) b.2)) in
+            let r = n.entries l i channel j b.0 b.1 (omega (
+              arith,
+              some,
+              ap (λ (f : Frame K). times i (queue_at (lane_of l p.server_lanes).messages f.place channel)) b.2,
+            )) in
             (r.0 ∙ ap (λ (f : Frame K). f.port.id) b.2, r.1);
       }
 
   -- another client has another lane
   other_lane : (j : ℕ) (d : ClientPart K) → j ≢ index → slice_get p.clients j ≡ Some d → c.lane ≢ d.lane
   other_lane j d n e same =
-      let listed : (i : ℕ) (b : ClientPart K) → slice_get p.clients i ≡ Some b → slice_get (map (λ c. c.connected) p.clients) i ≡ Some b.connected =
+      let listed : (i : ℕ) (b : ClientPart K) → slice_get p.clients i ≡ Some b
+      → slice_get (map (λ c. c.connected) p.clients) i ≡ Some b.connected =
       λ i b f. slice_get-map (λ (c : ClientPart K). c.connected) p.clients i ∙ ap (option_map (λ (c : ClientPart K). c.connected)) f in
       let o = sound.client_ports.own j d.connected (listed j d e) in
-      n (sound.client_ports.numbered_once j index d.connected c.connected (listed j d e) (listed index c at) (sym o.1 ∙ sym (ap (λ k. (lane_of k p.client_lanes).owner) same) ∙ own.1))
+      n (sound.client_ports.numbered_once j index d.connected c.connected (listed j d e) (listed index c at)
+      (sym o.1 ∙ sym (ap (λ k. (lane_of k p.client_lanes).owner) same) ∙ own.1))
 
   stored : IsStored after (held ∷ [])
   stored =
@@ -268,14 +299,27 @@ module _ {Q QH P PH K : Type 0} (p : Parts Q QH P PH K) (sound : IsSound p empty
       record {
         request_loans = λ j d e. set_cases p.clients index (with_one_loan c) j d e
             (λ _ is. let R : ClientPart K → Type 0 = λ d. d.loans ≡ handles after (is_in_lane is_request_loan d.lane) (held ∷ []) in
-            subst R is (omega (arith, n.request_loans index c at, one_in_hand (is_in_lane is_request_loan c.lane) held (eq-eqb c.lane c.lane refl))))
-            (λ far b. omega (arith, n.request_loans j d b, none_in_hand (is_in_lane is_request_loan d.lane) held (ne_eqb c.lane d.lane (other_lane j d far b))));
+            subst R is (omega (
+              arith,
+              n.request_loans index c at,
+              one_in_hand (is_in_lane is_request_loan c.lane) held (eq-eqb c.lane c.lane refl),
+            )))
+            (λ far b. omega (
+              arith,
+              n.request_loans j d b,
+              none_in_hand (is_in_lane is_request_loan d.lane) held
+                  (ne_eqb c.lane d.lane (other_lane j d far b)),
+            ));
         pendings = λ j d e. set_cases p.clients index (with_one_loan c) j d e
             (λ _ is. let R : ClientPart K → Type 0 = λ d. d.pendings ≡ handles after (is_in_lane is_pending d.lane) (held ∷ []) in
             subst R is (omega (arith, n.pendings index c at, none_in_hand (is_in_lane is_pending c.lane) held refl)))
             (λ far b. omega (arith, n.pendings j d b, none_in_hand (is_in_lane is_pending d.lane) held refl));
         response_loans = λ j d e. omega (arith, n.response_loans j d e, none_in_hand (is_in_lane is_response_loan d.lane) held refl);
-        active_loans = λ k server loans s e is. omega (arith, n.active_loans k server loans s e is, none_in_hand (is_loan_from p k) held refl);
+        active_loans = λ k server loans s e is. omega (
+          arith,
+          n.active_loans k server loans s e is,
+          none_in_hand (is_loan_from p k) held refl,
+        );
         borrowed_requests = λ k server h. omega (
           arith,
           same_of (λ x. borrowed_at x.messages (server_place p server) 0) refl k,
@@ -284,14 +328,20 @@ module _ {Q QH P PH K : Type 0} (p : Parts Q QH P PH K) (sound : IsSound p empty
         );
         borrowed_responses = λ k j channel d h e.
             let b = before j d e in
-            let R : Frame K → Type 0 = λ f. borrowed_at (lane_of k p.server_lanes).messages f.place channel ≡ handles p (is_received_at p k f.port.id channel) [] in
-            omega (arith, subst R b.2 (n.borrowed_responses k j channel b.0 h b.1), none_in_hand (is_received_at p k d.port.id channel) held refl);
+            let R : Frame K → Type 0 = λ f. borrowed_at (lane_of k p.server_lanes).messages f.place channel ≡ handles p
+            (is_received_at p k f.port.id channel) [] in
+            omega (
+              arith,
+              subst R b.2 (n.borrowed_responses k j channel b.0 h b.1),
+              none_in_hand (is_received_at p k d.port.id channel) held refl,
+            );
       }
 
   vacated : IsVacated after
   vacated = record {
     of_clients = λ k place channel none. sound.vacated.of_clients k place channel (λ i b e.
-        let d = client_after p empty_hand sound after.clients p.servers after.client_lanes p.server_lanes p.waiting p.table.seats (p.next + 1) frame i b e in
+        let d = client_after p empty_hand sound after.clients p.servers after.client_lanes p.server_lanes p.waiting p.table.seats
+        (p.next + 1) frame i b e in
         λ is. none i d.0 d.1 (ap (λ (f : Frame K). f.place) d.2 ∙ is));
     of_servers = λ k place channel none.
         let r = sound.vacated.of_servers k place channel none in
@@ -308,14 +358,18 @@ module _ {Q QH P PH K : Type 0} (p : Parts Q QH P PH K) (sound : IsSound p empty
     addressed = addressed;
     seated = framed_seated p empty_hand sound after.clients p.servers after.client_lanes p.server_lanes p.waiting (p.next + 1) frame;
     stored = stored;
-    sized = framed_sized p empty_hand sound after.clients p.servers after.client_lanes p.server_lanes p.waiting p.table.seats (p.next + 1) frame (omega (arith, left))
+    sized = framed_sized p empty_hand sound after.clients p.servers after.client_lanes p.server_lanes p.waiting p.table.seats
+        (p.next + 1) frame (omega (arith, left))
         (λ i d e. set_cases p.clients index (with_one_loan c) i d e
         (λ _ is. omega (arith, ap (λ (d : ClientPart K). d.loans_made) is, sound.sized.loans_made index c at))
         (λ _ b. omega (arith, sound.sized.loans_made i d b)));
     vacated = vacated;
-    held_by_value = framed_by_value p empty_hand sound after.clients p.servers after.client_lanes p.server_lanes p.waiting p.table.seats (p.next + 1) frame;
-    client_ports = framed_client_ports p empty_hand sound after.clients p.servers after.client_lanes p.server_lanes p.waiting p.table.seats (p.next + 1) frame;
-    server_ports = framed_server_ports p empty_hand sound after.clients p.servers after.client_lanes p.server_lanes p.waiting p.table.seats (p.next + 1) frame;
+    held_by_value = framed_by_value p empty_hand sound after.clients p.servers after.client_lanes p.server_lanes p.waiting p.table.seats
+        (p.next + 1) frame;
+    client_ports = framed_client_ports p empty_hand sound after.clients p.servers after.client_lanes p.server_lanes p.waiting p.table.seats
+        (p.next + 1) frame;
+    server_ports = framed_server_ports p empty_hand sound after.clients p.servers after.client_lanes p.server_lanes p.waiting p.table.seats
+        (p.next + 1) frame;
   }
 
   -- and in the table
@@ -324,7 +378,10 @@ module _ {Q QH P PH K : Type 0} (p : Parts Q QH P PH K) (sound : IsSound p empty
     fresh = sound.numbered.fresh p.next (omega arith);
     below = omega arith;
     placed = ap (λ r. record { row = r; index = slot }) (sym (same_of (λ x. x.row) refl c.lane));
-    loan = λ _. (omega (arith, used_is c.lane slot, not_used, ap mark (both_true c.lane slot c.lane slot refl refl)), sym (number_of note_here));
+    loan = λ _. (
+      omega (arith, used_is c.lane slot, not_used, ap mark (both_true c.lane slot c.lane slot refl refl)),
+      sym (number_of note_here),
+    );
     pending = λ h. absurd (false≢true h);
     response = λ h. absurd (false≢true h);
     once = λ k j. sound.held_once.responses k j;

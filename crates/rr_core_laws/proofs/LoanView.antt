@@ -29,8 +29,10 @@ use Rattle.rr_core_laws.proofs.HandleCounts.{listed, ids_apart}
 use Rattle.rr_core_laws.proofs.Queues.{times_queue}
 use Rattle.rr_core_laws.proofs.LoanSound.{own, shaped, within, not_here}
 
-module _ {Q QH P PH K : Type 0} (p : Parts Q QH P PH K) (sound : IsSound p empty_hand) (index : ℕ) (c : ClientPart K) (at : slice_get p.clients index ≡ Some c) (slot len : ℕ) (header : QH)
-    (free : slice_get (lane_of c.lane p.client_lanes).messages.held slot ≡ Some 0) (unused : times slot (all_entries (lane_of c.lane p.client_lanes).messages.queues) ≡ 0) where
+module _ {Q QH P PH K : Type 0} (p : Parts Q QH P PH K) (sound : IsSound p empty_hand) (index : ℕ) (c : ClientPart K)
+    (at : slice_get p.clients index ≡ Some c) (slot len : ℕ) (header : QH)
+    (free : slice_get (lane_of c.lane p.client_lanes).messages.held slot ≡ Some 0)
+    (unused : times slot (all_entries (lane_of c.lane p.client_lanes).messages.queues) ≡ 0) where
   abbrev m : Messages Q RequestNote QH
   m = (lane_of c.lane p.client_lanes).messages
 
@@ -54,7 +56,8 @@ module _ {Q QH P PH K : Type 0} (p : Parts Q QH P PH K) (sound : IsSound p empty
       (get_or-set_other m.user_headers slot j header p.spare_request_header n)
       (get_or-set_other m.contents slot j (nothing_written len) (nothing_written 0) n)
     where
-      same_message : (j : ℕ) → get_or new.notes j no_request ≡ get_or m.notes j no_request → get_or new.user_headers j p.spare_request_header ≡ get_or m.user_headers j p.spare_request_header
+      same_message : (j : ℕ) → get_or new.notes j no_request ≡ get_or m.notes j no_request
+          → get_or new.user_headers j p.spare_request_header ≡ get_or m.user_headers j p.spare_request_header
           → content_at new j ≡ content_at m j → request_in_slot p.spare_request_header new j ≡ request_in_slot p.spare_request_header m j
       same_message j a b d = rw a (rw b (rw d refl))
 
@@ -70,8 +73,15 @@ module _ {Q QH P PH K : Type 0} (p : Parts Q QH P PH K) (sound : IsSound p empty
       (get_or-set_same m.user_headers slot header p.spare_request_header (omega (arith, inside, s.user_headers)))
       (get_or-set_same m.contents slot (nothing_written len) (nothing_written 0) (omega (arith, inside, s.contents)))
     where
-      built : (j : ℕ) → get_or new.notes j no_request ≡ loan_note p c → get_or new.user_headers j p.spare_request_header ≡ header → content_at new j ≡ nothing_written len
-          → request_in_slot p.spare_request_header new j ≡ record { number = p.next; client = c.port.id; request_id = c.loans_made; channel = j; content = empty_content header len }
+      built : (j : ℕ) → get_or new.notes j no_request ≡ loan_note p c → get_or new.user_headers j p.spare_request_header ≡ header
+          → content_at new j ≡ nothing_written len
+          → request_in_slot p.spare_request_header new j ≡ record {
+            number = p.next;
+            client = c.port.id;
+            request_id = c.loans_made;
+            channel = j;
+            content = empty_content header len;
+          }
       built j a b d = rw a (rw b (rw d refl))
 
   -- the lane of the client, and another
@@ -87,7 +97,8 @@ module _ {Q QH P PH K : Type 0} (p : Parts Q QH P PH K) (sound : IsSound p empty
       ∙ ap (λ (x : Lane Q RequestNote QH). request_in_slot p.spare_request_header x.messages j) here_is
       ∙ other_slot j (λ f. not_here p sound index c at slot len header free unused k j used e (sym f))
       ∙ ap (λ k. request_in_slot p.spare_request_header (lane_of k p.client_lanes).messages j) e)
-      (λ n. ap (λ (x : Lane Q RequestNote QH). request_in_slot p.spare_request_header x.messages j) (get_or-set_other p.client_lanes c.lane k (with_messages (lane_of c.lane p.client_lanes) new) no_lane (λ e. n (sym e))))
+      (λ n. ap (λ (x : Lane Q RequestNote QH). request_in_slot p.spare_request_header x.messages j)
+      (get_or-set_other p.client_lanes c.lane k (with_messages (lane_of c.lane p.client_lanes) new) no_lane (λ e. n (sym e))))
       (cases_eq c.lane k)
 
   -- the handles show what they did
@@ -100,8 +111,11 @@ module _ {Q QH P PH K : Type 0} (p : Parts Q QH P PH K) (sound : IsSound p empty
   all_handles : (state_of after).handles ≡ fin_map.insert (state_of p).handles p.next (RequestMutUninit message)
   all_handles =
       map_values-insert (handle_of after) p.table.seats p.next (seat (loan_place p c slot) (loan_held p c slot))
-      ∙ ap (λ (hs : fin_map.FinMap _ (Handle Q QH P PH)). fin_map.insert hs p.next (handle_of after (seat (loan_place p c slot) (loan_held p c slot)))) (map_values-same (handle_of after) (handle_of p) p.table.seats handles)
-      ∙ ap (λ (x : RequestMessage Q QH). fin_map.insert (state_of p).handles p.next (RequestMutUninit x)) (ap (λ (x : Lane Q RequestNote QH). request_in_slot p.spare_request_header x.messages slot) here_is ∙ this_slot)
+      ∙ ap (λ (hs : fin_map.FinMap _ (Handle Q QH P PH)). fin_map.insert hs p.next
+      (handle_of after (seat (loan_place p c slot) (loan_held p c slot))))
+      (map_values-same (handle_of after) (handle_of p) p.table.seats handles)
+      ∙ ap (λ (x : RequestMessage Q QH). fin_map.insert (state_of p).handles p.next (RequestMutUninit x))
+      (ap (λ (x : Lane Q RequestNote QH). request_in_slot p.spare_request_header x.messages slot) here_is ∙ this_slot)
 
   -- what waits is as it was
   requests : (key : RequestKey) → requests_at after key ≡ requests_at p key
@@ -115,16 +129,22 @@ module _ {Q QH P PH K : Type 0} (p : Parts Q QH P PH K) (sound : IsSound p empty
           ≡ option_map_or (λ s. option_map_or (waits s.place) (find (λ lane. lane.owner == key.client) p.client_lanes) []) server []
       go None = refl
       go (Some s) =
-          find_read (λ (lane : Lane Q RequestNote QH). lane.owner == key.client) (waits s.place) [] p.client_lanes c.lane (with_messages (lane_of c.lane p.client_lanes) new) no_lane refl
-          (map_without (request_in_slot p.spare_request_header m) (request_in_slot p.spare_request_header new) slot other_slot (queue_at m s.place 0) (omega (arith, unused, times_queue m slot s.place 0)))
+          find_read (λ (lane : Lane Q RequestNote QH). lane.owner == key.client) (waits s.place) [] p.client_lanes c.lane
+          (with_messages (lane_of c.lane p.client_lanes) new) no_lane refl
+          (map_without (request_in_slot p.spare_request_header m) (request_in_slot p.spare_request_header new) slot other_slot
+          (queue_at m s.place 0) (omega (arith, unused, times_queue m slot s.place 0)))
 
   responses : (key : ResponseKey) → responses_at after key ≡ responses_at p key
   responses key =
       find_read (λ (d : ClientPart K). d.port.id == key.client)
-      (λ d. option_map_or (λ (lane : Lane P ResponseNote PH). map (response_in_slot p.spare_response_header lane.messages) (queue_at lane.messages d.place key.channel)) (find (λ (lane : Lane P ResponseNote PH). lane.owner == key.server) p.server_lanes) [])
+      (λ d. option_map_or (λ (lane : Lane P ResponseNote PH). map (response_in_slot p.spare_response_header lane.messages)
+      (queue_at lane.messages d.place key.channel)) (find (λ (lane : Lane P ResponseNote PH). lane.owner == key.server) p.server_lanes)
+      [])
       [] p.clients index (with_one_loan c) c
       (ap (λ (d : ClientPart K). d.port.id == key.client) (sym it))
-      (ap (λ (d : ClientPart K). option_map_or (λ (lane : Lane P ResponseNote PH). map (response_in_slot p.spare_response_header lane.messages) (queue_at lane.messages d.place key.channel)) (find (λ (lane : Lane P ResponseNote PH). lane.owner == key.server) p.server_lanes) []) (sym it))
+      (ap (λ (d : ClientPart K). option_map_or (λ (lane : Lane P ResponseNote PH). map
+      (response_in_slot p.spare_response_header lane.messages) (queue_at lane.messages d.place key.channel))
+      (find (λ (lane : Lane P ResponseNote PH). lane.owner == key.server) p.server_lanes) []) (sym it))
     where
       it : get_or p.clients index c ≡ c
       it = get_or_from_slice_get p.clients index c c at
@@ -134,7 +154,8 @@ module _ {Q QH P PH K : Type 0} (p : Parts Q QH P PH K) (sound : IsSound p empty
   clients =
       map-set_one client_of p.clients index (with_one_loan c)
       ∙ ap (λ d. slice_set (map client_of p.clients) index d) (sym this)
-      ∙ sym (map_but (λ d. d) (with_loan_counted c.port.id) (map client_of p.clients) index (client_of c) (listed client_of p.clients index c at) others
+      ∙ sym (map_but (λ d. d) (with_loan_counted c.port.id) (map client_of p.clients) index (client_of c)
+      (listed client_of p.clients index c at) others
       ∙ ap (λ (ds : List (Client K)). slice_set ds index (with_loan_counted c.port.id (client_of c))) (map-id (map client_of p.clients)))
     where
       this : with_loan_counted c.port.id (client_of c) ≡ client_of (with_one_loan c)
@@ -143,7 +164,8 @@ module _ {Q QH P PH K : Type 0} (p : Parts Q QH P PH K) (sound : IsSound p empty
       others : (j : ℕ) (d : Client K) → j ≢ index → slice_get (map client_of p.clients) j ≡ Some d → with_loan_counted c.port.id d ≡ d
       others j d n e =
           let it = mapped client_of p.clients j d e in
-          let far : d.id ≢ c.port.id = λ same. ids_apart (λ (c : ClientPart K). c.connected) p.next p.limits.max_clients p.clients p.client_lanes sound.client_ports j index it.0 c it.1 at n (ap (λ (d : Client K). d.id) it.2 ∙ same) in
+          let far : d.id ≢ c.port.id = λ same. ids_apart (λ (c : ClientPart K). c.connected) p.next p.limits.max_clients p.clients
+          p.client_lanes sound.client_ports j index it.0 c it.1 at n (ap (λ (d : Client K). d.id) it.2 ∙ same) in
           rw (ne_eqb d.id c.port.id far) refl
 
   pub loan_view : state_of after ≡ with_loaned_request (state_of p) (client_of c) len slot header

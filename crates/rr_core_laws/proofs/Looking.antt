@@ -21,10 +21,12 @@ use Rattle.rr_parts.specs.Parts.{Parts}
 use Rattle.rr_parts.specs.Views.{client_of, server_of, handle_in, handle_of, state_of}
 
 -- a value under a number is that of a seat
-pub seat_under : {E : Type 0} (t : Seats E) (n : ℕ) (v : E) → value_at t n ≡ Some v → (s : Seat E) × (fin_map.get t.seats n ≡ Some s) × (s.value ≡ v)
+pub seat_under : {E : Type 0} (t : Seats E) (n : ℕ) (v : E) → value_at t n ≡ Some v → (s : Seat E) × (fin_map.get t.seats n ≡ Some s)
+    × (s.value ≡ v)
 seat_under {E} t n v h = go (fin_map.get t.seats n) refl h
   where
-    go : (o : Option (Seat E)) → fin_map.get t.seats n ≡ o → option_map (λ s. s.value) o ≡ Some v → (s : Seat E) × (fin_map.get t.seats n ≡ Some s) × (s.value ≡ v)
+    go : (o : Option (Seat E)) → fin_map.get t.seats n ≡ o → option_map (λ s. s.value) o ≡ Some v → (s : Seat E)
+        × (fin_map.get t.seats n ≡ Some s) × (s.value ≡ v)
     go None at e = absurd (let f : None ≡ Some v = e in cc)
     go (Some s) at e = (s, at, (let f : Some s.value ≡ Some v = e in cc))
 
@@ -47,7 +49,8 @@ module _ {Q QH P PH : Type 0} {K : Type 0} (p : Parts Q QH P PH K) where
   handle_at-state_of n = get-map_values (handle_of p) p.table.seats n
 
   -- what a look-up found is shown
-  pub shown : (n : ℕ) (held : Held) → value_at p.table n ≡ Some held → handle_at (state_of p) n ≡ Some (handle_in p held.stage held.lane held.slot)
+  pub shown : (n : ℕ) (held : Held) → value_at p.table n ≡ Some held
+      → handle_at (state_of p) n ≡ Some (handle_in p held.stage held.lane held.slot)
   shown n held h =
       let f = seat_under p.table n held h in
       handle_at-state_of n ∙ ap (option_map (handle_of p)) f.1 ∙ ap (λ (v : Held). Some (handle_in p v.stage v.lane v.slot)) f.2
@@ -67,31 +70,39 @@ module _ {Q QH P PH : Type 0} {K : Type 0} (p : Parts Q QH P PH K) where
   kind-handle_in stage.Response lane slot = refl
 
   -- the kind of what a look-up found
-  pub kind_shown : (n : ℕ) (held : Held) → value_at p.table n ≡ Some held → option_map kind_of (handle_at (state_of p) n) ≡ Some (stage_kind held.stage)
+  pub kind_shown : (n : ℕ) (held : Held) → value_at p.table n ≡ Some held
+      → option_map kind_of (handle_at (state_of p) n) ≡ Some (stage_kind held.stage)
   kind_shown n held h = ap (option_map kind_of) (shown n held h) ∙ ap Some (kind-handle_in held.stage held.lane held.slot)
 
 -- the stored ports have a number where those that are seen have it
-pub client_seen : {K : Type 0} (clients stored : List (ClientPort K)) (n : ℕ) (b : Bool) → stored ≡ clients → b ≡ list_any (λ c. c.port.id == n && c.port.is_held) stored
+pub client_seen : {K : Type 0} (clients stored : List (ClientPort K)) (n : ℕ) (b : Bool) → stored ≡ clients
+    → b ≡ list_any (λ c. c.port.id == n && c.port.is_held) stored
     → list_any (λ c. c.id == n && c.is_held) (map client_of (map client_part clients)) ≡ b
 client_seen clients stored n b is tells =
-    list_any-map client_of (λ c. c.id == n && c.is_held) (map client_part clients) ∙ list_any-map client_part (λ c. c.port.id == n && c.port.is_held) clients
+    list_any-map client_of (λ c. c.id == n && c.is_held) (map client_part clients)
+    ∙ list_any-map client_part (λ c. c.port.id == n && c.port.is_held) clients
     ∙ ap (list_any (λ c. c.port.id == n && c.port.is_held)) (sym is) ∙ sym tells
 
 -- the same of servers
-pub server_seen : {K : Type 0} (servers stored : List (ServerPort K)) (n : ℕ) (b : Bool) → stored ≡ servers → b ≡ list_any (λ s. s.port.id == n && s.port.is_held) stored
+pub server_seen : {K : Type 0} (servers stored : List (ServerPort K)) (n : ℕ) (b : Bool) → stored ≡ servers
+    → b ≡ list_any (λ s. s.port.id == n && s.port.is_held) stored
     → list_any (λ s. s.id == n && s.is_held) (map server_of (map server_part servers)) ≡ b
 server_seen servers stored n b is tells =
-    list_any-map server_of (λ s. s.id == n && s.is_held) (map server_part servers) ∙ list_any-map server_part (λ s. s.port.id == n && s.port.is_held) servers
+    list_any-map server_of (λ s. s.id == n && s.is_held) (map server_part servers)
+    ∙ list_any-map server_part (λ s. s.port.id == n && s.port.is_held) servers
     ∙ ap (list_any (λ s. s.port.id == n && s.port.is_held)) (sym is) ∙ sym tells
 
 module _ {Q QH P PH K : Type 0} (s : State Q QH P PH K) (n : ℕ) where
   -- clients come first, then servers, then handles
   pub kind_client : is_client_held s n ≡ true → Some Kind.Client ≡ kind_at s n
-  kind_client h = sym (ap (λ b. cond b (Some Kind.Client) (cond (is_server_held s n) (Some Kind.Server) (option_map kind_of (handle_at s n)))) h)
+  kind_client h = sym (ap (λ b. cond b (Some Kind.Client) (cond (is_server_held s n) (Some Kind.Server)
+      (option_map kind_of (handle_at s n)))) h)
 
   -- where no client has the number
-  pub not_client : is_client_held s n ≡ false → cond (is_server_held s n) (Some Kind.Server) (option_map kind_of (handle_at s n)) ≡ kind_at s n
-  not_client h = sym (ap (λ b. cond b (Some Kind.Client) (cond (is_server_held s n) (Some Kind.Server) (option_map kind_of (handle_at s n)))) h)
+  pub not_client : is_client_held s n ≡ false → cond (is_server_held s n) (Some Kind.Server)
+      (option_map kind_of (handle_at s n)) ≡ kind_at s n
+  not_client h = sym (ap (λ b. cond b (Some Kind.Client) (cond (is_server_held s n) (Some Kind.Server)
+      (option_map kind_of (handle_at s n)))) h)
 
   -- where a server has it
   pub kind_server : is_client_held s n ≡ false → is_server_held s n ≡ true → Some Kind.Server ≡ kind_at s n

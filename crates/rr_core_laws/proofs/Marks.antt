@@ -38,7 +38,8 @@ module _ (rows : List (List Bool)) (i j : ℕ) where
   there r q n =
       ⊎_elim
       (λ e. ⊎_elim
-      (λ h. ap (λ r. at_two false (set_two rows i j false) r q) (sym e) ∙ ap (λ (x : List Bool). get_or x q false) (get_or-set_same rows i row [] h)
+      (λ h. ap (λ r. at_two false (set_two rows i j false) r q) (sym e)
+      ∙ ap (λ (x : List Bool). get_or x q false) (get_or-set_same rows i row [] h)
       ∙ get_or-set_other (get_or rows i []) j q false false (λ f. n e (sym f)) ∙ ap (λ r. at_two false rows r q) e)
       (λ h. ap (λ (rs : List (List Bool)). at_two false rs r q) (set_past rows i row h))
       (cases_lt i (length rows)))
@@ -50,10 +51,13 @@ module _ (rows : List (List Bool)) (i j : ℕ) where
   mark_cleared r q =
       ⊎_elim
       (λ e. ⊎_elim
-      (λ f. sym (λ k. at_two false (set_two rows i j false) (e k) (f k)) ∙ here ∙ false_comes (at_two false rows r q) ∙ sym (ap (λ b. at_two false rows r q && not b) (λ k. eq-eqb i r e k && eq-eqb j q f k)))
-      (λ n. there r q (λ _ f. n f) ∙ true_stays (at_two false rows r q) ∙ sym (ap (λ b. at_two false rows r q && not b) (λ k. eq-eqb i r e k && ne_eqb j q n k)))
+      (λ f. sym (λ k. at_two false (set_two rows i j false) (e k) (f k)) ∙ here ∙ false_comes (at_two false rows r q)
+      ∙ sym (ap (λ b. at_two false rows r q && not b) (λ k. eq-eqb i r e k && eq-eqb j q f k)))
+      (λ n. there r q (λ _ f. n f) ∙ true_stays (at_two false rows r q)
+      ∙ sym (ap (λ b. at_two false rows r q && not b) (λ k. eq-eqb i r e k && ne_eqb j q n k)))
       (cases_eq j q))
-      (λ n. there r q (λ e _. n e) ∙ true_stays (at_two false rows r q) ∙ sym (ap (λ b. at_two false rows r q && not (b && j == q)) (ne_eqb i r n)))
+      (λ n. there r q (λ e _. n e) ∙ true_stays (at_two false rows r q)
+      ∙ sym (ap (λ b. at_two false rows r q && not (b && j == q)) (ne_eqb i r n)))
       (cases_eq i r)
 
   -- what was not marked is not
@@ -87,12 +91,15 @@ module _ {X : Type 0} where
       ∙ ap (λ (ys : List X). cond (u x) (x ∷ ys) ys) (filter_same t u xs (λ j y at. same (suc j) y at))
 
   -- a second test of what is made of each that passed the first
-  pub filter_twice : (t : X → Bool) (f : X → ℕ) (u : ℕ → Bool) (xs : List X) → map f (filter (λ x. t x && u (f x)) xs) ≡ filter u (map f (filter t xs))
+  pub filter_twice : (t : X → Bool) (f : X → ℕ) (u : ℕ → Bool) (xs : List X)
+      → map f (filter (λ x. t x && u (f x)) xs) ≡ filter u (map f (filter t xs))
   filter_twice t f u [] = refl
   filter_twice t f u (x ∷ xs) = go (t x) (u (f x)) refl (filter_twice t f u xs)
     where
       go : (a b : Bool) → u (f x) ≡ b → map f (filter (λ x. t x && u (f x)) xs) ≡ filter u (map f (filter t xs))
-          → map f (cond (a && b) (x ∷ filter (λ x. t x && u (f x)) xs) (filter (λ x. t x && u (f x)) xs)) ≡ filter u (map f (cond a (x ∷ filter t xs) (filter t xs)))
-      go true true e rest = ap (λ (ys : List ℕ). f x ∷ ys) rest ∙ sym (ap (λ b. cond b (f x ∷ filter u (map f (filter t xs))) (filter u (map f (filter t xs)))) e)
+          → map f (cond (a && b) (x ∷ filter (λ x. t x && u (f x)) xs) (filter (λ x. t x && u (f x)) xs)) ≡ filter u
+          (map f (cond a (x ∷ filter t xs) (filter t xs)))
+      go true true e rest = ap (λ (ys : List ℕ). f x ∷ ys) rest
+          ∙ sym (ap (λ b. cond b (f x ∷ filter u (map f (filter t xs))) (filter u (map f (filter t xs)))) e)
       go true false e rest = rest ∙ sym (ap (λ b. cond b (f x ∷ filter u (map f (filter t xs))) (filter u (map f (filter t xs)))) e)
       go false b e rest = rest

@@ -20,19 +20,25 @@ pub two_everywhere : {X : Type 0} (n m i j : ℕ) (x : X) → at_two x (replicat
 two_everywhere {X} n m i j x =
     ⊎_elim
     (λ h. ap (λ (xs : List X). get_or xs j x) (get_or-replicate n i (replicate m x) [] h) ∙ same_everywhere m j x)
-    (λ h. ap (λ (xs : List X). get_or xs j x) (get_or_past (replicate n (replicate m x)) i [] (omega (arith, h, length-replicate n (replicate m x)))))
+    (λ h. ap (λ (xs : List X). get_or xs j x) (get_or_past (replicate n (replicate m x)) i
+    [] (omega (arith, h, length-replicate n (replicate m x)))))
     (cases_lt i n)
 
 module _ {T N H : Type 0} where
   -- nothing waits in a new lane, and nothing was received
-  pub new_queue : {slots room receivers channels capacity : ℕ} {note : N} (m : Messages T N H) → IsNew slots room receivers channels capacity note m → (r c : ℕ) → queue_at m r c ≡ []
-  new_queue {receivers = receivers} {channels = channels} m new r c = ap (λ (q : List (List (List ℕ))). at_two [] q r c) new.queues ∙ two_everywhere receivers channels r c []
+  pub new_queue : {slots room receivers channels capacity : ℕ} {note : N} (m : Messages T N H)
+      → IsNew slots room receivers channels capacity note m → (r c : ℕ) → queue_at m r c ≡ []
+  new_queue {receivers = receivers} {channels = channels} m new r c = ap (λ (q : List (List (List ℕ))). at_two [] q r c) new.queues
+      ∙ two_everywhere receivers channels r c []
 
-  pub new_borrowed : {slots room receivers channels capacity : ℕ} {note : N} (m : Messages T N H) → IsNew slots room receivers channels capacity note m → (r c : ℕ) → borrowed_at m r c ≡ 0
-  new_borrowed {receivers = receivers} {channels = channels} m new r c = ap (λ (q : List (List ℕ)). at_two 0 q r c) new.borrowed ∙ two_everywhere receivers channels r c 0
+  pub new_borrowed : {slots room receivers channels capacity : ℕ} {note : N} (m : Messages T N H)
+      → IsNew slots room receivers channels capacity note m → (r c : ℕ) → borrowed_at m r c ≡ 0
+  new_borrowed {receivers = receivers} {channels = channels} m new r c = ap (λ (q : List (List ℕ)). at_two 0 q r c) new.borrowed
+      ∙ two_everywhere receivers channels r c 0
 
   -- the lanes that were there stay, and the new one is the last
-  pub lane_before : (lanes : List (Lane T N H)) (new : Lane T N H) (i : ℕ) → i < length lanes → lane_of i (lanes ++ new ∷ []) ≡ lane_of i lanes
+  pub lane_before : (lanes : List (Lane T N H)) (new : Lane T N H) (i : ℕ) → i < length lanes
+      → lane_of i (lanes ++ new ∷ []) ≡ lane_of i lanes
   lane_before lanes new i h = get_or-append lanes (new ∷ []) no_lane i h
 
   pub lane_last : (lanes : List (Lane T N H)) (new : Lane T N H) → lane_of (length lanes) (lanes ++ new ∷ []) ≡ new
@@ -44,7 +50,8 @@ pub record LooksLike {T N H : Type 0} (old new : List (Lane T N H)) : Type 0 whe
   pub queues : (l r c : ℕ) → queue_at (lane_of l new).messages r c ≡ queue_at (lane_of l old).messages r c
   pub borrowed : (l r c : ℕ) → borrowed_at (lane_of l new).messages r c ≡ borrowed_at (lane_of l old).messages r c
   pub used : (l i : ℕ) → uses (lane_of l new).messages i ≡ uses (lane_of l old).messages i
-  pub noted : (l i : ℕ) (d : N) → 0 < uses (lane_of l old).messages i → get_or (lane_of l new).messages.notes i d ≡ get_or (lane_of l old).messages.notes i d
+  pub noted : (l i : ℕ) (d : N) → 0 < uses (lane_of l old).messages i
+      → get_or (lane_of l new).messages.notes i d ≡ get_or (lane_of l old).messages.notes i d
   pub owned : (l i : ℕ) → 0 < uses (lane_of l old).messages i → (lane_of l new).owner ≡ (lane_of l old).owner
 
 -- lists of empty lists have no entry
@@ -58,9 +65,11 @@ times-append i (x ∷ xs) ys = omega (arith, times-append i xs ys)
 
 pub no_entries_at_all : (n m i : ℕ) → times i (all_entries (replicate n (replicate m []))) ≡ 0
 no_entries_at_all zero m i = refl
-no_entries_at_all (suc n) m i = times-append i (flat_map (λ (queue : List ℕ). queue) (replicate m [])) (all_entries (replicate n (replicate m []))) ∙ omega (arith, no_entries_in m i, no_entries_at_all n m i)
+no_entries_at_all (suc n) m i = times-append i (flat_map (λ (queue : List ℕ). queue)
+    (replicate m [])) (all_entries (replicate n (replicate m []))) ∙ omega (arith, no_entries_in m i, no_entries_at_all n m i)
 
-module _ {T N H : Type 0} (lanes : List (Lane T N H)) (new : Lane T N H) {slots room receivers channels capacity : ℕ} {note : N} (is : IsNew slots room receivers channels capacity note new.messages) where
+module _ {T N H : Type 0} (lanes : List (Lane T N H)) (new : Lane T N H) {slots room receivers channels capacity : ℕ} {note : N}
+    (is : IsNew slots room receivers channels capacity note new.messages) where
   -- nothing is used in the new lane
   pub new_unused : (i : ℕ) → uses new.messages i ≡ 0
   new_unused i =
@@ -77,7 +86,8 @@ module _ {T N H : Type 0} (lanes : List (Lane T N H)) (new : Lane T N H) {slots 
       (λ h. let gone : lane_of l lanes ≡ no_lane = get_or_past lanes l no_lane h in
       ⊎_elim
       (λ e. last e (ap (λ k. lane_of k (lanes ++ new ∷ [])) e ∙ lane_last lanes new) gone)
-      (λ n. let far : length lanes < l = omega arith in none far (get_or_past (lanes ++ new ∷ []) l no_lane (omega (arith, far, length-append lanes (new ∷ [])))) gone)
+      (λ n. let far : length lanes < l = omega arith in none far
+      (get_or_past (lanes ++ new ∷ []) l no_lane (omega (arith, far, length-append lanes (new ∷ [])))) gone)
       (cases_eq l (length lanes)))
       (cases_lt l (length lanes))
 
@@ -85,15 +95,20 @@ module _ {T N H : Type 0} (lanes : List (Lane T N H)) (new : Lane T N H) {slots 
   looks_like = record {
     held = λ l i. lane_cases l
         (λ h e. ap (λ (x : Lane T N H). slice_index x.messages.held i) e)
-        (λ h e g. ap (λ (x : Lane T N H). slice_index x.messages.held i) e ∙ (ap (λ (h : List ℕ). slice_index h i) is.held ∙ same_everywhere slots i 0) ∙ sym (ap (λ (x : Lane T N H). slice_index x.messages.held i) g))
-        (λ h e g. ap (λ (x : Lane T N H). slice_index x.messages.held i) e ∙ sym (ap (λ (x : Lane T N H). slice_index x.messages.held i) g));
+        (λ h e g. ap (λ (x : Lane T N H). slice_index x.messages.held i) e
+        ∙ (ap (λ (h : List ℕ). slice_index h i) is.held ∙ same_everywhere slots i 0)
+        ∙ sym (ap (λ (x : Lane T N H). slice_index x.messages.held i) g))
+        (λ h e g. ap (λ (x : Lane T N H). slice_index x.messages.held i) e
+        ∙ sym (ap (λ (x : Lane T N H). slice_index x.messages.held i) g));
     queues = λ l r c. lane_cases l
         (λ h e. ap (λ (x : Lane T N H). queue_at x.messages r c) e)
-        (λ h e g. ap (λ (x : Lane T N H). queue_at x.messages r c) e ∙ new_queue new.messages is r c ∙ sym (ap (λ (x : Lane T N H). queue_at x.messages r c) g))
+        (λ h e g. ap (λ (x : Lane T N H). queue_at x.messages r c) e ∙ new_queue new.messages is r c
+        ∙ sym (ap (λ (x : Lane T N H). queue_at x.messages r c) g))
         (λ h e g. ap (λ (x : Lane T N H). queue_at x.messages r c) e ∙ sym (ap (λ (x : Lane T N H). queue_at x.messages r c) g));
     borrowed = λ l r c. lane_cases l
         (λ h e. ap (λ (x : Lane T N H). borrowed_at x.messages r c) e)
-        (λ h e g. ap (λ (x : Lane T N H). borrowed_at x.messages r c) e ∙ new_borrowed new.messages is r c ∙ sym (ap (λ (x : Lane T N H). borrowed_at x.messages r c) g))
+        (λ h e g. ap (λ (x : Lane T N H). borrowed_at x.messages r c) e ∙ new_borrowed new.messages is r c
+        ∙ sym (ap (λ (x : Lane T N H). borrowed_at x.messages r c) g))
         (λ h e g. ap (λ (x : Lane T N H). borrowed_at x.messages r c) e ∙ sym (ap (λ (x : Lane T N H). borrowed_at x.messages r c) g));
     used = λ l i. lane_cases l
         (λ h e. ap (λ (x : Lane T N H). uses x.messages i) e)
@@ -111,7 +126,14 @@ module _ {T N H : Type 0} (lanes : List (Lane T N H)) (new : Lane T N H) {slots 
 
 -- every list looks like itself
 pub looks_like_itself : {T N H : Type 0} (lanes : List (Lane T N H)) → LooksLike lanes lanes
-looks_like_itself lanes = record { held = λ l i. refl; queues = λ l r c. refl; borrowed = λ l r c. refl; used = λ l i. refl; noted = λ l i d some. refl; owned = λ l i some. refl }
+looks_like_itself lanes = record {
+  held = λ l i. refl;
+  queues = λ l r c. refl;
+  borrowed = λ l r c. refl;
+  used = λ l i. refl;
+  noted = λ l i d some. refl;
+  owned = λ l i some. refl;
+}
 
 -- a row of marks of a list with a row of the same is one of the list's rows, or has that mark everywhere
 pub mark_of_more : {X : Type 0} (rows : List (List X)) (n l i : ℕ) (x : X) → at_two x (rows ++ replicate n x ∷ []) l i ≡ at_two x rows l i
@@ -119,8 +141,12 @@ mark_of_more {X} rows n l i x =
     ⊎_elim
     (λ h. ap (λ (r : List X). get_or r i x) (get_or-append rows (replicate n x ∷ []) [] l h))
     (λ h. ⊎_elim
-    (λ e. ap (λ k. get_or (get_or (rows ++ replicate n x ∷ []) k []) i x) e ∙ ap (λ (r : List X). get_or r i x) (get_or-append_seam rows (replicate n x) [] []) ∙ same_everywhere n i x ∙ sym (ap (λ (r : List X). get_or r i x) (get_or_past rows l [] h)))
+    (λ e. ap (λ k. get_or (get_or (rows ++ replicate n x ∷ []) k []) i x) e
+    ∙ ap (λ (r : List X). get_or r i x) (get_or-append_seam rows (replicate n x) [] []) ∙ same_everywhere n i x
+    ∙ sym (ap (λ (r : List X). get_or r i x) (get_or_past rows l [] h)))
     (λ m. let far : length rows < l = omega arith in
-    ap (λ (r : List X). get_or r i x) (get_or_past (rows ++ replicate n x ∷ []) l [] (omega (arith, far, length-append rows (replicate n x ∷ [])))) ∙ sym (ap (λ (r : List X). get_or r i x) (get_or_past rows l [] h)))
+    ap (λ (r : List X). get_or r i x) (get_or_past (rows ++ replicate n x ∷ []) l
+    [] (omega (arith, far, length-append rows (replicate n x ∷ []))))
+    ∙ sym (ap (λ (r : List X). get_or r i x) (get_or_past rows l [] h)))
     (cases_eq l (length rows)))
     (cases_lt l (length rows))

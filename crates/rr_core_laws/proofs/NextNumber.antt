@@ -12,7 +12,8 @@ use Rattle.rr_core_laws.proofs.Connected.{none_pass}
 use Rattle.rr_core_laws.proofs.Looking.{list_any-map, handle_at-state_of, kind_handle}
 
 -- a port was given its number
-id_below : {T N H K : Type 0} (next ports : ℕ) (connected : List (Connected K)) (lanes : List (Lane T N H)) → HasLanes next ports connected lanes
+id_below : {T N H K : Type 0} (next ports : ℕ) (connected : List (Connected K)) (lanes : List (Lane T N H))
+    → HasLanes next ports connected lanes
     → (i : ℕ) (c : Connected K) → slice_get connected i ≡ Some c → c.port.id < next
 id_below next ports connected lanes has i c at =
     let own = has.own i c at in

@@ -7,7 +7,11 @@ use Rattle.rr_parts.specs.Receiving.{queue_from, borrowed_from, IsLookedThrough}
 module _ {T N H : Type 0} (lanes : List (Lane T N H)) (place channel most : ℕ) where
   -- before the first
   pub looked_at_none : IsLookedThrough lanes place channel most 0 false
-  looked_at_none = record { passed = λ l h. absurd (omega (arith, h)); clear = λ _ l h. absurd (omega (arith, h)); blocked = λ e. absurd (false≢true e) }
+  looked_at_none = record {
+    passed = λ l h. absurd (omega (arith, h));
+    clear = λ _ l h. absurd (omega (arith, h));
+    blocked = λ e. absurd (false≢true e);
+  }
 
   -- one more, or one of those before
   last_or_before : {Z : Type 0} (n l : ℕ) → l < n + 1 → (l < n → Z) → (l ≡ n → Z) → Z
@@ -17,7 +21,8 @@ module _ {T N H : Type 0} (lanes : List (Lane T N H)) (place channel most : ℕ)
       below l n h e = ⊎_elim (λ g. g) (λ g. absurd (e (omega (arith, h, g)))) (cases_lt l n)
 
   -- the next one has no entry
-  pub looked_at_empty : (n : ℕ) (b : Bool) → IsLookedThrough lanes place channel most n b → queue_from lanes place channel n ≡ [] → IsLookedThrough lanes place channel most (n + 1) b
+  pub looked_at_empty : (n : ℕ) (b : Bool) → IsLookedThrough lanes place channel most n b → queue_from lanes place channel n ≡ []
+      → IsLookedThrough lanes place channel most (n + 1) b
   looked_at_empty n b so none = record {
     passed = λ l h room. last_or_before n l h (λ g. so.passed l g room) (λ e. ap (queue_from lanes place channel) e ∙ none);
     clear = λ e l h. last_or_before n l h (λ g. so.clear e l g) (λ f. ap (queue_from lanes place channel) f ∙ none);
@@ -25,9 +30,11 @@ module _ {T N H : Type 0} (lanes : List (Lane T N H)) (place channel most : ℕ)
   }
 
   -- the next one has no room
-  pub looked_at_blocked : (n : ℕ) (b : Bool) → IsLookedThrough lanes place channel most n b → most ≤ borrowed_from lanes place channel n → (queue_from lanes place channel n ≡ [] → ⊥) → IsLookedThrough lanes place channel most (n + 1) true
+  pub looked_at_blocked : (n : ℕ) (b : Bool) → IsLookedThrough lanes place channel most n b → most ≤ borrowed_from lanes place channel n
+      → (queue_from lanes place channel n ≡ [] → ⊥) → IsLookedThrough lanes place channel most (n + 1) true
   looked_at_blocked n b so full some = record {
-    passed = λ l h room. last_or_before n l h (λ g. so.passed l g room) (λ e. absurd (omega (arith, full, room, ap (borrowed_from lanes place channel) e)));
+    passed = λ l h room. last_or_before n l h (λ g. so.passed l g room)
+        (λ e. absurd (omega (arith, full, room, ap (borrowed_from lanes place channel) e)));
     clear = λ e. absurd (false≢true (sym e));
     blocked = λ _. (n, omega arith, full, some);
   }

@@ -34,7 +34,8 @@ module _ {Q QH P PH K : Type 0} where
       server true e = let f : Some kind.Server ≡ Some kind.Client = e in cc
       server false e = handle (handle_at s n) e
 
-      go : (b : Bool) → is_client_held s n ≡ b → cond b (Some kind.Client) (cond (is_server_held s n) (Some kind.Server) (option_map kind_of (handle_at s n))) ≡ Some kind.Client → ⊥
+      go : (b : Bool) → is_client_held s n ≡ b → cond b (Some kind.Client)
+          (cond (is_server_held s n) (Some kind.Server) (option_map kind_of (handle_at s n))) ≡ Some kind.Client → ⊥
       go true e _ =
           let g = any_gives (λ (c : Client K). c.id == n && c.is_held) s.clients e in
           let both = and_parts (g.1.id == n) g.1.is_held g.3 in
@@ -58,7 +59,8 @@ module _ {Q QH P PH K : Type 0} where
       handle None e = let f : None ≡ Some kind.Server = e in cc
       handle (Some h) e = let f : Some (kind_of h) ≡ Some kind.Server = e in let g : kind_of h ≡ kind.Server = cc in no_server h g
 
-      go : (a b : Bool) → is_server_held s n ≡ b → cond a (Some kind.Client) (cond b (Some kind.Server) (option_map kind_of (handle_at s n))) ≡ Some kind.Server → ⊥
+      go : (a b : Bool) → is_server_held s n ≡ b → cond a (Some kind.Client)
+          (cond b (Some kind.Server) (option_map kind_of (handle_at s n))) ≡ Some kind.Server → ⊥
       go true b e f = let g : Some kind.Client ≡ Some kind.Server = f in cc
       go false true e f =
           let g = any_gives (λ (c : Server K). c.id == n && c.is_held) s.servers e in

@@ -23,7 +23,8 @@ use Rattle.rr_core_laws.proofs.RequestReleased.{request_there}
 
 module _ {Q QH P PH K : Type 0} (p : Parts Q QH P PH K) where
   -- contracts see a pending response where its stage is one
-  pending_stage : (g : Stage) (lane slot : ℕ) → is_pending_response (handle_in p g lane slot) ≡ true → (hint : Bool) × (connections : ℕ) × (g ≡ stage.PendingResponse hint connections)
+  pending_stage : (g : Stage) (lane slot : ℕ) → is_pending_response (handle_in p g lane slot) ≡ true → (hint : Bool) × (connections : ℕ)
+      × (g ≡ stage.PendingResponse hint connections)
   pending_stage stage.RequestMutUninit lane slot h = absurd (false≢true h)
   pending_stage stage.RequestMut lane slot h = absurd (false≢true h)
   pending_stage (stage.PendingResponse hint connections) lane slot h = (hint, connections, refl)
@@ -43,11 +44,13 @@ module _ {Q QH P PH K : Type 0} (p : Parts Q QH P PH K) where
     pub lane : held.lane < length p.client_lanes
     pub slot : 0 < slice_index (lane_of held.lane p.client_lanes).messages.held held.slot
 
-  pub pending_found : IsSound p empty_hand → (s : State Q QH P PH K) (n m : ℕ) → state_of p ≡ s → n ≡ m → IsSomeAnd (handle_at s m) (λ handle. is_pending_response handle ≡ true)
+  pub pending_found : IsSound p empty_hand → (s : State Q QH P PH K) (n m : ℕ) → state_of p ≡ s → n ≡ m
+      → IsSomeAnd (handle_at s m) (λ handle. is_pending_response handle ≡ true)
       → (held : Held) → value_at p.table n ≡ Some held → PendingFound n held
   pending_found sound s n m view same told held h =
       let f = seat_under p.table n held h in
-      let g = pending_stage held.stage held.lane held.slot (of_handle p s n m view same (λ handle. is_pending_response handle ≡ true) told held h) in
+      let g = pending_stage held.stage held.lane held.slot (of_handle p s n m view same
+      (λ handle. is_pending_response handle ≡ true) told held h) in
       let pending : f.0.value.stage ≡ stage.PendingResponse g.0 g.1 = ap (λ (v : Held). v.stage) f.2 ∙ g.2 in
       let spot = request_there p sound n f.0 f.1 (ap is_of_request pending) in
       record {
@@ -62,24 +65,29 @@ module _ {Q QH P PH K : Type 0} (p : Parts Q QH P PH K) where
       }
 
   -- a core with other clients and lanes
-  abbrev pub with_all_lanes : List (ClientPart K) → List (Lane Q RequestNote QH) → List (Lane P ResponseNote PH) → Seats Held → Parts Q QH P PH K
+  abbrev pub with_all_lanes : List (ClientPart K) → List (Lane Q RequestNote QH) → List (Lane P ResponseNote PH) → Seats Held
+      → Parts Q QH P PH K
   with_all_lanes clients lanes others table = record p { clients = clients; client_lanes = lanes; server_lanes = others; table = table }
 
   -- the parts without the pending response
-  pub pending_parts : (sound : IsSound p empty_hand) (k : ℕ) (held : Held) (f : PendingFound k held) (index : ℕ) (c : ClientPart K) (there : slice_get p.clients index ≡ Some c) (sends : c.lane ≡ f.seat.value.lane)
+  pub pending_parts : (sound : IsSound p empty_hand) (k : ℕ) (held : Held) (f : PendingFound k held) (index : ℕ) (c : ClientPart K)
+      (there : slice_get p.clients index ≡ Some c) (sends : c.lane ≡ f.seat.value.lane)
       (place : ℕ) → place ≡ c.place
       → (clients : List (ClientPart K)) (lanes : List (Lane Q RequestNote QH)) (others : List (Lane P ResponseNote PH)) (table : Seats Held)
       → clients ≡ slice_set p.clients index (without_pending c)
-      → lanes ≡ slice_set p.client_lanes held.lane (part.with_messages (lane_of held.lane p.client_lanes) (given_back (lane_of held.lane p.client_lanes).messages held.slot))
+      → lanes ≡ slice_set p.client_lanes held.lane (part.with_messages (lane_of held.lane p.client_lanes)
+      (given_back (lane_of held.lane p.client_lanes).messages held.slot))
       → others ≡ map (channel_cleared place held.slot) p.server_lanes
       → table ≡ unseated p.table k
       → with_all_lanes clients lanes others table ≡ after_pending p sound k f.seat f.at f.hint f.connections f.pending index c there sends
   pending_parts sound k held f index c there sends place its clients lanes others table cs ls os ts =
       ap (λ x. with_all_lanes x lanes others table) cs
       ∙ ap (λ x. with_all_lanes (slice_set p.clients index (without_pending c)) x others table)
-      (ls ∙ ap (λ (h : Held). slice_set p.client_lanes h.lane (part.with_messages (lane_of h.lane p.client_lanes) (given_back (lane_of h.lane p.client_lanes).messages h.slot))) (sym f.is))
+      (ls ∙ ap (λ (h : Held). slice_set p.client_lanes h.lane
+      (part.with_messages (lane_of h.lane p.client_lanes) (given_back (lane_of h.lane p.client_lanes).messages h.slot))) (sym f.is))
       ∙ ap (λ x. with_all_lanes after.clients after.client_lanes x table)
-      (os ∙ ap (λ r. map (channel_cleared r held.slot) p.server_lanes) its ∙ ap (λ (h : Held). map (channel_cleared c.place h.slot) p.server_lanes) (sym f.is))
+      (os ∙ ap (λ r. map (channel_cleared r held.slot) p.server_lanes) its
+      ∙ ap (λ (h : Held). map (channel_cleared c.place h.slot) p.server_lanes) (sym f.is))
       ∙ ap (with_all_lanes after.clients after.client_lanes after.server_lanes) ts
     where
       after : Parts Q QH P PH K

@@ -27,8 +27,10 @@ use Rattle.rr_core_laws.proofs.Places.{set_cases}
 use Rattle.rr_core_laws.proofs.RequestReleased.{request_there, unmarked}
 use Rattle.rr_core_laws.proofs.Shown.{held_within}
 
-module _ {Q QH P PH K : Type 0} (p : Parts Q QH P PH K) (sound : IsSound p empty_hand) (k : ℕ) (s : Seat Held) (at : fin_map.get p.table.seats k ≡ Some s) (hint : Bool) (connections : ℕ)
-    (pending : s.value.stage ≡ stage.PendingResponse hint connections) (index : ℕ) (c : ClientPart K) (there : slice_get p.clients index ≡ Some c) (sends : c.lane ≡ s.value.lane) where
+module _ {Q QH P PH K : Type 0} (p : Parts Q QH P PH K) (sound : IsSound p empty_hand) (k : ℕ) (s : Seat Held)
+    (at : fin_map.get p.table.seats k ≡ Some s) (hint : Bool) (connections : ℕ)
+    (pending : s.value.stage ≡ stage.PendingResponse hint connections) (index : ℕ) (c : ClientPart K)
+    (there : slice_get p.clients index ≡ Some c) (sends : c.lane ≡ s.value.lane) where
   abbrev pub held : Held
   held = s.value
 
@@ -69,9 +71,15 @@ module _ {Q QH P PH K : Type 0} (p : Parts Q QH P PH K) (sound : IsSound p empty
   placed = sound.client_ports.placed index c.connected (listed (λ (c : ClientPart K). c.connected) p.clients index c there)
 
   pub inside : held.slot < worst_case_requests p.limits
-  inside = omega (arith, held_within (lane_of held.lane p.client_lanes).messages.held held.slot spot.1, sound.sized.channels held.lane spot.0)
+  inside = omega (
+    arith,
+    held_within (lane_of held.lane p.client_lanes).messages.held held.slot spot.1,
+    sound.sized.channels held.lane spot.0,
+  )
 
-  same : {Y : Type 0} (f : Lane Q RequestNote QH → Y) → f (less p.client_lanes held.lane held.slot (lane_of held.lane p.client_lanes).messages.borrowed) ≡ f (lane_of held.lane p.client_lanes) → (l : ℕ) → f (lane_of l lanes) ≡ f (lane_of l p.client_lanes)
+  same : {Y : Type 0} (f : Lane Q RequestNote QH → Y) → f (less p.client_lanes held.lane held.slot
+      (lane_of held.lane p.client_lanes).messages.borrowed) ≡ f (lane_of held.lane p.client_lanes) → (l : ℕ)
+      → f (lane_of l lanes) ≡ f (lane_of l p.client_lanes)
   same = same_of p.client_lanes held.lane held.slot (lane_of held.lane p.client_lanes).messages.borrowed
 
   is : (l : ℕ) → lane_of l server_lanes ≡ channel_cleared c.place held.slot (lane_of l p.server_lanes)
@@ -81,7 +89,8 @@ module _ {Q QH P PH K : Type 0} (p : Parts Q QH P PH K) (sound : IsSound p empty
   other_lane i d n e is =
       let a = sound.client_ports.own i d.connected (listed (λ c. c.connected) p.clients i d e) in
       let b = sound.client_ports.own index c.connected (listed (λ c. c.connected) p.clients index c there) in
-      ids_apart (λ (c : ClientPart K). c.connected) p.next p.limits.max_clients p.clients p.client_lanes sound.client_ports i index d c e there n
+      ids_apart (λ (c : ClientPart K). c.connected) p.next p.limits.max_clients p.clients p.client_lanes sound.client_ports i index d c e
+      there n
       (sym a.1 ∙ ap (λ l. (lane_of l p.client_lanes).owner) (sym is ∙ sym sends) ∙ b.1)
 
   dropped : IsDropped taken held clients p.servers lanes server_lanes p.waiting
@@ -89,8 +98,10 @@ module _ {Q QH P PH K : Type 0} (p : Parts Q QH P PH K) (sound : IsSound p empty
     frame = record {
       clients_alike = ports_set (λ (c : ClientPart K). c.connected) p.clients index c (without_pending c) there refl;
       servers_alike = refl;
-      client_lanes_alike = less_lanes p.client_lanes held.lane held.slot (lane_of held.lane p.client_lanes).messages.borrowed refl (λ r. refl);
-      server_lanes_alike = cleared_alike p.server_lanes p.limits.max_clients (worst_case_requests p.limits) p.limits.max_response_buffer_size c.place held.slot sound.sized.server_lanes placed inside;
+      client_lanes_alike = less_lanes p.client_lanes held.lane held.slot (lane_of held.lane p.client_lanes).messages.borrowed refl
+          (λ r. refl);
+      server_lanes_alike = cleared_alike p.server_lanes p.limits.max_clients
+          (worst_case_requests p.limits) p.limits.max_response_buffer_size c.place held.slot sound.sized.server_lanes placed inside;
       marks = refl;
       marks_each = λ l. refl;
       numbers = omega arith;
@@ -111,9 +122,14 @@ module _ {Q QH P PH K : Type 0} (p : Parts Q QH P PH K) (sound : IsSound p empty
     request_notes = λ l. same (λ x. x.messages.notes) refl l;
     response_notes = λ l. ap (λ (x : Lane P ResponseNote PH). x.messages.notes) (is l);
     requests_wait = λ l. same (λ x. x.messages.queues) refl l;
-    responses_used = λ l i. all_less p.server_lanes p.limits.max_clients (worst_case_requests p.limits) p.limits.max_response_buffer_size c.place held.slot sound.sized.server_lanes placed inside l i;
-    responses_wait = λ l place channel i. queue_less p.server_lanes p.limits.max_clients (worst_case_requests p.limits) p.limits.max_response_buffer_size c.place held.slot sound.sized.server_lanes placed inside l place channel i;
-    responses_none = λ l place channel e. stays_empty p.server_lanes p.limits.max_clients (worst_case_requests p.limits) p.limits.max_response_buffer_size c.place held.slot sound.sized.server_lanes placed inside l place channel e;
+    responses_used = λ l i. all_less p.server_lanes p.limits.max_clients
+        (worst_case_requests p.limits) p.limits.max_response_buffer_size c.place held.slot sound.sized.server_lanes placed inside l i;
+    responses_wait = λ l place channel i. queue_less p.server_lanes p.limits.max_clients
+        (worst_case_requests p.limits) p.limits.max_response_buffer_size c.place held.slot sound.sized.server_lanes placed inside l place
+        channel i;
+    responses_none = λ l place channel e. stays_empty p.server_lanes p.limits.max_clients
+        (worst_case_requests p.limits) p.limits.max_response_buffer_size c.place held.slot sound.sized.server_lanes placed inside l place
+        channel e;
     requests_borrowed = λ l place channel. omega (arith, same (λ x. borrowed_at x.messages place channel) refl l);
     responses_borrowed = λ l place channel. omega (arith, ap (λ (x : Lane P ResponseNote PH). borrowed_at x.messages place channel) (is l));
     awaited = λ l slot place e. e;
@@ -122,7 +138,11 @@ module _ {Q QH P PH K : Type 0} (p : Parts Q QH P PH K) (sound : IsSound p empty
           c,
           ap (slice_get p.clients) j ∙ there,
           ap (λ (d : ClientPart K). frame_of d.connected) is,
-          omega (arith, unmarked (is_request_loan held.stage) (held.lane == c.lane) (ap is_request_loan pending), ap (λ (d : ClientPart K). d.loans) is),
+          omega (
+            arith,
+            unmarked (is_request_loan held.stage) (held.lane == c.lane) (ap is_request_loan pending),
+            ap (λ (d : ClientPart K). d.loans) is,
+          ),
           omega (arith, has_pending, counted_here, ap (λ (d : ClientPart K). d.pendings) is),
         ))
         (λ n b. (
@@ -130,10 +150,24 @@ module _ {Q QH P PH K : Type 0} (p : Parts Q QH P PH K) (sound : IsSound p empty
           b,
           refl,
           omega (arith, unmarked (is_request_loan held.stage) (held.lane == d.lane) (ap is_request_loan pending)),
-          omega (arith, ap (λ a. mark (a && held.lane == d.lane)) (ap is_pending pending), ap mark (ne_eqb held.lane d.lane (other_lane i d n b))),
+          omega (
+            arith,
+            ap (λ a. mark (a && held.lane == d.lane)) (ap is_pending pending),
+            ap mark (ne_eqb held.lane d.lane (other_lane i d n b)),
+          ),
         ));
-    server_counts = λ i d e. (d, e, refl, omega (arith, unmarked (is_response_loan held.stage) (held.lane == d.lane) (ap is_response_loan pending)));
-    loans_from = λ n server loans t e is. ap (λ a. a && (response_note p held.lane held.slot).active_request == n) (ap is_response_loan pending);
+    server_counts = λ i d e. (
+      d,
+      e,
+      refl,
+      omega (
+        arith,
+        unmarked (is_response_loan held.stage) (held.lane == d.lane)
+            (ap is_response_loan pending),
+      ),
+    );
+    loans_from = λ n server loans t e is. ap (λ a. a && (response_note p held.lane held.slot).active_request == n)
+        (ap is_response_loan pending);
     request_borrows = λ l server h. omega (
       arith,
       same (λ x. borrowed_at x.messages (server_place p server) 0) refl l,
@@ -142,7 +176,8 @@ module _ {Q QH P PH K : Type 0} (p : Parts Q QH P PH K) (sound : IsSound p empty
     response_borrows = λ l i channel d h e. omega (
       arith,
       ap (λ (x : Lane P ResponseNote PH). borrowed_at x.messages d.place channel) (is l),
-      unmarked (is_received held.stage) (held.lane == l && ((response_note p held.lane held.slot).client == d.port.id && (response_note p held.lane held.slot).channel == channel)) (ap is_received pending),
+      unmarked (is_received held.stage) (held.lane == l && ((response_note p held.lane held.slot).client == d.port.id
+          && (response_note p held.lane held.slot).channel == channel)) (ap is_received pending),
     );
   }
 

@@ -48,7 +48,8 @@ module _ {X : Type 0} (f : X → ℕ) where
   having_some k [] h = absurd (false≢true h)
   having_some k (x ∷ xs) h = go (f x == k) h (having_some k xs)
     where
-      go : (b : Bool) → (b || list_any (λ x. f x == k) xs) ≡ true → (list_any (λ x. f x == k) xs ≡ true → 0 < having k xs) → 0 < cond b 1 0 + having k xs
+      go : (b : Bool) → (b || list_any (λ x. f x == k) xs) ≡ true → (list_any (λ x. f x == k) xs ≡ true → 0 < having k xs)
+          → 0 < cond b 1 0 + having k xs
       go true h rest = omega arith
       go false h rest = omega (arith, rest h)
 

@@ -19,7 +19,8 @@ module _ {X : Type 0} where
   set_past (x ∷ xs) (suc i) y h = ap (λ (zs : List X). x ∷ zs) (set_past xs i y (omega arith))
 
   -- what is read of each element is as it was, if it is the same of the new one
-  pub set_alike : {Y : Type 0} (xs : List X) (i : ℕ) (y d : X) (f : X → Y) → f y ≡ f (get_or xs i d) → (j : ℕ) → f (get_or (slice_set xs i y) j d) ≡ f (get_or xs j d)
+  pub set_alike : {Y : Type 0} (xs : List X) (i : ℕ) (y d : X) (f : X → Y) → f y ≡ f (get_or xs i d) → (j : ℕ)
+      → f (get_or (slice_set xs i y) j d) ≡ f (get_or xs j d)
   set_alike xs i y d f same j =
       ⊎_elim
       (λ e. ⊎_elim
@@ -30,7 +31,8 @@ module _ {X : Type 0} where
       (cases_eq j i)
 
   -- an element of the list is the new one, or was there
-  pub set_cases : {Z : Type 0} (xs : List X) (i : ℕ) (y : X) (j : ℕ) (x : X) → slice_get (slice_set xs i y) j ≡ Some x → (j ≡ i → y ≡ x → Z) → (j ≢ i → slice_get xs j ≡ Some x → Z) → Z
+  pub set_cases : {Z : Type 0} (xs : List X) (i : ℕ) (y : X) (j : ℕ) (x : X) → slice_get (slice_set xs i y) j ≡ Some x → (j ≡ i → y ≡ x → Z)
+      → (j ≢ i → slice_get xs j ≡ Some x → Z) → Z
   set_cases xs i y j x at now before =
       let within : j < length xs = omega (arith, slice_get_within (slice_set xs i y) j x at, length-set xs i y) in
       let is : get_or (slice_set xs i y) j x ≡ x = get_or_from_slice_get (slice_set xs i y) j x x at in
@@ -57,14 +59,24 @@ module _ {X : Type 0} where
       go [] base i e = absurd (let f : None ≡ Some i = e in cc)
       go (x ∷ xs) base i e = by (go xs (base + 1) i) (p x) refl
         where
-          by : (position_from p (base + 1) xs ≡ Some i → (j : ℕ) × (i ≡ (base + 1) + j) × Standing p xs j) → (b : Bool) → p x ≡ b → (j : ℕ) × (i ≡ base + j) × Standing p (x ∷ xs) j
+          by : (position_from p (base + 1) xs ≡ Some i → (j : ℕ) × (i ≡ (base + 1) + j) × Standing p xs j) → (b : Bool) → p x ≡ b → (j : ℕ)
+              × (i ≡ base + j) × Standing p (x ∷ xs) j
           by rest true t =
               let here : Some base ≡ Some i = sym (ap (λ b. cond b (Some base) (position_from p (base + 1) xs)) t) ∙ e in
               let same : base ≡ i = cc in
               (0, omega (arith, same), record { it = x; at = refl; found = find_here p x xs t; passes = t })
           by rest false t =
-              let r = rest (sym (ap (λ b. cond b (Some base) (position_from p (base + 1) xs)) t) ∙ e) in
-              (suc r.0, omega (arith, r.1), record { it = r.2.it; at = r.2.at; found = find_there p x xs t ∙ r.2.found; passes = r.2.passes })
+              let r = rest (sym (ap (λ b. cond b (Some base) (position_from p (base + 1) xs)) t) ∙ e) in (
+                suc r.0,
+                omega (arith, r.1),
+                record {
+                  it = r.2.it;
+                  at = r.2.at;
+                  found = find_there p x xs t
+                      ∙ r.2.found;
+                  passes = r.2.passes;
+                },
+              )
 
   -- where no element passes
   pub standing_nowhere : (p : X → Bool) (xs : List X) → position p xs ≡ None → find p xs ≡ None
@@ -75,7 +87,8 @@ module _ {X : Type 0} where
       go (x ∷ xs) base e = by (go xs (base + 1)) (p x) refl
         where
           by : (position_from p (base + 1) xs ≡ None → find p xs ≡ None) → (b : Bool) → p x ≡ b → find p (x ∷ xs) ≡ None
-          by rest true t = absurd (let here : Some base ≡ None = sym (ap (λ b. cond b (Some base) (position_from p (base + 1) xs)) t) ∙ e in cc)
+          by rest true t = absurd (let here : Some base ≡ None = sym (ap (λ b. cond b (Some base) (position_from p (base + 1) xs)) t) ∙ e in
+              cc)
           by rest false t = find_there p x xs t ∙ (rest (sym (ap (λ b. cond b (Some base) (position_from p (base + 1) xs)) t) ∙ e))
 
 -- the first element by what is made of each
@@ -83,7 +96,8 @@ pub find_mapped : {X Y : Type 0} (f : X → Y) (p : Y → Bool) (xs : List X) �
 find_mapped f p [] = refl
 find_mapped {X} {Y} f p (x ∷ xs) = by (find_mapped f p xs) (p (f x)) refl
   where
-    by : find p (map f xs) ≡ option_map f (find (λ x. p (f x)) xs) → (b : Bool) → p (f x) ≡ b → find p (map f (x ∷ xs)) ≡ option_map f (find (λ x. p (f x)) (x ∷ xs))
+    by : find p (map f xs) ≡ option_map f (find (λ x. p (f x)) xs) → (b : Bool) → p (f x) ≡ b
+        → find p (map f (x ∷ xs)) ≡ option_map f (find (λ x. p (f x)) (x ∷ xs))
     by rest true t = rw t refl
     by rest false t = rw t rest
 
@@ -92,44 +106,54 @@ pub map-set_one : {X Y : Type 0} (f : X → Y) (xs : List X) (i : ℕ) (y : X) �
 map-set_one f xs i y = map-set f xs i y
 
 -- or one that is alike
-pub map-set_alike : {X Y : Type 0} (f : X → Y) (xs : List X) (i : ℕ) (y d : X) → f y ≡ f (get_or xs i d) → map f (slice_set xs i y) ≡ map f xs
+pub map-set_alike : {X Y : Type 0} (f : X → Y) (xs : List X) (i : ℕ) (y d : X) → f y ≡ f (get_or xs i d)
+    → map f (slice_set xs i y) ≡ map f xs
 map-set_alike f xs i y d same = map-set_same f xs i y d same
 
 module _ {X Y : Type 0} where
   -- two functions that agree on each element of a list
   pub map_same : (f g : X → Y) (xs : List X) → ((j : ℕ) (x : X) → slice_get xs j ≡ Some x → g x ≡ f x) → map g xs ≡ map f xs
   map_same f g [] same = refl
-  map_same f g (x ∷ xs) same = ap (λ y. y ∷ map g xs) (same 0 x refl) ∙ ap (λ (ys : List Y). f x ∷ ys) (map_same f g xs (λ j z e. same (suc j) z e))
+  map_same f g (x ∷ xs) same = ap (λ y. y ∷ map g xs) (same 0 x refl)
+      ∙ ap (λ (ys : List Y). f x ∷ ys) (map_same f g xs (λ j z e. same (suc j) z e))
 
   -- and two that agree on each but one
-  pub map_but : (f g : X → Y) (xs : List X) (i : ℕ) (x : X) → slice_get xs i ≡ Some x → ((j : ℕ) (z : X) → j ≢ i → slice_get xs j ≡ Some z → g z ≡ f z) → map g xs ≡ slice_set (map f xs) i (g x)
+  pub map_but : (f g : X → Y) (xs : List X) (i : ℕ) (x : X) → slice_get xs i ≡ Some x
+      → ((j : ℕ) (z : X) → j ≢ i → slice_get xs j ≡ Some z → g z ≡ f z) → map g xs ≡ slice_set (map f xs) i (g x)
   map_but f g [] i x at same = absurd (omega (arith, slice_get_within [] i x at))
   map_but f g (y ∷ xs) zero x at same =
       let here : Some y ≡ Some x = at in
       let is : y ≡ x = cc in
-      ap (λ (z : X). g z ∷ map g xs) is ∙ ap (λ (ys : List Y). g x ∷ ys) (map_same f g xs (λ j z e. same (suc j) z (λ h. absurd (omega (arith, h))) e))
+      ap (λ (z : X). g z ∷ map g xs) is ∙ ap (λ (ys : List Y). g x ∷ ys)
+      (map_same f g xs (λ j z e. same (suc j) z (λ h. absurd (omega (arith, h))) e))
   map_but f g (y ∷ xs) (suc i) x at same =
       ap (λ z. z ∷ map g xs) (same 0 y (λ h. absurd (omega (arith, h))) refl)
       ∙ ap (λ (ys : List Y). f y ∷ ys) (map_but f g xs i x at (λ j z n e. same (suc j) z (λ h. n (omega (arith, h))) e))
 
   -- what is read of the first element that passes is as it was, if neither the test nor the reading tells the new element from the old one
-  pub find_read : (test : X → Bool) (f : X → Y) (default : Y) (xs : List X) (i : ℕ) (y d : X) → test y ≡ test (get_or xs i d) → f y ≡ f (get_or xs i d)
+  pub find_read : (test : X → Bool) (f : X → Y) (default : Y) (xs : List X) (i : ℕ) (y d : X) → test y ≡ test (get_or xs i d)
+      → f y ≡ f (get_or xs i d)
       → option_map_or f (find test (slice_set xs i y)) default ≡ option_map_or f (find test xs) default
   find_read test f default [] i y d t s = refl
   find_read test f default (x ∷ xs) zero y d t s = by (test x) refl
     where
       by : (b : Bool) → test x ≡ b → option_map_or f (find test (y ∷ xs)) default ≡ option_map_or f (find test (x ∷ xs)) default
-      by true e = ap (λ (o : Option X). option_map_or f o default) (find_here test y xs (t ∙ e)) ∙ s ∙ sym (ap (λ (o : Option X). option_map_or f o default) (find_here test x xs e))
-      by false e = ap (λ (o : Option X). option_map_or f o default) (find_there test y xs (t ∙ e)) ∙ sym (ap (λ (o : Option X). option_map_or f o default) (find_there test x xs e))
+      by true e = ap (λ (o : Option X). option_map_or f o default) (find_here test y xs (t ∙ e)) ∙ s
+          ∙ sym (ap (λ (o : Option X). option_map_or f o default) (find_here test x xs e))
+      by false e = ap (λ (o : Option X). option_map_or f o default) (find_there test y xs (t ∙ e))
+          ∙ sym (ap (λ (o : Option X). option_map_or f o default) (find_there test x xs e))
   find_read test f default (x ∷ xs) (suc i) y d t s = by (find_read test f default xs i y d t s) (test x) refl
     where
       by : option_map_or f (find test (slice_set xs i y)) default ≡ option_map_or f (find test xs) default → (b : Bool) → test x ≡ b
           → option_map_or f (find test (x ∷ slice_set xs i y)) default ≡ option_map_or f (find test (x ∷ xs)) default
-      by rest true e = ap (λ (o : Option X). option_map_or f o default) (find_here test x (slice_set xs i y) e) ∙ sym (ap (λ (o : Option X). option_map_or f o default) (find_here test x xs e))
-      by rest false e = ap (λ (o : Option X). option_map_or f o default) (find_there test x (slice_set xs i y) e) ∙ rest ∙ sym (ap (λ (o : Option X). option_map_or f o default) (find_there test x xs e))
+      by rest true e = ap (λ (o : Option X). option_map_or f o default) (find_here test x (slice_set xs i y) e)
+          ∙ sym (ap (λ (o : Option X). option_map_or f o default) (find_here test x xs e))
+      by rest false e = ap (λ (o : Option X). option_map_or f o default) (find_there test x (slice_set xs i y) e) ∙ rest
+          ∙ sym (ap (λ (o : Option X). option_map_or f o default) (find_there test x xs e))
 
 -- functions that agree on each number but one agree on a list without it
-pub map_without : {Y : Type 0} (f g : ℕ → Y) (slot : ℕ) → ((j : ℕ) → j ≢ slot → g j ≡ f j) → (slots : List ℕ) → times slot slots ≡ 0 → map g slots ≡ map f slots
+pub map_without : {Y : Type 0} (f g : ℕ → Y) (slot : ℕ) → ((j : ℕ) → j ≢ slot → g j ≡ f j) → (slots : List ℕ) → times slot slots ≡ 0
+    → map g slots ≡ map f slots
 map_without f g slot same [] none = refl
 map_without {Y} f g slot same (j ∷ slots) none =
     let other : j ≢ slot = λ e. absurd (omega (arith, none, ap {B = ℕ} (λ b. cond b 1 0) (eq-eqb j slot e))) in

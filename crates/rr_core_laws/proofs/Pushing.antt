@@ -38,13 +38,15 @@ response_mut_stage (stage.ActiveRequest server loans) h = absurd (let f : Kind.A
 response_mut_stage stage.ResponseMut h = absurd (let f : Kind.ResponseMut ≡ Kind.ResponseMutUninit = h in cc)
 response_mut_stage stage.Response h = absurd (let f : Kind.Response ≡ Kind.ResponseMutUninit = h in cc)
 
-module _ {Q QH P PH K : Type 0} (p : Parts Q QH P PH K) (sound : IsSound p empty_hand) (n : ℕ) (held : Held) (h : value_at p.table n ≡ Some held) where
+module _ {Q QH P PH K : Type 0} (p : Parts Q QH P PH K) (sound : IsSound p empty_hand) (n : ℕ) (held : Held)
+    (h : value_at p.table n ≡ Some held) where
   -- a message that is being written has one handle and no entry
   request_once : is_request_loan held.stage ≡ true → request_uses p held.lane held.slot ≤ 1
   request_once is =
       let f = seat_under p.table n held h in
       let one : request_uses p held.lane held.slot ≡ 1 =
-      subst (λ (v : Held). request_uses p v.lane v.slot ≡ 1) f.2 (sound.held_once.loans n f.0 f.1 (ap (λ (v : Held). is_request_loan v.stage) f.2 ∙ is)) in
+      subst (λ (v : Held). request_uses p v.lane v.slot ≡ 1) f.2
+      (sound.held_once.loans n f.0 f.1 (ap (λ (v : Held). is_request_loan v.stage) f.2 ∙ is)) in
       omega (arith, one)
 
   response_once : response_uses p held.lane held.slot ≤ 1
@@ -52,38 +54,49 @@ module _ {Q QH P PH K : Type 0} (p : Parts Q QH P PH K) (sound : IsSound p empty
 
   module _ (item : Q) (is : held.stage ≡ stage.RequestMutUninit) where
     -- the core is sound with one more element, and with none
-    pub pushed_request_sound : (b : Bool) → IsSound (record p { client_lanes = cond b (with_slot p.client_lanes held.lane held.slot (appended item)) p.client_lanes }) empty_hand
-    pushed_request_sound true = request_written_sound p n held h empty_hand sound (ap is_of_request is) (request_once (ap is_request_loan is)) (appended item)
+    pub pushed_request_sound : (b : Bool) → IsSound (record p
+        { client_lanes = cond b (with_slot p.client_lanes held.lane held.slot (appended item)) p.client_lanes }) empty_hand
+    pushed_request_sound true = request_written_sound p n held h empty_hand sound (ap is_of_request is)
+        (request_once (ap is_request_loan is)) (appended item)
     pushed_request_sound false = sound
 
     -- contracts see the element at the end of the request's
-    pub pushed_request_view : (b : Bool) → state_of (record p { client_lanes = cond b (with_slot p.client_lanes held.lane held.slot (appended item)) p.client_lanes })
+    pub pushed_request_view : (b : Bool) → state_of (record p
+        { client_lanes = cond b (with_slot p.client_lanes held.lane held.slot (appended item)) p.client_lanes })
         ≡ cond b (with_changed (state_of p) n (with_request_content (with_element item))) (state_of p)
     pushed_request_view true =
         let q = record p { client_lanes = with_slot p.client_lanes held.lane held.slot (appended item) } in
         let spot = request_spot p empty_hand sound.counted n held h (ap is_of_request is) in
-        let inside : held.slot < length (lane_of held.lane p.client_lanes).messages.contents = omega (arith, spot.1, (sound.sized.client_lanes held.lane spot.0).contents) in
-        request_written_view p n held h empty_hand sound (ap is_of_request is) (request_once (ap is_request_loan is)) (appended item) (with_request_content (with_element item))
+        let inside : held.slot < length (lane_of held.lane p.client_lanes).messages.contents = omega
+        (arith, spot.1, (sound.sized.client_lanes held.lane spot.0).contents) in
+        request_written_view p n held h empty_hand sound (ap is_of_request is) (request_once (ap is_request_loan is)) (appended item)
+        (with_request_content (with_element item))
         (ap (λ (g : Stage). handle_in q g held.lane held.slot) is
-        ∙ ap RequestMutUninit (shown_changed p.client_lanes held.lane held.slot (appended item) spot.0 (request_with p.spare_request_header) (λ i w. refl) inside)
+        ∙ ap RequestMutUninit (shown_changed p.client_lanes held.lane held.slot (appended item) spot.0 (request_with p.spare_request_header)
+        (λ i w. refl) inside)
         ∙ sym (ap (λ (g : Stage). with_request_content (with_element item) (handle_in p g held.lane held.slot)) is))
     pushed_request_view false = refl
 
   module _ (item : P) (is : held.stage ≡ stage.ResponseMutUninit) where
     -- the core is sound with one more element of a response, and with none
-    pub pushed_response_sound : (b : Bool) → IsSound (record p { server_lanes = cond b (with_slot p.server_lanes held.lane held.slot (appended item)) p.server_lanes }) empty_hand
+    pub pushed_response_sound : (b : Bool) → IsSound (record p
+        { server_lanes = cond b (with_slot p.server_lanes held.lane held.slot (appended item)) p.server_lanes }) empty_hand
     pushed_response_sound true = response_written_sound p n held h empty_hand sound (ap is_of_response is) response_once (appended item)
     pushed_response_sound false = sound
 
     -- contracts see the element at the end of the response's
-    pub pushed_response_view : (b : Bool) → state_of (record p { server_lanes = cond b (with_slot p.server_lanes held.lane held.slot (appended item)) p.server_lanes })
+    pub pushed_response_view : (b : Bool) → state_of (record p
+        { server_lanes = cond b (with_slot p.server_lanes held.lane held.slot (appended item)) p.server_lanes })
         ≡ cond b (with_changed (state_of p) n (with_response_content (with_element item))) (state_of p)
     pushed_response_view true =
         let q = record p { server_lanes = with_slot p.server_lanes held.lane held.slot (appended item) } in
         let spot = response_spot p empty_hand sound.counted n held h (ap is_of_response is) in
-        let inside : held.slot < length (lane_of held.lane p.server_lanes).messages.contents = omega (arith, spot.1, (sound.sized.server_lanes held.lane spot.0).contents) in
-        response_written_view p n held h empty_hand sound (ap is_of_response is) response_once (appended item) (with_response_content (with_element item))
+        let inside : held.slot < length (lane_of held.lane p.server_lanes).messages.contents = omega
+        (arith, spot.1, (sound.sized.server_lanes held.lane spot.0).contents) in
+        response_written_view p n held h empty_hand sound (ap is_of_response is) response_once (appended item)
+        (with_response_content (with_element item))
         (ap (λ (g : Stage). handle_in q g held.lane held.slot) is
-        ∙ ap ResponseMutUninit (shown_changed p.server_lanes held.lane held.slot (appended item) spot.0 (response_with p.spare_response_header) (λ i w. refl) inside)
+        ∙ ap ResponseMutUninit (shown_changed p.server_lanes held.lane held.slot (appended item) spot.0
+        (response_with p.spare_response_header) (λ i w. refl) inside)
         ∙ sym (ap (λ (g : Stage). with_response_content (with_element item) (handle_in p g held.lane held.slot)) is))
     pushed_response_view false = refl

@@ -9,7 +9,8 @@ use Rattle.rr_core_laws.proofs.ReadAt.{drop_here}
 use Rattle.rr_core_laws.proofs.PutQueues.{times_put}
 use Rattle.rr_core_laws.proofs.SetTwo.{row_length}
 
-module _ {T N H K : Type 0} (overflow : Bool) (slot : ℕ) (before now : Messages T N H) (servers : List (ServerPort K)) (i : ℕ) (so : IsPutting overflow slot before now servers i) (s : ServerPort K) (at : slice_get servers i ≡ Some s) where
+module _ {T N H K : Type 0} (overflow : Bool) (slot : ℕ) (before now : Messages T N H) (servers : List (ServerPort K)) (i : ℕ)
+    (so : IsPutting overflow slot before now servers i) (s : ServerPort K) (at : slice_get servers i ≡ Some s) where
   abbrev place : ℕ
   place = s.port.place
 
@@ -23,14 +24,21 @@ module _ {T N H K : Type 0} (overflow : Bool) (slot : ℕ) (before now : Message
   one_more : uses next slot ≤ uses now slot + 1
   one_more =
       let has = so.queues i s at in
-      omega (arith, times-set_two now.queues place 0 has.0 has.1 slot queue, times_put overflow now.capacity slot slot (queue_at now place 0), mark-same slot)
+      omega (
+        arith,
+        times-set_two now.queues place 0 has.0 has.1 slot queue,
+        times_put overflow now.capacity slot slot (queue_at now place 0),
+        mark-same slot,
+      )
 
   put_so : IsPutting overflow slot before next servers (i + 1)
   put_so = record {
     rest = sym (ap (λ (ss : List (ServerPort K)). with_puts overflow slot now (places_of ss)) (drop_here servers i s at)) ∙ so.rest;
     queues = λ j t there.
-        let has = so.queues j t there in
-        (omega (arith, has.0, length-set_two now.queues place 0 queue), omega (arith, has.1, row_length now.queues place 0 queue [] t.port.place));
+        let has = so.queues j t there in (
+          omega (arith, has.0, length-set_two now.queues place 0 queue),
+          omega (arith, has.1, row_length now.queues place 0 queue [] t.port.place),
+        );
     capacity = so.capacity;
     held = so.held;
     used = omega (arith, so.used, one_more);

@@ -7,7 +7,8 @@ use Rattle.rr_parts.specs.Sound.{IsShaped}
 use Rattle.rr_core_laws.proofs.PutQueues.{times_put, length_put}
 use Rattle.rr_core_laws.proofs.SetTwo.{other_row, other_column, row_length}
 
-module _ {T N H : Type 0} {receivers channels capacity : ℕ} (m : Messages T N H) (shaped : IsShaped receivers channels capacity m) (some : 0 < m.capacity) (overflow : Bool)
+module _ {T N H : Type 0} {receivers channels capacity : ℕ} (m : Messages T N H) (shaped : IsShaped receivers channels capacity m)
+    (some : 0 < m.capacity) (overflow : Bool)
     (place channel slot : ℕ) (at : place < receivers) (inside : channel < channels) (held : slot < length m.held) where
   abbrev entries : List ℕ
   entries = put overflow m.capacity (queue_at m place channel) slot
@@ -27,12 +28,14 @@ module _ {T N H : Type 0} {receivers channels capacity : ℕ} (m : Messages T N 
   pub queue_there : (r c : ℕ) → (r ≡ place → c ≡ channel → ⊥) → queue_at new r c ≡ queue_at m r c
   queue_there r c n =
       ⊎_elim
-      (λ e. ap (λ r. at_two [] (set_two m.queues place channel entries) r c) e ∙ other_column m.queues place channel entries [] there c (λ f. n e f) ∙ sym (ap (λ r. queue_at m r c) e))
+      (λ e. ap (λ r. at_two [] (set_two m.queues place channel entries) r c) e
+      ∙ other_column m.queues place channel entries [] there c (λ f. n e f) ∙ sym (ap (λ r. queue_at m r c) e))
       (λ far. other_row m.queues place channel entries [] r c far)
       (cases_eq r place)
 
   -- a queue is the one with the slot, or as it was
-  pub queue_cases : {Z : Type 0} (r c : ℕ) → (r ≡ place → c ≡ channel → queue_at new r c ≡ entries → Z) → (queue_at new r c ≡ queue_at m r c → Z) → Z
+  pub queue_cases : {Z : Type 0} (r c : ℕ) → (r ≡ place → c ≡ channel → queue_at new r c ≡ entries → Z)
+      → (queue_at new r c ≡ queue_at m r c → Z) → Z
   queue_cases r c now before =
       ⊎_elim
       (λ e. ⊎_elim
@@ -58,7 +61,11 @@ module _ {T N H : Type 0} {receivers channels capacity : ℕ} (m : Messages T N 
 
   -- and of all queues only the slot is there once more
   pub all_more : (i : ℕ) → times i (all_entries new.queues) ≤ times i (all_entries m.queues) + mark slot i
-  all_more i = omega (arith, times-set_two m.queues place channel there in_queues i entries, times_put overflow m.capacity slot i (queue_at m place channel))
+  all_more i = omega (
+    arith,
+    times-set_two m.queues place channel there in_queues i entries,
+    times_put overflow m.capacity slot i (queue_at m place channel),
+  )
 
   pub put_shaped : (r n k : ℕ) → IsShaped r n k m → IsShaped r n k new
   put_shaped r n k h = record {
@@ -71,7 +78,13 @@ module _ {T N H : Type 0} {receivers channels capacity : ℕ} (m : Messages T N 
     borrowed_channels = h.borrowed_channels;
     capacity_is = h.capacity_is;
     within = λ q c. queue_cases q c
-        (λ e f is. omega (arith, ap length is, length_put overflow m.capacity slot (queue_at m place channel) some (omega (arith, h.within place channel, h.capacity_is)), h.capacity_is))
+        (λ e f is. omega (
+          arith,
+          ap length is,
+          length_put overflow m.capacity slot (queue_at m place channel) some
+              (omega (arith, h.within place channel, h.capacity_is)),
+          h.capacity_is,
+        ))
         (λ is. omega (arith, ap length is, h.within q c));
     inside = λ i waits. ⊎_elim
         (λ e. omega (arith, held, e))

@@ -17,14 +17,16 @@ module _ (overflow : Bool) (capacity slot : ℕ) where
   pub times_put : (i : ℕ) (queue : List ℕ) → times i (put overflow capacity queue slot) ≤ times i queue + mark slot i
   times_put i queue = go (is_full capacity queue) overflow
     where
-      go : (full over : Bool) → times i (cond (not full) (queue ++ slot ∷ []) (cond over (drop 1 queue ++ slot ∷ []) queue)) ≤ times i queue + mark slot i
+      go : (full over : Bool) → times i (cond (not full) (queue ++ slot ∷ []) (cond over (drop 1 queue ++ slot ∷ []) queue)) ≤ times i queue
+          + mark slot i
       go false over = omega (arith, times-push i queue slot)
       go true true = omega (arith, times-push i (drop 1 queue) slot, times-drop_le i 1 queue)
       go true false = omega arith
 
   -- a queue stays within its capacity
   pub length_put : (queue : List ℕ) → 0 < capacity → length queue ≤ capacity → length (put overflow capacity queue slot) ≤ capacity
-  length_put queue some within = go (is_full capacity queue) overflow (λ e. ⊎_elim (λ l. l) (λ l. absurd (false≢true (sym e ∙ le-leb capacity (length queue) l))) (cases_lt (length queue) capacity))
+  length_put queue some within = go (is_full capacity queue) overflow
+      (λ e. ⊎_elim (λ l. l) (λ l. absurd (false≢true (sym e ∙ le-leb capacity (length queue) l))) (cases_lt (length queue) capacity))
     where
       push_one : (xs : List ℕ) → length (xs ++ slot ∷ []) ≡ length xs + 1
       push_one xs = length-append xs (slot ∷ [])
@@ -33,18 +35,22 @@ module _ (overflow : Bool) (capacity slot : ℕ) where
       dropped [] h = omega (arith, some)
       dropped (x ∷ xs) h = omega (arith, push_one xs, h)
 
-      go : (full over : Bool) → (full ≡ false → length queue < capacity) → length (cond (not full) (queue ++ slot ∷ []) (cond over (drop 1 queue ++ slot ∷ []) queue)) ≤ capacity
+      go : (full over : Bool) → (full ≡ false → length queue < capacity)
+          → length (cond (not full) (queue ++ slot ∷ []) (cond over (drop 1 queue ++ slot ∷ []) queue)) ≤ capacity
       go false over room = omega (arith, push_one queue, room refl)
       go true true room = dropped queue within
       go true false room = within
 
   -- what is made of each entry
-  pub map_put : {X : Type 0} (f : ℕ → X) (queue : List ℕ) → map f (put overflow capacity queue slot) ≡ sends.put overflow capacity (map f queue) (f slot)
+  pub map_put : {X : Type 0} (f : ℕ → X) (queue : List ℕ) → map f (put overflow capacity queue slot) ≡ sends.put overflow capacity
+      (map f queue) (f slot)
   map_put {X} f queue =
       go (is_full capacity queue) overflow
-      ∙ ap {B = List X} (λ n. cond (not (nat_le capacity n)) (map f queue ++ f slot ∷ []) (cond overflow (drop 1 (map f queue) ++ f slot ∷ []) (map f queue))) (sym (length-map queue f))
+      ∙ ap {B = List X} (λ n. cond (not (nat_le capacity n))
+      (map f queue ++ f slot ∷ []) (cond overflow (drop 1 (map f queue) ++ f slot ∷ []) (map f queue))) (sym (length-map queue f))
     where
-      go : (full over : Bool) → map f (cond (not full) (queue ++ slot ∷ []) (cond over (drop 1 queue ++ slot ∷ []) queue)) ≡ cond (not full) (map f queue ++ f slot ∷ []) (cond over (drop 1 (map f queue) ++ f slot ∷ []) (map f queue))
+      go : (full over : Bool) → map f (cond (not full) (queue ++ slot ∷ []) (cond over (drop 1 queue ++ slot ∷ []) queue)) ≡ cond (not full)
+          (map f queue ++ f slot ∷ []) (cond over (drop 1 (map f queue) ++ f slot ∷ []) (map f queue))
       go false over = map-append f queue (slot ∷ [])
       go true true = map-append f (drop 1 queue) (slot ∷ []) ∙ ap (λ (ys : List X). ys ++ f slot ∷ []) (sym (drop-map f 1 queue))
       go true false = refl
@@ -68,14 +74,17 @@ module _ (overflow : Bool) (capacity slot : ℕ) where
     after = put_queues overflow capacity slot queues (map place xs)
 
     -- each of these receivers has the slot, unless its queue is full and may not overflow
-    pub put_here : IsApart place xs → (i : ℕ) (x : X) → slice_get xs i ≡ Some x → place x < length queues → 0 < length (get_or queues (place x) []) → at_two [] after (place x) 0 ≡ put overflow capacity (at_two [] queues (place x) 0) slot
+    pub put_here : IsApart place xs → (i : ℕ) (x : X) → slice_get xs i ≡ Some x → place x < length queues
+        → 0 < length (get_or queues (place x) []) → at_two [] after (place x) 0 ≡ put overflow capacity (at_two [] queues (place x) 0) slot
     put_here apart i x at inside channels =
-        reached step (λ qs r. at_two [] qs r 0) (λ queue. put overflow capacity queue slot) Fits (λ qs r h. at_two-set_two [] qs r 0 h.0 h.1 _) there keeps place xs queues apart i x at (inside, channels)
+        reached step (λ qs r. at_two [] qs r 0) (λ queue. put overflow capacity queue slot) Fits
+        (λ qs r h. at_two-set_two [] qs r 0 h.0 h.1 _) there keeps place xs queues apart i x at (inside, channels)
 
     -- another receiver has what it had
     pub put_there : (r : ℕ) → ((i : ℕ) (x : X) → slice_get xs i ≡ Some x → place x ≢ r) → at_two [] after r 0 ≡ at_two [] queues r 0
     put_there r other =
-        passed_by step (λ qs r. at_two [] qs r 0) (λ queue. put overflow capacity queue slot) Fits (λ qs r h. at_two-set_two [] qs r 0 h.0 h.1 _) there keeps place xs queues r other
+        passed_by step (λ qs r. at_two [] qs r 0) (λ queue. put overflow capacity queue slot) Fits
+        (λ qs r h. at_two-set_two [] qs r 0 h.0 h.1 _) there keeps place xs queues r other
 
     -- and so have all on other channels
     pub other_channel : (r c : ℕ) → c ≢ 0 → at_two [] after r c ≡ at_two [] queues r c

@@ -6,7 +6,8 @@ use Rattle.rr_lanes.specs.Lanes.{Messages, times, queue_at, all_entries}
 use Rattle.rr_lanes.proofs.EntryLaws.{times-at_two}
 
 -- a slot is in all queues at least as often as in one
-pub times_queue : {T N H : Type 0} (m : Messages T N H) (slot receiver channel : ℕ) → times slot (queue_at m receiver channel) ≤ times slot (all_entries m.queues)
+pub times_queue : {T N H : Type 0} (m : Messages T N H) (slot receiver channel : ℕ)
+    → times slot (queue_at m receiver channel) ≤ times slot (all_entries m.queues)
 times_queue m slot receiver channel =
     ⊎_elim
     (λ h. ⊎_elim

@@ -56,7 +56,12 @@ module _ {Q QH P PH K : Type 0} (p : Parts Q QH P PH K) where
     pub named : (response_note p lane slot).client ≡ client.port.id
     pub placed : client.place ≡ place
     pub inside : (response_note p lane slot).channel < worst_case_requests p.limits
-    pub reach : response_reach (state_of p) (response_at p lane slot) ≡ record { server = (response_note p lane slot).server; client = (response_note p lane slot).client; channel = (response_note p lane slot).channel } ∷ []
+    pub reach : response_reach (state_of p) (response_at p lane slot)
+        ≡ record {
+          server = (response_note p lane slot).server;
+          client = (response_note p lane slot).client;
+          channel = (response_note p lane slot).channel;
+        } ∷ []
 
   module _ (hand : Hand) (sound : IsSound p hand) (lane slot : ℕ) (used : 0 < response_uses p lane slot) where
     abbrev note : ResponseNote
@@ -72,24 +77,35 @@ module _ {Q QH P PH K : Type 0} (p : Parts Q QH P PH K) where
     seen_client : client_at (state_of p) note.client ≡ option_map client_of (find (λ c. c.port.id == note.client) p.clients)
     seen_client = find_mapped client_of (λ c. c.id == note.client) p.clients
 
-    reach_is : (a b : Bool) → is_some (client_at (state_of p) note.client) ≡ a → is_alive (state_of p) note.request ≡ b → response_reach (state_of p) (response_at p lane slot) ≡ cond (a && b) (key ∷ []) []
-    reach_is a b ea eb = ap {B = List ResponseKey} (λ x. cond (x && is_alive (state_of p) note.request) (key ∷ []) []) ea ∙ ap (λ x. cond (a && x) (key ∷ []) []) eb
+    reach_is : (a b : Bool) → is_some (client_at (state_of p) note.client) ≡ a → is_alive (state_of p) note.request ≡ b
+        → response_reach (state_of p) (response_at p lane slot) ≡ cond (a && b) (key ∷ []) []
+    reach_is a b ea eb = ap {B = List ResponseKey} (λ x. cond (x && is_alive (state_of p) note.request) (key ∷ []) []) ea
+        ∙ ap (λ x. cond (a && x) (key ∷ []) []) eb
 
-    request_held : (s : Seat Held) → fin_map.get p.table.seats note.request ≡ Some s → is_of_request s.value.stage ≡ true → 0 < slice_index (lane_of s.value.lane p.client_lanes).messages.held s.value.slot
+    request_held : (s : Seat Held) → fin_map.get p.table.seats note.request ≡ Some s → is_of_request s.value.stage ≡ true
+        → 0 < slice_index (lane_of s.value.lane p.client_lanes).messages.held s.value.slot
     request_held s at is =
-        let here : has_request_at s.value.lane s.value.slot s ≡ true = rw is (rw (eq-eqb s.value.lane s.value.lane refl) (rw (eq-eqb s.value.slot s.value.slot refl) refl)) in
-        omega (arith, sound.counted.requests s.value.lane s.value.slot, tally-at (has_request_at s.value.lane s.value.slot) p.table.seats note.request s at here)
+        let here : has_request_at s.value.lane s.value.slot s ≡ true = rw is
+        (rw (eq-eqb s.value.lane s.value.lane refl) (rw (eq-eqb s.value.slot s.value.slot refl) refl)) in
+        omega (
+          arith,
+          sound.counted.requests s.value.lane s.value.slot,
+          tally-at (has_request_at s.value.lane s.value.slot) p.table.seats note.request s at here,
+        )
 
     -- the request's pending response stands where it is looked for, in a lane of the client
     pending_spot : (s : Seat Held) → fin_map.get p.table.seats note.request ≡ Some s → is_pending s.value.stage ≡ true
-        → (c : ClientPart K) × (find (λ c. c.port.id == note.client) p.clients ≡ Some c) × (s.place ≡ spot c) × (note.channel < worst_case_requests p.limits)
+        → (c : ClientPart K) × (find (λ c. c.port.id == note.client) p.clients ≡ Some c) × (s.place ≡ spot c)
+        × (note.channel < worst_case_requests p.limits)
     pending_spot s at is =
         let of_request = pending_is_request s.value.stage is in
         let uses : 0 < request_uses p s.value.lane s.value.slot = handle_uses_request p hand sound.counted note.request s at of_request in
-        let a = sound.addressed.answers lane slot s.value.lane s.value.slot used uses (sym (sound.numbered.pendings note.request s at is)) in
+        let a = sound.addressed.answers lane slot s.value.lane s.value.slot used uses
+        (sym (sound.numbered.pendings note.request s at is)) in
         let within = request_lane p hand sound.counted note.request s at of_request in
         let x = client_of_lane p hand sound s.value.lane within in
-        let slots : s.value.slot < length (lane_of s.value.lane p.client_lanes).messages.held = held_within (lane_of s.value.lane p.client_lanes).messages.held s.value.slot (request_held s at of_request) in (
+        let slots : s.value.slot < length (lane_of s.value.lane p.client_lanes).messages.held = held_within
+        (lane_of s.value.lane p.client_lanes).messages.held s.value.slot (request_held s at of_request) in (
           x.1,
           ap (λ n. find (λ (c : ClientPart K). c.port.id == n) p.clients) (a.1 ∙ sym x.4) ∙ x.6,
           sound.seated.placed note.request s at ∙ pending_place s.value.stage s.value.lane s.value.slot is
@@ -111,14 +127,16 @@ module _ {Q QH P PH K : Type 0} (p : Parts Q QH P PH K) where
         off true = refl
         off false = refl
 
-    by_held : (c : ClientPart K) → find (λ c. c.port.id == note.client) p.clients ≡ Some c → (o : Option Held) → value_in p.table note.request (spot c) ≡ o → Told (reached_if c.place o)
+    by_held : (c : ClientPart K) → find (λ c. c.port.id == note.client) p.clients ≡ Some c → (o : Option Held)
+        → value_in p.table note.request (spot c) ≡ o → Told (reached_if c.place o)
     by_held c found None told =
         dead (⊎_elim
         (λ n. not_alive note.request n)
         (λ f. alive_seat note.request f.0 f.1 ∙ not_it f.0 f.1 (is_pending f.0.value.stage) refl)
         (none_or_some (fin_map.get p.table.seats note.request)))
       where
-        not_it : (s : Seat Held) → fin_map.get p.table.seats note.request ≡ Some s → (b : Bool) → is_pending s.value.stage ≡ b → is_pending s.value.stage ≡ false
+        not_it : (s : Seat Held) → fin_map.get p.table.seats note.request ≡ Some s → (b : Bool) → is_pending s.value.stage ≡ b
+            → is_pending s.value.stage ≡ false
         not_it s at false e = e
         not_it s at true e =
             let f = pending_spot s at e in
@@ -145,7 +163,8 @@ module _ {Q QH P PH K : Type 0} (p : Parts Q QH P PH K) where
               index = i.0;
               client = c;
               there = i.1;
-              named = sym (eqb-true c.port.id note.client (found_passes (λ (c : ClientPart K). c.port.id == note.client) p.clients c found));
+              named = sym (eqb-true c.port.id note.client (found_passes (λ (c : ClientPart K). c.port.id == note.client) p.clients c
+                  found));
               placed = refl;
               inside = x.3;
               reach = reach_is true true (ap is_some seen_client ∙ ap (λ o. is_some (option_map client_of o)) found) (alive ∙ e);
@@ -156,6 +175,8 @@ module _ {Q QH P PH K : Type 0} (p : Parts Q QH P PH K) where
     pub told : Told (reached p.clients p.client_lanes p.table note)
     told = go (find (λ c. c.port.id == note.client) p.clients) refl
       where
-        go : (o : Option (ClientPart K)) → find (λ c. c.port.id == note.client) p.clients ≡ o → Told (option_and_then (λ c. reached_if c.place (value_in p.table note.request (spot c))) o)
-        go None e = reach_is false (is_alive (state_of p) note.request) (ap is_some seen_client ∙ ap (λ o. is_some (option_map client_of o)) e) refl
+        go : (o : Option (ClientPart K)) → find (λ c. c.port.id == note.client) p.clients ≡ o
+            → Told (option_and_then (λ c. reached_if c.place (value_in p.table note.request (spot c))) o)
+        go None e = reach_is false (is_alive (state_of p) note.request)
+            (ap is_some seen_client ∙ ap (λ o. is_some (option_map client_of o)) e) refl
         go (Some c) e = by_held c e (value_in p.table note.request (spot c)) refl

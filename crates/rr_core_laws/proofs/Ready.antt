@@ -24,13 +24,17 @@ pub record IsReady {Q QH P PH K : Type 0} (p q : Parts Q QH P PH K) (c : ServerP
   pub sound : IsSound q empty_hand
   pub clients : List ℕ
   pub skims : Skims (state_of p) c.port.id clients (state_of q)
-  pub fronts : p.limits.enable_fire_and_forget_requests ≡ false → (lane : ℕ) → lane < length q.client_lanes → borrowed_from q.client_lanes c.place 0 lane < p.limits.max_active_requests_per_client
+  pub fronts : p.limits.enable_fire_and_forget_requests ≡ false → (lane : ℕ) → lane < length q.client_lanes
+      → borrowed_from q.client_lanes c.place 0 lane < p.limits.max_active_requests_per_client
       → IsFrontAlive p.table c.place (lane_of lane q.client_lanes)
 
-module _ {Q QH P PH K : Type 0} (p : Parts Q QH P PH K) (sound : IsSound p empty_hand) (index : ℕ) (c : ServerPart K) (at : slice_get p.servers index ≡ Some c) where
+module _ {Q QH P PH K : Type 0} (p : Parts Q QH P PH K) (sound : IsSound p empty_hand) (index : ℕ) (c : ServerPart K)
+    (at : slice_get p.servers index ≡ Some c) where
   -- after a skim
-  pub ready_skimmed : p.limits.enable_fire_and_forget_requests ≡ false → (place : ℕ) → place ≡ c.place → (n : ℕ) (lanes : List (Lane Q _ QH)) → length p.client_lanes ≤ n
-      → IsSkimmedBelow p.table place p.limits.max_active_requests_per_client n p.client_lanes lanes → IsReady p (with_client_lanes p lanes) c
+  pub ready_skimmed : p.limits.enable_fire_and_forget_requests ≡ false → (place : ℕ) → place ≡ c.place
+      → (n : ℕ) (lanes : List (Lane Q _ QH)) → length p.client_lanes ≤ n
+      → IsSkimmedBelow p.table place p.limits.max_active_requests_per_client n p.client_lanes lanes
+      → IsReady p (with_client_lanes p lanes) c
   ready_skimmed forgets place its n lanes all skimmed =
       let so = subst (λ r. IsSkimmedBelow p.table r p.limits.max_active_requests_per_client n p.client_lanes lanes) its skimmed in
       let s = skims_all p sound index c at forgets so.lanes lanes so.steps in
@@ -44,14 +48,23 @@ module _ {Q QH P PH K : Type 0} (p : Parts Q QH P PH K) (sound : IsSound p empty
 
   -- where nothing is skimmed
   pub ready_as_is : p.limits.enable_fire_and_forget_requests ≡ true → IsReady p p c
-  ready_as_is keeps = record { same = refl; sound = sound; clients = []; skims = refl; fronts = λ forgets. absurd (false≢true (sym forgets ∙ keeps)) }
+  ready_as_is keeps = record {
+    same = refl;
+    sound = sound;
+    clients = [];
+    skims = refl;
+    fronts = λ forgets. absurd (false≢true (sym forgets ∙ keeps));
+  }
 
-module _ {Q QH P PH K : Type 0} (p : Parts Q QH P PH K) (sound : IsSound p empty_hand) (index : ℕ) (c : ServerPart K) (at : slice_get p.servers index ≡ Some c) where
+module _ {Q QH P PH K : Type 0} (p : Parts Q QH P PH K) (sound : IsSound p empty_hand) (index : ℕ) (c : ServerPart K)
+    (at : slice_get p.servers index ≡ Some c) where
   -- the server is found by its number, and is sent to in its place
   pub its_self : find (λ s. s.port.id == c.port.id) p.servers ≡ Some c
   its_self =
       found_alone (λ (d : ServerPart K). d.port.id == c.port.id) p.servers index c at (eq-eqb c.port.id c.port.id refl)
-      (λ k d e same. sound.server_ports.numbered_once k index d.connected c.connected (listed (λ (c : ServerPart K). c.connected) p.servers k d e) (listed (λ (c : ServerPart K). c.connected) p.servers index c at) (eqb-true d.port.id c.port.id same))
+      (λ k d e same. sound.server_ports.numbered_once k index d.connected c.connected
+      (listed (λ (c : ServerPart K). c.connected) p.servers k d e) (listed (λ (c : ServerPart K). c.connected) p.servers index c at)
+      (eqb-true d.port.id c.port.id same))
 
   pub its_place : server_place p c.port.id ≡ c.place
   its_place = ap (λ o. option_map_or (λ s. s.place) o p.limits.max_servers) its_self
@@ -65,7 +78,8 @@ module _ {Q QH P PH K : Type 0} (p : Parts Q QH P PH K) (sound : IsSound p empty
       let shaped = sound.sized.client_lanes lane there in
       (omega (arith, own_place, shaped.queues), omega (arith, shaped.queue_channels c.place own_place))
 
-module _ {Q QH P PH K : Type 0} (p q : Parts Q QH P PH K) (index : ℕ) (c : ServerPart K) (at : slice_get p.servers index ≡ Some c) (found : find (λ s. s.port.id == c.port.id) p.servers ≡ Some c) (ready : IsReady p q c) where
+module _ {Q QH P PH K : Type 0} (p q : Parts Q QH P PH K) (index : ℕ) (c : ServerPart K) (at : slice_get p.servers index ≡ Some c)
+    (found : find (λ s. s.port.id == c.port.id) p.servers ≡ Some c) (ready : IsReady p q c) where
   pub its_limits : q.limits ≡ p.limits
   its_limits = ap (λ (x : Parts Q QH P PH K). x.limits) ready.same
 
@@ -76,17 +90,23 @@ module _ {Q QH P PH K : Type 0} (p q : Parts Q QH P PH K) (index : ℕ) (c : Ser
   its_server = ap (λ (x : Parts Q QH P PH K). slice_get x.servers index) ready.same ∙ at
 
   -- the first request of a queue with room is waited for
-  pub waited : (lane slot : ℕ) → lane < length q.client_lanes → borrowed_from q.client_lanes c.place 0 lane < p.limits.max_active_requests_per_client → slice_get (queue_from q.client_lanes c.place 0 lane) 0 ≡ Some slot
+  pub waited : (lane slot : ℕ) → lane < length q.client_lanes
+      → borrowed_from q.client_lanes c.place 0 lane < p.limits.max_active_requests_per_client
+      → slice_get (queue_from q.client_lanes c.place 0 lane) 0 ≡ Some slot
       → q.limits.enable_fire_and_forget_requests ≡ false → is_waited q.table (lane_of lane q.client_lanes) slot ≡ true
   waited lane slot there few first forgets =
       let alive = ready.fronts (sym (ap (λ (l : Limits). l.enable_fire_and_forget_requests) its_limits) ∙ forgets) lane there few in
-      let here : is_waited p.table (lane_of lane q.client_lanes) slot ≡ true = subst (λ o. IfSome o (λ slot. is_waited p.table (lane_of lane q.client_lanes) slot ≡ true)) first alive in
+      let here : is_waited p.table (lane_of lane q.client_lanes) slot ≡ true = subst
+      (λ o. IfSome o (λ slot. is_waited p.table (lane_of lane q.client_lanes) slot ≡ true)) first alive in
       ap (λ (x : Parts Q QH P PH K). is_waited x.table (lane_of lane q.client_lanes) slot) ready.same ∙ here
 
   -- what the server receives then is what it receives
-  pub answered : (s : State Q QH P PH K) → state_of p ≡ s → (n : ℕ) → c.port.id ≡ n → (result : Result (Option ℕ) ReceiveError) (new : State Q QH P PH K) → ReceivesUnskimmed (state_of q) c.port.id result new → ReceivesRequest s n result new
+  pub answered : (s : State Q QH P PH K) → state_of p ≡ s → (n : ℕ) → c.port.id ≡ n
+      → (result : Result (Option ℕ) ReceiveError) (new : State Q QH P PH K) → ReceivesUnskimmed (state_of q) c.port.id result new
+      → ReceivesRequest s n result new
   answered s is n its result new so =
-      let seen : server_at (state_of p) c.port.id ≡ Some (server_of c) = find_mapped server_of (λ (d : Server K). d.id == c.port.id) p.servers ∙ ap (option_map server_of) found in
+      let seen : server_at (state_of p) c.port.id ≡ Some (server_of c) = find_mapped server_of
+      (λ (d : Server K). d.id == c.port.id) p.servers ∙ ap (option_map server_of) found in
       subst (λ t. ReceivesRequest t n result new) is
       (subst (λ m. ReceivesRequest (state_of p) m result new) its
       (subst IsSome (sym seen) refl, (ready.clients, state_of q, ready.skims, so)))

@@ -11,7 +11,12 @@ use Rattle.rr_core_laws.proofs.Hands.{count-cons}
 module _ {Q QH P PH K : Type 0} (p : Parts Q QH P PH K) (hand : Hand) (server lane slot before after : ℕ) where
   same_counted : (test : Held → Bool) → test (active_held server lane slot after) ≡ test (active_held server lane slot before)
       → count_by test (active_held server lane slot after ∷ hand) ≡ count_by test (active_held server lane slot before ∷ hand)
-  same_counted test e = omega (arith, count-cons test (active_held server lane slot after) hand, count-cons test (active_held server lane slot before) hand, ap mark e)
+  same_counted test e = omega (
+    arith,
+    count-cons test (active_held server lane slot after) hand,
+    count-cons test (active_held server lane slot before) hand,
+    ap mark e,
+  )
 
   same_handles : (test : Held → Bool) → test (active_held server lane slot after) ≡ test (active_held server lane slot before)
       → handles p test (active_held server lane slot before ∷ hand) ≡ handles p test (active_held server lane slot after ∷ hand)
@@ -20,7 +25,11 @@ module _ {Q QH P PH K : Type 0} (p : Parts Q QH P PH K) (hand : Hand) (server la
   -- nothing else tells how many loans it counts
   pub recounted_sound : IsSound p (active_held server lane slot before ∷ hand) → IsSound p (active_held server lane slot after ∷ hand)
   recounted_sound sound = record {
-    counted = record { requests = λ l i. sound.counted.requests l i ∙ same_handles _ refl; responses = λ l i. sound.counted.responses l i ∙ same_handles _ refl };
+    counted = record {
+      requests = λ l i. sound.counted.requests l i ∙ same_handles _ refl;
+      responses = λ l i. sound.counted.responses l i
+          ∙ same_handles _ refl;
+    };
     held_once = record {
       loans = sound.held_once.loans;
       servers = λ l i n. omega (arith, sound.held_once.servers l i n, same_handles (is_active_at l i n) refl);

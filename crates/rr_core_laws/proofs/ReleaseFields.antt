@@ -33,14 +33,17 @@ use Rattle.rr_core_laws.proofs.WrittenView.{stored_lane}
 
 module _ {B N H T : Type 0} (lanes : List (OwnedLane B N H T)) (l : ℕ) (there : l < length (map lane_part lanes)) where
   -- what is asked of the lane at an index
-  pub lane_asked : (R : OwnedLane B N H T → Type 0) (S : Lane T N H → Type 0) → ((x : OwnedLane B N H T) → S (lane_part x) → R x) → S (lane_of l (map lane_part lanes)) → IsSomeAnd (slice_get lanes l) R
+  pub lane_asked : (R : OwnedLane B N H T → Type 0) (S : Lane T N H → Type 0) → ((x : OwnedLane B N H T) → S (lane_part x) → R x)
+      → S (lane_of l (map lane_part lanes)) → IsSomeAnd (slice_get lanes l) R
   lane_asked R S each s =
       let x = stored_lane lanes l there in
       subst (λ o. IsSomeAnd o R) (sym x.1) (each x.0 (subst S (sym x.2) s))
 
   -- the lanes after the one at an index got other messages
-  pub lanes_then : (new : List (OwnedLane B N H T)) (change : Messages T N H → Messages T N H) → IsSomeAnd (slice_get lanes l) (λ x. new ≡ slice_set lanes l (with_messages x (change x.messages)))
-      → map lane_part new ≡ slice_set (map lane_part lanes) l (part.with_messages (lane_of l (map lane_part lanes)) (change (lane_of l (map lane_part lanes)).messages))
+  pub lanes_then : (new : List (OwnedLane B N H T)) (change : Messages T N H → Messages T N H)
+      → IsSomeAnd (slice_get lanes l) (λ x. new ≡ slice_set lanes l (with_messages x (change x.messages)))
+      → map lane_part new ≡ slice_set (map lane_part lanes) l
+      (part.with_messages (lane_of l (map lane_part lanes)) (change (lane_of l (map lane_part lanes)).messages))
   lanes_then new change told =
       let x = stored_lane lanes l there in
       let is = subst (λ o. IsSomeAnd o (λ x. new ≡ slice_set lanes l (with_messages x (change x.messages)))) x.1 told in
@@ -56,7 +59,8 @@ pub record Sending {K : Type 0} (clients : List (ClientPort K)) (l : ℕ) : Type
   pub there : slice_get (map client_part clients) index ≡ Some (client_part it)
   pub sends : it.port.lane ≡ l
 
-module _ {Q QH P PH K : Type 0} (p : Parts Q QH P PH K) (sound : IsSound p empty_hand) (clients : List (ClientPort K)) (are : p.clients ≡ map client_part clients) where
+module _ {Q QH P PH K : Type 0} (p : Parts Q QH P PH K) (sound : IsSound p empty_hand) (clients : List (ClientPort K))
+    (are : p.clients ≡ map client_part clients) where
   -- each lane has one
   pub client_sending : (l : ℕ) → l < length p.client_lanes → Sending clients l
   client_sending l h =
@@ -65,7 +69,14 @@ module _ {Q QH P PH K : Type 0} (p : Parts Q QH P PH K) (sound : IsSound p empty
       let x = mapped client_part clients b.0 c.0 (ap (λ (cs : List (ClientPart K)). slice_get cs b.0) (sym are) ∙ c.1) in
       let lane : x.0.port.lane ≡ l = ap (λ (c : ClientPart K). c.lane) x.2 ∙ ap (λ (c : Connected K). c.lane) c.2 ∙ b.3 in
       let r = sender_found (λ (c : ClientPort K). c.port.lane == l) clients b.0 x.0 x.1 (eq-eqb x.0.port.lane l lane) in
-      record { index = r.0; it = r.2.it; found = r.1; at = r.2.at; there = listed client_part clients r.0 r.2.it r.2.at; sends = eqb-true _ _ r.2.passes }
+      record {
+        index = r.0;
+        it = r.2.it;
+        found = r.1;
+        at = r.2.at;
+        there = listed client_part clients r.0 r.2.it r.2.at;
+        sends = eqb-true _ _ r.2.passes;
+      }
 
 module _ {Q QH P PH K : Type 0} (p : Parts Q QH P PH K) where
   -- contracts see a request on loan where its stage is one
@@ -78,7 +89,8 @@ module _ {Q QH P PH K : Type 0} (p : Parts Q QH P PH K) where
   loaned_stage stage.ResponseMut lane slot h = h
   loaned_stage stage.Response lane slot h = h
 
-  module _ (s : State Q QH P PH K) (n m : ℕ) (view : state_of p ≡ s) (same : n ≡ m) (R : Handle Q QH P PH → Type 0) (told : IsSomeAnd (handle_at s m) R) where
+  module _ (s : State Q QH P PH K) (n m : ℕ) (view : state_of p ≡ s) (same : n ≡ m) (R : Handle Q QH P PH → Type 0)
+      (told : IsSomeAnd (handle_at s m) R) where
     -- what is asked of the handle under a number
     pub of_handle : (held : Held) → value_at p.table n ≡ Some held → R (handle_in p held.stage held.lane held.slot)
     of_handle held h = subst (λ o. IsSomeAnd o R) (shown_there p s n m view same held h) told
@@ -96,11 +108,13 @@ module _ {Q QH P PH K : Type 0} (p : Parts Q QH P PH K) where
     pub lane : held.lane < length p.client_lanes
     pub slot : 0 < slice_index (lane_of held.lane p.client_lanes).messages.held held.slot
 
-  pub loan_found : IsSound p empty_hand → (s : State Q QH P PH K) (n m : ℕ) → state_of p ≡ s → n ≡ m → IsSomeAnd (handle_at s m) (λ handle. is_loaned_request handle ≡ true)
+  pub loan_found : IsSound p empty_hand → (s : State Q QH P PH K) (n m : ℕ) → state_of p ≡ s → n ≡ m
+      → IsSomeAnd (handle_at s m) (λ handle. is_loaned_request handle ≡ true)
       → (held : Held) → value_at p.table n ≡ Some held → LoanFound n held
   loan_found sound s n m view same told held h =
       let f = seat_under p.table n held h in
-      let stage = loaned_stage held.stage held.lane held.slot (of_handle s n m view same (λ handle. is_loaned_request handle ≡ true) told held h) in
+      let stage = loaned_stage held.stage held.lane held.slot
+      (of_handle s n m view same (λ handle. is_loaned_request handle ≡ true) told held h) in
       let loan : is_request_loan f.0.value.stage ≡ true = ap (λ (v : Held). is_request_loan v.stage) f.2 ∙ stage in
       let spot = request_there p sound n f.0 f.1 (loan_is_request f.0.value.stage loan) in
       record {
@@ -113,14 +127,18 @@ module _ {Q QH P PH K : Type 0} (p : Parts Q QH P PH K) where
       }
 
   -- the parts without the request
-  pub loan_parts : (sound : IsSound p empty_hand) (k : ℕ) (s : Seat Held) (at : fin_map.get p.table.seats k ≡ Some s) (loan : is_request_loan s.value.stage ≡ true)
-      (index : ℕ) (c : ClientPart K) (there : slice_get p.clients index ≡ Some c) (sends : c.lane ≡ s.value.lane) (held : Held) → s.value ≡ held
+  pub loan_parts : (sound : IsSound p empty_hand) (k : ℕ) (s : Seat Held) (at : fin_map.get p.table.seats k ≡ Some s)
+      (loan : is_request_loan s.value.stage ≡ true)
+      (index : ℕ) (c : ClientPart K) (there : slice_get p.clients index ≡ Some c) (sends : c.lane ≡ s.value.lane) (held : Held)
+      → s.value ≡ held
       → (clients : List (ClientPart K)) (lanes : List (Lane Q RequestNote QH)) (table : Seats Held)
       → clients ≡ slice_set p.clients index (without_loan c)
-      → lanes ≡ slice_set p.client_lanes held.lane (part.with_messages (lane_of held.lane p.client_lanes) (given_back (lane_of held.lane p.client_lanes).messages held.slot))
+      → lanes ≡ slice_set p.client_lanes held.lane (part.with_messages (lane_of held.lane p.client_lanes)
+      (given_back (lane_of held.lane p.client_lanes).messages held.slot))
       → table ≡ unseated p.table k
       → with_vectors p clients lanes p.waiting table p.next ≡ after_loan p sound k s at loan index c there sends
   loan_parts sound k s at loan index c there sends held is clients lanes table cs ls ts =
       same_vectors p (after_loan p sound k s at loan index c there sends) clients lanes p.waiting table p.next cs
-      (ls ∙ ap (λ (h : Held). slice_set p.client_lanes h.lane (part.with_messages (lane_of h.lane p.client_lanes) (given_back (lane_of h.lane p.client_lanes).messages h.slot))) (sym is))
+      (ls ∙ ap (λ (h : Held). slice_set p.client_lanes h.lane
+      (part.with_messages (lane_of h.lane p.client_lanes) (given_back (lane_of h.lane p.client_lanes).messages h.slot))) (sym is))
       refl ts refl refl

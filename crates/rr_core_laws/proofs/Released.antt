@@ -39,24 +39,28 @@ module _ {Q QH P PH K : Type 0} where
       → is_in_use (after_handle_gone (record s { handles = fin_map.remove s.handles n }) handle) (port_of handle) ≡ true
       → after_release s n ≡ after_handle_gone (record s { handles = fin_map.remove s.handles n }) handle
   release_is s n handle at used =
-      ap (λ o. option_map_or (λ h. without_unused_port (after_handle_gone (record s { handles = fin_map.remove s.handles n }) h) (port_of h)) o (without_unused_port (without_port_value s n) n)) at
+      ap (λ o. option_map_or (λ h. without_unused_port (after_handle_gone (record s { handles = fin_map.remove s.handles n }) h)
+      (port_of h)) o (without_unused_port (without_port_value s n) n)) at
       ∙ stays (after_handle_gone (record s { handles = fin_map.remove s.handles n }) handle) (port_of handle) used
 
   -- a client that lives by value is in use
-  pub client_in_use : (s : State Q QH P PH K) (i : ℕ) (c : Client K) → slice_get s.clients i ≡ Some c → c.is_held ≡ true → (n : ℕ) → c.id ≡ n → is_in_use s n ≡ true
+  pub client_in_use : (s : State Q QH P PH K) (i : ℕ) (c : Client K) → slice_get s.clients i ≡ Some c → c.is_held ≡ true → (n : ℕ)
+      → c.id ≡ n → is_in_use s n ≡ true
   client_in_use s i c at held n is =
       first_of (is_client_held s n) (is_server_held s n) _
       (any_there (λ (c : Client K). c.id == n && c.is_held) s.clients i c at (rw (eq-eqb c.id n is) held))
 
   -- and so is a server
-  pub server_in_use : (s : State Q QH P PH K) (i : ℕ) (c : Server K) → slice_get s.servers i ≡ Some c → c.is_held ≡ true → (n : ℕ) → c.id ≡ n → is_in_use s n ≡ true
+  pub server_in_use : (s : State Q QH P PH K) (i : ℕ) (c : Server K) → slice_get s.servers i ≡ Some c → c.is_held ≡ true → (n : ℕ)
+      → c.id ≡ n → is_in_use s n ≡ true
   server_in_use s i c at held n is =
       second_of (is_client_held s n) (is_server_held s n) _
       (any_there (λ (c : Server K). c.id == n && c.is_held) s.servers i c at (rw (eq-eqb c.id n is) held))
 
   module _ (p : Parts Q QH P PH K) (k : ℕ) where
     -- the core without a handle
-    pub unseated_view : state_of (record p { table = unseated p.table k }) ≡ record (state_of p) { handles = fin_map.remove (state_of p).handles k }
+    pub unseated_view : state_of (record p { table = unseated p.table k }) ≡ record (state_of p)
+        { handles = fin_map.remove (state_of p).handles k }
     unseated_view = ap (λ hs. record (state_of p) { handles = hs }) (map_values-remove (handle_of p) p.table.seats k)
 
     -- what a seat shows

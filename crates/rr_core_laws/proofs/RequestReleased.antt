@@ -53,16 +53,24 @@ loan_alone stage.Response h = absurd (false≢true h)
 pub unmarked : (a b : Bool) → a ≡ false → mark (a && b) ≡ 0
 unmarked a b e = ap (λ a. mark (a && b)) e
 
-module _ {Q QH P PH K : Type 0} (p : Parts Q QH P PH K) (sound : IsSound p empty_hand) (k : ℕ) (s : Seat Held) (at : fin_map.get p.table.seats k ≡ Some s) where
+module _ {Q QH P PH K : Type 0} (p : Parts Q QH P PH K) (sound : IsSound p empty_hand) (k : ℕ) (s : Seat Held)
+    (at : fin_map.get p.table.seats k ≡ Some s) where
   -- a request with a handle stands in a lane that is there, in a slot that is held
-  pub request_there : is_of_request s.value.stage ≡ true → (s.value.lane < length p.client_lanes) × (0 < slice_index (lane_of s.value.lane p.client_lanes).messages.held s.value.slot)
+  pub request_there : is_of_request s.value.stage ≡ true → (s.value.lane < length p.client_lanes)
+      × (0 < slice_index (lane_of s.value.lane p.client_lanes).messages.held s.value.slot)
   request_there is =
-      let here : has_request_at s.value.lane s.value.slot s ≡ true = rw is (rw (eq-eqb s.value.lane s.value.lane refl) (rw (eq-eqb s.value.slot s.value.slot refl) refl)) in (
+      let here : has_request_at s.value.lane s.value.slot s ≡ true = rw is
+      (rw (eq-eqb s.value.lane s.value.lane refl) (rw (eq-eqb s.value.slot s.value.slot refl) refl)) in (
         request_lane p empty_hand sound.counted k s at is,
-        omega (arith, sound.counted.requests s.value.lane s.value.slot, tally-at (has_request_at s.value.lane s.value.slot) p.table.seats k s at here),
+        omega (
+          arith,
+          sound.counted.requests s.value.lane s.value.slot,
+          tally-at (has_request_at s.value.lane s.value.slot) p.table.seats k s at here,
+        ),
       )
 
-module _ {Q QH P PH K : Type 0} (p : Parts Q QH P PH K) (sound : IsSound p empty_hand) (k : ℕ) (s : Seat Held) (at : fin_map.get p.table.seats k ≡ Some s) (loan : is_request_loan s.value.stage ≡ true)
+module _ {Q QH P PH K : Type 0} (p : Parts Q QH P PH K) (sound : IsSound p empty_hand) (k : ℕ) (s : Seat Held)
+    (at : fin_map.get p.table.seats k ≡ Some s) (loan : is_request_loan s.value.stage ≡ true)
     (index : ℕ) (c : ClientPart K) (there : slice_get p.clients index ≡ Some c) (sends : c.lane ≡ s.value.lane) where
   abbrev held : Held
   held = s.value
@@ -96,14 +104,17 @@ module _ {Q QH P PH K : Type 0} (p : Parts Q QH P PH K) (sound : IsSound p empty
   pub has_loan : 0 < c.loans
   has_loan = omega (arith, in_hand.stored.request_loans index c there, count-cons (is_in_lane is_request_loan c.lane) held [], counted_here)
 
-  same : {Y : Type 0} (f : Lane Q RequestNote QH → Y) → f (less p.client_lanes held.lane held.slot (lane_of held.lane p.client_lanes).messages.borrowed) ≡ f (lane_of held.lane p.client_lanes) → (l : ℕ) → f (lane_of l lanes) ≡ f (lane_of l p.client_lanes)
+  same : {Y : Type 0} (f : Lane Q RequestNote QH → Y) → f (less p.client_lanes held.lane held.slot
+      (lane_of held.lane p.client_lanes).messages.borrowed) ≡ f (lane_of held.lane p.client_lanes) → (l : ℕ)
+      → f (lane_of l lanes) ≡ f (lane_of l p.client_lanes)
   same = same_of p.client_lanes held.lane held.slot (lane_of held.lane p.client_lanes).messages.borrowed
 
   other_lane : (i : ℕ) (d : ClientPart K) → i ≢ index → slice_get p.clients i ≡ Some d → held.lane ≢ d.lane
   other_lane i d n e is =
       let a = sound.client_ports.own i d.connected (listed (λ c. c.connected) p.clients i d e) in
       let b = sound.client_ports.own index c.connected (listed (λ c. c.connected) p.clients index c there) in
-      ids_apart (λ (c : ClientPart K). c.connected) p.next p.limits.max_clients p.clients p.client_lanes sound.client_ports i index d c e there n
+      ids_apart (λ (c : ClientPart K). c.connected) p.next p.limits.max_clients p.clients p.client_lanes sound.client_ports i index d c e
+      there n
       (sym a.1 ∙ ap (λ l. (lane_of l p.client_lanes).owner) (sym is ∙ sym sends) ∙ b.1)
 
   dropped : IsDropped taken held clients p.servers lanes p.server_lanes p.waiting
@@ -111,7 +122,8 @@ module _ {Q QH P PH K : Type 0} (p : Parts Q QH P PH K) (sound : IsSound p empty
     frame = record {
       clients_alike = ports_set (λ (c : ClientPart K). c.connected) p.clients index c (without_loan c) there refl;
       servers_alike = refl;
-      client_lanes_alike = less_lanes p.client_lanes held.lane held.slot (lane_of held.lane p.client_lanes).messages.borrowed refl (λ r. refl);
+      client_lanes_alike = less_lanes p.client_lanes held.lane held.slot (lane_of held.lane p.client_lanes).messages.borrowed refl
+          (λ r. refl);
       server_lanes_alike = lanes_same p.server_lanes;
       marks = refl;
       marks_each = λ l. refl;
@@ -157,7 +169,12 @@ module _ {Q QH P PH K : Type 0} (p : Parts Q QH P PH K) (sound : IsSound p empty
       same (λ x. borrowed_at x.messages (server_place p server) 0) refl l,
       unmarked (is_active_of server held.stage) (held.lane == l) (alone.active server),
     );
-    response_borrows = λ l i channel d h e. omega (arith, unmarked (is_received held.stage) (held.lane == l && ((response_note p held.lane held.slot).client == d.port.id && (response_note p held.lane held.slot).channel == channel)) alone.received);
+    response_borrows = λ l i channel d h e. omega (
+      arith,
+      unmarked (is_received held.stage)
+          (held.lane == l && ((response_note p held.lane held.slot).client == d.port.id
+          && (response_note p held.lane held.slot).channel == channel)) alone.received,
+    );
   }
 
   -- the core stays sound
@@ -165,7 +182,8 @@ module _ {Q QH P PH K : Type 0} (p : Parts Q QH P PH K) (sound : IsSound p empty
   released_sound = dropped_sound taken held [] in_hand clients p.servers lanes p.server_lanes p.waiting dropped
 
   -- contracts see the handle go, and nothing else
-  gone_alone : (s : State Q QH P PH K) (g : Stage) (lane slot : ℕ) → is_request_loan g ≡ true → after_handle_gone s (handle_in p g lane slot) ≡ s
+  gone_alone : (s : State Q QH P PH K) (g : Stage) (lane slot : ℕ) → is_request_loan g ≡ true
+      → after_handle_gone s (handle_in p g lane slot) ≡ s
   gone_alone s stage.RequestMutUninit lane slot h = refl
   gone_alone s stage.RequestMut lane slot h = refl
   gone_alone s (stage.PendingResponse hint connections) lane slot h = absurd (false≢true h)
@@ -190,7 +208,8 @@ module _ {Q QH P PH K : Type 0} (p : Parts Q QH P PH K) (sound : IsSound p empty
   its_port =
       let own = sound.client_ports.own index c.connected (listed (λ c. c.connected) p.clients index c there) in
       sym own.1 ∙ ap (λ l. (lane_of l p.client_lanes).owner) sends
-      ∙ sym (sound.addressed.requests held.lane held.slot (handle_uses_request p empty_hand sound.counted k s at (loan_is_request held.stage loan)))
+      ∙ sym (sound.addressed.requests held.lane held.slot (handle_uses_request p empty_hand sound.counted k s at
+      (loan_is_request held.stage loan)))
       ∙ sym (port_is held.stage held.lane held.slot loan)
 
   released_is : after_release (state_of p) k ≡ without
@@ -204,7 +223,8 @@ module _ {Q QH P PH K : Type 0} (p : Parts Q QH P PH K) (sound : IsSound p empty
 
   pub released_view : state_of after_loan ≡ after_release (state_of p) k
   released_view =
-      uncounted taken clients p.servers lanes p.server_lanes (map-set_alike bare_client p.clients index (without_loan c) c (ap bare_client (sym (it there)))) refl
+      uncounted taken clients p.servers lanes p.server_lanes
+      (map-set_alike bare_client p.clients index (without_loan c) c (ap bare_client (sym (it there)))) refl
       (bare_less p.client_lanes held.lane held.slot (lane_of held.lane p.client_lanes).messages.borrowed) refl
       ∙ unseated_view p k ∙ sym released_is
     where

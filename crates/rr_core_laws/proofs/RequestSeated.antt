@@ -15,7 +15,8 @@ use Rattle.rr_parts.specs.Sending.{request_held, pending_held, with_request_in_q
 use Rattle.rr_core_laws.proofs.Hands.{unseated_sound, seated_sound}
 use Rattle.rr_core_laws.proofs.RequestSent as sent
 
-module _ {Q QH P PH K : Type 0} (p : Parts Q QH P PH K) (sound : IsSound p empty_hand) (k lane slot connections : ℕ) (s : Seat Held) (at : fin_map.get p.table.seats k ≡ Some s) (is : s.value ≡ request_held lane slot)
+module _ {Q QH P PH K : Type 0} (p : Parts Q QH P PH K) (sound : IsSound p empty_hand) (k lane slot connections : ℕ) (s : Seat Held)
+    (at : fin_map.get p.table.seats k ≡ Some s) (is : s.value ≡ request_held lane slot)
     (index : ℕ) (c : ClientPart K) (there : slice_get p.clients index ≡ Some c) (sends : c.lane ≡ lane) where
   abbrev pub taken : Parts Q QH P PH K
   taken = record p { table = unseated p.table k }
@@ -26,11 +27,13 @@ module _ {Q QH P PH K : Type 0} (p : Parts Q QH P PH K) (sound : IsSound p empty
 
   -- its handle is the only use of it
   pub used_once : request_uses p lane slot ≡ 1
-  used_once = let R : Held → Type 0 = λ h. is_request_loan h.stage ≡ true → request_uses p h.lane h.slot ≡ 1 in subst R is (sound.held_once.loans k s at) refl
+  used_once = let R : Held → Type 0 = λ h. is_request_loan h.stage ≡ true → request_uses p h.lane h.slot ≡ 1 in
+      subst R is (sound.held_once.loans k s at) refl
 
   -- it has its number
   pub numbered : k ≡ (request_note p lane slot).number
-  numbered = let R : Held → Type 0 = λ h. is_request_loan h.stage ≡ true → k ≡ (request_note p h.lane h.slot).number in subst R is (sound.numbered.requests k s at) refl
+  numbered = let R : Held → Type 0 = λ h. is_request_loan h.stage ≡ true → k ≡ (request_note p h.lane h.slot).number in
+      subst R is (sound.numbered.requests k s at) refl
 
   abbrev queued : Parts Q QH P PH K
   queued = with_request_in_queues taken index c lane slot
@@ -43,9 +46,11 @@ module _ {Q QH P PH K : Type 0} (p : Parts Q QH P PH K) (sound : IsSound p empty
     fresh = get-remove_same p.table.seats k k refl;
     below = omega (arith, numbered, sound.numbered.requests_below lane slot (omega (arith, used_once)));
     placed = sound.seated.placed k s at ∙ ap (place_of p) is
-        ∙ ap (λ r. record { row = r; index = slot }) (sym (sent.same_of taken lane slot connections taken_sound used_once index c there sends (λ x. x.row) refl lane));
+        ∙ ap (λ r. record { row = r; index = slot }) (sym (sent.same_of taken lane slot connections taken_sound used_once index c there
+        sends (λ x. x.row) refl lane));
     loan = λ h. absurd (false≢true h);
-    pending = λ h. numbered ∙ sym (ap (λ (n : RequestNote). n.number) (sent.note_same taken lane slot connections taken_sound used_once index c there sends lane slot));
+    pending = λ h. numbered ∙ sym (ap (λ (n : RequestNote). n.number)
+        (sent.note_same taken lane slot connections taken_sound used_once index c there sends lane slot));
     response = λ h. absurd (false≢true h);
     once = λ l i. sound.held_once.responses l i;
     inside = λ server h. absurd (false≢true h);
@@ -58,5 +63,7 @@ module _ {Q QH P PH K : Type 0} (p : Parts Q QH P PH K) (sound : IsSound p empty
   -- the request that was sent is in the table
   pub sent_sound : IsSound (with_request_sent p index c k lane slot connections s.place) empty_hand
   sent_sound =
-      let R : fin_map.FinMap _ (Seat Held) → Type 0 = λ m. IsSound (record queued { table = record { seats = m; rows = p.table.rows } }) empty_hand in
-      subst R (insert-remove p.table.seats k (seat s.place (pending_held lane slot connections))) (seated_sound queued [] k s.place (pending_held lane slot connections) queued_sound seats)
+      let R : fin_map.FinMap _ (Seat Held) → Type 0 = λ m. IsSound
+      (record queued { table = record { seats = m; rows = p.table.rows } }) empty_hand in
+      subst R (insert-remove p.table.seats k (seat s.place (pending_held lane slot connections)))
+      (seated_sound queued [] k s.place (pending_held lane slot connections) queued_sound seats)

@@ -20,7 +20,8 @@ use Rattle.rr_core_laws.proofs.Places.{set_alike}
 use Rattle.rr_core_laws.proofs.Stages.{loan_is_request, handle_uses_request, handle_uses_response}
 use Rattle.rr_core_laws.proofs.TakenLane.{queue_there, times_less, all_less, taken_shaped}
 
-module _ {Q QH P PH K : Type 0} (p : Parts Q QH P PH K) (sound : IsSound p empty_hand) (lane : ℕ) (there : lane < length p.client_lanes) (index : ℕ) (c : ServerPart K) (at : slice_get p.servers index ≡ Some c)
+module _ {Q QH P PH K : Type 0} (p : Parts Q QH P PH K) (sound : IsSound p empty_hand) (lane : ℕ) (there : lane < length p.client_lanes)
+    (index : ℕ) (c : ServerPart K) (at : slice_get p.servers index ≡ Some c)
     (slot : ℕ) (first : slice_get (queue_from p.client_lanes c.place 0 lane) 0 ≡ Some slot) where
   abbrev m : Messages Q RequestNote QH
   m = (lane_of lane p.client_lanes).messages
@@ -61,14 +62,16 @@ module _ {Q QH P PH K : Type 0} (p : Parts Q QH P PH K) (sound : IsSound p empty
   frame = record {
     clients_alike = refl;
     servers_alike = refl;
-    client_lanes_alike = lanes_set p.client_lanes lane fresh (record { owner = refl; row = refl; slots = refl; room = refl; shaped = shape });
+    client_lanes_alike = lanes_set p.client_lanes lane fresh
+        (record { owner = refl; row = refl; slots = refl; room = refl; shaped = shape });
     server_lanes_alike = lanes_same p.server_lanes;
     marks = refl;
     marks_each = λ l. refl;
     numbers = omega arith;
   }
 
-  pub same_of : {Y : Type 0} (f : Lane Q RequestNote QH → Y) → f fresh ≡ f (lane_of lane p.client_lanes) → (k : ℕ) → f (lane_of k after_skim.client_lanes) ≡ f (lane_of k p.client_lanes)
+  pub same_of : {Y : Type 0} (f : Lane Q RequestNote QH → Y) → f fresh ≡ f (lane_of lane p.client_lanes) → (k : ℕ)
+      → f (lane_of k after_skim.client_lanes) ≡ f (lane_of k p.client_lanes)
   same_of f same k = set_alike p.client_lanes lane fresh no_lane f same k
 
   here_is : lane_of lane after_skim.client_lanes ≡ fresh
@@ -80,27 +83,32 @@ module _ {Q QH P PH K : Type 0} (p : Parts Q QH P PH K) (sound : IsSound p empty
   note_same : (k j : ℕ) → request_note after_skim k j ≡ request_note p k j
   note_same k j = same_of (λ x. get_or x.messages.notes j no_request) refl k
 
-  held_same : (k j : ℕ) → slice_index (lane_of k after_skim.client_lanes).messages.held j ≡ slice_index (lane_of k p.client_lanes).messages.held j
+  held_same : (k j : ℕ) → slice_index (lane_of k after_skim.client_lanes).messages.held j ≡ slice_index
+      (lane_of k p.client_lanes).messages.held j
   held_same k j = same_of (λ x. slice_index x.messages.held j) refl k
 
-  entries_less : (k j : ℕ) → times j (all_entries (lane_of k after_skim.client_lanes).messages.queues) ≤ times j (all_entries (lane_of k p.client_lanes).messages.queues)
+  entries_less : (k j : ℕ) → times j (all_entries (lane_of k after_skim.client_lanes).messages.queues) ≤ times j
+      (all_entries (lane_of k p.client_lanes).messages.queues)
   entries_less k j =
       ⊎_elim
       (λ e. omega (
         arith,
-        ap (λ (x : Lane Q RequestNote QH). times j (all_entries x.messages.queues)) (sym (ap (λ k. lane_of k after_skim.client_lanes) e) ∙ here_is),
+        ap (λ (x : Lane Q RequestNote QH). times j (all_entries x.messages.queues))
+            (sym (ap (λ k. lane_of k after_skim.client_lanes) e) ∙ here_is),
         all_less m shaped c.place 0 slot placed one first j,
         ap (λ k. times j (all_entries (lane_of k p.client_lanes).messages.queues)) e,
       ))
       (λ n. omega (arith, ap (λ (x : Lane Q RequestNote QH). times j (all_entries x.messages.queues)) (there_is k n)))
       (cases_eq lane k)
 
-  queue_less : (k j r : ℕ) → times j (queue_at (lane_of k after_skim.client_lanes).messages r 0) ≤ times j (queue_at (lane_of k p.client_lanes).messages r 0)
+  queue_less : (k j r : ℕ) → times j (queue_at (lane_of k after_skim.client_lanes).messages r 0) ≤ times j
+      (queue_at (lane_of k p.client_lanes).messages r 0)
   queue_less k j r =
       ⊎_elim
       (λ e. omega (
         arith,
-        ap (λ (x : Lane Q RequestNote QH). times j (queue_at x.messages r 0)) (sym (ap (λ k. lane_of k after_skim.client_lanes) e) ∙ here_is),
+        ap (λ (x : Lane Q RequestNote QH). times j (queue_at x.messages r 0))
+            (sym (ap (λ k. lane_of k after_skim.client_lanes) e) ∙ here_is),
         times_less m shaped c.place 0 slot placed one first j r 0,
         ap (λ k. times j (queue_at (lane_of k p.client_lanes).messages r 0)) e,
       ))
@@ -141,7 +149,8 @@ module _ {Q QH P PH K : Type 0} (p : Parts Q QH P PH K) (sound : IsSound p empty
         pendings = n.pendings;
         response_loans = n.response_loans;
         active_loans = n.active_loans;
-        borrowed_requests = λ k server h. same_of (λ x. borrowed_at x.messages (server_place p server) 0) refl k ∙ n.borrowed_requests k server (omega (arith, h, length-set p.client_lanes lane fresh));
+        borrowed_requests = λ k server h. same_of (λ x. borrowed_at x.messages (server_place p server) 0) refl k
+            ∙ n.borrowed_requests k server (omega (arith, h, length-set p.client_lanes lane fresh));
         borrowed_responses = n.borrowed_responses;
       }
 
@@ -168,9 +177,13 @@ module _ {Q QH P PH K : Type 0} (p : Parts Q QH P PH K) (sound : IsSound p empty
         (λ l i ch j d e some. sound.addressed.entries l i ch j d e some);
     seated = framed_seated p empty_hand sound p.clients p.servers after_skim.client_lanes p.server_lanes p.waiting p.next frame;
     stored = stored;
-    sized = framed_sized p empty_hand sound p.clients p.servers after_skim.client_lanes p.server_lanes p.waiting p.table.seats p.next frame sound.sized.next_fits sound.sized.loans_made;
+    sized = framed_sized p empty_hand sound p.clients p.servers after_skim.client_lanes p.server_lanes p.waiting p.table.seats p.next frame
+        sound.sized.next_fits sound.sized.loans_made;
     vacated = vacated;
-    held_by_value = framed_by_value p empty_hand sound p.clients p.servers after_skim.client_lanes p.server_lanes p.waiting p.table.seats p.next frame;
-    client_ports = framed_client_ports p empty_hand sound p.clients p.servers after_skim.client_lanes p.server_lanes p.waiting p.table.seats p.next frame;
-    server_ports = framed_server_ports p empty_hand sound p.clients p.servers after_skim.client_lanes p.server_lanes p.waiting p.table.seats p.next frame;
+    held_by_value = framed_by_value p empty_hand sound p.clients p.servers after_skim.client_lanes p.server_lanes p.waiting p.table.seats
+        p.next frame;
+    client_ports = framed_client_ports p empty_hand sound p.clients p.servers after_skim.client_lanes p.server_lanes p.waiting p.table.seats
+        p.next frame;
+    server_ports = framed_server_ports p empty_hand sound p.clients p.servers after_skim.client_lanes p.server_lanes p.waiting p.table.seats
+        p.next frame;
   }

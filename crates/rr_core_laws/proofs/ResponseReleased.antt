@@ -47,17 +47,26 @@ received_alone (stage.ActiveRequest server loans) h = absurd (false≢true h)
 received_alone stage.ResponseMutUninit h = absurd (false≢true h)
 received_alone stage.ResponseMut h = absurd (false≢true h)
 
-module _ {Q QH P PH K : Type 0} (p : Parts Q QH P PH K) (sound : IsSound p empty_hand) (k : ℕ) (s : Seat Held) (at : fin_map.get p.table.seats k ≡ Some s) where
+module _ {Q QH P PH K : Type 0} (p : Parts Q QH P PH K) (sound : IsSound p empty_hand) (k : ℕ) (s : Seat Held)
+    (at : fin_map.get p.table.seats k ≡ Some s) where
   -- a response with a handle stands in a lane that is there, in a slot that is held
-  pub response_there : is_of_response s.value.stage ≡ true → (s.value.lane < length p.server_lanes) × (0 < slice_index (lane_of s.value.lane p.server_lanes).messages.held s.value.slot)
+  pub response_there : is_of_response s.value.stage ≡ true → (s.value.lane < length p.server_lanes)
+      × (0 < slice_index (lane_of s.value.lane p.server_lanes).messages.held s.value.slot)
   response_there is =
-      let here : has_response_at s.value.lane s.value.slot s ≡ true = rw is (rw (eq-eqb s.value.lane s.value.lane refl) (rw (eq-eqb s.value.slot s.value.slot refl) refl)) in (
+      let here : has_response_at s.value.lane s.value.slot s ≡ true = rw is
+      (rw (eq-eqb s.value.lane s.value.lane refl) (rw (eq-eqb s.value.slot s.value.slot refl) refl)) in (
         response_lane p empty_hand sound.counted k s at is,
-        omega (arith, sound.counted.responses s.value.lane s.value.slot, tally-at (has_response_at s.value.lane s.value.slot) p.table.seats k s at here),
+        omega (
+          arith,
+          sound.counted.responses s.value.lane s.value.slot,
+          tally-at (has_response_at s.value.lane s.value.slot) p.table.seats k s at here,
+        ),
       )
 
-module _ {Q QH P PH K : Type 0} (p : Parts Q QH P PH K) (sound : IsSound p empty_hand) (k : ℕ) (s : Seat Held) (at : fin_map.get p.table.seats k ≡ Some s) (got : is_received s.value.stage ≡ true)
-    (index : ℕ) (c : ClientPart K) (there : slice_get p.clients index ≡ Some c) (named : c.port.id ≡ (response_note p s.value.lane s.value.slot).client) where
+module _ {Q QH P PH K : Type 0} (p : Parts Q QH P PH K) (sound : IsSound p empty_hand) (k : ℕ) (s : Seat Held)
+    (at : fin_map.get p.table.seats k ≡ Some s) (got : is_received s.value.stage ≡ true)
+    (index : ℕ) (c : ClientPart K) (there : slice_get p.clients index ≡ Some c)
+    (named : c.port.id ≡ (response_note p s.value.lane s.value.slot).client) where
   abbrev held : Held
   held = s.value
 
@@ -88,25 +97,38 @@ module _ {Q QH P PH K : Type 0} (p : Parts Q QH P PH K) (sound : IsSound p empty
 
   counted_here : mark (is_received_at p held.lane c.port.id channel held) ≡ 1
   counted_here =
-      ap (λ b. mark (b && (held.lane == held.lane && ((response_note p held.lane held.slot).client == c.port.id && channel == channel)))) got
-      ∙ ap mark (λ i. eq-eqb held.lane held.lane refl i && (eq-eqb (response_note p held.lane held.slot).client c.port.id (sym named) i && eq-eqb channel channel refl i))
+      ap (λ b. mark (b && (held.lane == held.lane && ((response_note p held.lane held.slot).client == c.port.id && channel == channel))))
+      got
+      ∙ ap mark (λ i. eq-eqb held.lane held.lane refl i && (eq-eqb (response_note p held.lane held.slot).client c.port.id (sym named) i
+      && eq-eqb channel channel refl i))
 
   -- the client has it from the channel
   pub has_received : 0 < borrowed_at (lane_of held.lane p.server_lanes).messages c.place channel
-  has_received = omega (arith, in_hand.stored.borrowed_responses held.lane index channel c spot.0 there, count-cons (is_received_at p held.lane c.port.id channel) held [], counted_here)
+  has_received = omega (
+    arith,
+    in_hand.stored.borrowed_responses held.lane index channel c spot.0 there,
+    count-cons (is_received_at p held.lane c.port.id channel) held [],
+    counted_here,
+  )
 
-  same : {Y : Type 0} (f : Lane P ResponseNote PH → Y) → f (less p.server_lanes held.lane held.slot borrowed) ≡ f (lane_of held.lane p.server_lanes) → (l : ℕ) → f (lane_of l lanes) ≡ f (lane_of l p.server_lanes)
+  same : {Y : Type 0} (f : Lane P ResponseNote PH → Y) → f (less p.server_lanes held.lane held.slot borrowed) ≡ f
+      (lane_of held.lane p.server_lanes) → (l : ℕ) → f (lane_of l lanes) ≡ f (lane_of l p.server_lanes)
   same = same_of p.server_lanes held.lane held.slot borrowed
 
   -- the response is the client's exactly if it came to the client's place
-  its_place : (i : ℕ) (d : ClientPart K) → slice_get p.clients i ≡ Some d → ((response_note p held.lane held.slot).client == d.port.id) ≡ (c.place == d.place)
+  its_place : (i : ℕ) (d : ClientPart K) → slice_get p.clients i ≡ Some d
+      → ((response_note p held.lane held.slot).client == d.port.id) ≡ (c.place == d.place)
   its_place i d e =
       ⊎_elim
       (λ f. let is : c ≡ d = let g : Some c ≡ Some d = sym there ∙ ap (slice_get p.clients) (sym f) ∙ e in cc in
-      eq-eqb (response_note p held.lane held.slot).client d.port.id (sym named ∙ ap (λ (d : ClientPart K). d.port.id) is) ∙ sym (eq-eqb c.place d.place (ap (λ (d : ClientPart K). d.place) is)))
-      (λ n. let l : (j : ℕ) (b : ClientPart K) → slice_get p.clients j ≡ Some b → slice_get (map (λ c. c.connected) p.clients) j ≡ Some b.connected = λ j b g. listed (λ c. c.connected) p.clients j b g in
-      ne_eqb (response_note p held.lane held.slot).client d.port.id (λ is. n (sound.client_ports.numbered_once i index d.connected c.connected (l i d e) (l index c there) (sym is ∙ sym named)))
-      ∙ sym (ne_eqb c.place d.place (λ is. n (sound.client_ports.placed_once i index d.connected c.connected (l i d e) (l index c there) (sym is)))))
+      eq-eqb (response_note p held.lane held.slot).client d.port.id (sym named ∙ ap (λ (d : ClientPart K). d.port.id) is)
+      ∙ sym (eq-eqb c.place d.place (ap (λ (d : ClientPart K). d.place) is)))
+      (λ n. let l : (j : ℕ) (b : ClientPart K) → slice_get p.clients j ≡ Some b
+      → slice_get (map (λ c. c.connected) p.clients) j ≡ Some b.connected = λ j b g. listed (λ c. c.connected) p.clients j b g in
+      ne_eqb (response_note p held.lane held.slot).client d.port.id
+      (λ is. n (sound.client_ports.numbered_once i index d.connected c.connected (l i d e) (l index c there) (sym is ∙ sym named)))
+      ∙ sym (ne_eqb c.place d.place (λ is. n (sound.client_ports.placed_once i index d.connected c.connected (l i d e) (l index c there)
+      (sym is)))))
       (cases_eq i index)
 
   dropped : IsDropped taken held p.clients p.servers p.client_lanes lanes p.waiting
@@ -116,7 +138,8 @@ module _ {Q QH P PH K : Type 0} (p : Parts Q QH P PH K) (sound : IsSound p empty
       servers_alike = refl;
       client_lanes_alike = lanes_same p.client_lanes;
       server_lanes_alike = less_lanes p.server_lanes held.lane held.slot borrowed
-          (less_rows (lane_of held.lane p.server_lanes).messages.borrowed c.place channel) (less_row (lane_of held.lane p.server_lanes).messages.borrowed c.place channel);
+          (less_rows (lane_of held.lane p.server_lanes).messages.borrowed c.place channel)
+          (less_row (lane_of held.lane p.server_lanes).messages.borrowed c.place channel);
       marks = refl;
       marks_each = λ l. refl;
       numbers = omega arith;
@@ -131,7 +154,11 @@ module _ {Q QH P PH K : Type 0} (p : Parts Q QH P PH K) (sound : IsSound p empty
     request_notes = λ l. refl;
     response_notes = λ l. same (λ x. x.messages.notes) refl l;
     requests_wait = λ l. refl;
-    responses_used = λ l i. omega (arith, ap (λ (qs : List (List (List ℕ))). times i (all_entries qs)) (same (λ x. x.messages.queues) refl l));
+    responses_used = λ l i. omega (
+      arith,
+      ap (λ (qs : List (List (List ℕ))). times i (all_entries qs))
+          (same (λ x. x.messages.queues) refl l),
+    );
     responses_wait = λ l place channel i. omega (arith, ap (times i) (same (λ x. queue_at x.messages place channel) refl l));
     responses_none = λ l place channel e. same (λ x. queue_at x.messages place channel) refl l ∙ e;
     requests_borrowed = λ l place channel. omega arith;
@@ -159,7 +186,8 @@ module _ {Q QH P PH K : Type 0} (p : Parts Q QH P PH K) (sound : IsSound p empty
   pub received_sound : IsSound after_received empty_hand
   received_sound = dropped_sound taken held [] in_hand p.clients p.servers p.client_lanes lanes p.waiting dropped
 
-  gone_alone : (s : State Q QH P PH K) (g : Stage) (lane slot : ℕ) → is_received g ≡ true → after_handle_gone s (handle_in p g lane slot) ≡ s
+  gone_alone : (s : State Q QH P PH K) (g : Stage) (lane slot : ℕ) → is_received g ≡ true
+      → after_handle_gone s (handle_in p g lane slot) ≡ s
   gone_alone s stage.Response lane slot h = refl
   gone_alone s stage.RequestMutUninit lane slot h = absurd (false≢true h)
   gone_alone s stage.RequestMut lane slot h = absurd (false≢true h)

@@ -34,7 +34,8 @@ module _ {T N H : Type 0} where
           borrowed_channels = λ i h. ap (λ (o : Outline N). length (slice_index_or o.borrowed i [])) r.outline ∙ s.borrowed_channels i h;
           capacity_is = ap (λ (o : Outline N). o.capacity) r.outline ∙ s.capacity_is;
           within = λ i c. subst (λ (o : Outline N). length (at_two [] o.queues i c) ≤ capacity) (sym r.outline) (s.within i c);
-          inside = λ i some. subst (λ (o : Outline N). i < length o.held) (sym r.outline) (s.inside i (subst (λ (o : Outline N). 0 < times i (all_entries o.queues)) r.outline some));
+          inside = λ i some. subst (λ (o : Outline N). i < length o.held) (sym r.outline)
+              (s.inside i (subst (λ (o : Outline N). 0 < times i (all_entries o.queues)) r.outline some));
         };
   }
 
@@ -94,7 +95,8 @@ module _ {Q QH P PH K : Type 0} (p : Parts Q QH P PH K) (hand : Hand) (sound : I
   rewritten_once = record {
     loans = λ k t at is. request_uses_same t.value.lane t.value.slot ∙ sound.held_once.loans k t at is;
     servers = λ l i server.
-        subst (λ (o : Outline RequestNote). times i (at_two [] o.queues (server_place p server) 0) + handles p (is_active_at l i server) hand ≤ 1) (sym (c.each l).outline)
+        subst (λ (o : Outline RequestNote). times i (at_two [] o.queues (server_place p server) 0) + handles p
+        (is_active_at l i server) hand ≤ 1) (sym (c.each l).outline)
         (sound.held_once.servers l i server);
     responses = λ l i. omega (arith, response_uses_same l i, sound.held_once.responses l i);
   }
@@ -104,12 +106,17 @@ module _ {Q QH P PH K : Type 0} (p : Parts Q QH P PH K) (hand : Hand) (sound : I
     request_loans = n.request_loans;
     pendings = n.pendings;
     response_loans = n.response_loans;
-    active_loans = λ k server loans t at is. n.active_loans k server loans t at is ∙ sym (λ i. handles p (λ h. is_response_loan h.stage && (response_note_same h.lane h.slot i).active_request == k) hand);
+    active_loans = λ k server loans t at is. n.active_loans k server loans t at is
+        ∙ sym (λ i. handles p (λ h. is_response_loan h.stage && (response_note_same h.lane h.slot i).active_request == k) hand);
     borrowed_requests = λ l server h.
-        ap (λ (o : Outline RequestNote). at_two 0 o.borrowed (server_place p server) 0) (c.each l).outline ∙ n.borrowed_requests l server (omega (arith, h, c.many));
+        ap (λ (o : Outline RequestNote). at_two 0 o.borrowed (server_place p server) 0) (c.each l).outline
+        ∙ n.borrowed_requests l server (omega (arith, h, c.many));
     borrowed_responses = λ l j channel client h at.
-        ap (λ (o : Outline ResponseNote). at_two 0 o.borrowed client.place channel) (s.each l).outline ∙ n.borrowed_responses l j channel client (omega (arith, h, s.many)) at
-        ∙ sym (λ i. handles p (λ h. is_received h.stage && (h.lane == l && ((response_note_same h.lane h.slot i).client == client.port.id && (response_note_same h.lane h.slot i).channel == channel))) hand);
+        ap (λ (o : Outline ResponseNote). at_two 0 o.borrowed client.place channel) (s.each l).outline
+        ∙ n.borrowed_responses l j channel client (omega (arith, h, s.many)) at
+        ∙ sym (λ i. handles p (λ h. is_received h.stage && (h.lane == l
+        && ((response_note_same h.lane h.slot i).client == client.port.id && (response_note_same h.lane h.slot i).channel == channel)))
+        hand);
   }
 
   rewritten_vacated : IsVacated rewritten
@@ -135,11 +142,16 @@ module _ {Q QH P PH K : Type 0} (p : Parts Q QH P PH K) (hand : Hand) (sound : I
         (λ k t at is. omega (arith, handle_uses_response p hand sound.counted k t at is, response_uses_same t.value.lane t.value.slot));
     addressed = kept_addressed p hand sound p.clients p.servers client_lanes server_lanes p.waiting p.next frame notes_kept
         (λ l i channel j client at waits.
-        let a = sound.addressed.entries l i channel j client at (subst (λ (o : Outline ResponseNote). 0 < times i (at_two [] o.queues client.place channel)) (s.each l).outline waits) in
-        (ap (λ (n : ResponseNote). n.client) (response_note_same l i) ∙ a.0, ap (λ (n : ResponseNote). n.channel) (response_note_same l i) ∙ a.1));
+        let a = sound.addressed.entries l i channel j client at
+        (subst (λ (o : Outline ResponseNote). 0 < times i (at_two [] o.queues client.place channel)) (s.each l).outline waits) in (
+          ap (λ (n : ResponseNote). n.client) (response_note_same l i) ∙ a.0,
+          ap (λ (n : ResponseNote). n.channel) (response_note_same l i)
+              ∙ a.1,
+        ));
     seated = framed_seated p hand sound p.clients p.servers client_lanes server_lanes p.waiting p.next frame;
     stored = rewritten_stored;
-    sized = framed_sized p hand sound p.clients p.servers client_lanes server_lanes p.waiting p.table.seats p.next frame sound.sized.next_fits sound.sized.loans_made;
+    sized = framed_sized p hand sound p.clients p.servers client_lanes server_lanes p.waiting p.table.seats p.next frame
+        sound.sized.next_fits sound.sized.loans_made;
     vacated = rewritten_vacated;
     held_by_value = framed_by_value p hand sound p.clients p.servers client_lanes server_lanes p.waiting p.table.seats p.next frame;
     client_ports = framed_client_ports p hand sound p.clients p.servers client_lanes server_lanes p.waiting p.table.seats p.next frame;

@@ -9,7 +9,8 @@ use Rattle.std.proofs.lemmas.Option.{slice_get_within, slice_get-get_or, get_or_
 use Rattle.rr_core_laws.proofs.Entries.{found_none}
 use Rattle.rr_core_laws.proofs.Places.{Standing, standing, standing_nowhere}
 
-module _ {X : Type 0} (test : X → Bool) (i : ℕ) (slice items : List X) (o : Option ℕ) (told : o ≡ position test slice) (same : slice ≡ items) (is : o ≡ Some i) (x : X) (read : x ≡ get_or items i x) (R : ℕ → X → Type 0) where
+module _ {X : Type 0} (test : X → Bool) (i : ℕ) (slice items : List X) (o : Option ℕ) (told : o ≡ position test slice)
+    (same : slice ≡ items) (is : o ≡ Some i) (x : X) (read : x ≡ get_or items i x) (R : ℕ → X → Type 0) where
   it : Standing test items i
   it = standing_at test i slice items o told same is
 
@@ -32,7 +33,8 @@ module _ {X : Type 0} (test : X → Bool) (i : ℕ) (slice items : List X) (o : 
 
 module _ {X : Type 0} (test : X → Bool) (items : List X) where
   -- a port that passes is found, or one before it
-  pub sender_found : (j : ℕ) (x : X) → slice_get items j ≡ Some x → test x ≡ true → (i : ℕ) × (position test items ≡ Some i) × Standing test items i
+  pub sender_found : (j : ℕ) (x : X) → slice_get items j ≡ Some x → test x ≡ true → (i : ℕ) × (position test items ≡ Some i)
+      × Standing test items i
   sender_found j x at is = go (position test items) refl
     where
       go : (o : Option ℕ) → position test items ≡ o → (i : ℕ) × (position test items ≡ Some i) × Standing test items i

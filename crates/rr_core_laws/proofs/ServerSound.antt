@@ -32,7 +32,8 @@ use Rattle.rr_core_laws.proofs.Tallies.{and_none, tally-none, tally-same, last_a
 
 module _ {Q QH P PH K : Type 0} (p : Parts Q QH P PH K) (settings : ServerSettings K) (place : ℕ) (m : Messages P ResponseNote PH)
     (sound : IsSound p empty_hand)
-    (new : IsNew (server_port p settings).pool_size settings.initial_max_slice_len p.limits.max_clients (worst_case_requests p.limits) p.limits.max_response_buffer_size no_response m)
+    (new : IsNew (server_port p settings).pool_size settings.initial_max_slice_len p.limits.max_clients
+    (worst_case_requests p.limits) p.limits.max_response_buffer_size no_response m)
     (inside : place < p.limits.max_servers)
     (vacant : (i : ℕ) (s : ServerPart K) → slice_get p.servers i ≡ Some s → s.place ≢ place)
     (few : length p.servers < p.limits.max_servers)
@@ -41,7 +42,10 @@ module _ {Q QH P PH K : Type 0} (p : Parts Q QH P PH K) (settings : ServerSettin
   after = with_server_part p settings place m
 
   abbrev last_server : ServerPart K
-  last_server = record { connected = record { port = server_port p settings; lane = length p.server_lanes; place = place; loans = 0 }; max_loaned_responses_per_request = loans_of settings }
+  last_server = record {
+    connected = record { port = server_port p settings; lane = length p.server_lanes; place = place; loans = 0 };
+    max_loaned_responses_per_request = loans_of settings;
+  }
 
   abbrev last : Lane P ResponseNote PH
   last = record { owner = p.next; row = length p.table.rows; messages = m }
@@ -50,35 +54,43 @@ module _ {Q QH P PH K : Type 0} (p : Parts Q QH P PH K) (settings : ServerSettin
   like = looks_like p.server_lanes last new
 
   -- a server is sent to where it was, or is the new one, which was not sent to before
-  place_cases : {Z : Type 0} (server : ℕ) → (server_place after server ≡ server_place p server → Z) → (server ≡ p.next → server_place after server ≡ place → server_place p server ≡ p.limits.max_servers → Z) → Z
+  place_cases : {Z : Type 0} (server : ℕ) → (server_place after server ≡ server_place p server → Z)
+      → (server ≡ p.next → server_place after server ≡ place → server_place p server ≡ p.limits.max_servers → Z) → Z
   place_cases {Z} server same fresh = go (find (λ s. s.port.id == server) p.servers) refl (p.next == server) refl
     where
-      shown : server_place after server ≡ option_map_or (λ s. s.place) (option_or (find (λ s. s.port.id == server) p.servers) (cond (p.next == server) (Some last_server) None)) p.limits.max_servers
-      shown = ap (λ o. option_map_or (λ (s : ServerPart K). s.place) o p.limits.max_servers) (find_last (λ s. s.port.id == server) p.servers last_server)
+      shown : server_place after server ≡ option_map_or (λ s. s.place)
+          (option_or (find (λ s. s.port.id == server) p.servers) (cond (p.next == server) (Some last_server) None)) p.limits.max_servers
+      shown = ap (λ o. option_map_or (λ (s : ServerPart K). s.place) o p.limits.max_servers)
+          (find_last (λ s. s.port.id == server) p.servers last_server)
 
       go : (o : Option (ServerPart K)) → find (λ s. s.port.id == server) p.servers ≡ o → (b : Bool) → (p.next == server) ≡ b → Z
       go (Some s) e b f =
           same (shown
-          ∙ ap (λ o. option_map_or (λ (s : ServerPart K). s.place) (option_or o (cond (p.next == server) (Some last_server) None)) p.limits.max_servers) e
+          ∙ ap (λ o. option_map_or (λ (s : ServerPart K). s.place)
+          (option_or o (cond (p.next == server) (Some last_server) None)) p.limits.max_servers) e
           ∙ sym (ap (λ o. option_map_or (λ (s : ServerPart K). s.place) o p.limits.max_servers) e))
       go None e true f =
           fresh (sym (eqb-true p.next server f))
           (shown
-          ∙ ap (λ o. option_map_or (λ (s : ServerPart K). s.place) (option_or o (cond (p.next == server) (Some last_server) None)) p.limits.max_servers) e
+          ∙ ap (λ o. option_map_or (λ (s : ServerPart K). s.place)
+          (option_or o (cond (p.next == server) (Some last_server) None)) p.limits.max_servers) e
           ∙ ap (λ b. option_map_or (λ (s : ServerPart K). s.place) (cond b (Some last_server) None) p.limits.max_servers) f)
           (ap (λ o. option_map_or (λ (s : ServerPart K). s.place) o p.limits.max_servers) e)
       go None e false f =
           same (shown
-          ∙ ap (λ o. option_map_or (λ (s : ServerPart K). s.place) (option_or o (cond (p.next == server) (Some last_server) None)) p.limits.max_servers) e
+          ∙ ap (λ o. option_map_or (λ (s : ServerPart K). s.place)
+          (option_or o (cond (p.next == server) (Some last_server) None)) p.limits.max_servers) e
           ∙ ap (λ b. option_map_or (λ (s : ServerPart K). s.place) (cond b (Some last_server) None) p.limits.max_servers) f
           ∙ sym (ap (λ o. option_map_or (λ (s : ServerPart K). s.place) o p.limits.max_servers) e))
 
   -- no handle is an active request of a server that isn't sent to
-  none_active : (server : ℕ) → server_place p server ≡ p.limits.max_servers → (k : ℕ) (s : Seat Held) → fin_map.get p.table.seats k ≡ Some s → is_active_of server s.value.stage ≡ true → ⊥
+  none_active : (server : ℕ) → server_place p server ≡ p.limits.max_servers → (k : ℕ) (s : Seat Held) → fin_map.get p.table.seats k ≡ Some s
+      → is_active_of server s.value.stage ≡ true → ⊥
   none_active server far k s at is = omega (arith, far, sound.seated.active_servers k server s at is)
 
   -- the place of a server that has a handle is as before
-  active_kept : (k server : ℕ) (s : Seat Held) → fin_map.get p.table.seats k ≡ Some s → is_active_of server s.value.stage ≡ true → server_place after server ≡ server_place p server
+  active_kept : (k server : ℕ) (s : Seat Held) → fin_map.get p.table.seats k ≡ Some s → is_active_of server s.value.stage ≡ true
+      → server_place after server ≡ server_place p server
   active_kept k server s at is = place_cases server (λ e. e) (λ e f far. absurd (none_active server far k s at is))
 
   counted : IsCounted after empty_hand
@@ -93,7 +105,8 @@ module _ {Q QH P PH K : Type 0} (p : Parts Q QH P PH K) (settings : ServerSettin
           arith,
           ap (λ n. times i (queue_at (lane_of l p.client_lanes).messages n 0)) e,
           ap (times i) (sound.vacated.of_servers l place 0 vacant).0,
-          tally-none p.table.seats (λ s. has_request_at l i s && is_active_of server s.value.stage) (λ k s at. false_from_ne_true _ (λ t. none_active server far k s at (and_parts (has_request_at l i s) _ t).1)),
+          tally-none p.table.seats (λ s. has_request_at l i s && is_active_of server s.value.stage)
+              (λ k s at. false_from_ne_true _ (λ t. none_active server far k s at (and_parts (has_request_at l i s) _ t).1)),
         ));
     responses = λ l i. omega (arith, like.used l i, sound.held_once.responses l i);
   }
@@ -115,53 +128,87 @@ module _ {Q QH P PH K : Type 0} (p : Parts Q QH P PH K) (settings : ServerSettin
         fresh = λ k h. n.fresh k (omega arith);
         requests = n.requests;
         pendings = n.pendings;
-        responses = λ k s at is. n.responses k s at is ∙ sym (number_kept s.value.lane s.value.slot (handle_uses_response p empty_hand sound.counted k s at is));
+        responses = λ k s at is. n.responses k s at is ∙ sym
+            (number_kept s.value.lane s.value.slot (handle_uses_response p empty_hand sound.counted k s at is));
         requests_below = λ l i h. omega (arith, n.requests_below l i h);
         responses_below = λ l i h. omega (arith, number_kept l i (used_before l i h), n.responses_below l i (used_before l i h));
         requests_apart = n.requests_apart;
-        responses_apart = λ l i k j h g e. n.responses_apart l i k j (used_before l i h) (used_before k j g) (sym (number_kept l i (used_before l i h)) ∙ e ∙ number_kept k j (used_before k j g));
+        responses_apart = λ l i k j h g e. n.responses_apart l i k j (used_before l i h) (used_before k j g)
+            (sym (number_kept l i (used_before l i h)) ∙ e ∙ number_kept k j (used_before k j g));
         kinds_apart = λ l i k j h g e. n.kinds_apart l i k j h (used_before k j g) (e ∙ number_kept k j (used_before k j g));
-        actives_apart = λ k server l i s at is. ((n.actives_apart k server l i s at is).0, (λ h e. (n.actives_apart k server l i s at is).1 (used_before l i h) (sym (number_kept l i (used_before l i h)) ∙ e)));
+        actives_apart = λ k server l i s at is. (
+          (n.actives_apart k server l i s at is).0,
+          (λ h e. (n.actives_apart k server l i s at is).1 (used_before l i h) (sym (number_kept l i (used_before l i h)) ∙ e)),
+        );
         received = λ k s at is.
             let r = n.received k s at is in
-            let note = note_kept s.value.lane s.value.slot (handle_uses_response p empty_hand sound.counted k s at (received_is_response s.value.stage is)) in
+            let note = note_kept s.value.lane s.value.slot (handle_uses_response p empty_hand sound.counted k s at
+            (received_is_response s.value.stage is)) in
             (r.0, r.1, r.2, r.3 ∙ sym (ap (λ (n : ResponseNote). n.client) note));
         answering = λ l i k server loans s u at is f.
             let note = note_kept l i (used_before l i u) in
-            let a = n.answering l i k server loans s (used_before l i u) at is (sym (ap (λ (n : ResponseNote). n.active_request) note) ∙ f) in
+            let a = n.answering l i k server loans s (used_before l i u) at is
+            (sym (ap (λ (n : ResponseNote). n.active_request) note) ∙ f) in
             (a.0 ∙ sym (ap (λ (n : ResponseNote). n.request) note), ap (λ (n : ResponseNote). n.server) note ∙ a.1);
       }
 
   addressed : IsAddressed after
   addressed = record {
     requests = sound.addressed.requests;
-    responses = λ l i h. ap (λ (n : ResponseNote). n.server) (note_kept l i (used_before l i h)) ∙ sound.addressed.responses l i (used_before l i h) ∙ sym (like.owned l i (used_before l i h));
-    clients_below = λ l i h. omega (arith, ap (λ (n : ResponseNote). n.client) (note_kept l i (used_before l i h)), sound.addressed.clients_below l i (used_before l i h));
-    actives_below = λ l i h. omega (arith, ap (λ (n : ResponseNote). n.active_request) (note_kept l i (used_before l i h)), sound.addressed.actives_below l i (used_before l i h));
-    answered_below = λ l i h. omega (arith, ap (λ (n : ResponseNote). n.request) (note_kept l i (used_before l i h)), sound.addressed.answered_below l i (used_before l i h));
+    responses = λ l i h. ap (λ (n : ResponseNote). n.server) (note_kept l i (used_before l i h))
+        ∙ sound.addressed.responses l i (used_before l i h) ∙ sym (like.owned l i (used_before l i h));
+    clients_below = λ l i h. omega (
+      arith,
+      ap (λ (n : ResponseNote). n.client) (note_kept l i (used_before l i h)),
+      sound.addressed.clients_below l i (used_before l i h),
+    );
+    actives_below = λ l i h. omega (
+      arith,
+      ap (λ (n : ResponseNote). n.active_request) (note_kept l i (used_before l i h)),
+      sound.addressed.actives_below l i (used_before l i h),
+    );
+    answered_below = λ l i h. omega (
+      arith,
+      ap (λ (n : ResponseNote). n.request) (note_kept l i (used_before l i h)),
+      sound.addressed.answered_below l i (used_before l i h),
+    );
     answers = λ l i k j h g e.
         let note = note_kept l i (used_before l i h) in
         let a = sound.addressed.answers l i k j (used_before l i h) g (e ∙ ap (λ (n : ResponseNote). n.request) note) in
         (ap (λ (n : ResponseNote). n.channel) note ∙ a.0, ap (λ (n : ResponseNote). n.client) note ∙ a.1);
     entries = λ l i channel j c at some. lane_cases p.server_lanes last new l
-        (λ before e. let there = sound.addressed.entries l i channel j c at (omega (arith, some, ap (times i) (like.queues l c.place channel))) in
-        let note : response_note after l i ≡ response_note p l i = ap (λ (x : Lane P ResponseNote PH). get_or x.messages.notes i no_response) e in
+        (λ before e. let there = sound.addressed.entries l i channel j c at
+        (omega (arith, some, ap (times i) (like.queues l c.place channel))) in
+        let note : response_note after l i ≡ response_note p l i = ap
+        (λ (x : Lane P ResponseNote PH). get_or x.messages.notes i no_response) e in
         (ap (λ (n : ResponseNote). n.client) note ∙ there.0, ap (λ (n : ResponseNote). n.channel) note ∙ there.1))
-        (λ is e gone. absurd (omega (arith, some, ap (λ (x : Lane P ResponseNote PH). times i (queue_at x.messages c.place channel)) e, ap (times i) (new_queue m new c.place channel))))
+        (λ is e gone. absurd (omega (
+          arith,
+          some,
+          ap (λ (x : Lane P ResponseNote PH). times i (queue_at x.messages c.place channel)) e,
+          ap (times i) (new_queue m new c.place channel),
+        )))
         (λ far e gone. absurd (omega (arith, some, ap (λ (x : Lane P ResponseNote PH). times i (queue_at x.messages c.place channel)) e)));
   }
 
   -- a handle's place follows from the same row
-  place_kept : (k : ℕ) (s : Seat Held) → fin_map.get p.table.seats k ≡ Some s → (g : Stage) → s.value.stage ≡ g → place_at after g s.value.lane s.value.slot ≡ place_at p g s.value.lane s.value.slot
+  place_kept : (k : ℕ) (s : Seat Held) → fin_map.get p.table.seats k ≡ Some s → (g : Stage) → s.value.stage ≡ g
+      → place_at after g s.value.lane s.value.slot ≡ place_at p g s.value.lane s.value.slot
   place_kept k s at stage.RequestMutUninit e = refl
   place_kept k s at stage.RequestMut e = refl
   place_kept k s at (stage.PendingResponse hint connections) e = refl
   place_kept k s at (stage.ActiveRequest server loans) e =
-      ap (λ n. record { row = (lane_of s.value.lane p.client_lanes).row; index = (n + 1) * length (lane_of s.value.lane p.client_lanes).messages.held + s.value.slot })
+      ap (λ n. record {
+        row = (lane_of s.value.lane p.client_lanes).row;
+        index = (n + 1) * length (lane_of s.value.lane p.client_lanes).messages.held + s.value.slot;
+      })
       (active_kept k server s at (ap (is_active_of server) e ∙ eq-eqb server server refl))
-  place_kept k s at stage.ResponseMutUninit e = ap (λ (l : Lane P ResponseNote PH). record { row = l.row; index = s.value.slot }) (lane_before p.server_lanes last s.value.lane (response_lane p empty_hand sound.counted k s at (ap is_of_response e)))
-  place_kept k s at stage.ResponseMut e = ap (λ (l : Lane P ResponseNote PH). record { row = l.row; index = s.value.slot }) (lane_before p.server_lanes last s.value.lane (response_lane p empty_hand sound.counted k s at (ap is_of_response e)))
-  place_kept k s at stage.Response e = ap (λ (l : Lane P ResponseNote PH). record { row = l.row; index = s.value.slot }) (lane_before p.server_lanes last s.value.lane (response_lane p empty_hand sound.counted k s at (ap is_of_response e)))
+  place_kept k s at stage.ResponseMutUninit e = ap (λ (l : Lane P ResponseNote PH). record { row = l.row; index = s.value.slot })
+      (lane_before p.server_lanes last s.value.lane (response_lane p empty_hand sound.counted k s at (ap is_of_response e)))
+  place_kept k s at stage.ResponseMut e = ap (λ (l : Lane P ResponseNote PH). record { row = l.row; index = s.value.slot })
+      (lane_before p.server_lanes last s.value.lane (response_lane p empty_hand sound.counted k s at (ap is_of_response e)))
+  place_kept k s at stage.Response e = ap (λ (l : Lane P ResponseNote PH). record { row = l.row; index = s.value.slot })
+      (lane_before p.server_lanes last s.value.lane (response_lane p empty_hand sound.counted k s at (ap is_of_response e)))
 
   -- the rows that were there stay
   row_before : (r : ℕ) → r < length p.table.rows → slice_index after.table.rows r ≡ slice_index p.table.rows r
@@ -182,9 +229,11 @@ module _ {Q QH P PH K : Type 0} (p : Parts Q QH P PH K) (settings : ServerSettin
         client_rows = λ l h. let r = n.client_rows l h in (more_rows _ r.0, row_before _ r.0 ∙ r.1);
         server_rows = λ l h. lane_cases p.server_lanes last new l
             (λ before e. let r = n.server_rows l before in
-            let P : Lane P ResponseNote PH → Type 0 = λ x. (x.row < length after.table.rows) × (slice_index after.table.rows x.row ≡ length x.messages.held) in
+            let P : Lane P ResponseNote PH → Type 0 = λ x. (x.row < length after.table.rows)
+            × (slice_index after.table.rows x.row ≡ length x.messages.held) in
             subst P (sym e) (more_rows _ r.0, row_before _ r.0 ∙ r.1))
-            (λ is e g. let P : Lane P ResponseNote PH → Type 0 = λ x. (x.row < length after.table.rows) × (slice_index after.table.rows x.row ≡ length x.messages.held) in
+            (λ is e g. let P : Lane P ResponseNote PH → Type 0 = λ x. (x.row < length after.table.rows)
+            × (slice_index after.table.rows x.row ≡ length x.messages.held) in
             subst P (sym e) (
               omega (arith, length-append p.table.rows ((server_port p settings).pool_size ∷ [])),
               get_or-append_seam p.table.rows (server_port p settings).pool_size [] 0 ∙ sym slots_are,
@@ -193,11 +242,24 @@ module _ {Q QH P PH K : Type 0} (p : Parts Q QH P PH K) (settings : ServerSettin
         client_rows_apart = n.client_rows_apart;
         server_rows_apart = λ l k h g same. lane_cases p.server_lanes last new l
             (λ before e. lane_cases p.server_lanes last new k
-            (λ also f. n.server_rows_apart l k before also (sym (ap (λ (x : Lane P ResponseNote PH). x.row) e) ∙ same ∙ ap (λ (x : Lane P ResponseNote PH). x.row) f))
-            (λ is f gone. absurd (omega (arith, (n.server_rows l before).0, ap (λ (x : Lane P ResponseNote PH). x.row) e, same, ap (λ (x : Lane P ResponseNote PH). x.row) f)))
+            (λ also f. n.server_rows_apart l k before also (sym (ap (λ (x : Lane P ResponseNote PH). x.row) e) ∙ same
+            ∙ ap (λ (x : Lane P ResponseNote PH). x.row) f))
+            (λ is f gone. absurd (omega (
+              arith,
+              (n.server_rows l before).0,
+              ap (λ (x : Lane P ResponseNote PH). x.row) e,
+              same,
+              ap (λ (x : Lane P ResponseNote PH). x.row) f,
+            )))
             (λ far f gone. absurd (omega (arith, g, far, length-append p.server_lanes (last ∷ [])))))
             (λ is e gone. lane_cases p.server_lanes last new k
-            (λ also f. absurd (omega (arith, (n.server_rows k also).0, ap (λ (x : Lane P ResponseNote PH). x.row) e, same, ap (λ (x : Lane P ResponseNote PH). x.row) f)))
+            (λ also f. absurd (omega (
+              arith,
+              (n.server_rows k also).0,
+              ap (λ (x : Lane P ResponseNote PH). x.row) e,
+              same,
+              ap (λ (x : Lane P ResponseNote PH). x.row) f,
+            )))
             (λ too f gone. is ∙ sym too)
             (λ far f gone. absurd (omega (arith, g, far, length-append p.server_lanes (last ∷ [])))))
             (λ far e gone. absurd (omega (arith, h, far, length-append p.server_lanes (last ∷ []))));
@@ -209,23 +271,28 @@ module _ {Q QH P PH K : Type 0} (p : Parts Q QH P PH K) (settings : ServerSettin
       }
 
   -- no handle is in the new lane
-  none_last : (test : Stage → Bool) → ((g : Stage) → test g ≡ true → is_of_response g ≡ true) → tally (λ s. test s.value.stage && s.value.lane == length p.server_lanes) p.table.seats ≡ 0
+  none_last : (test : Stage → Bool) → ((g : Stage) → test g ≡ true → is_of_response g ≡ true)
+      → tally (λ s. test s.value.stage && s.value.lane == length p.server_lanes) p.table.seats ≡ 0
   none_last test of_response =
       tally-none p.table.seats (λ s. test s.value.stage && s.value.lane == length p.server_lanes)
       (λ k s at. false_from_ne_true _ (λ t.
       let both = and_parts (test s.value.stage) (s.value.lane == length p.server_lanes) t in
-      let within : s.value.lane < length p.server_lanes = response_lane p empty_hand sound.counted k s at (of_response s.value.stage both.0) in
+      let within : s.value.lane < length p.server_lanes = response_lane p empty_hand sound.counted k s at
+      (of_response s.value.stage both.0) in
       omega (arith, within, eqb-true s.value.lane (length p.server_lanes) both.1)))
 
   -- a test that reads the note of a response counts as before
   noted_alike : (test : Stage → Bool) → ((g : Stage) → test g ≡ true → is_of_response g ≡ true) → (of : Seat Held → ResponseNote → Bool)
-      → tally (λ s. test s.value.stage && of s (response_note after s.value.lane s.value.slot)) p.table.seats ≡ tally (λ s. test s.value.stage && of s (response_note p s.value.lane s.value.slot)) p.table.seats
+      → tally (λ s. test s.value.stage && of s (response_note after s.value.lane s.value.slot)) p.table.seats ≡ tally
+      (λ s. test s.value.stage && of s (response_note p s.value.lane s.value.slot)) p.table.seats
   noted_alike test of_response of =
       tally-same p.table.seats _ _ (λ k s at. go (test s.value.stage) k s at refl)
     where
       go : (b : Bool) (k : ℕ) (s : Seat Held) → fin_map.get p.table.seats k ≡ Some s → test s.value.stage ≡ b
-          → (test s.value.stage && of s (response_note after s.value.lane s.value.slot)) ≡ (test s.value.stage && of s (response_note p s.value.lane s.value.slot))
-      go true k s at e = ap (λ (n : ResponseNote). test s.value.stage && of s n) (note_kept s.value.lane s.value.slot (handle_uses_response p empty_hand sound.counted k s at (of_response s.value.stage e)))
+          → (test s.value.stage && of s (response_note after s.value.lane s.value.slot)) ≡
+          (test s.value.stage && of s (response_note p s.value.lane s.value.slot))
+      go true k s at e = ap (λ (n : ResponseNote). test s.value.stage && of s n)
+          (note_kept s.value.lane s.value.slot (handle_uses_response p empty_hand sound.counted k s at (of_response s.value.stage e)))
       go false k s at e = rw e refl
 
   stored : IsStored after empty_hand
@@ -237,20 +304,29 @@ module _ {Q QH P PH K : Type 0} (p : Parts Q QH P PH K) (settings : ServerSettin
         response_loans = λ i c at. snoc_cases p.servers last_server i c at
             (λ before h. n.response_loans i c before)
             (λ e is. rw (← is) (omega (arith, none_last is_response_loan answer_is_response)));
-        active_loans = λ k server loans s at is. n.active_loans k server loans s at is ∙ ap (λ n. n + 0) (sym (noted_alike is_response_loan answer_is_response (λ s note. note.active_request == k)));
+        active_loans = λ k server loans s at is. n.active_loans k server loans s at is
+            ∙ ap (λ n. n + 0) (sym (noted_alike is_response_loan answer_is_response (λ s note. note.active_request == k)));
         borrowed_requests = λ l server h. place_cases server
             (λ e. ap (λ x. borrowed_at (lane_of l p.client_lanes).messages x 0) e ∙ n.borrowed_requests l server h)
             (λ is e far. ap (λ x. borrowed_at (lane_of l p.client_lanes).messages x 0) e ∙ (sound.vacated.of_servers l place 0 vacant).1
-            ∙ sym (tally-none p.table.seats (λ s. is_active_of server s.value.stage && s.value.lane == l) (λ k s at. false_from_ne_true _ (λ t. none_active server far k s at (and_parts (is_active_of server s.value.stage) _ t).0))) ∙ and_none _);
+            ∙ sym (tally-none p.table.seats (λ s. is_active_of server s.value.stage && s.value.lane == l)
+            (λ k s at. false_from_ne_true _ (λ t. none_active server far k s at (and_parts (is_active_of server s.value.stage) _ t).0)))
+            ∙ and_none _);
         borrowed_responses = λ l i channel c h at. like.borrowed l c.place channel ∙ lane_cases p.server_lanes last new l
             (λ before e. n.borrowed_responses l i channel c before at)
             (λ is e gone. ap (λ (x : Lane P ResponseNote PH). borrowed_at x.messages c.place channel) gone
             ∙ sym (tally-none p.table.seats (λ s. is_received_at p l c.port.id channel s.value) (λ k s there. false_from_ne_true _ (λ t.
             let received = and_parts (is_received s.value.stage) _ t in
             let here = and_parts (s.value.lane == l) _ received.1 in
-            omega (arith, eqb-true s.value.lane l here.0, is, response_lane p empty_hand sound.counted k s there (received_is_response s.value.stage received.0))))) ∙ and_none _)
+            omega (
+              arith,
+              eqb-true s.value.lane l here.0,
+              is,
+              response_lane p empty_hand sound.counted k s there (received_is_response s.value.stage received.0),
+            )))) ∙ and_none _)
             (λ far e gone. absurd (omega (arith, h, far, length-append p.server_lanes (last ∷ []))))
-            ∙ ap (λ n. n + 0) (sym (noted_alike is_received received_is_response (λ s note. s.value.lane == l && (note.client == c.port.id && note.channel == channel))));
+            ∙ ap (λ n. n + 0) (sym (noted_alike is_received received_is_response
+            (λ s note. s.value.lane == l && (note.client == c.port.id && note.channel == channel))));
       }
 
   -- the new lane has its size
@@ -261,11 +337,20 @@ module _ {Q QH P PH K : Type 0} (p : Parts Q QH P PH K) (settings : ServerSettin
     user_headers = new.user_headers ∙ sym slots_are;
     queues = ap length new.queues ∙ length-replicate p.limits.max_clients (replicate (worst_case_requests p.limits) []);
     borrowed = ap length new.borrowed ∙ length-replicate p.limits.max_clients (replicate (worst_case_requests p.limits) 0);
-    queue_channels = λ r h. ap (λ (q : List (List (List ℕ))). length (get_or q r [])) new.queues ∙ ap length (get_or-replicate p.limits.max_clients r (replicate (worst_case_requests p.limits) []) [] h) ∙ length-replicate (worst_case_requests p.limits) [];
-    borrowed_channels = λ r h. ap (λ (q : List (List ℕ)). length (get_or q r [])) new.borrowed ∙ ap length (get_or-replicate p.limits.max_clients r (replicate (worst_case_requests p.limits) 0) [] h) ∙ length-replicate (worst_case_requests p.limits) 0;
+    queue_channels = λ r h. ap (λ (q : List (List (List ℕ))). length (get_or q r [])) new.queues
+        ∙ ap length (get_or-replicate p.limits.max_clients r (replicate (worst_case_requests p.limits) []) [] h)
+        ∙ length-replicate (worst_case_requests p.limits) [];
+    borrowed_channels = λ r h. ap (λ (q : List (List ℕ)). length (get_or q r [])) new.borrowed
+        ∙ ap length (get_or-replicate p.limits.max_clients r (replicate (worst_case_requests p.limits) 0) [] h)
+        ∙ length-replicate (worst_case_requests p.limits) 0;
     capacity_is = new.capacity_is;
     within = λ r c. omega (arith, ap length (new_queue m new r c));
-    inside = λ slot some. absurd (omega (arith, some, ap (λ (q : List (List (List ℕ))). times slot (all_entries q)) new.queues, times-empty slot p.limits.max_clients (worst_case_requests p.limits)));
+    inside = λ slot some. absurd (omega (
+      arith,
+      some,
+      ap (λ (q : List (List (List ℕ))). times slot (all_entries q)) new.queues,
+      times-empty slot p.limits.max_clients (worst_case_requests p.limits),
+    ));
   }
 
   sized : IsSized after
@@ -275,8 +360,10 @@ module _ {Q QH P PH K : Type 0} (p : Parts Q QH P PH K) (settings : ServerSettin
         limits_fit = n.limits_fit;
         client_lanes = n.client_lanes;
         server_lanes = λ l h. lane_cases p.server_lanes last new l
-            (λ before e. let P : Lane P ResponseNote PH → Type 0 = λ x. IsShaped p.limits.max_clients (worst_case_requests p.limits) p.limits.max_response_buffer_size x.messages in subst P (sym e) (n.server_lanes l before))
-            (λ is e gone. let P : Lane P ResponseNote PH → Type 0 = λ x. IsShaped p.limits.max_clients (worst_case_requests p.limits) p.limits.max_response_buffer_size x.messages in subst P (sym e) shaped)
+            (λ before e. let P : Lane P ResponseNote PH → Type 0 = λ x. IsShaped p.limits.max_clients
+            (worst_case_requests p.limits) p.limits.max_response_buffer_size x.messages in subst P (sym e) (n.server_lanes l before))
+            (λ is e gone. let P : Lane P ResponseNote PH → Type 0 = λ x. IsShaped p.limits.max_clients
+            (worst_case_requests p.limits) p.limits.max_response_buffer_size x.messages in subst P (sym e) shaped)
             (λ far e gone. absurd (omega (arith, h, far, length-append p.server_lanes (last ∷ []))));
         waiting = n.waiting;
         waiting_slots = n.waiting_slots;
@@ -296,7 +383,9 @@ module _ {Q QH P PH K : Type 0} (p : Parts Q QH P PH K) (settings : ServerSettin
 
   -- a port of the longer list is one of the list's, or the new one
   connected_cases : {Z : Type 0} (i : ℕ) (c : Connected K) → slice_get (map (λ s. s.connected) after.servers) i ≡ Some c
-      → (slice_get (map (λ s. s.connected) p.servers) i ≡ Some c → i < length p.servers → Z) → (i ≡ length p.servers → record { port = server_port p settings; lane = length p.server_lanes; place = place; loans = 0 } ≡ c → Z) → Z
+      → (slice_get (map (λ s. s.connected) p.servers) i ≡ Some c → i < length p.servers → Z)
+      → (i ≡ length p.servers → record { port = server_port p settings; lane = length p.server_lanes; place = place; loans = 0 } ≡ c
+      → Z) → Z
   connected_cases i c at before fresh =
       snoc_cases (map (λ (s : ServerPart K). s.connected) p.servers) _ i c
       (sym (ap (λ (cs : List (Connected K)). slice_get cs i) (map-append (λ (s : ServerPart K). s.connected) p.servers _)) ∙ at)
@@ -309,7 +398,8 @@ module _ {Q QH P PH K : Type 0} (p : Parts Q QH P PH K) (settings : ServerSettin
     where
       go : (o : Option (ServerPart K)) → slice_get p.servers i ≡ o → option_map (λ s. s.connected) o ≡ Some c → ⊥
       go None e f = let no : None ≡ Some c = f in cc
-      go (Some x) e f = let is : Some x.connected ≡ Some c = f in let also : x.connected ≡ c = cc in vacant i x e (ap (λ (c : Connected K). c.place) also ∙ same)
+      go (Some x) e f = let is : Some x.connected ≡ Some c = f in let also : x.connected ≡ c = cc in
+          vacant i x e (ap (λ (c : Connected K). c.place) also ∙ same)
 
   server_ports : HasLanes after.next p.limits.max_servers (map (λ s. s.connected) after.servers) after.server_lanes
   server_ports =
@@ -325,7 +415,10 @@ module _ {Q QH P PH K : Type 0} (p : Parts Q QH P PH K) (settings : ServerSettin
               ap (λ (x : Lane P ResponseNote PH). x.messages.room) e ∙ o.3,
             ))
             (λ end is.
-            let IsOwn : Connected K → Type 0 = λ c. (c.lane < length after.server_lanes) × ((lane_of c.lane after.server_lanes).owner ≡ c.port.id) × (length (lane_of c.lane after.server_lanes).messages.held ≡ c.port.pool_size) × ((lane_of c.lane after.server_lanes).messages.room ≡ c.port.initial_max_slice_len) in
+            let IsOwn : Connected K → Type 0 = λ c. (c.lane < length after.server_lanes)
+            × ((lane_of c.lane after.server_lanes).owner ≡ c.port.id)
+            × (length (lane_of c.lane after.server_lanes).messages.held ≡ c.port.pool_size)
+            × ((lane_of c.lane after.server_lanes).messages.room ≡ c.port.initial_max_slice_len) in
             let e = lane_last p.server_lanes last in
             subst IsOwn is (
               omega (arith, length-append p.server_lanes (last ∷ [])),
@@ -334,16 +427,41 @@ module _ {Q QH P PH K : Type 0} (p : Parts Q QH P PH K) (settings : ServerSettin
               ap (λ (x : Lane P ResponseNote PH). x.messages.room) e ∙ new.room_is,
             ));
         ported = λ l h. ⊎_elim
-            (λ b. let o = n.ported l b in (o.0, o.1, ap (λ cs. slice_get cs o.0) (map-append (λ (s : ServerPart K). s.connected) p.servers _) ∙ snoc_keeps _ _ o.0 o.1 o.2, o.3))
-            (λ far. (length p.servers, last_server.connected, ap (λ cs. slice_get cs (length p.servers)) (map-append (λ (s : ServerPart K). s.connected) p.servers _) ∙ last_at _ _ (length p.servers) (length-map p.servers (λ (s : ServerPart K). s.connected)), omega (arith, h, far, length-append p.server_lanes (last ∷ []))))
+            (λ b. let o = n.ported l b in (
+              o.0,
+              o.1,
+              ap (λ cs. slice_get cs o.0)
+                  (map-append (λ (s : ServerPart K). s.connected) p.servers _) ∙ snoc_keeps _ _ o.0 o.1 o.2,
+              o.3,
+            ))
+            (λ far. (
+              length p.servers,
+              last_server.connected,
+              ap (λ cs. slice_get cs (length p.servers)) (map-append (λ (s : ServerPart K). s.connected) p.servers _)
+                  ∙ last_at _ _ (length p.servers) (length-map p.servers (λ (s : ServerPart K). s.connected)),
+              omega (arith, h, far, length-append p.server_lanes (last ∷ [])),
+            ))
             (cases_lt l (length p.server_lanes));
         owned_once = λ l k h g same. lane_cases p.server_lanes last new l
             (λ before e. lane_cases p.server_lanes last new k
-            (λ also f. n.owned_once l k before also (sym (ap (λ (x : Lane P ResponseNote PH). x.owner) e) ∙ same ∙ ap (λ (x : Lane P ResponseNote PH). x.owner) f))
-            (λ is f gone. absurd (omega (arith, n.numbered l before, ap (λ (x : Lane P ResponseNote PH). x.owner) e, same, ap (λ (x : Lane P ResponseNote PH). x.owner) f)))
+            (λ also f. n.owned_once l k before also (sym (ap (λ (x : Lane P ResponseNote PH). x.owner) e) ∙ same
+            ∙ ap (λ (x : Lane P ResponseNote PH). x.owner) f))
+            (λ is f gone. absurd (omega (
+              arith,
+              n.numbered l before,
+              ap (λ (x : Lane P ResponseNote PH). x.owner) e,
+              same,
+              ap (λ (x : Lane P ResponseNote PH). x.owner) f,
+            )))
             (λ far f gone. absurd (omega (arith, g, far, length-append p.server_lanes (last ∷ [])))))
             (λ is e gone. lane_cases p.server_lanes last new k
-            (λ also f. absurd (omega (arith, n.numbered k also, ap (λ (x : Lane P ResponseNote PH). x.owner) e, same, ap (λ (x : Lane P ResponseNote PH). x.owner) f)))
+            (λ also f. absurd (omega (
+              arith,
+              n.numbered k also,
+              ap (λ (x : Lane P ResponseNote PH). x.owner) e,
+              same,
+              ap (λ (x : Lane P ResponseNote PH). x.owner) f,
+            )))
             (λ too f gone. is ∙ sym too)
             (λ far f gone. absurd (omega (arith, g, far, length-append p.server_lanes (last ∷ [])))))
             (λ far e gone. absurd (omega (arith, h, far, length-append p.server_lanes (last ∷ []))));
@@ -351,7 +469,8 @@ module _ {Q QH P PH K : Type 0} (p : Parts Q QH P PH K) (settings : ServerSettin
             (λ before e. omega (arith, n.numbered l before, ap (λ (x : Lane P ResponseNote PH). x.owner) e))
             (λ is e gone. omega (arith, ap (λ (x : Lane P ResponseNote PH). x.owner) e))
             (λ far e gone. absurd (omega (arith, h, far, length-append p.server_lanes (last ∷ []))));
-        placed = λ i c at. connected_cases i c at (λ before h. n.placed i c before) (λ end is. omega (arith, inside, ap (λ (c : Connected K). c.place) is));
+        placed = λ i c at. connected_cases i c at (λ before h. n.placed i c before)
+            (λ end is. omega (arith, inside, ap (λ (c : Connected K). c.place) is));
         placed_once = λ i j c d at there same. connected_cases i c at
             (λ before h. connected_cases j d there
             (λ also g. n.placed_once i j c d before also same)
@@ -362,14 +481,33 @@ module _ {Q QH P PH K : Type 0} (p : Parts Q QH P PH K) (settings : ServerSettin
         numbered_once = λ i j c d at there same. connected_cases i c at
             (λ before h. connected_cases j d there
             (λ also g. n.numbered_once i j c d before also same)
-            (λ end is. absurd (omega (arith, given_before p.next p.limits.max_servers _ p.server_lanes n i c before, same, ap (λ (c : Connected K). c.port.id) is))))
+            (λ end is. absurd (omega (
+              arith,
+              given_before p.next p.limits.max_servers _ p.server_lanes n i c before,
+              same,
+              ap (λ (c : Connected K). c.port.id) is,
+            ))))
             (λ end is. connected_cases j d there
-            (λ also g. absurd (omega (arith, given_before p.next p.limits.max_servers _ p.server_lanes n j d also, same, ap (λ (c : Connected K). c.port.id) is)))
+            (λ also g. absurd (omega (
+              arith,
+              given_before p.next p.limits.max_servers _ p.server_lanes n j d also,
+              same,
+              ap (λ (c : Connected K). c.port.id) is,
+            )))
             (λ too also. end ∙ sym too));
       }
 
   client_ports : HasLanes after.next p.limits.max_clients (map (λ c. c.connected) p.clients) p.client_lanes
-  client_ports = let n = sound.client_ports in record { few = n.few; own = n.own; ported = n.ported; owned_once = n.owned_once; numbered = λ i h. omega (arith, n.numbered i h); placed = n.placed; placed_once = n.placed_once; numbered_once = n.numbered_once }
+  client_ports = let n = sound.client_ports in record {
+    few = n.few;
+    own = n.own;
+    ported = n.ported;
+    owned_once = n.owned_once;
+    numbered = λ i h. omega (arith, n.numbered i h);
+    placed = n.placed;
+    placed_once = n.placed_once;
+    numbered_once = n.numbered_once;
+  }
 
   -- a server was created
   pub server_sound : IsSound after empty_hand
@@ -384,7 +522,8 @@ module _ {Q QH P PH K : Type 0} (p : Parts Q QH P PH K) (settings : ServerSettin
     vacated = vacated;
     held_by_value = record {
       clients = sound.held_by_value.clients;
-      servers = λ i c at. snoc_cases p.servers last_server i c at (λ before h. sound.held_by_value.servers i c before) (λ e is. ap (λ (s : ServerPart K). s.port.is_held) (sym is));
+      servers = λ i c at. snoc_cases p.servers last_server i c at (λ before h. sound.held_by_value.servers i c before)
+          (λ e is. ap (λ (s : ServerPart K). s.port.is_held) (sym is));
     };
     client_ports = client_ports;
     server_ports = server_ports;

@@ -28,42 +28,55 @@ filter_more : {X : Type 0} (p : X → Bool) (xs : List X) (y : X) → p y ≡ fa
 filter_more p [] y h = rw h refl
 filter_more p (x ∷ xs) y h = go (p x) (filter_more p xs y h)
   where
-    go : (b : Bool) → filter p (xs ++ y ∷ []) ≡ filter p xs → cond b (x ∷ filter p (xs ++ y ∷ [])) (filter p (xs ++ y ∷ [])) ≡ cond b (x ∷ filter p xs) (filter p xs)
+    go : (b : Bool) → filter p (xs ++ y ∷ []) ≡ filter p xs → cond b (x ∷ filter p (xs ++ y ∷ [])) (filter p (xs ++ y ∷ [])) ≡ cond b
+        (x ∷ filter p xs) (filter p xs)
     go true e = ap (λ ys. x ∷ ys) e
     go false e = e
 
 module _ {Q QH P PH K : Type 0} (p : Parts Q QH P PH K) (settings : ServerSettings K) (place : ℕ) (m : Messages P ResponseNote PH)
-    (sound : IsSound p empty_hand) (slots room receivers channels capacity : ℕ) (new : IsNew slots room receivers channels capacity no_response m)
+    (sound : IsSound p empty_hand) (slots room receivers channels capacity : ℕ)
+    (new : IsNew slots room receivers channels capacity no_response m)
     (vacant : (i : ℕ) (s : ServerPart K) → slice_get p.servers i ≡ Some s → s.place ≢ place) (inside : place < p.limits.max_servers) where
   abbrev after : Parts Q QH P PH K
   after = with_server_part p settings place m
 
   abbrev last : ServerPart K
-  last = record { connected = record { port = server_port p settings; lane = length p.server_lanes; place = place; loans = 0 }; max_loaned_responses_per_request = loans_of settings }
+  last = record {
+    connected = record { port = server_port p settings; lane = length p.server_lanes; place = place; loans = 0 };
+    max_loaned_responses_per_request = loans_of settings;
+  }
 
   -- no request awaits the new server
   waiting : (lane slot : ℕ) → waiting_at after lane slot ≡ waiting_at p lane slot
-  waiting lane slot = ap (map (λ (s : ServerPart K). s.port.id)) (filter_more (λ (s : ServerPart K). is_awaited p lane slot s.place) p.servers last (sound.vacated.awaits_none lane slot place vacant inside))
+  waiting lane slot = ap (map (λ (s : ServerPart K). s.port.id))
+      (filter_more (λ (s : ServerPart K). is_awaited p lane slot s.place) p.servers last
+      (sound.vacated.awaits_none lane slot place vacant inside))
 
   -- the handles show what they did
   handles : (k : ℕ) (s : Seat Held) → fin_map.get p.table.seats k ≡ Some s → handle_of after s ≡ handle_of p s
   handles k s at =
       same_handle after p s.value.stage s.value.lane s.value.slot
       (λ is. (refl, waiting s.value.lane s.value.slot))
-      (λ is. ap (λ (l : Lane P ResponseNote PH). response_in_slot p.spare_response_header l.messages s.value.slot) (lane_before p.server_lanes _ s.value.lane (response_lane p empty_hand sound.counted k s at is)))
+      (λ is. ap (λ (l : Lane P ResponseNote PH). response_in_slot p.spare_response_header l.messages s.value.slot)
+      (lane_before p.server_lanes _ s.value.lane (response_lane p empty_hand sound.counted k s at is)))
 
   -- no response waits in the new lane
   responses : (key : ResponseKey) → responses_at after key ≡ responses_at p key
   responses key =
-      ap (λ o. option_map_or (λ (c : ClientPart K). option_map_or (λ (l : Lane P ResponseNote PH). shown l c) o []) (find (λ c. c.port.id == key.client) p.clients) []) (find_last (λ (l : Lane P ResponseNote PH). l.owner == key.server) p.server_lanes _)
+      ap (λ o. option_map_or (λ (c : ClientPart K). option_map_or
+      (λ (l : Lane P ResponseNote PH). shown l c) o []) (find (λ c. c.port.id == key.client) p.clients)
+      []) (find_last (λ (l : Lane P ResponseNote PH). l.owner == key.server) p.server_lanes _)
       ∙ go (find (λ c. c.port.id == key.client) p.clients) (find (λ l. l.owner == key.server) p.server_lanes) (p.next == key.server)
     where
       shown : Lane P ResponseNote PH → ClientPart K → List (ResponseMessage P PH)
       shown l c = map (response_in_slot p.spare_response_header l.messages) (queue_at l.messages c.place key.channel)
 
       go : (client : Option (ClientPart K)) (lane : Option (Lane P ResponseNote PH)) (b : Bool)
-          → option_map_or (λ c. option_map_or (λ l. map (response_in_slot p.spare_response_header l.messages) (queue_at l.messages c.place key.channel)) (option_or lane (cond b (Some (record { owner = p.next; row = length p.table.rows; messages = m })) None)) []) client []
-          ≡ option_map_or (λ c. option_map_or (λ l. map (response_in_slot p.spare_response_header l.messages) (queue_at l.messages c.place key.channel)) lane []) client []
+          → option_map_or (λ c. option_map_or (λ l. map (response_in_slot p.spare_response_header l.messages)
+          (queue_at l.messages c.place key.channel)) (option_or lane
+          (cond b (Some (record { owner = p.next; row = length p.table.rows; messages = m })) None)) []) client []
+          ≡ option_map_or (λ c. option_map_or (λ l. map (response_in_slot p.spare_response_header l.messages)
+          (queue_at l.messages c.place key.channel)) lane []) client []
       go None lane b = refl
       go (Some c) (Some l) b = refl
       go (Some c) None true = ap (map (response_in_slot p.spare_response_header m)) (new_queue m new c.place key.channel)
@@ -72,15 +85,24 @@ module _ {Q QH P PH K : Type 0} (p : Parts Q QH P PH K) (settings : ServerSettin
   -- no request waits for the new server
   requests : (key : RequestKey) → requests_at after key ≡ requests_at p key
   requests key =
-      ap (λ o. option_map_or (λ (s : ServerPart K). option_map_or (λ (l : Lane Q RequestNote QH). shown l s) (find (λ (l : Lane Q RequestNote QH). l.owner == key.client) p.client_lanes) []) o []) (find_last (λ (s : ServerPart K). s.port.id == key.server) p.servers _)
+      ap (λ o. option_map_or (λ (s : ServerPart K). option_map_or (λ (l : Lane Q RequestNote QH). shown l s)
+      (find (λ (l : Lane Q RequestNote QH). l.owner == key.client) p.client_lanes) []) o
+      []) (find_last (λ (s : ServerPart K). s.port.id == key.server) p.servers _)
       ∙ go (find (λ s. s.port.id == key.server) p.servers) (find (λ l. l.owner == key.client) p.client_lanes) (p.next == key.server) refl
     where
       shown : Lane Q RequestNote QH → ServerPart K → List (RequestMessage Q QH)
       shown l s = map (request_in_slot p.spare_request_header l.messages) (queue_at l.messages s.place 0)
 
-      go : (server : Option (ServerPart K)) (lane : Option (Lane Q RequestNote QH)) (b : Bool) → find (λ l. l.owner == key.client) p.client_lanes ≡ lane
-          → option_map_or (λ s. option_map_or (λ l. map (request_in_slot p.spare_request_header l.messages) (queue_at l.messages s.place 0)) lane []) (option_or server (cond b (Some (record { connected = record { port = server_port p settings; lane = length p.server_lanes; place = place; loans = 0 }; max_loaned_responses_per_request = loans_of settings })) None)) []
-          ≡ option_map_or (λ s. option_map_or (λ l. map (request_in_slot p.spare_request_header l.messages) (queue_at l.messages s.place 0)) lane []) server []
+      go : (server : Option (ServerPart K)) (lane : Option (Lane Q RequestNote QH)) (b : Bool)
+          → find (λ l. l.owner == key.client) p.client_lanes ≡ lane
+          → option_map_or (λ s. option_map_or (λ l. map (request_in_slot p.spare_request_header l.messages) (queue_at l.messages s.place 0))
+          lane []) (option_or server (cond b (Some (record {
+            connected =
+                record { port = server_port p settings; lane = length p.server_lanes; place = place; loans = 0 };
+            max_loaned_responses_per_request = loans_of settings;
+          })) None)) []
+          ≡ option_map_or (λ s. option_map_or (λ l. map (request_in_slot p.spare_request_header l.messages) (queue_at l.messages s.place 0))
+          lane []) server []
       go (Some s) lane b e = refl
       go None lane false e = refl
       go None None true e = refl

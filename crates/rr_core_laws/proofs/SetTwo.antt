@@ -12,7 +12,8 @@ module _ {X : Type 0} (rows : List (List X)) (i j : ℕ) (x d : X) where
 
   -- nor at another place of the row
   pub other_column : i < length rows → (c : ℕ) → c ≢ j → at_two d (set_two rows i j x) i c ≡ at_two d rows i c
-  other_column h c n = ap (λ (row : List X). get_or row c d) (get_or-set_same rows i (slice_set (get_or rows i []) j x) [] h) ∙ get_or-set_other (get_or rows i []) j c x d n
+  other_column h c n = ap (λ (row : List X). get_or row c d) (get_or-set_same rows i (slice_set (get_or rows i []) j x) [] h)
+      ∙ get_or-set_other (get_or rows i []) j c x d n
 
   -- rows are as long as before
   pub row_length : (r : ℕ) → length (get_or (set_two rows i j x) r []) ≡ length (get_or rows r [])

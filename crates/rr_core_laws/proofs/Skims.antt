@@ -45,45 +45,61 @@ module _ {T H : Type 0} (table : Seats Held) (place : ℕ) where
       }
 
   -- one more leaves it
-  pub skim_more : (n : ℕ) (a b : Lane T RequestNote H) → SkimsLane table place n a b → (slot : ℕ) → slice_get (queue_at b.messages place 0) 0 ≡ Some slot → is_waited table b slot ≡ false → SkimsLane table place (suc n) a (without_first place b)
-  skim_more zero a b e slot f d =
-      (slot, ap (λ (x : Lane T RequestNote H). slice_get (queue_at x.messages place 0) 0) (sym e) ∙ f, ap (λ (x : Lane T RequestNote H). is_waited table x slot) (sym e) ∙ d, ap (without_first place) e)
+  pub skim_more : (n : ℕ) (a b : Lane T RequestNote H) → SkimsLane table place n a b → (slot : ℕ)
+      → slice_get (queue_at b.messages place 0) 0 ≡ Some slot → is_waited table b slot ≡ false
+      → SkimsLane table place (suc n) a (without_first place b)
+  skim_more zero a b e slot f d = (
+    slot,
+    ap (λ (x : Lane T RequestNote H). slice_get (queue_at x.messages place 0) 0) (sym e)
+        ∙ f,
+    ap (λ (x : Lane T RequestNote H). is_waited table x slot) (sym e) ∙ d,
+    ap (without_first place) e,
+  )
   skim_more (suc n) a b (first, g, h, more) slot f d = (first, g, h, skim_more n (without_first place a) b more slot f d)
 
   module _ (most : ℕ) where
     -- what leaves the queue from one lane, as steps over all lanes
-    pub to_lanes : (n : ℕ) (a : List (Lane T RequestNote H)) (l : ℕ) → l < length a → borrowed_from a place 0 l < most → (x : Lane T RequestNote H) → SkimsLane table place n (lane_of l a) x
+    pub to_lanes : (n : ℕ) (a : List (Lane T RequestNote H)) (l : ℕ) → l < length a → borrowed_from a place 0 l < most
+        → (x : Lane T RequestNote H) → SkimsLane table place n (lane_of l a) x
         → (ls : List ℕ) × SkimsLanes table place most ls a (slice_set a l x)
     to_lanes zero a l there few x e = ([], ap (slice_set a l) e ∙ set-get_or a l no_lane)
     to_lanes (suc n) a l there few x (slot, f, d, more) =
         let y = without_first place (lane_of l a) in
         let b = slice_set a l y in
         let is : lane_of l b ≡ y = get_or-set_same a l y no_lane there in
-        let r = to_lanes n b l (omega (arith, there, length-set a l y)) (omega (arith, few, ap (λ (x : Lane T RequestNote H). borrowed_at x.messages place 0) is)) x (subst (λ z. SkimsLane table place n z x) (sym is) more) in
+        let r = to_lanes n b l (omega (arith, there, length-set a l y))
+        (omega (arith, few, ap (λ (x : Lane T RequestNote H). borrowed_at x.messages place 0) is)) x
+        (subst (λ z. SkimsLane table place n z x) (sym is) more) in
         (l ∷ r.0, (slot, there, few, f, d, subst (SkimsLanes table place most r.0 b) (set_again a l y x) r.1))
 
     -- steps after steps
-    pub then_more : (ls ms : List ℕ) (a b c : List (Lane T RequestNote H)) → SkimsLanes table place most ls a b → SkimsLanes table place most ms b c → SkimsLanes table place most (ls ++ ms) a c
+    pub then_more : (ls ms : List ℕ) (a b c : List (Lane T RequestNote H)) → SkimsLanes table place most ls a b
+        → SkimsLanes table place most ms b c → SkimsLanes table place most (ls ++ ms) a c
     then_more [] ms a b c e more = subst (λ a. SkimsLanes table place most ms a c) e more
-    then_more (l ∷ ls) ms a b c (slot, there, few, f, d, first) more = (slot, there, few, f, d, then_more ls ms (slice_set a l (without_first place (lane_of l a))) b c first more)
+    then_more (l ∷ ls) ms a b c (slot, there, few, f, d, first) more =
+        (slot, there, few, f, d, then_more ls ms (slice_set a l (without_first place (lane_of l a))) b c first more)
 
     -- before the first lane
     pub skimmed_none : (a : List (Lane T RequestNote H)) → Reaches a place 0 → IsSkimmedBelow table place most 0 a a
     skimmed_none a reach = record { lanes = []; steps = refl; many = refl; reaches = reach; fronts = λ l h. absurd (omega (arith, h)) }
 
     -- the receiver may have no more from a lane
-    pub skimmed_full : (n : ℕ) (a b : List (Lane T RequestNote H)) → IsSkimmedBelow table place most n a b → most ≤ borrowed_from b place 0 n → IsSkimmedBelow table place most (n + 1) a b
+    pub skimmed_full : (n : ℕ) (a b : List (Lane T RequestNote H)) → IsSkimmedBelow table place most n a b
+        → most ≤ borrowed_from b place 0 n → IsSkimmedBelow table place most (n + 1) a b
     skimmed_full n a b so full = record {
       lanes = so.lanes;
       steps = so.steps;
       many = so.many;
       reaches = so.reaches;
-      fronts = λ l h few. last_or_before n l h (λ g. so.fronts l g few) (λ e. absurd (omega (arith, full, few, ap (borrowed_from b place 0) e)));
+      fronts = λ l h few. last_or_before n l h (λ g. so.fronts l g few)
+          (λ e. absurd (omega (arith, full, few, ap (borrowed_from b place 0) e)));
     }
 
     -- or the lane was skimmed
-    pub skimmed_lane : (n : ℕ) (a b : List (Lane T RequestNote H)) → IsSkimmedBelow table place most n a b → n < length b → borrowed_from b place 0 n < most
-        → (x : Lane T RequestNote H) (k : ℕ) → SkimsLane table place k (lane_of n b) x → IsFrontAlive table place x → IsSkimmedBelow table place most (n + 1) a (slice_set b n x)
+    pub skimmed_lane : (n : ℕ) (a b : List (Lane T RequestNote H)) → IsSkimmedBelow table place most n a b → n < length b
+        → borrowed_from b place 0 n < most
+        → (x : Lane T RequestNote H) (k : ℕ) → SkimsLane table place k (lane_of n b) x → IsFrontAlive table place x
+        → IsSkimmedBelow table place most (n + 1) a (slice_set b n x)
     skimmed_lane n a b so there few x k steps front =
         let more = to_lanes k b n there few x steps in
         let alike = skim_alike k (lane_of n b) x steps in
@@ -108,7 +124,11 @@ module _ {T H : Type 0} (table : Seats Held) (place : ℕ) where
               (λ e. subst (IsFrontAlive table place) (sym (ap (λ l. lane_of l (slice_set b n x)) e ∙ here)) front)
               (λ e. let is : lane_of l (slice_set b n x) ≡ lane_of l b = get_or-set_other b n l x no_lane e in
               subst (IsFrontAlive table place) (sym is)
-              (last_or_before n l h (λ g. so.fronts l g (omega (arith, room, ap (λ (y : Lane T RequestNote H). borrowed_at y.messages place 0) is))) (λ f. absurd (e f))))
+              (last_or_before n l h (λ g. so.fronts l g (omega (
+                arith,
+                room,
+                ap (λ (y : Lane T RequestNote H). borrowed_at y.messages place 0) is,
+              ))) (λ f. absurd (e f))))
               (cases_eq l n);
         }
 

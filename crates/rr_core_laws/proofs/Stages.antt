@@ -58,13 +58,17 @@ received_is_response stage.ResponseMut h = absurd (false≢true h)
 
 module _ {Q QH P PH K : Type 0} (p : Parts Q QH P PH K) (hand : Hand) (c : IsCounted p hand) where
   -- a request with a handle is used
-  pub handle_uses_request : (k : ℕ) (s : Seat Held) → fin_map.get p.table.seats k ≡ Some s → is_of_request s.value.stage ≡ true → 0 < request_uses p s.value.lane s.value.slot
+  pub handle_uses_request : (k : ℕ) (s : Seat Held) → fin_map.get p.table.seats k ≡ Some s → is_of_request s.value.stage ≡ true
+      → 0 < request_uses p s.value.lane s.value.slot
   handle_uses_request k s at is =
-      let here : has_request_at s.value.lane s.value.slot s ≡ true = rw is (rw (eq-eqb s.value.lane s.value.lane refl) (rw (eq-eqb s.value.slot s.value.slot refl) refl)) in
+      let here : has_request_at s.value.lane s.value.slot s ≡ true = rw is
+      (rw (eq-eqb s.value.lane s.value.lane refl) (rw (eq-eqb s.value.slot s.value.slot refl) refl)) in
       omega (arith, c.requests s.value.lane s.value.slot, tally-at (has_request_at s.value.lane s.value.slot) p.table.seats k s at here)
 
   -- and so is a response with a handle
-  pub handle_uses_response : (k : ℕ) (s : Seat Held) → fin_map.get p.table.seats k ≡ Some s → is_of_response s.value.stage ≡ true → 0 < response_uses p s.value.lane s.value.slot
+  pub handle_uses_response : (k : ℕ) (s : Seat Held) → fin_map.get p.table.seats k ≡ Some s → is_of_response s.value.stage ≡ true
+      → 0 < response_uses p s.value.lane s.value.slot
   handle_uses_response k s at is =
-      let here : has_response_at s.value.lane s.value.slot s ≡ true = rw is (rw (eq-eqb s.value.lane s.value.lane refl) (rw (eq-eqb s.value.slot s.value.slot refl) refl)) in
+      let here : has_response_at s.value.lane s.value.slot s ≡ true = rw is
+      (rw (eq-eqb s.value.lane s.value.lane refl) (rw (eq-eqb s.value.slot s.value.slot refl) refl)) in
       omega (arith, c.responses s.value.lane s.value.slot, tally-at (has_response_at s.value.lane s.value.slot) p.table.seats k s at here)

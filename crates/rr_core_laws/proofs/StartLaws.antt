@@ -45,7 +45,10 @@ module _ (Q QH P PH K : Type 0) (limits : Limits) (node_id : ℕ) (h : QH) (g : 
 
   pub start_sound : hub_refusal limits ≡ None → IsSound start empty_hand
   start_sound fits = record {
-    counted = record { requests = λ l i. omega (arith, tally-empty (has_request_at l i)); responses = λ l i. omega (arith, tally-empty (has_response_at l i)) };
+    counted = record {
+      requests = λ l i. omega (arith, tally-empty (has_request_at l i));
+      responses = λ l i. omega (arith, tally-empty (has_response_at l i));
+    };
     held_once = record {
       loans = λ k s e. nothing_there k s e;
       servers = λ l i server. omega (arith, tally-empty (λ (s : Seat Held). has_request_at l i s && is_active_of server s.value.stage));
@@ -65,7 +68,15 @@ module _ (Q QH P PH K : Type 0) (limits : Limits) (node_id : ℕ) (h : QH) (g : 
       received = λ k s e. nothing_there k s e;
       answering = λ l i k server loans s h. absurd (omega arith);
     };
-    addressed = record { requests = λ l i h. absurd (omega arith); responses = λ l i h. absurd (omega arith); clients_below = λ l i h. absurd (omega arith); actives_below = λ l i h. absurd (omega arith); answered_below = λ l i h. absurd (omega arith); answers = λ l i m j h. absurd (omega arith); entries = λ l i channel j c e. no_element j c e };
+    addressed = record {
+      requests = λ l i h. absurd (omega arith);
+      responses = λ l i h. absurd (omega arith);
+      clients_below = λ l i h. absurd (omega arith);
+      actives_below = λ l i h. absurd (omega arith);
+      answered_below = λ l i h. absurd (omega arith);
+      answers = λ l i m j h. absurd (omega arith);
+      entries = λ l i channel j c e. no_element j c e;
+    };
     seated = record {
       placed = λ k s e. nothing_there k s e;
       client_rows = λ l h. absurd (omega arith);
@@ -94,7 +105,11 @@ module _ (Q QH P PH K : Type 0) (limits : Limits) (node_id : ℕ) (h : QH) (g : 
       loans_made = λ i c e. no_element i c e;
       rows_fit = λ l h. absurd (omega (arith, h));
     };
-    vacated = record { of_clients = λ l place channel h. (refl, refl); of_servers = λ l place channel h. (refl, refl); awaits_none = λ l i place h g. refl };
+    vacated = record {
+      of_clients = λ l place channel h. (refl, refl);
+      of_servers = λ l place channel h. (refl, refl);
+      awaits_none = λ l i place h g. refl;
+    };
     held_by_value = record { clients = λ i c e. no_element i c e; servers = λ i c e. no_element i c e };
     client_ports = no_ports;
     server_ports = no_ports;

@@ -13,7 +13,8 @@ pub length-rest : {X : Type 0} (xs : List X) → length (drop 1 xs) ≤ length x
 length-rest [] = omega arith
 length-rest (x ∷ xs) = omega arith
 
-module _ {T N H : Type 0} {receivers channels capacity : ℕ} (m : Messages T N H) (shaped : IsShaped receivers channels capacity m) (place channel slot : ℕ) (at : place < receivers) (inside : channel < channels)
+module _ {T N H : Type 0} {receivers channels capacity : ℕ} (m : Messages T N H) (shaped : IsShaped receivers channels capacity m)
+    (place channel slot : ℕ) (at : place < receivers) (inside : channel < channels)
     (first : slice_get (queue_at m place channel) 0 ≡ Some slot) where
   abbrev rest : List ℕ
   rest = drop 1 (queue_at m place channel)
@@ -40,17 +41,21 @@ module _ {T N H : Type 0} {receivers channels capacity : ℕ} (m : Messages T N 
   pub queue_there : (r c : ℕ) → (r ≡ place → c ≡ channel → ⊥) → queue_at new r c ≡ queue_at m r c
   queue_there r c n =
       ⊎_elim
-      (λ e. ap (λ r. at_two [] (set_two m.queues place channel rest) r c) e ∙ other_column m.queues place channel rest [] there c (λ f. n e f) ∙ sym (ap (λ r. queue_at m r c) e))
+      (λ e. ap (λ r. at_two [] (set_two m.queues place channel rest) r c) e
+      ∙ other_column m.queues place channel rest [] there c (λ f. n e f) ∙ sym (ap (λ r. queue_at m r c) e))
       (λ far. other_row m.queues place channel rest [] r c far)
       (cases_eq r place)
 
   pub borrowed_here : borrowed_at new place channel ≡ borrowed_at m place channel + 1
-  borrowed_here = at_two-set_two 0 m.borrowed place channel (omega (arith, at, shaped.borrowed)) in_borrowed (borrowed_at m place channel + 1)
+  borrowed_here = at_two-set_two 0 m.borrowed place channel (omega (arith, at, shaped.borrowed)) in_borrowed
+      (borrowed_at m place channel + 1)
 
   pub borrowed_there : (r c : ℕ) → (r ≡ place → c ≡ channel → ⊥) → borrowed_at new r c ≡ borrowed_at m r c
   borrowed_there r c n =
       ⊎_elim
-      (λ e. ap (λ r. at_two 0 (set_two m.borrowed place channel (borrowed_at m place channel + 1)) r c) e ∙ other_column m.borrowed place channel (borrowed_at m place channel + 1) 0 (omega (arith, at, shaped.borrowed)) c (λ f. n e f) ∙ sym (ap (λ r. borrowed_at m r c) e))
+      (λ e. ap (λ r. at_two 0 (set_two m.borrowed place channel (borrowed_at m place channel + 1)) r c) e
+      ∙ other_column m.borrowed place channel (borrowed_at m place channel + 1) 0 (omega (arith, at, shaped.borrowed)) c (λ f. n e f)
+      ∙ sym (ap (λ r. borrowed_at m r c) e))
       (λ far. other_row m.borrowed place channel (borrowed_at m place channel + 1) 0 r c far)
       (cases_eq r place)
 
@@ -59,7 +64,15 @@ module _ {T N H : Type 0} {receivers channels capacity : ℕ} (m : Messages T N 
   times_less i r c =
       ⊎_elim
       (λ e. ⊎_elim
-      (λ f. omega (arith, ap (λ r. times i (queue_at new r c)) e, ap (λ c. times i (queue_at new place c)) f, ap (times i) queue_here, entry i, ap (λ r. times i (queue_at m r c)) e, ap (λ c. times i (queue_at m place c)) f))
+      (λ f. omega (
+        arith,
+        ap (λ r. times i (queue_at new r c)) e,
+        ap (λ c. times i (queue_at new place c)) f,
+        ap (times i) queue_here,
+        entry i,
+        ap (λ r. times i (queue_at m r c)) e,
+        ap (λ c. times i (queue_at m place c)) f,
+      ))
       (λ n. omega (arith, ap (times i) (queue_there r c (λ _ f. n f))))
       (cases_eq c channel))
       (λ n. omega (arith, ap (times i) (queue_there r c (λ e _. n e))))
@@ -84,7 +97,11 @@ module _ {T N H : Type 0} {receivers channels capacity : ℕ} (m : Messages T N 
         ap (λ j. slice_index m.held j) e,
         ap {B = ℕ} (λ b. cond b 1 0) (eq-eqb slot i e),
       ))
-      (λ n. omega (arith, get_or-set_other m.held slot i (slice_index m.held slot + 1) 0 (λ e. n (sym e)), ap {B = ℕ} (λ b. cond b 1 0) (ne_eqb slot i n)))
+      (λ n. omega (
+        arith,
+        get_or-set_other m.held slot i (slice_index m.held slot + 1) 0 (λ e. n (sym e)),
+        ap {B = ℕ} (λ b. cond b 1 0) (ne_eqb slot i n),
+      ))
       (cases_eq slot i)
 
   -- so each slot is used as often as it was
@@ -103,7 +120,14 @@ module _ {T N H : Type 0} {receivers channels capacity : ℕ} (m : Messages T N 
     capacity_is = h.capacity_is;
     within = λ q c. ⊎_elim
         (λ e. ⊎_elim
-        (λ f. omega (arith, ap (λ q. length (queue_at new q c)) e, ap (λ c. length (queue_at new place c)) f, ap length queue_here, length-rest (queue_at m place channel), h.within place channel))
+        (λ f. omega (
+          arith,
+          ap (λ q. length (queue_at new q c)) e,
+          ap (λ c. length (queue_at new place c)) f,
+          ap length queue_here,
+          length-rest (queue_at m place channel),
+          h.within place channel,
+        ))
         (λ far. omega (arith, ap length (queue_there q c (λ _ f. far f)), h.within q c))
         (cases_eq c channel))
         (λ far. omega (arith, ap length (queue_there q c (λ e _. far e)), h.within q c))

@@ -19,7 +19,8 @@ use Rattle.rr_core_laws.proofs.RequestTaken.{note_same, request_in_hand, same_of
 use Rattle.rr_core_laws.proofs.Stages.{answer_is_response, handle_uses_response}
 use Rattle.rr_core_laws.proofs.Tallies.{tally-none}
 
-module _ {Q QH P PH K : Type 0} (p : Parts Q QH P PH K) (sound : IsSound p empty_hand) (left : p.next < 2 ^ 62) (lane : ℕ) (there : lane < length p.client_lanes) (index : ℕ) (c : ServerPart K) (at : slice_get p.servers index ≡ Some c)
+module _ {Q QH P PH K : Type 0} (p : Parts Q QH P PH K) (sound : IsSound p empty_hand) (left : p.next < 2 ^ 62) (lane : ℕ)
+    (there : lane < length p.client_lanes) (index : ℕ) (c : ServerPart K) (at : slice_get p.servers index ≡ Some c)
     (slot : ℕ) (first : slice_get (queue_from p.client_lanes c.place 0 lane) 0 ≡ Some slot) where
   abbrev after : Parts Q QH P PH K
   after = with_taken_request p lane c.place slot
@@ -37,7 +38,8 @@ module _ {Q QH P PH K : Type 0} (p : Parts Q QH P PH K) (sound : IsSound p empty
       go : (b : Bool) → is_response_loan s.value.stage ≡ b → is_loan_from p p.next s.value ≡ false
       go true is =
           rw (ne_eqb (response_note p s.value.lane s.value.slot).active_request p.next
-          (λ f. none_answers s.value.lane s.value.slot (handle_uses_response p empty_hand sound.counted k s e (answer_is_response s.value.stage is)) f)) (never (is_response_loan s.value.stage))
+          (λ f. none_answers s.value.lane s.value.slot (handle_uses_response p empty_hand sound.counted k s e
+          (answer_is_response s.value.stage is)) f)) (never (is_response_loan s.value.stage))
         where
           never : (b : Bool) → (b && false) ≡ false
           never true = refl
@@ -51,22 +53,43 @@ module _ {Q QH P PH K : Type 0} (p : Parts Q QH P PH K) (sound : IsSound p empty
       (record {
         fresh = sound.numbered.fresh p.next (omega arith);
         below = omega arith;
-        placed = ap (λ r. record { row = r; index = (server_place p c.port.id + 1) * length (lane_of lane p.client_lanes).messages.held + slot }) (sym (same_of p sound left lane there index c at slot first (λ x. x.row) refl lane))
+        placed = ap (λ r. record {
+          row = r;
+          index = (server_place p c.port.id + 1) * length
+              (lane_of lane p.client_lanes).messages.held + slot;
+        })
+            (sym (same_of p sound left lane there index c at slot first (λ x. x.row) refl lane))
             ∙ ap (λ n. record { row = (lane_of lane after.client_lanes).row; index = (server_place p c.port.id + 1) * n + slot })
-            (sym (same_of p sound left lane there index c at slot first (λ x. length x.messages.held) (length-set (lane_of lane p.client_lanes).messages.held slot _) lane));
+            (sym (same_of p sound left lane there index c at slot first (λ x. length x.messages.held)
+            (length-set (lane_of lane p.client_lanes).messages.held slot _) lane));
         loan = λ h. absurd (false≢true h);
         pending = λ h. absurd (false≢true h);
         response = λ h. absurd (false≢true h);
         once = λ k j. omega (arith, sound.held_once.responses k j);
-        inside = λ server h. omega (arith, served p sound left lane there index c at slot first, ap (server_place p) (eqb-true c.port.id server h));
+        inside = λ server h. omega (
+          arith,
+          served p sound left lane there index c at slot first,
+          ap (server_place p) (eqb-true c.port.id server h),
+        );
         apart = λ server h l i. (
-          (λ u e. omega (arith, sound.numbered.requests_below l i (omega (arith, u, used_same p sound left lane there index c at slot first l i)), ap (λ (n : RequestNote). n.number) (note_same p sound left lane there index c at slot first l i), e)),
+          (λ u e. omega (
+            arith,
+            sound.numbered.requests_below l i
+                (omega (arith, u, used_same p sound left lane there index c at slot first l i)),
+            ap (λ (n : RequestNote). n.number) (note_same p sound left lane there index c at slot first l i),
+            e,
+          )),
           (λ u e. omega (arith, sound.numbered.responses_below l i u, e)),
         );
         loans = λ server loans h.
             let f : stage.ActiveRequest c.port.id 0 ≡ stage.ActiveRequest server loans = h in
             let none : 0 ≡ loans = cc in
-            omega (arith, none, tally-none p.table.seats (λ (s : Seat Held). is_loan_from p p.next s.value) no_loan, none_in_hand (is_loan_from p p.next) held refl);
+            omega (
+              arith,
+              none,
+              tally-none p.table.seats (λ (s : Seat Held). is_loan_from p p.next s.value) no_loan,
+              none_in_hand (is_loan_from p p.next) held refl,
+            );
         received = λ h. absurd (false≢true h);
         answering = λ server loans h l i u f. absurd (none_answers l i u f);
       })

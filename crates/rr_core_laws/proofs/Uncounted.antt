@@ -36,19 +36,24 @@ bare_at (x ∷ lanes) zero = refl
 bare_at (x ∷ lanes) (suc l) = bare_at lanes l
 
 -- what is read of a lane
-read_same : {T N H Y : Type 0} (f : Lane T N H → Y) (before after : List (Lane T N H)) → map bare_lane after ≡ map bare_lane before → (l : ℕ) → f (bare_lane (lane_of l after)) ≡ f (bare_lane (lane_of l before))
+read_same : {T N H Y : Type 0} (f : Lane T N H → Y) (before after : List (Lane T N H)) → map bare_lane after ≡ map bare_lane before
+    → (l : ℕ) → f (bare_lane (lane_of l after)) ≡ f (bare_lane (lane_of l before))
 read_same f before after alike l = ap f (sym (bare_at after l) ∙ ap (lane_of l) alike ∙ bare_at before l)
 
 -- what is read of the first that passes
-found_same : {X Y : Type 0} (bare : X → X) (test : X → Bool) (f : X → Y) (default : Y) (before after : List X) → map bare after ≡ map bare before
-    → option_map_or (λ x. f (bare x)) (find (λ x. test (bare x)) after) default ≡ option_map_or (λ x. f (bare x)) (find (λ x. test (bare x)) before) default
-found_same {X} bare test f default before after alike = sym (by after) ∙ ap (λ (xs : List X). option_map_or f (find test xs) default) alike ∙ by before
+found_same : {X Y : Type 0} (bare : X → X) (test : X → Bool) (f : X → Y) (default : Y) (before after : List X)
+    → map bare after ≡ map bare before
+    → option_map_or (λ x. f (bare x)) (find (λ x. test (bare x)) after) default ≡ option_map_or (λ x. f (bare x))
+    (find (λ x. test (bare x)) before) default
+found_same {X} bare test f default before after alike = sym (by after) ∙ ap (λ (xs : List X). option_map_or f (find test xs) default) alike
+    ∙ by before
   where
     of_mapped : (o : Option X) → option_map_or f (option_map bare o) default ≡ option_map_or (λ x. f (bare x)) o default
     of_mapped None = refl
     of_mapped (Some x) = refl
 
-    by : (xs : List X) → option_map_or f (find test (map bare xs)) default ≡ option_map_or (λ x. f (bare x)) (find (λ x. test (bare x)) xs) default
+    by : (xs : List X) → option_map_or f (find test (map bare xs)) default ≡ option_map_or (λ x. f (bare x))
+        (find (λ x. test (bare x)) xs) default
     by xs = ap (λ o. option_map_or f o default) (find_mapped bare test xs) ∙ of_mapped (find (λ x. test (bare x)) xs)
 
 -- what is seen of those that pass
@@ -61,11 +66,13 @@ passing_same {X} {Y} bare test f before after alike = sym (by after) ∙ ap (λ 
     by (x ∷ xs) = go (test (bare x)) (by xs)
       where
         go : (b : Bool) → map f (filter test (map bare xs)) ≡ map (λ x. f (bare x)) (filter (λ x. test (bare x)) xs)
-            → map f (cond b (bare x ∷ filter test (map bare xs)) (filter test (map bare xs))) ≡ map (λ x. f (bare x)) (cond b (x ∷ filter (λ x. test (bare x)) xs) (filter (λ x. test (bare x)) xs))
+            → map f (cond b (bare x ∷ filter test (map bare xs)) (filter test (map bare xs))) ≡ map (λ x. f (bare x))
+            (cond b (x ∷ filter (λ x. test (bare x)) xs) (filter (λ x. test (bare x)) xs))
         go true rest = ap (λ (ys : List Y). f (bare x) ∷ ys) rest
         go false rest = rest
 
-module _ {Q QH P PH K : Type 0} (p : Parts Q QH P PH K) (clients : List (ClientPart K)) (servers : List (ServerPart K)) (client_lanes : List (Lane Q RequestNote QH)) (server_lanes : List (Lane P ResponseNote PH))
+module _ {Q QH P PH K : Type 0} (p : Parts Q QH P PH K) (clients : List (ClientPart K)) (servers : List (ServerPart K))
+    (client_lanes : List (Lane Q RequestNote QH)) (server_lanes : List (Lane P ResponseNote PH))
     (cs : map bare_client clients ≡ map bare_client p.clients) (ss : map bare_server servers ≡ map bare_server p.servers)
     (cl : map bare_lane client_lanes ≡ map bare_lane p.client_lanes) (sl : map bare_lane server_lanes ≡ map bare_lane p.server_lanes) where
   -- the core with those counts
@@ -78,34 +85,43 @@ module _ {Q QH P PH K : Type 0} (p : Parts Q QH P PH K) (clients : List (ClientP
   handles : (k : ℕ) (s : Seat Held) → fin_map.get p.table.seats k ≡ Some s → handle_of recounted s ≡ handle_of p s
   handles k s e =
       same_handle recounted p s.value.stage s.value.lane s.value.slot
-      (λ is. (read_same (λ x. request_in_slot p.spare_request_header x.messages s.value.slot) p.client_lanes client_lanes cl s.value.lane, awaits s.value.lane s.value.slot))
+      (λ is. (
+        read_same (λ x. request_in_slot p.spare_request_header x.messages s.value.slot) p.client_lanes client_lanes cl s.value.lane,
+        awaits s.value.lane s.value.slot,
+      ))
       (λ is. read_same (λ x. response_in_slot p.spare_response_header x.messages s.value.slot) p.server_lanes server_lanes sl s.value.lane)
 
   requests : (key : RequestKey) → requests_at recounted key ≡ requests_at p key
   requests key =
-      found_same bare_server (λ s. s.port.id == key.server) (λ s. option_map_or (waits s.place) (find (λ (lane : Lane Q RequestNote QH). lane.owner == key.client) client_lanes) []) [] p.servers servers ss
+      found_same bare_server (λ s. s.port.id == key.server) (λ s. option_map_or (waits s.place)
+      (find (λ (lane : Lane Q RequestNote QH). lane.owner == key.client) client_lanes) []) [] p.servers servers ss
       ∙ go (find (λ s. s.port.id == key.server) p.servers)
     where
       waits : ℕ → Lane Q RequestNote QH → List (RequestMessage Q QH)
       waits place lane = map (request_in_slot p.spare_request_header lane.messages) (queue_at lane.messages place 0)
 
       go : (server : Option (ServerPart K)) →
-          option_map_or (λ s. option_map_or (waits s.place) (find (λ (lane : Lane Q RequestNote QH). lane.owner == key.client) client_lanes) []) server []
-          ≡ option_map_or (λ s. option_map_or (waits s.place) (find (λ (lane : Lane Q RequestNote QH). lane.owner == key.client) p.client_lanes) []) server []
+          option_map_or (λ s. option_map_or (waits s.place) (find (λ (lane : Lane Q RequestNote QH). lane.owner == key.client) client_lanes)
+          []) server []
+          ≡ option_map_or (λ s. option_map_or (waits s.place)
+          (find (λ (lane : Lane Q RequestNote QH). lane.owner == key.client) p.client_lanes) []) server []
       go None = refl
       go (Some s) = found_same bare_lane (λ lane. lane.owner == key.client) (waits s.place) [] p.client_lanes client_lanes cl
 
   responses : (key : ResponseKey) → responses_at recounted key ≡ responses_at p key
   responses key =
-      found_same bare_client (λ c. c.port.id == key.client) (λ c. option_map_or (waits c.place) (find (λ (lane : Lane P ResponseNote PH). lane.owner == key.server) server_lanes) []) [] p.clients clients cs
+      found_same bare_client (λ c. c.port.id == key.client) (λ c. option_map_or (waits c.place)
+      (find (λ (lane : Lane P ResponseNote PH). lane.owner == key.server) server_lanes) []) [] p.clients clients cs
       ∙ go (find (λ c. c.port.id == key.client) p.clients)
     where
       waits : ℕ → Lane P ResponseNote PH → List (ResponseMessage P PH)
       waits place lane = map (response_in_slot p.spare_response_header lane.messages) (queue_at lane.messages place key.channel)
 
       go : (client : Option (ClientPart K)) →
-          option_map_or (λ c. option_map_or (waits c.place) (find (λ (lane : Lane P ResponseNote PH). lane.owner == key.server) server_lanes) []) client []
-          ≡ option_map_or (λ c. option_map_or (waits c.place) (find (λ (lane : Lane P ResponseNote PH). lane.owner == key.server) p.server_lanes) []) client []
+          option_map_or (λ c. option_map_or (waits c.place) (find (λ (lane : Lane P ResponseNote PH). lane.owner == key.server)
+          server_lanes) []) client []
+          ≡ option_map_or (λ c. option_map_or (waits c.place)
+          (find (λ (lane : Lane P ResponseNote PH). lane.owner == key.server) p.server_lanes) []) client []
       go None = refl
       go (Some c) = found_same bare_lane (λ lane. lane.owner == key.server) (waits c.place) [] p.server_lanes server_lanes sl
 
@@ -118,5 +134,6 @@ module _ {Q QH P PH K : Type 0} (p : Parts Q QH P PH K) (clients : List (ClientP
   -- contracts see the same
   pub uncounted : state_of recounted ≡ state_of p
   uncounted =
-      same_state (state_of recounted) (state_of p) refl refl seen_clients seen_servers (map_values-same (handle_of recounted) (handle_of p) p.table.seats handles)
+      same_state (state_of recounted) (state_of p) refl refl seen_clients seen_servers
+      (map_values-same (handle_of recounted) (handle_of p) p.table.seats handles)
       (same_requests recounted p requests) (same_responses recounted p responses) refl refl

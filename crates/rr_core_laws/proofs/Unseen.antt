@@ -34,7 +34,8 @@ module _ {T N H : Type 0} (lanes : List (Lane T N H)) (lane slot : ℕ) (change 
     at_other l other = get_or-set_other lanes lane l after_change no_lane other
 
     -- what is true of the changed lane and of others is true of each
-    each_lane : (R : Lane T N H → Lane T N H → Type 0) → R (lane_of lane lanes) after_change → ((l : Lane T N H) → R l l) → (l : ℕ) → R (lane_of l lanes) (lane_of l with_slot)
+    each_lane : (R : Lane T N H → Lane T N H → Type 0) → R (lane_of lane lanes) after_change → ((l : Lane T N H) → R l l) → (l : ℕ)
+        → R (lane_of l lanes) (lane_of l with_slot)
     each_lane R its same l =
         ⊎_elim
         (λ e. subst (λ k. R (lane_of k lanes) (lane_of k with_slot)) (sym e) (subst (R (lane_of lane lanes)) (sym at_lane) its))
@@ -51,28 +52,33 @@ module _ {T N H : Type 0} (lanes : List (Lane T N H)) (lane slot : ℕ) (change 
     }
 
     -- what a slot shows by its content
-    module _ {M : Type 0} (show : Messages T N H → ℕ → Written T → M) (blind : (i : ℕ) (w : Written T) → show (with_changed_at before slot change) i w ≡ show before i w) where
+    module _ {M : Type 0} (show : Messages T N H → ℕ → Written T → M)
+        (blind : (i : ℕ) (w : Written T) → show (with_changed_at before slot change) i w ≡ show before i w) where
       -- by what stands in it
       abbrev shown_at : Lane T N H → ℕ → M
       shown_at l i = show l.messages i (content_at l.messages i)
 
       -- the changed slot
-      pub shown_changed : slot < length before.contents → shown_at (lane_of lane with_slot) slot ≡ show before slot (change (content_at before slot))
+      pub shown_changed : slot < length before.contents → shown_at (lane_of lane with_slot) slot ≡ show before slot
+          (change (content_at before slot))
       shown_changed inside =
           ap (λ (l : Lane T N H). shown_at l slot) at_lane
-          ∙ ap (show (with_changed_at before slot change) slot) (get_or-set_same before.contents slot (change (content_at before slot)) (nothing_written 0) inside)
+          ∙ ap (show (with_changed_at before slot change) slot)
+          (get_or-set_same before.contents slot (change (content_at before slot)) (nothing_written 0) inside)
           ∙ blind slot (change (content_at before slot))
 
       -- another slot of the lane
       shown_beside : (i : ℕ) → i ≢ slot → shown_at after_change i ≡ shown_at (lane_of lane lanes) i
       shown_beside i other =
-          ap (show (with_changed_at before slot change) i) (get_or-set_other before.contents slot i (change (content_at before slot)) (nothing_written 0) other) ∙ blind i (content_at before i)
+          ap (show (with_changed_at before slot change) i) (get_or-set_other before.contents slot i (change (content_at before slot))
+          (nothing_written 0) other) ∙ blind i (content_at before i)
 
       -- another slot of any lane
       pub shown_other : (l i : ℕ) → (l ≡ lane → i ≡ slot → ⊥) → shown_at (lane_of l with_slot) i ≡ shown_at (lane_of l lanes) i
       shown_other l i other =
           ⊎_elim
-          (λ e. ap (λ k. shown_at (lane_of k with_slot) i) e ∙ ap (λ (x : Lane T N H). shown_at x i) at_lane ∙ shown_beside i (other e) ∙ sym (ap (λ k. shown_at (lane_of k lanes) i) e))
+          (λ e. ap (λ k. shown_at (lane_of k with_slot) i) e ∙ ap (λ (x : Lane T N H). shown_at x i) at_lane ∙ shown_beside i (other e)
+          ∙ sym (ap (λ k. shown_at (lane_of k lanes) i) e))
           (λ n. ap (λ (x : Lane T N H). shown_at x i) (at_other l n))
           (cases_eq l lane)
 
@@ -81,5 +87,7 @@ module _ {T N H : Type 0} (lanes : List (Lane T N H)) (lane slot : ℕ) (change 
           → option_map_or (λ l. map (shown_at l) (queue_at l.messages receiver channel)) (find (λ l. l.owner == owner) with_slot) []
           ≡ option_map_or (λ l. map (shown_at l) (queue_at l.messages receiver channel)) (find (λ l. l.owner == owner) lanes) []
       waiting_same unseen owner receiver channel =
-          find_read (λ l. l.owner == owner) (λ l. map (shown_at l) (queue_at l.messages receiver channel)) [] lanes lane after_change no_lane refl
-          (map_without (shown_at (lane_of lane lanes)) (shown_at after_change) slot shown_beside (queue_at before receiver channel) (omega (arith, unseen, times_queue before slot receiver channel)))
+          find_read (λ l. l.owner == owner) (λ l. map (shown_at l) (queue_at l.messages receiver channel)) [] lanes lane after_change
+          no_lane refl
+          (map_without (shown_at (lane_of lane lanes)) (shown_at after_change) slot shown_beside (queue_at before receiver channel)
+          (omega (arith, unseen, times_queue before slot receiver channel)))

@@ -17,24 +17,35 @@ use Rattle.rr_core_laws.proofs.Agreeing.{request_lane, response_lane}
 
 module _ {Q QH P PH K : Type 0} (p : Parts Q QH P PH K) (sound : IsSound p empty_hand) (lane slot : ℕ) where
   -- a slot without a handle has none in its own place
-  pub own_vacant : lane < length p.client_lanes → slot < length (lane_of lane p.client_lanes).messages.held → slice_index (lane_of lane p.client_lanes).messages.held slot ≡ 0
+  pub own_vacant : lane < length p.client_lanes → slot < length (lane_of lane p.client_lanes).messages.held
+      → slice_index (lane_of lane p.client_lanes).messages.held slot ≡ 0
       → (k : ℕ) (s : Seat Held) → fin_map.get p.table.seats k ≡ Some s → s.place ≡ own_place p lane slot → ⊥
   own_vacant there within none k s at is = go s.value.stage refl (sym (sound.seated.placed k s at) ∙ is)
     where
-      of_request : is_of_request s.value.stage ≡ true → (lane_of s.value.lane p.client_lanes).row ≡ (lane_of lane p.client_lanes).row → s.value.slot ≡ slot → ⊥
+      of_request : is_of_request s.value.stage ≡ true → (lane_of s.value.lane p.client_lanes).row ≡ (lane_of lane p.client_lanes).row
+          → s.value.slot ≡ slot → ⊥
       of_request kind row e =
           let same = sound.seated.client_rows_apart s.value.lane lane (request_lane p empty_hand sound.counted k s at kind) there row in
           let here : has_request_at lane slot s ≡ true = rw kind (rw (eq-eqb s.value.lane lane same) (eq-eqb s.value.slot slot e)) in
           omega (arith, tally-at (has_request_at lane slot) p.table.seats k s at here, sound.counted.requests lane slot, none)
 
       of_response : is_of_response s.value.stage ≡ true → (lane_of s.value.lane p.server_lanes).row ≡ (lane_of lane p.client_lanes).row → ⊥
-      of_response kind row = sound.seated.rows_apart lane s.value.lane there (response_lane p empty_hand sound.counted k s at kind) (sym row)
+      of_response kind row = sound.seated.rows_apart lane s.value.lane there (response_lane p empty_hand sound.counted k s at kind)
+          (sym row)
 
-      past : (n : ℕ) → (lane_of s.value.lane p.client_lanes).row ≡ (lane_of lane p.client_lanes).row → is_of_request s.value.stage ≡ true → (n + 1) * length (lane_of s.value.lane p.client_lanes).messages.held + s.value.slot ≡ slot → ⊥
+      past : (n : ℕ) → (lane_of s.value.lane p.client_lanes).row ≡ (lane_of lane p.client_lanes).row → is_of_request s.value.stage ≡ true
+          → (n + 1) * length (lane_of s.value.lane p.client_lanes).messages.held + s.value.slot ≡ slot → ⊥
       past n row kind e =
           let same = sound.seated.client_rows_apart s.value.lane lane (request_lane p empty_hand sound.counted k s at kind) there row in
           let slots = length (lane_of s.value.lane p.client_lanes).messages.held in
-          omega (arith, within, e, ap (λ l. length (lane_of l p.client_lanes).messages.held) same, mul_comm (n + 1) slots, mul-add slots n 1)
+          omega (
+            arith,
+            within,
+            e,
+            ap (λ l. length (lane_of l p.client_lanes).messages.held) same,
+            mul_comm (n + 1) slots,
+            mul-add slots n 1,
+          )
 
       row_of : {a b : Place} → a ≡ b → a.row ≡ b.row
       row_of e = ap (λ (x : Place). x.row) e
@@ -59,7 +70,8 @@ module _ {Q QH P PH K : Type 0} (p : Parts Q QH P PH K) (sound : IsSound p empty
       of_request : is_of_request s.value.stage ≡ true → (lane_of s.value.lane p.client_lanes).row ≡ (lane_of lane p.server_lanes).row → ⊥
       of_request kind row = sound.seated.rows_apart s.value.lane lane (request_lane p empty_hand sound.counted k s at kind) there row
 
-      of_response : is_of_response s.value.stage ≡ true → (lane_of s.value.lane p.server_lanes).row ≡ (lane_of lane p.server_lanes).row → s.value.slot ≡ slot → ⊥
+      of_response : is_of_response s.value.stage ≡ true → (lane_of s.value.lane p.server_lanes).row ≡ (lane_of lane p.server_lanes).row
+          → s.value.slot ≡ slot → ⊥
       of_response kind row e =
           let same = sound.seated.server_rows_apart s.value.lane lane (response_lane p empty_hand sound.counted k s at kind) there row in
           let here : has_response_at lane slot s ≡ true = rw kind (rw (eq-eqb s.value.lane lane same) (eq-eqb s.value.slot slot e)) in

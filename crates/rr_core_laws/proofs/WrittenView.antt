@@ -34,7 +34,13 @@ use Rattle.rr_core_laws.proofs.Unseen.{with_slot, slot_rewritten, shown_other, w
 abbrev pub request_with : {T H : Type 0} → H → Messages T RequestNote H → ℕ → Written T → RequestMessage T H
 request_with spare m slot w =
     let note = slice_index_or m.notes slot no_request in
-    record { number = note.number; client = note.client; request_id = note.request_id; channel = slot; content = record { user_header = slice_index_or m.user_headers slot spare; asked_len = w.asked_len; elements = w.elements } }
+    record {
+      number = note.number;
+      client = note.client;
+      request_id = note.request_id;
+      channel = slot;
+      content = record { user_header = slice_index_or m.user_headers slot spare; asked_len = w.asked_len; elements = w.elements };
+    }
 
 -- the same of a response
 abbrev pub response_with : {T H : Type 0} → H → Messages T ResponseNote H → ℕ → Written T → ResponseMessage T H
@@ -53,18 +59,23 @@ response_with spare m slot w =
 
 module _ {B T N H : Type 0} (lanes : List (OwnedLane B N H T)) (lane : ℕ) where
   -- a lane that is there is stored
-  pub stored_lane : lane < length (map lane_part lanes) → (l : OwnedLane B N H T) × (slice_get lanes lane ≡ Some l) × (lane_part l ≡ lane_of lane (map lane_part lanes))
-  stored_lane within = mapped lane_part lanes lane (lane_of lane (map lane_part lanes)) (slice_get-get_or (map lane_part lanes) lane no_lane within)
+  pub stored_lane : lane < length (map lane_part lanes) → (l : OwnedLane B N H T) × (slice_get lanes lane ≡ Some l)
+      × (lane_part l ≡ lane_of lane (map lane_part lanes))
+  stored_lane within = mapped lane_part lanes lane (lane_of lane (map lane_part lanes))
+      (slice_get-get_or (map lane_part lanes) lane no_lane within)
 
   -- the lanes after a slot was written, or after nothing was
-  pub lanes_written : (slot : ℕ) (change : Written T → Written T) (b : Bool) (new : List (OwnedLane B N H T)) (l : OwnedLane B N H T) → lane_part l ≡ lane_of lane (map lane_part lanes)
+  pub lanes_written : (slot : ℕ) (change : Written T → Written T) (b : Bool) (new : List (OwnedLane B N H T)) (l : OwnedLane B N H T)
+      → lane_part l ≡ lane_of lane (map lane_part lanes)
       → new ≡ cond b (slice_set lanes lane (with_messages l (with_changed_at l.messages slot change))) lanes
       → map lane_part new ≡ cond b (with_slot (map lane_part lanes) lane slot change) (map lane_part lanes)
   lanes_written slot change b new l is e =
       ap (map lane_part) e
-      ∙ elim b as (λ (a : Bool). map lane_part (cond a (slice_set lanes lane (with_messages l (with_changed_at l.messages slot change))) lanes) ≡ cond a (with_slot (map lane_part lanes) lane slot change) (map lane_part lanes)) [
+      ∙ elim b as (λ (a : Bool). map lane_part (cond a (slice_set lanes lane (with_messages l (with_changed_at l.messages slot change)))
+      lanes) ≡ cond a (with_slot (map lane_part lanes) lane slot change) (map lane_part lanes)) [
         | true ↦ map-set lane_part lanes lane (with_messages l (with_changed_at l.messages slot change))
-            ∙ ap (λ (x : Lane T N H). slice_set (map lane_part lanes) lane (record x { messages = with_changed_at x.messages slot change })) is
+            ∙ ap (λ (x : Lane T N H). slice_set (map lane_part lanes) lane (record x { messages = with_changed_at x.messages slot change }))
+            is
         | false ↦ refl
       ]
 
@@ -74,7 +85,8 @@ module _ {Q QH P PH K : Type 0} (p : Parts Q QH P PH K) (n : ℕ) (held : Held) 
       → let q = moved p p.clients p.servers client_lanes server_lanes p.waiting p.table.seats p.next in
       ((key : RequestKey) → requests_at q key ≡ requests_at p key) → ((key : ResponseKey) → responses_at q key ≡ responses_at p key)
       → ((k : ℕ) (x : Seat Held) → fin_map.get p.table.seats k ≡ Some x → k ≢ n → handle_of p x ≡ handle_of q x)
-      → (change : Handle Q QH P PH → Handle Q QH P PH) → handle_in q held.stage held.lane held.slot ≡ change (handle_in p held.stage held.lane held.slot)
+      → (change : Handle Q QH P PH → Handle Q QH P PH) → handle_in q held.stage held.lane held.slot ≡ change
+      (handle_in p held.stage held.lane held.slot)
       → state_of q ≡ with_changed (state_of p) n change
   viewed client_lanes server_lanes requests responses others change its =
       let q = moved p p.clients p.servers client_lanes server_lanes p.waiting p.table.seats p.next in
@@ -82,27 +94,34 @@ module _ {Q QH P PH K : Type 0} (p : Parts Q QH P PH K) (n : ℕ) (held : Held) 
       same_state (state_of q) (with_changed (state_of p) n change) refl refl refl refl
       (map_values-but (handle_of p) (handle_of q) p.table.seats n f.0 f.1 others
       ∙ ap (fin_map.insert (state_of p).handles n) (ap (λ (v : Held). handle_in q v.stage v.lane v.slot) f.2 ∙ its)
-      ∙ sym (ap (λ o. option_map_or (λ handle. fin_map.insert (state_of p).handles n (change handle)) o (state_of p).handles) (shown p n held h)))
+      ∙ sym (ap (λ o. option_map_or (λ handle. fin_map.insert (state_of p).handles n (change handle)) o (state_of p).handles)
+      (shown p n held h)))
       (same_requests q p requests) (same_responses q p responses) refl refl
 
   module _ (hand : Hand) (sound : IsSound p hand) where
     module _ (is : is_of_request held.stage ≡ true) (once : request_uses p held.lane held.slot ≤ 1) where
       -- no other handle is of its request, and no entry
-      request_alone : (k : ℕ) (x : Seat Held) → fin_map.get p.table.seats k ≡ Some x → is_of_request x.value.stage ≡ true → x.value.lane ≡ held.lane → x.value.slot ≡ held.slot → k ≡ n
+      request_alone : (k : ℕ) (x : Seat Held) → fin_map.get p.table.seats k ≡ Some x → is_of_request x.value.stage ≡ true
+          → x.value.lane ≡ held.lane → x.value.slot ≡ held.slot → k ≡ n
       request_alone k x at of lane slot =
           let f = seat_under p.table n held h in
-          let its : has_request_at held.lane held.slot f.0 ≡ true = rw f.2 (rw is (rw (eq-eqb held.lane held.lane refl) (rw (eq-eqb held.slot held.slot refl) refl))) in
-          let there : has_request_at held.lane held.slot x ≡ true = rw of (rw (eq-eqb x.value.lane held.lane lane) (rw (eq-eqb x.value.slot held.slot slot) refl)) in
-          tally_one (has_request_at held.lane held.slot) p.table.seats k n x f.0 (omega (arith, once, sound.counted.requests held.lane held.slot)) at there f.1 its
+          let its : has_request_at held.lane held.slot f.0 ≡ true = rw f.2
+          (rw is (rw (eq-eqb held.lane held.lane refl) (rw (eq-eqb held.slot held.slot refl) refl))) in
+          let there : has_request_at held.lane held.slot x ≡ true = rw of
+          (rw (eq-eqb x.value.lane held.lane lane) (rw (eq-eqb x.value.slot held.slot slot) refl)) in
+          tally_one (has_request_at held.lane held.slot) p.table.seats k n x f.0
+          (omega (arith, once, sound.counted.requests held.lane held.slot)) at there f.1 its
 
       request_unqueued : times held.slot (all_entries (lane_of held.lane p.client_lanes).messages.queues) ≡ 0
       request_unqueued = omega (arith, once, request_held p hand sound.counted n held h is)
 
       -- its slot is written: the core stays sound
-      pub request_written_sound : (change : Written Q → Written Q) → IsSound (record p { client_lanes = with_slot p.client_lanes held.lane held.slot change }) hand
+      pub request_written_sound : (change : Written Q → Written Q)
+          → IsSound (record p { client_lanes = with_slot p.client_lanes held.lane held.slot change }) hand
       request_written_sound change =
           rewritten_sound p hand sound (with_slot p.client_lanes held.lane held.slot change) p.server_lanes
-          (slot_rewritten p.client_lanes held.lane held.slot change (request_spot p hand sound.counted n held h is).0) (lanes_unwritten p.server_lanes)
+          (slot_rewritten p.client_lanes held.lane held.slot change (request_spot p hand sound.counted n held h is).0)
+          (lanes_unwritten p.server_lanes)
 
       -- and the handle alone shows another message
       pub request_written_view : (change : Written Q → Written Q) (seen : Handle Q QH P PH → Handle Q QH P PH)
@@ -114,29 +133,39 @@ module _ {Q QH P PH K : Type 0} (p : Parts Q QH P PH K) (n : ℕ) (held : Held) 
           let within = (request_spot p hand sound.counted n held h is).0 in
           viewed (with_slot p.client_lanes held.lane held.slot change) p.server_lanes
           (λ key i. option_map_or
-          (λ server. waiting_same p.client_lanes held.lane held.slot change within (request_with p.spare_request_header) (λ j w. refl) request_unqueued key.client server.place 0 i)
+          (λ server. waiting_same p.client_lanes held.lane held.slot change within (request_with p.spare_request_header)
+          (λ j w. refl) request_unqueued key.client server.place 0 i)
           (find (λ server. server.port.id == key.server) p.servers)
           [])
           (λ key. refl)
           (λ k x at other. same_handle p q x.value.stage x.value.lane x.value.slot
-          (λ of. (sym (shown_other p.client_lanes held.lane held.slot change within (request_with p.spare_request_header) (λ j w. refl) x.value.lane x.value.slot (λ e f. other (request_alone k x at of e f))), refl))
+          (λ of. (
+            sym (shown_other p.client_lanes held.lane held.slot change within (request_with p.spare_request_header)
+                (λ j w. refl) x.value.lane x.value.slot (λ e f. other (request_alone k x at of e f))),
+            refl,
+          ))
           (λ of. refl))
           seen its
 
     module _ (is : is_of_response held.stage ≡ true) (once : response_uses p held.lane held.slot ≤ 1) where
       -- no other handle is of its response, and no entry
-      response_alone : (k : ℕ) (x : Seat Held) → fin_map.get p.table.seats k ≡ Some x → is_of_response x.value.stage ≡ true → x.value.lane ≡ held.lane → x.value.slot ≡ held.slot → k ≡ n
+      response_alone : (k : ℕ) (x : Seat Held) → fin_map.get p.table.seats k ≡ Some x → is_of_response x.value.stage ≡ true
+          → x.value.lane ≡ held.lane → x.value.slot ≡ held.slot → k ≡ n
       response_alone k x at of lane slot =
           let f = seat_under p.table n held h in
-          let its : has_response_at held.lane held.slot f.0 ≡ true = rw f.2 (rw is (rw (eq-eqb held.lane held.lane refl) (rw (eq-eqb held.slot held.slot refl) refl))) in
-          let there : has_response_at held.lane held.slot x ≡ true = rw of (rw (eq-eqb x.value.lane held.lane lane) (rw (eq-eqb x.value.slot held.slot slot) refl)) in
-          tally_one (has_response_at held.lane held.slot) p.table.seats k n x f.0 (omega (arith, once, sound.counted.responses held.lane held.slot)) at there f.1 its
+          let its : has_response_at held.lane held.slot f.0 ≡ true = rw f.2
+          (rw is (rw (eq-eqb held.lane held.lane refl) (rw (eq-eqb held.slot held.slot refl) refl))) in
+          let there : has_response_at held.lane held.slot x ≡ true = rw of
+          (rw (eq-eqb x.value.lane held.lane lane) (rw (eq-eqb x.value.slot held.slot slot) refl)) in
+          tally_one (has_response_at held.lane held.slot) p.table.seats k n x f.0
+          (omega (arith, once, sound.counted.responses held.lane held.slot)) at there f.1 its
 
       response_unqueued : times held.slot (all_entries (lane_of held.lane p.server_lanes).messages.queues) ≡ 0
       response_unqueued = omega (arith, once, response_held p hand sound.counted n held h is)
 
       -- its slot is written: the core stays sound
-      pub response_written_sound : (change : Written P → Written P) → IsSound (record p { server_lanes = with_slot p.server_lanes held.lane held.slot change }) hand
+      pub response_written_sound : (change : Written P → Written P)
+          → IsSound (record p { server_lanes = with_slot p.server_lanes held.lane held.slot change }) hand
       response_written_sound change =
           rewritten_sound p hand sound p.client_lanes (with_slot p.server_lanes held.lane held.slot change) (lanes_unwritten p.client_lanes)
           (slot_rewritten p.server_lanes held.lane held.slot change (response_spot p hand sound.counted n held h is).0)
@@ -152,10 +181,12 @@ module _ {Q QH P PH K : Type 0} (p : Parts Q QH P PH K) (n : ℕ) (held : Held) 
           viewed p.client_lanes (with_slot p.server_lanes held.lane held.slot change)
           (λ key. refl)
           (λ key i. option_map_or
-          (λ client. waiting_same p.server_lanes held.lane held.slot change within (response_with p.spare_response_header) (λ j w. refl) response_unqueued key.server client.place key.channel i)
+          (λ client. waiting_same p.server_lanes held.lane held.slot change within (response_with p.spare_response_header)
+          (λ j w. refl) response_unqueued key.server client.place key.channel i)
           (find (λ client. client.port.id == key.client) p.clients)
           [])
           (λ k x at other. same_handle p q x.value.stage x.value.lane x.value.slot
           (λ of. (refl, refl))
-          (λ of. sym (shown_other p.server_lanes held.lane held.slot change within (response_with p.spare_response_header) (λ j w. refl) x.value.lane x.value.slot (λ e f. other (response_alone k x at of e f)))))
+          (λ of. sym (shown_other p.server_lanes held.lane held.slot change within (response_with p.spare_response_header)
+          (λ j w. refl) x.value.lane x.value.slot (λ e f. other (response_alone k x at of e f)))))
           seen its

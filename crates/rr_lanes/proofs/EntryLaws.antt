@@ -30,19 +30,32 @@ times-first i x (y ∷ xs) h = let same : y ≡ x = cc in omega (arith, ap (λ z
 
 times-flat_map : {X : Type 0} (i : ℕ) (f : X → List ℕ) (xs : List X) → times i (flat_map f xs) ≡ sum_by (λ x. times i (f x)) xs
 times-flat_map i f [] = refl
-times-flat_map i f (x ∷ xs) = omega (arith, times-append i (f x) (flat_map f xs), times-flat_map i f xs, sum_by-cons (λ y. times i (f y)) x xs)
+times-flat_map i f (x ∷ xs) = omega (
+  arith,
+  times-append i (f x) (flat_map f xs),
+  times-flat_map i f xs,
+  sum_by-cons (λ y. times i (f y)) x xs,
+)
 
 -- how often a slot stands in the queues of one receiver
 abbrev in_row : ℕ → List (List ℕ) → ℕ
 in_row i row = times i (flat_map (λ queue. queue) row)
 
-in_row-set : (i : ℕ) (row : List (List ℕ)) (k : ℕ) (queue : List ℕ) → k < length row → in_row i (slice_set row k queue) + times i (get_or row k []) ≡ in_row i row + times i queue
+in_row-set : (i : ℕ) (row : List (List ℕ)) (k : ℕ) (queue : List ℕ) → k < length row
+    → in_row i (slice_set row k queue) + times i (get_or row k []) ≡ in_row i row + times i queue
 in_row-set i row k queue inside =
-    omega (arith, times-flat_map i (λ q. q) row, times-flat_map i (λ q. q) (slice_set row k queue), sum_by-set (times i) row k queue [] inside)
+    omega (
+      arith,
+      times-flat_map i (λ q. q) row,
+      times-flat_map i (λ q. q) (slice_set row k queue),
+      sum_by-set (times i) row k queue [] inside,
+    )
 
-module _ (rows : List (List (List ℕ))) (receiver channel : ℕ) (at : receiver < length rows) (inside : channel < length (get_or rows receiver [])) where
+module _ (rows : List (List (List ℕ))) (receiver channel : ℕ) (at : receiver < length rows)
+    (inside : channel < length (get_or rows receiver [])) where
   -- what the entries of a queue count among all
-  pub times-set_two : (i : ℕ) (queue : List ℕ) → times i (all_entries (set_two rows receiver channel queue)) + times i (at_two [] rows receiver channel) ≡ times i (all_entries rows) + times i queue
+  pub times-set_two : (i : ℕ) (queue : List ℕ) → times i (all_entries (set_two rows receiver channel queue)) + times i
+      (at_two [] rows receiver channel) ≡ times i (all_entries rows) + times i queue
   times-set_two i queue = omega (
     arith,
     times-flat_map i (flat_map (λ (q : List ℕ). q)) rows,
@@ -56,7 +69,8 @@ module _ (rows : List (List (List ℕ))) (receiver channel : ℕ) (at : receiver
 
 module _ {X : Type 0} (d : X) (rows : List (List X)) (i j : ℕ) where
   pub at_two-set_two : i < length rows → j < length (get_or rows i []) → (x : X) → at_two d (set_two rows i j x) i j ≡ x
-  at_two-set_two at inside x = ap (λ row. get_or row j d) (get_or-set_same rows i (slice_set (get_or rows i []) j x) [] at) ∙ get_or-set_same (get_or rows i []) j x d inside
+  at_two-set_two at inside x = ap (λ row. get_or row j d) (get_or-set_same rows i (slice_set (get_or rows i []) j x) [] at)
+      ∙ get_or-set_same (get_or rows i []) j x d inside
 
   -- an element set to itself
   pub set_two-itself : set_two rows i j (at_two d rows i j) ≡ rows
@@ -72,4 +86,10 @@ times-empty_row i (suc n) = times-empty_row i n
 
 pub times-empty : (i n channels : ℕ) → times i (all_entries (replicate n (replicate channels []))) ≡ 0
 times-empty i zero channels = refl
-times-empty i (suc n) channels = omega (arith, times-append i (flat_map (λ (q : List ℕ). q) (replicate channels [])) (all_entries (replicate n (replicate channels []))), times-empty_row i channels, times-empty i n channels)
+times-empty i (suc n) channels = omega (
+  arith,
+  times-append i
+      (flat_map (λ (q : List ℕ). q) (replicate channels [])) (all_entries (replicate n (replicate channels []))),
+  times-empty_row i channels,
+  times-empty i n channels,
+)

@@ -46,8 +46,12 @@ module _ {T N H : Type 0} (pool : Slots T) (heads : List (Head N H)) (s : Sent) 
       pub header_is : slice_get (headers_of heads) slot ≡ Some head.user_header
       header_is = slice_get-map (λ (h : Head N H). h.user_header) heads slot ∙ ap (option_map (λ (h : Head N H). h.user_header)) head_is
 
-      pub state-header : (header : H) → messages pool (slice_set heads slot (record { note = head.note; user_header = header })) s ≡ with_user_header (messages pool heads s) slot header
+      pub state-header : (header : H) → messages pool (slice_set heads slot (record { note = head.note; user_header = header })) s
+          ≡ with_user_header (messages pool heads s) slot header
       state-header header =
-          ap (λ notes. record (messages pool (slice_set heads slot (record { note = head.note; user_header = header })) s) { notes = notes })
-          (map-set_same (λ (h : Head N H). h.note) heads slot (record { note = head.note; user_header = header }) head (ap (λ (h : Head N H). h.note) is))
-          ∙ ap (λ headers. record (messages pool heads s) { user_headers = headers }) (map-set (λ (h : Head N H). h.user_header) heads slot (record { note = head.note; user_header = header }))
+          ap (λ notes. record (messages pool (slice_set heads slot (record { note = head.note; user_header = header })) s)
+          { notes = notes })
+          (map-set_same (λ (h : Head N H). h.note) heads slot (record { note = head.note; user_header = header }) head
+          (ap (λ (h : Head N H). h.note) is))
+          ∙ ap (λ headers. record (messages pool heads s) { user_headers = headers })
+          (map-set (λ (h : Head N H). h.user_header) heads slot (record { note = head.note; user_header = header }))

@@ -16,12 +16,14 @@ use Rattle.rr_lanes.proofs.HeldLaws.{length-held_of, held_at, held_becomes}
 
 module _ {T N H : Type 0} where
   -- of the first slots, each is used or free
-  used_or_free : (m : Messages T N H) (holders : List ℕ) → ((k : ℕ) → uses m k ≡ get_or holders k 0) → (n : ℕ) → n ≤ length holders → used_below m n + count_by (λ h. h == 0) (take n holders) ≡ n
+  used_or_free : (m : Messages T N H) (holders : List ℕ) → ((k : ℕ) → uses m k ≡ get_or holders k 0) → (n : ℕ) → n ≤ length holders
+      → used_below m n + count_by (λ h. h == 0) (take n holders) ≡ n
   used_or_free m holders same zero h = refl
   used_or_free m holders same (suc n) h =
       let more : suc n ≡ n + 1 = omega arith in
       let split : cond (uses m n == 0) 0 1 + cond (get_or holders n 0 == 0) 1 0 ≡ 1 =
-      ap (λ k. cond (k == 0) 0 1 + cond (get_or holders n 0 == 0) 1 0) (same n) ∙ elim (get_or holders n 0 == 0) as (λ b. cond b 0 1 + cond b 1 0 ≡ 1) [ true ↦ refl | false ↦ refl ] in
+      ap (λ k. cond (k == 0) 0 1 + cond (get_or holders n 0 == 0) 1 0) (same n)
+      ∙ elim (get_or holders n 0 == 0) as (λ b. cond b 0 1 + cond b 1 0 ≡ 1) [ true ↦ refl | false ↦ refl ] in
       omega (
         arith,
         split,
@@ -38,37 +40,49 @@ module _ {T N H : Type 0} where
     pub used-and-free : used_count (messages pool heads s) + free_count pool ≡ length pool.holders
     used-and-free =
         ap (λ n. used_below (messages pool heads s) n + free_count pool) (length-held_of pool.holders s.queues)
-        ∙ ap (λ holders. used_below (messages pool heads s) (length pool.holders) + count_by (λ h. h == 0) holders) (sym (take-length pool.holders))
+        ∙ ap (λ holders. used_below (messages pool heads s) (length pool.holders) + count_by (λ h. h == 0) holders)
+        (sym (take-length pool.holders))
         ∙ used_or_free (messages pool heads s) pool.holders held_is (length pool.holders) (omega arith)
 
     pub within_holders : (slot : ℕ) → 0 < get_or pool.holders slot 0 → slot < length pool.holders
-    within_holders slot some = ⊎_elim (λ h. h) (λ h. absurd (omega (arith, some, get_or_past pool.holders slot 0 h))) (cases_lt slot (length pool.holders))
+    within_holders slot some = ⊎_elim (λ h. h) (λ h. absurd (omega (arith, some, get_or_past pool.holders slot 0 h)))
+        (cases_lt slot (length pool.holders))
 
     -- the holders of one slot changed
-    held-set : (slot x n : ℕ) → slot < length pool.holders → x - times slot (all_entries s.queues) ≡ n → held_of (slice_set pool.holders slot x) s.queues ≡ slice_set (held_of pool.holders s.queues) slot n
+    held-set : (slot x n : ℕ) → slot < length pool.holders → x - times slot (all_entries s.queues) ≡ n
+        → held_of (slice_set pool.holders slot x) s.queues ≡ slice_set (held_of pool.holders s.queues) slot n
     held-set slot x n inside now =
         held_becomes pool.holders (slice_set pool.holders slot x) s.queues s.queues (length-set pool.holders slot x) slot n inside
         (omega (arith, now, get_or-set_same pool.holders slot x 0 inside))
         (λ k other. ap (λ h. h - times k (all_entries s.queues)) (get_or-set_other pool.holders slot k x 0 other))
 
     held-changed : (slot x looks n : ℕ) → 0 < get_or pool.holders slot 0 → x - times slot (all_entries s.queues) ≡ n
-        → messages (record pool { holders = slice_set pool.holders slot x; looks = looks }) heads s ≡ with_held (messages pool heads s) slot n
-    held-changed slot x looks n some now = ap (λ held. record (messages pool heads s) { held = held }) (held-set slot x n (within_holders slot some) now)
+        → messages (record pool { holders = slice_set pool.holders slot x; looks = looks }) heads s ≡ with_held
+        (messages pool heads s) slot n
+    held-changed slot x looks n some now = ap (λ held. record (messages pool heads s) { held = held })
+        (held-set slot x n (within_holders slot some) now)
 
-    pub state-hold : (slot : ℕ) → 0 < get_or pool.holders slot 0 → messages (held_once_more pool slot) heads s ≡ with_held (messages pool heads s) slot (get_or (held_of pool.holders s.queues) slot 0 + 1)
-    state-hold slot some = held-changed slot (get_or pool.holders slot 0 + 1) (pool.looks + 2) (get_or (held_of pool.holders s.queues) slot 0 + 1) some (omega (arith, held_is slot))
+    pub state-hold : (slot : ℕ) → 0 < get_or pool.holders slot 0
+        → messages (held_once_more pool slot) heads s ≡ with_held (messages pool heads s) slot
+        (get_or (held_of pool.holders s.queues) slot 0 + 1)
+    state-hold slot some = held-changed slot (get_or pool.holders slot 0 + 1) (pool.looks + 2)
+        (get_or (held_of pool.holders s.queues) slot 0 + 1) some (omega (arith, held_is slot))
 
     module _ (slot : ℕ) (some : 0 < get_or (held_of pool.holders s.queues) slot 0) where
       pub has_holder : 0 < get_or pool.holders slot 0
       has_holder = omega (arith, held_is slot)
 
-      pub state-give_back : messages (given_back pool slot) heads s ≡ with_held (messages pool heads s) slot (get_or (held_of pool.holders s.queues) slot 0 - 1)
-      state-give_back = held-changed slot (get_or pool.holders slot 0 - 1) (pool.looks + 2) (get_or (held_of pool.holders s.queues) slot 0 - 1) has_holder (omega (arith, held_is slot))
+      pub state-give_back : messages (given_back pool slot) heads s ≡ with_held (messages pool heads s) slot
+          (get_or (held_of pool.holders s.queues) slot 0 - 1)
+      state-give_back = held-changed slot (get_or pool.holders slot 0 - 1) (pool.looks + 2)
+          (get_or (held_of pool.holders s.queues) slot 0 - 1) has_holder (omega (arith, held_is slot))
 
       pub sound-give_back : IsSound (given_back pool slot) heads s
       sound-give_back = record {
         covered = λ k. ⊎_elim
-            (λ e. let here : get_or (slice_set pool.holders slot (get_or pool.holders slot 0 - 1)) slot 0 ≡ get_or pool.holders slot 0 - 1 = get_or-set_same pool.holders slot (get_or pool.holders slot 0 - 1) 0 (within_holders slot has_holder) in
+            (λ e. let here : get_or (slice_set pool.holders slot (get_or pool.holders slot 0 - 1)) slot 0
+            ≡ get_or pool.holders slot 0 - 1 = get_or-set_same pool.holders slot (get_or pool.holders slot 0 - 1) 0
+            (within_holders slot has_holder) in
             omega (
               arith,
               held_is slot,
@@ -92,16 +106,23 @@ module _ {T N H : Type 0} where
 
       pub no_handle : slice_get (held_of pool.holders s.queues) slot ≡ Some 0
       no_handle =
-          slice_get-get_or (held_of pool.holders s.queues) slot 0 (omega (arith, slice_get_within pool.holders slot 0 free, length-held_of pool.holders s.queues))
+          slice_get-get_or (held_of pool.holders s.queues) slot 0
+          (omega (arith, slice_get_within pool.holders slot 0 free, length-held_of pool.holders s.queues))
           ∙ (let none : get_or (held_of pool.holders s.queues) slot 0 ≡ 0 = omega (arith, held_is slot, no_holder) in ap Some none)
 
-      pub state-loan : (len : ℕ) (note : N) (header : H) → messages (acquired pool slot len) (slice_set heads slot (record { note = note; user_header = header })) s ≡ loaned (messages pool heads s) slot len note header
+      pub state-loan : (len : ℕ) (note : N) (header : H) → messages (acquired pool slot len)
+          (slice_set heads slot (record { note = note; user_header = header })) s ≡ loaned (messages pool heads s) slot len note header
       state-loan len note header =
-          ap (λ notes. record (messages (acquired pool slot len) (slice_set heads slot (record { note = note; user_header = header })) s) { notes = notes }) (map-set (λ (h : Head N H). h.note) heads slot (record { note = note; user_header = header }))
-          ∙ ap (λ headers. record (messages (acquired pool slot len) heads s) { notes = slice_set (notes_of heads) slot note; user_headers = headers }) (map-set (λ (h : Head N H). h.user_header) heads slot (record { note = note; user_header = header }))
-          ∙ ap (λ held. record (loaned (messages pool heads s) slot len note header) { held = held }) (held-set slot 1 1 (slice_get_within pool.holders slot 0 free) (omega (arith, no_entry)))
+          ap (λ notes. record (messages (acquired pool slot len) (slice_set heads slot (record { note = note; user_header = header })) s)
+          { notes = notes }) (map-set (λ (h : Head N H). h.note) heads slot (record { note = note; user_header = header }))
+          ∙ ap (λ headers. record (messages (acquired pool slot len) heads s)
+          { notes = slice_set (notes_of heads) slot note; user_headers = headers })
+          (map-set (λ (h : Head N H). h.user_header) heads slot (record { note = note; user_header = header }))
+          ∙ ap (λ held. record (loaned (messages pool heads s) slot len note header) { held = held })
+          (held-set slot 1 1 (slice_get_within pool.holders slot 0 free) (omega (arith, no_entry)))
 
-  pub sound-new : (slots room receivers channels capacity : ℕ) (heads : List (Head N H)) → length heads ≡ slots → IsSound {T = T} (free_slots slots room) heads (nothing_sent receivers channels capacity)
+  pub sound-new : (slots room receivers channels capacity : ℕ) (heads : List (Head N H)) → length heads ≡ slots
+      → IsSound {T = T} (free_slots slots room) heads (nothing_sent receivers channels capacity)
   sound-new slots room receivers channels capacity heads len = record {
     covered = λ k. omega (arith, times-empty k receivers channels);
     one_body_each = omega (arith, length-replicate slots (nothing_written {T = T} room), length-replicate {A = ℕ} slots 0);

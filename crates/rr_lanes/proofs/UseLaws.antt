@@ -18,7 +18,8 @@ times-le-length i [] = omega arith
 times-le-length i (x ∷ xs) = omega (arith, mark-le x i, times-le-length i xs)
 
 -- a slot stands in queues at most as often as they have room
-row-le : (i capacity : ℕ) (row : List (List ℕ)) → All (λ queue. length queue ≤ capacity) row → times i (flat_map (λ queue. queue) row) ≤ length row * capacity
+row-le : (i capacity : ℕ) (row : List (List ℕ)) → All (λ queue. length queue ≤ capacity) row
+    → times i (flat_map (λ queue. queue) row) ≤ length row * capacity
 row-le i capacity [] short = omega arith
 row-le i capacity (queue ∷ row) short = omega (
   arith,
@@ -28,7 +29,8 @@ row-le i capacity (queue ∷ row) short = omega (
   row-le i capacity row (All-tail (λ (q : List ℕ). length q ≤ capacity) queue row short),
 )
 
-pub times-le_room : (i channels capacity : ℕ) (queues : List (List (List ℕ))) → All (λ row. length row ≤ channels) queues → All (λ row. All (λ queue. length queue ≤ capacity) row) queues
+pub times-le_room : (i channels capacity : ℕ) (queues : List (List (List ℕ))) → All (λ row. length row ≤ channels) queues
+    → All (λ row. All (λ queue. length queue ≤ capacity) row) queues
     → times i (all_entries queues) ≤ length queues * (channels * capacity)
 times-le_room i channels capacity [] rows short = omega arith
 times-le_room i channels capacity (row ∷ queues) rows short = omega (
@@ -36,7 +38,8 @@ times-le_room i channels capacity (row ∷ queues) rows short = omega (
   times-append i (flat_map (λ (q : List ℕ). q) row) (all_entries queues),
   row-le i capacity row (All-head (λ r. All (λ (q : List ℕ). length q ≤ capacity) r) row queues short),
   mul-le-mul_right capacity (All-head (λ (r : List (List ℕ)). length r ≤ channels) row queues rows),
-  times-le_room i channels capacity queues (All-tail (λ (r : List (List ℕ)). length r ≤ channels) row queues rows) (All-tail (λ r. All (λ (q : List ℕ). length q ≤ capacity) r) row queues short),
+  times-le_room i channels capacity queues (All-tail (λ (r : List (List ℕ)). length r ≤ channels) row queues rows)
+      (All-tail (λ r. All (λ (q : List ℕ). length q ≤ capacity) r) row queues short),
 )
 
 -- the sum of what a function says of the numbers below n
@@ -65,13 +68,24 @@ below-zero (suc n) = omega (arith, below-zero n)
 
 below_times-le : (n : ℕ) (xs : List ℕ) → below (λ k. times k xs) n ≤ length xs
 below_times-le n [] = omega (arith, below-zero n)
-below_times-le n (x ∷ xs) = omega (arith, below-sum (λ k. times k (x ∷ xs)) (mark x) (λ k. times k xs) n (λ k. omega arith), below_mark-le x n, below_times-le n xs)
+below_times-le n (x ∷ xs) = omega (
+  arith,
+  below-sum (λ k. times k (x ∷ xs)) (mark x) (λ k. times k xs) n (λ k. omega arith),
+  below_mark-le x n,
+  below_times-le n xs,
+)
 
 below_at : (xs : List ℕ) (n : ℕ) → n ≤ length xs → below (λ k. get_or xs k 0) n ≡ sum (take n xs)
 below_at xs zero h = refl
 below_at xs (suc n) h =
     let more : n + 1 ≡ suc n = omega arith in
-    omega (arith, below_at xs n (omega arith), ap sum (take_more xs n 0 (omega arith)), sum_by_push (λ x. x) (take n xs) (get_or xs n 0), ap (λ k. sum (take k xs)) more)
+    omega (
+      arith,
+      below_at xs n (omega arith),
+      ap sum (take_more xs n 0 (omega arith)),
+      sum_by_push (λ x. x) (take n xs) (get_or xs n 0),
+      ap (λ k. sum (take k xs)) more,
+    )
 
 is_used-le : (n : ℕ) → cond (n == 0) 0 1 ≤ n
 is_used-le zero = omega arith
@@ -87,7 +101,8 @@ module _ {T N H : Type 0} (m : Messages T N H) where
   used-le = omega (
     arith,
     used_below-is (length m.held),
-    below-sum (λ k. cond (uses m k == 0) 0 1) (λ k. get_or m.held k 0) (λ k. times k (all_entries m.queues)) (length m.held) (λ k. is_used-le (uses m k)),
+    below-sum (λ k. cond (uses m k == 0) 0 1) (λ k. get_or m.held k 0) (λ k. times k (all_entries m.queues)) (length m.held)
+        (λ k. is_used-le (uses m k)),
     below_at m.held (length m.held) (omega arith),
     ap sum (take-length m.held),
     below_times-le (length m.held) (all_entries m.queues),

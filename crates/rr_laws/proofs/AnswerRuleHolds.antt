@@ -57,28 +57,42 @@ module _ {T H K : Type 0} where
         first = λ no_overflow server p made. absurd (false_is_true made);
       }
     where
-      unlisted : (n : ℕ) (key : RequestKey) → 0 < listed (empty_hub {Q = T} {QH = H} {P = T} {PH = H} {K = K} limits node_id).requests n key → ⊥
-      unlisted n key some = absurd (omega (arith, some, ap (count_by (λ (m : RequestMessage T H). eqb m.number n)) (at-no_lists request_key_cmp key)))
+      unlisted : (n : ℕ) (key : RequestKey) → 0 < listed (empty_hub {Q = T} {QH = H} {P = T} {PH = H} {K = K} limits node_id).requests n key
+          → ⊥
+      unlisted n key some = absurd (omega (
+        arith,
+        some,
+        ap (count_by (λ (m : RequestMessage T H). eqb m.number n))
+            (at-no_lists request_key_cmp key),
+      ))
 
 -- a request that no server received gets nothing, and nothing is sent for it
-pub unasked_same : {T H K : Type 0} (history : List (Event T H K)) (server p : ℕ) → ((a : ℕ) → WasReceived history server a p → ⊥) → received_from history server p ≡ sent_for history server p
+pub unasked_same : {T H K : Type 0} (history : List (Event T H K)) (server p : ℕ) → ((a : ℕ) → WasReceived history server a p → ⊥)
+    → received_from history server p ≡ sent_for history server p
 unasked_same history server p not =
     let never = unasked_answers history server p not in
-    filter_never (is_answer history server p) never (filter_map (received_by p) history) ∙ sym (filter_never (is_answer history server p) never (filter_map sent_by history))
+    filter_never (is_answer history server p) never (filter_map (received_by p) history)
+    ∙ sym (filter_never (is_answer history server p) never (filter_map sent_by history))
 
 -- a server whose value lives is connected
-pub held_connected : {Q QH P PH K : Type 0} (s : State Q QH P PH K) (n : ℕ) → is_server_held s n ≡ true → (c : Server K) × (server_at s n ≡ Some c)
+pub held_connected : {Q QH P PH K : Type 0} (s : State Q QH P PH K) (n : ℕ) → is_server_held s n ≡ true → (c : Server K)
+    × (server_at s n ≡ Some c)
 held_connected {Q} {QH} {P} {PH} {K} s n held =
-    go (server_at s n) refl (any_found (λ (c : Server K). eqb c.id n) s.servers ∙ any_weaker (λ (c : Server K). eqb c.id n && c.is_held) (λ c. eqb c.id n) (λ c h. and_first (eqb c.id n) c.is_held h) s.servers held)
+    go (server_at s n) refl (any_found (λ (c : Server K). eqb c.id n) s.servers
+    ∙ any_weaker (λ (c : Server K). eqb c.id n && c.is_held) (λ c. eqb c.id n)
+    (λ c h. and_first (eqb c.id n) c.is_held h) s.servers held)
   where
     go : (o : Option (Server K)) → server_at s n ≡ o → is_some o ≡ true → (c : Server K) × (server_at s n ≡ Some c)
     go None is some = absurd (false_is_true some)
     go (Some c) is some = (c, is)
 
-module _ {T H K : Type 0} (answer : K → ℕ → ℕ → BackpressureAction) (IsDefaultElement : T → Type 0) (IsDefaultHeader : H → Type 0) (family : Family) where
+module _ {T H K : Type 0} (answer : K → ℕ → ℕ → BackpressureAction) (IsDefaultElement : T → Type 0) (IsDefaultHeader : H → Type 0)
+    (family : Family) where
   -- whatever is run, a request has received all that does not stand in a list
-  pub run_completes : (before : List (Event T H K)) (old : State T H T H K) → IsReached old → IsApart old → IsLeftFit old → Follows before old → Completes before old → (events : List (Event T H K)) (new : State T H T H K) →
-      Run answer IsDefaultElement IsDefaultHeader family old (map (λ e. e.0) events) (map (λ e. e.1) events) new → Follows (before ++ events) new × Completes (before ++ events) new
+  pub run_completes : (before : List (Event T H K)) (old : State T H T H K) → IsReached old → IsApart old → IsLeftFit old
+      → Follows before old → Completes before old → (events : List (Event T H K)) (new : State T H T H K) →
+      Run answer IsDefaultElement IsDefaultHeader family old (map (λ e. e.0) events) (map (λ e. e.1) events) new
+      → Follows (before ++ events) new × Completes (before ++ events) new
   run_completes before old fits apart left follows completes [] new run =
       subst (λ (x : State T H T H K). Follows (before ++ []) x × Completes (before ++ []) x) (sym run)
       (subst (λ h. Follows h old × Completes h old) (sym (append-nil before)) (follows, completes))
@@ -87,44 +101,62 @@ module _ {T H K : Type 0} (answer : K → ℕ → ℕ → BackpressureAction) (I
       let mid_fits = step_reached answer IsDefaultElement IsDefaultHeader family old fits event.0 event.1 mid run.1 in
       let mid_apart = step_apart answer IsDefaultElement IsDefaultHeader family old fits apart event.0 event.1 mid run.1 in
       let mid_left = step_left answer IsDefaultElement IsDefaultHeader family old fits left event.0 event.1 mid run.1 in
-      let mid_follows = step_follows answer IsDefaultElement IsDefaultHeader family before old fits apart follows event.0 event.1 mid mid_apart run.1 in
+      let mid_follows = step_follows answer IsDefaultElement IsDefaultHeader family before old fits apart follows event.0 event.1 mid
+      mid_apart run.1 in
       let limits = step_keeps_limits answer IsDefaultElement IsDefaultHeader family old event.0 event.1 mid run.1 in
-      let mid_completes = step_completes answer IsDefaultElement IsDefaultHeader family before old fits apart left follows completes event.0 event.1 mid mid_apart (mid_follows, limits) run.1 in
-      subst (λ h. Follows h new × Completes h new) (append_assoc before (event ∷ []) events) (run_completes (before ++ event ∷ []) mid mid_fits mid_apart mid_left mid_follows mid_completes events new run.2)
+      let mid_completes = step_completes answer IsDefaultElement IsDefaultHeader family before old fits apart left follows completes event.0
+      event.1 mid mid_apart (mid_follows, limits) run.1 in
+      subst (λ h. Follows h new × Completes h new) (append_assoc before (event ∷ []) events)
+      (run_completes (before ++ event ∷ []) mid mid_fits mid_apart mid_left mid_follows mid_completes events new run.2)
 
   module _ (limits : Limits) (node_id : ℕ) (makes_hub : hub_refusal limits ≡ None) where
-    completes_from_empty : (history : List (Event T H K)) (s : State T H T H K) → Run answer IsDefaultElement IsDefaultHeader family (empty_hub limits node_id) (map (λ e. e.0) history) (map (λ e. e.1) history) s → Completes history s
+    completes_from_empty : (history : List (Event T H K)) (s : State T H T H K)
+        → Run answer IsDefaultElement IsDefaultHeader family (empty_hub limits node_id) (map (λ e. e.0) history) (map (λ e. e.1) history) s
+        → Completes history s
     completes_from_empty history s run =
         (run_completes [] (empty_hub limits node_id) (empty_hub_reached limits node_id makes_hub) (empty_hub_apart T H T H K limits node_id)
-        (left_from_empty answer IsDefaultElement IsDefaultHeader family limits node_id makes_hub [] [] (empty_hub limits node_id) refl) (empty_follows limits node_id) (empty_completes limits node_id) history s run).1
+        (left_from_empty answer IsDefaultElement IsDefaultHeader family limits node_id makes_hub [] [] (empty_hub limits node_id) refl)
+        (empty_follows limits node_id) (empty_completes limits node_id) history s run).1
 
-    keeps_limits : (history : List (Event T H K)) (s : State T H T H K) → Run answer IsDefaultElement IsDefaultHeader family (empty_hub limits node_id) (map (λ e. e.0) history) (map (λ e. e.1) history) s → s.limits ≡ limits
-    keeps_limits history s run = run_keeps_limits answer IsDefaultElement IsDefaultHeader family (empty_hub limits node_id) (map (λ e. e.0) history) (map (λ e. e.1) history) s run
+    keeps_limits : (history : List (Event T H K)) (s : State T H T H K)
+        → Run answer IsDefaultElement IsDefaultHeader family (empty_hub limits node_id) (map (λ e. e.0) history) (map (λ e. e.1) history) s
+        → s.limits ≡ limits
+    keeps_limits history s run = run_keeps_limits answer IsDefaultElement IsDefaultHeader family (empty_hub limits node_id)
+        (map (λ e. e.0) history) (map (λ e. e.1) history) s run
 
     -- what is received from a server that waits for room has no gap
     pub receives_without_gap : limits.enable_safe_overflow_for_responses ≡ false → (history : List (Event T H K)) (s : State T H T H K) →
-        Run answer IsDefaultElement IsDefaultHeader family (empty_hub limits node_id) (map (λ e. e.0) history) (map (λ e. e.1) history) s → ReceivesWithoutGap history
+        Run answer IsDefaultElement IsDefaultHeader family (empty_hub limits node_id) (map (λ e. e.0) history) (map (λ e. e.1) history) s
+        → ReceivesWithoutGap history
     receives_without_gap no_overflow history s run server p made =
         prefix_front (received_from history server p) (queued s server p) (sent_for history server p)
-        ((completes_from_empty history s run).first (ap (λ (l : Limits). l.enable_safe_overflow_for_responses) (keeps_limits history s run) ∙ no_overflow) server p made)
+        ((completes_from_empty history s run).first (ap (λ (l : Limits). l.enable_safe_overflow_for_responses) (keeps_limits history s run)
+        ∙ no_overflow) server p made)
 
     -- where nothing is received, all that such a server sent was, if it was not released
     pub receives_all : limits.enable_safe_overflow_for_responses ≡ false → (history : List (Event T H K)) (s : State T H T H K) →
-        Run answer IsDefaultElement IsDefaultHeader family (empty_hub limits node_id) (map (λ e. e.0) history) (map (λ e. e.1) history) s → ReceivesAll history
+        Run answer IsDefaultElement IsDefaultHeader family (empty_hub limits node_id) (map (λ e. e.0) history) (map (λ e. e.1) history) s
+        → ReceivesAll history
     receives_all no_overflow history s run before after server p is made kept =
-        let at = run_at answer IsDefaultElement IsDefaultHeader family before (Command.Receive p, Reply.Nothing) after (empty_hub limits node_id) s
-        (subst (λ h. Run answer IsDefaultElement IsDefaultHeader family (empty_hub limits node_id) (map (λ e. e.0) h) (map (λ e. e.1) h) s) is run) in
+        let at = run_at answer IsDefaultElement IsDefaultHeader family before (Command.Receive p, Reply.Nothing) after
+        (empty_hub limits node_id) s
+        (subst (λ h. Run answer IsDefaultElement IsDefaultHeader family (empty_hub limits node_id) (map (λ e. e.0) h) (map (λ e. e.1) h) s)
+        is run) in
         let mid : State T H T H K = at.0 in
         let completes = completes_from_empty before mid at.2 in
-        let still : mid.limits.enable_safe_overflow_for_responses ≡ false = ap (λ (l : Limits). l.enable_safe_overflow_for_responses) (keeps_limits before mid at.2) ∙ no_overflow in
+        let still : mid.limits.enable_safe_overflow_for_responses ≡ false = ap (λ (l : Limits). l.enable_safe_overflow_for_responses)
+        (keeps_limits before mid at.2) ∙ no_overflow in
         ⊎_elim
-        (λ (request : ReceivesRequest mid p (Ok None) at.1). unasked_same before server p (λ a was. a_server (server_at mid p) refl request.0 (completes.under_way a server p was).no_server))
+        (λ (request : ReceivesRequest mid p (Ok None) at.1). unasked_same before server p
+        (λ a was. a_server (server_at mid p) refl request.0 (completes.under_way a server p was).no_server))
         (λ (response : ReceivesResponse mid p (Ok None) at.1).
         let o = some_and (pending_at mid p) _ response in
-        let waits : get (roles_of mid.handles) p ≡ Some (SentRequest (question_of o.0.message)) = role_at mid.handles p (PendingResponse o.0) (from_pending (handle_at mid p) o.0 o.1) in
+        let waits : get (roles_of mid.handles) p ≡ Some (SentRequest (question_of o.0.message)) = role_at mid.handles p
+        (PendingResponse o.0) (from_pending (handle_at mid p) o.0 o.1) in
         let connected = held_connected mid server (completes.held server made kept) in
         let nothing : queued mid server p ≡ [] =
-        entries-waiting (roles_of mid.handles) mid.responses server p (SentRequest (question_of o.0.message)) (question_of o.0.message) waits refl ∙ ap (map (λ m. m.number)) (o.2.0 server) in
+        entries-waiting (roles_of mid.handles) mid.responses server p (SentRequest (question_of o.0.message))
+        (question_of o.0.message) waits refl ∙ ap (map (λ m. m.number)) (o.2.0 server) in
         sym (append-nil (received_from before server p)) ∙ ap (λ xs. received_from before server p ++ xs) (sym nothing)
         ∙ completes.whole still server p made ((question_of o.0.message, waits), connected))
         (step_acts answer IsDefaultElement IsDefaultHeader family mid (Command.Receive p) Reply.Nothing at.1 refl at.3)
@@ -134,7 +166,9 @@ module _ {T H K : Type 0} (answer : K → ℕ → ℕ → BackpressureAction) (I
         a_server (Some c) is some not = not c is
 
     -- the answer rule
-    pub keeps_answer_rule : (history : List (Event T H K)) (s : State T H T H K) → Run answer IsDefaultElement IsDefaultHeader family (empty_hub limits node_id) (map (λ e. e.0) history) (map (λ e. e.1) history) s →
+    pub keeps_answer_rule : (history : List (Event T H K)) (s : State T H T H K)
+        → Run answer IsDefaultElement IsDefaultHeader family (empty_hub limits node_id) (map (λ e. e.0) history) (map (λ e. e.1) history) s
+        →
         KeepsAnswerRule limits history
     keeps_answer_rule history s run =
         record {

@@ -30,7 +30,8 @@ channels_stay_apart roles later old apart n k q p e f client channel = apart n k
 
 module _ (roles : Roles) where
   -- a role that asks for what the one in its place asked for, or for nothing
-  pub asks_nothing_new_with : (n : ℕ) (role : Role) → ((p : Question) → asking role ≡ Some p → asking_at roles n ≡ Some p) → AsksNothingNew roles (insert roles n role)
+  pub asks_nothing_new_with : (n : ℕ) (role : Role) → ((p : Question) → asking role ≡ Some p → asking_at roles n ≡ Some p)
+      → AsksNothingNew roles (insert roles n role)
   asks_nothing_new_with n role same k p e = asking_stays_with roles n (k + 1) role same k p (omega arith) e
 
   -- one role less
@@ -43,7 +44,8 @@ module _ (roles : Roles) where
 
   -- nor does one in the place of another
   pub names_nothing_new_at : (n next : ℕ) (old role : Role) → get roles n ≡ Some old → NamesNothingNew roles (insert roles n role) next
-  names_nothing_new_at n next old role at k below none = get-insert_other roles n role k (λ is. absurd (let f : None ≡ Some old = sym none ∙ ap (get roles) is ∙ at in cc)) ∙ none
+  names_nothing_new_at n next old role at k below none = get-insert_other roles n role k
+      (λ is. absurd (let f : None ≡ Some old = sym none ∙ ap (get roles) is ∙ at in cc)) ∙ none
 
   -- nor does one role less
   pub names_nothing_new_without : (n next : ℕ) → NamesNothingNew roles (remove roles n) next
@@ -60,38 +62,53 @@ count-drop p (suc k) (x ∷ xs) = omega (arith, count-drop p k xs, count-cons p 
 
 module _ {T H : Type 0} where
   -- lists that lost entries at the front have no more of any number
-  pub standing_shrinks : (lists shorter : Lists response_key_cmp (ResponseMessage T H)) → Shrinks lists shorter → (number : ℕ) (key : ResponseKey) → standing shorter number key ≤ standing lists number key
+  pub standing_shrinks : (lists shorter : Lists response_key_cmp (ResponseMessage T H)) → Shrinks lists shorter
+      → (number : ℕ) (key : ResponseKey) → standing shorter number key ≤ standing lists number key
   standing_shrinks lists shorter shrinks number key =
-      subst (λ entries. count_by (λ m. eqb m.number number) entries ≤ standing lists number key) (sym (shrinks key).1) (count-drop (λ m. eqb m.number number) (shrinks key).0 (at lists key))
+      subst (λ entries. count_by (λ m. eqb m.number number) entries ≤ standing lists number key) (sym (shrinks key).1)
+      (count-drop (λ m. eqb m.number number) (shrinks key).0 (at lists key))
 
   -- a number that stands somewhere was given
-  pub standing_below : (limits : Limits) (roles : Roles) (next : ℕ) (lists : Lists response_key_cmp (ResponseMessage T H)) → ResponsesFit limits roles next lists → (number : ℕ) (key : ResponseKey) →
+  pub standing_below : (limits : Limits) (roles : Roles) (next : ℕ) (lists : Lists response_key_cmp (ResponseMessage T H))
+      → ResponsesFit limits roles next lists → (number : ℕ) (key : ResponseKey) →
       0 < standing lists number key → number < next
   standing_below limits roles next lists fits number key some = go (at lists key) (fits.each key) some
     where
-      go : (entries : List (ResponseMessage T H)) → AllByRecursion (ResponseFits roles next key) entries → 0 < count_by (λ m. eqb m.number number) entries → number < next
+      go : (entries : List (ResponseMessage T H)) → AllByRecursion (ResponseFits roles next key) entries
+          → 0 < count_by (λ m. eqb m.number number) entries → number < next
       go [] all some = absurd (omega arith)
       go (m ∷ entries) all some = first (go entries all.1) (eqb m.number number) refl
         where
           first : (0 < count_by (λ x. eqb x.number number) entries → number < next) → (b : Bool) → eqb m.number number ≡ b → number < next
           first rest true is = omega (arith, eqb-true m.number number is, all.0.below)
-          first rest false is = rest (omega (arith, some, count-cons (λ (x : ResponseMessage T H). eqb x.number number) m entries, ap mark is))
+          first rest false is = rest (omega (
+            arith,
+            some,
+            count-cons (λ (x : ResponseMessage T H). eqb x.number number) m entries,
+            ap mark is,
+          ))
 
   -- responses stay apart where no list has more of a number, and no number that was given names a new handle
-  pub responses_stay_apart : (limits : Limits) (roles later : Roles) (next : ℕ) (lists shorter : Lists response_key_cmp (ResponseMessage T H)) → ResponsesFit limits roles next lists →
-      NamesNothingNew roles later next → ((number : ℕ) (key : ResponseKey) → standing shorter number key ≤ standing lists number key) → ResponsesApart roles lists → ResponsesApart later shorter
+  pub responses_stay_apart : (limits : Limits) (roles later : Roles) (next : ℕ)
+      (lists shorter : Lists response_key_cmp (ResponseMessage T H)) → ResponsesFit limits roles next lists →
+      NamesNothingNew roles later next → ((number : ℕ) (key : ResponseKey) → standing shorter number key ≤ standing lists number key)
+      → ResponsesApart roles lists → ResponsesApart later shorter
   responses_stay_apart limits roles later next lists shorter fits old fewer apart =
       record {
         once = λ number key. omega (arith, fewer number key, apart.once number key);
-        one_list = λ number key other here there. apart.one_list number key other (omega (arith, fewer number key, here)) (omega (arith, fewer number other, there));
+        one_list = λ number key other here there. apart.one_list number key other (omega (arith, fewer number key, here))
+            (omega (arith, fewer number other, there));
         no_handle = λ number key here.
             let before : 0 < standing lists number key = omega (arith, fewer number key, here) in
             old number (standing_below limits roles next lists fits number key before) (apart.no_handle number key before);
       }
 
   -- both stay, where the lists of responses are the same
-  pub stay_apart : (limits : Limits) (roles later : Roles) (next : ℕ) (lists shorter : Lists response_key_cmp (ResponseMessage T H)) → ResponsesFit limits roles next lists →
-      AsksNothingNew roles later → NamesNothingNew roles later next → ((number : ℕ) (key : ResponseKey) → standing shorter number key ≤ standing lists number key) → AreApart roles lists → AreApart later shorter
+  pub stay_apart : (limits : Limits) (roles later : Roles) (next : ℕ) (lists shorter : Lists response_key_cmp (ResponseMessage T H))
+      → ResponsesFit limits roles next lists →
+      AsksNothingNew roles later → NamesNothingNew roles later next
+      → ((number : ℕ) (key : ResponseKey) → standing shorter number key ≤ standing lists number key) → AreApart roles lists
+      → AreApart later shorter
   stay_apart limits roles later next lists shorter fits asks names fewer apart =
       record {
         channels = channels_stay_apart roles later asks apart.channels;
@@ -99,5 +116,6 @@ module _ {T H : Type 0} where
       }
 
   -- the same lists have as many
-  pub no_fewer : (lists : Lists response_key_cmp (ResponseMessage T H)) (number : ℕ) (key : ResponseKey) → standing lists number key ≤ standing lists number key
+  pub no_fewer : (lists : Lists response_key_cmp (ResponseMessage T H)) (number : ℕ) (key : ResponseKey)
+      → standing lists number key ≤ standing lists number key
   no_fewer lists number key = omega arith

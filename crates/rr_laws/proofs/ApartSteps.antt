@@ -44,10 +44,12 @@ module _ (P PH : Type 0) where
   nothing_stands number key = ap (count_by (λ (m : ResponseMessage P PH). eqb m.number number)) (at-no_lists response_key_cmp key)
 
 -- in the empty hub nothing stands together
-pub empty_hub_apart : (Q QH P PH K : Type 0) (limits : Limits) (node_id : ℕ) → IsApart (empty_hub {Q = Q} {QH = QH} {P = P} {PH = PH} {K = K} limits node_id)
+pub empty_hub_apart : (Q QH P PH K : Type 0) (limits : Limits) (node_id : ℕ)
+    → IsApart (empty_hub {Q = Q} {QH = QH} {P = P} {PH = PH} {K = K} limits node_id)
 empty_hub_apart Q QH P PH K limits node_id =
     subst (λ r. AreApart {T = P} {H = PH} r no_lists) (sym (map_values-empty (role_of {Q = Q} {QH = QH} {P = P} {PH = PH}))) (record {
-      channels = λ n k q p e f client channel. absurd (let none : Some q ≡ None = sym e ∙ ap (option_and_then asking) (get-empty nat_cmp n) in cc);
+      channels = λ n k q p e f client channel. absurd (let none : Some q ≡ None = sym e
+          ∙ ap (option_and_then asking) (get-empty nat_cmp n) in cc);
       responses = record {
         once = λ number key. omega (arith, nothing_stands P PH number key);
         one_list = λ number key other some more. absurd (omega (arith, some, nothing_stands P PH number key));
@@ -59,39 +61,51 @@ module _ {T H K : Type 0} where
   same_apart : (old new : State T H T H K) → new ≡ old → IsApart old → IsApart new
   same_apart old new same apart = subst (λ (x : State T H T H K). IsApart x) (sym same) apart
 
-  creates_client_apart : (s : State T H T H K) → IsApart s → (settings : ClientSettings K) (result : Result ℕ ClientCreateError) (new : State T H T H K) → CreatesClient s settings result new → IsApart new
+  creates_client_apart : (s : State T H T H K) → IsApart s → (settings : ClientSettings K) (result : Result ℕ ClientCreateError)
+      (new : State T H T H K) → CreatesClient s settings result new → IsApart new
   creates_client_apart s apart settings (Ok number) new made = same_apart _ new made.2 apart
   creates_client_apart s apart settings (Err error) new made = same_apart s new made.1 apart
 
-  creates_server_apart : (s : State T H T H K) → IsApart s → (settings : ServerSettings K) (result : Result ℕ ServerCreateError) (new : State T H T H K) → CreatesServer s settings result new → IsApart new
+  creates_server_apart : (s : State T H T H K) → IsApart s → (settings : ServerSettings K) (result : Result ℕ ServerCreateError)
+      (new : State T H T H K) → CreatesServer s settings result new → IsApart new
   creates_server_apart s apart settings (Ok number) new made = same_apart _ new made.2 apart
   creates_server_apart s apart settings (Err error) new made = same_apart s new made.1 apart
 
   content_apart : (s : State T H T H K) (n : ℕ) (change : Content T H → Content T H) → IsApart s → IsApart (with_content s n change)
-  content_apart s n change apart = changed_apart s n (λ h. with_request_content change (with_response_content change h)) (content_role change) apart
+  content_apart s n change apart = changed_apart s n (λ h. with_request_content change (with_response_content change h))
+      (content_role change) apart
 
   -- all elements of a message are written
   pub complete_apart : (s : State T H T H K) (n : ℕ) (elements : List T) → IsApart s → IsApart (with_complete s n elements)
-  complete_apart s n elements apart = changed_apart (with_content s n (with_elements elements)) n after_init init_role (content_apart s n (with_elements elements) apart)
+  complete_apart s n elements apart = changed_apart (with_content s n (with_elements elements)) n after_init init_role
+      (content_apart s n (with_elements elements) apart)
 
-  written : (old new : State T H T H K) (n : ℕ) (b : Bool) (change : Content T H → Content T H) → new ≡ cond b (with_content old n change) old → IsApart old → IsApart new
+  written : (old new : State T H T H K) (n : ℕ) (b : Bool) (change : Content T H → Content T H)
+      → new ≡ cond b (with_content old n change) old → IsApart old → IsApart new
   written old new n true change same apart = same_apart (with_content old n change) new same (content_apart old n change apart)
   written old new n false change same apart = same_apart old new same apart
 
-module _ {T H K : Type 0} (answer : K → ℕ → ℕ → BackpressureAction) (IsDefaultElement : T → Type 0) (IsDefaultHeader : H → Type 0) (family : Family) where
+module _ {T H K : Type 0} (answer : K → ℕ → ℕ → BackpressureAction) (IsDefaultElement : T → Type 0) (IsDefaultHeader : H → Type 0)
+    (family : Family) where
   loans_apart : (old : State T H T H K) → IsReached old → IsApart old → (n len : ℕ) (result : Result ℕ LoanError) (new : State T H T H K) →
       Loans answer IsDefaultElement IsDefaultHeader family old n len result new → IsApart new
   loans_apart old fits apart n len result new loans =
-      ⊎_elim (loans_request_apart IsDefaultHeader old fits apart n len result new) (loans_response_apart IsDefaultHeader old fits apart n len result new) loans
+      ⊎_elim (loans_request_apart IsDefaultHeader old fits apart n len result new)
+      (loans_response_apart IsDefaultHeader old fits apart n len result new) loans
 
   -- after any command that acts
-  pub acts_apart : (old : State T H T H K) → IsReached old → IsApart old → (command : Command T H K) (reply : Reply T H) (new : State T H T H K) →
+  pub acts_apart : (old : State T H T H K) → IsReached old → IsApart old
+      → (command : Command T H K) (reply : Reply T H) (new : State T H T H K) →
       Acts answer IsDefaultElement IsDefaultHeader family old command reply new → IsApart new
-  acts_apart old fits apart (Command.CreateClient settings) (Reply.Created n) new acts = creates_client_apart old apart (client_settings family settings) (Ok n) new acts
-  acts_apart old fits apart (Command.CreateClient settings) (Reply.ClientError e) new acts = creates_client_apart old apart (client_settings family settings) (Err e) new acts
+  acts_apart old fits apart (Command.CreateClient settings) (Reply.Created n) new acts = creates_client_apart old apart
+      (client_settings family settings) (Ok n) new acts
+  acts_apart old fits apart (Command.CreateClient settings) (Reply.ClientError e) new acts = creates_client_apart old apart
+      (client_settings family settings) (Err e) new acts
   acts_apart old fits apart (Command.CreateClient settings) Reply.NoMemory new acts = same_apart old new acts apart
-  acts_apart old fits apart (Command.CreateServer settings) (Reply.Created n) new acts = creates_server_apart old apart (server_settings family settings) (Ok n) new acts
-  acts_apart old fits apart (Command.CreateServer settings) (Reply.ServerError e) new acts = creates_server_apart old apart (server_settings family settings) (Err e) new acts
+  acts_apart old fits apart (Command.CreateServer settings) (Reply.Created n) new acts = creates_server_apart old apart
+      (server_settings family settings) (Ok n) new acts
+  acts_apart old fits apart (Command.CreateServer settings) (Reply.ServerError e) new acts = creates_server_apart old apart
+      (server_settings family settings) (Err e) new acts
   acts_apart old fits apart (Command.CreateServer settings) Reply.NoMemory new acts = same_apart old new acts apart
   acts_apart old fits apart (Command.Loan n len) (Reply.Loaned k) new acts = loans_apart old fits apart n len (Ok k) new acts
   acts_apart old fits apart (Command.Loan n len) (Reply.LoanError e) new acts = loans_apart old fits apart n len (Err e) new acts
@@ -103,13 +117,15 @@ module _ {T H K : Type 0} (answer : K → ℕ → ℕ → BackpressureAction) (I
   acts_apart old fits apart (Command.SendCopy n v) (Reply.Pending k connections) new acts =
       sends_request_apart answer (with_complete acts.0 k (v ∷ []))
       (complete_reached acts.0 k (v ∷ []) (loans_request_reached old fits IsDefaultHeader n 1 (Ok k) acts.0 acts.1))
-      (complete_apart acts.0 k (v ∷ []) (loans_request_apart IsDefaultHeader old fits apart n 1 (Ok k) acts.0 acts.1)) k (Ok connections) new acts.2
+      (complete_apart acts.0 k (v ∷ []) (loans_request_apart IsDefaultHeader old fits apart n 1 (Ok k) acts.0 acts.1)) k
+      (Ok connections) new acts.2
   acts_apart old fits apart (Command.SendCopy n v) (Reply.RequestError e) new acts =
       ⊎_elim
       (λ loan. loans_request_apart IsDefaultHeader old fits apart n 1 (Err loan.0) new loan.1)
       (λ send. sends_request_apart answer (with_complete send.0 send.1 (v ∷ []))
       (complete_reached send.0 send.1 (v ∷ []) (loans_request_reached old fits IsDefaultHeader n 1 (Ok send.1) send.0 send.2))
-      (complete_apart send.0 send.1 (v ∷ []) (loans_request_apart IsDefaultHeader old fits apart n 1 (Ok send.1) send.0 send.2)) send.1 (Err e) new send.3)
+      (complete_apart send.0 send.1 (v ∷ []) (loans_request_apart IsDefaultHeader old fits apart n 1 (Ok send.1) send.0 send.2)) send.1
+      (Err e) new send.3)
       acts
   acts_apart old fits apart (Command.SendCopy n v) (Reply.Sent k) new acts =
       sends_response_apart answer (with_complete acts.0 k (v ∷ []))
@@ -120,22 +136,32 @@ module _ {T H K : Type 0} (answer : K → ℕ → ℕ → BackpressureAction) (I
       (λ loan. loans_response_apart IsDefaultHeader old fits apart n 1 (Err loan.0) new loan.1)
       (λ send. sends_response_apart {U = ℕ} answer (with_complete send.0 send.1 (v ∷ []))
       (complete_reached send.0 send.1 (v ∷ []) (loans_response_reached old fits IsDefaultHeader n 1 (Ok send.1) send.0 send.2))
-      (complete_apart send.0 send.1 (v ∷ []) (loans_response_apart IsDefaultHeader old fits apart n 1 (Ok send.1) send.0 send.2)) send.1 (Err e) new send.3)
+      (complete_apart send.0 send.1 (v ∷ []) (loans_response_apart IsDefaultHeader old fits apart n 1 (Ok send.1) send.0 send.2)) send.1
+      (Err e) new send.3)
       acts
   acts_apart old fits apart (Command.SendCopy n v) Reply.NoMemory new acts = same_apart old new acts apart
-  acts_apart old fits apart (Command.Push n v) (Reply.Flag b) new acts = written old new n b (with_element v) ((some_and (handle_at old n) _ acts).2.1) apart
-  acts_apart old fits apart (Command.Set n i v) (Reply.Flag b) new acts = written old new n b (with_element_at i v) ((some_and (handle_at old n) _ acts).2.1) apart
-  acts_apart old fits apart (Command.SetUserHeader n h) Reply.Done new acts = same_apart _ new acts (content_apart old n (with_user_header h) apart)
-  acts_apart old fits apart (Command.AssumeInit n) Reply.Done new acts = same_apart _ new acts (changed_apart old n after_init init_role apart)
+  acts_apart old fits apart (Command.Push n v) (Reply.Flag b) new acts = written old new n b (with_element v)
+      ((some_and (handle_at old n) _ acts).2.1) apart
+  acts_apart old fits apart (Command.Set n i v) (Reply.Flag b) new acts = written old new n b (with_element_at i v)
+      ((some_and (handle_at old n) _ acts).2.1) apart
+  acts_apart old fits apart (Command.SetUserHeader n h) Reply.Done new acts = same_apart _ new acts
+      (content_apart old n (with_user_header h) apart)
+  acts_apart old fits apart (Command.AssumeInit n) Reply.Done new acts = same_apart _ new acts
+      (changed_apart old n after_init init_role apart)
   acts_apart old fits apart (Command.IsDeliverable n) (Reply.Flag b) new acts = same_apart old new acts.1 apart
-  acts_apart old fits apart (Command.Send n) (Reply.Pending k connections) new acts = sends_request_apart answer old fits apart n (Ok connections) new acts.1
+  acts_apart old fits apart (Command.Send n) (Reply.Pending k connections) new acts = sends_request_apart answer old fits apart n
+      (Ok connections) new acts.1
   acts_apart old fits apart (Command.Send n) (Reply.RequestError e) new acts = sends_request_apart answer old fits apart n (Err e) new acts
   acts_apart old fits apart (Command.Send n) (Reply.Sent k) new acts = sends_response_apart answer old fits apart n (Ok k) new acts.1
-  acts_apart old fits apart (Command.Send n) (Reply.SendError e) new acts = sends_response_apart {U = ℕ} answer old fits apart n (Err e) new acts
-  acts_apart old fits apart (Command.Receive n) (Reply.Active a r) new acts = receives_request_apart old fits apart n (Ok (Some a)) new acts.0
+  acts_apart old fits apart (Command.Send n) (Reply.SendError e) new acts = sends_response_apart {U = ℕ} answer old fits apart n
+      (Err e) new acts
+  acts_apart old fits apart (Command.Receive n) (Reply.Active a r) new acts = receives_request_apart old fits apart n
+      (Ok (Some a)) new acts.0
   acts_apart old fits apart (Command.Receive n) (Reply.Response k) new acts = receives_response_apart old apart n (Ok (Some k)) new acts
-  acts_apart old fits apart (Command.Receive n) Reply.Nothing new acts = ⊎_elim (receives_request_apart old fits apart n (Ok None) new) (receives_response_apart old apart n (Ok None) new) acts
-  acts_apart old fits apart (Command.Receive n) (Reply.ReceiveError e) new acts = ⊎_elim (receives_request_apart old fits apart n (Err e) new) (receives_response_apart old apart n (Err e) new) acts
+  acts_apart old fits apart (Command.Receive n) Reply.Nothing new acts = ⊎_elim (receives_request_apart old fits apart n (Ok None) new)
+      (receives_response_apart old apart n (Ok None) new) acts
+  acts_apart old fits apart (Command.Receive n) (Reply.ReceiveError e) new acts = ⊎_elim
+      (receives_request_apart old fits apart n (Err e) new) (receives_response_apart old apart n (Err e) new) acts
   acts_apart old fits apart (Command.Receive n) Reply.NoMemory new acts = same_apart old new acts apart
   acts_apart old fits apart (Command.HasEntries n) (Reply.Flag b) new acts = same_apart old new acts.1 apart
   acts_apart old fits apart (Command.IsConnected n) (Reply.Flag b) new acts = same_apart old new acts.1 apart
@@ -155,26 +181,32 @@ module _ {T H K : Type 0} (answer : K → ℕ → ℕ → BackpressureAction) (I
   acts_apart old fits apart command reply new acts = absurd acts
 
   -- after any step
-  pub step_apart : (old : State T H T H K) → IsReached old → IsApart old → (command : Command T H K) (reply : Reply T H) (new : State T H T H K) →
+  pub step_apart : (old : State T H T H K) → IsReached old → IsApart old
+      → (command : Command T H K) (reply : Reply T H) (new : State T H T H K) →
       Step answer IsDefaultElement IsDefaultHeader family old command reply new → IsApart new
   step_apart old fits apart command reply new step = go (refusal family old command) step
     where
-      go : (o : Option (Reply T H)) → MatchOption o (Acts answer IsDefaultElement IsDefaultHeader family old command reply new) (λ refused. (reply ≡ refused) × (new ≡ old)) → IsApart new
+      go : (o : Option (Reply T H)) → MatchOption o (Acts answer IsDefaultElement IsDefaultHeader family old command reply new)
+          (λ refused. (reply ≡ refused) × (new ≡ old)) → IsApart new
       go None step = acts_apart old fits apart command reply new step
       go (Some refused) step = same_apart old new step.1 apart
 
   -- whatever is run, requests and responses stay apart
-  pub run_apart : (old : State T H T H K) → IsReached old → IsApart old → (commands : List (Command T H K)) (replies : List (Reply T H)) (new : State T H T H K) →
+  pub run_apart : (old : State T H T H K) → IsReached old → IsApart old
+      → (commands : List (Command T H K)) (replies : List (Reply T H)) (new : State T H T H K) →
       Run answer IsDefaultElement IsDefaultHeader family old commands replies new → IsApart new
   run_apart old fits apart [] [] new run = same_apart old new run apart
   run_apart old fits apart (command ∷ commands) (reply ∷ replies) new run =
-      run_apart run.0 (step_reached answer IsDefaultElement IsDefaultHeader family old fits command reply run.0 run.1) (step_apart old fits apart command reply run.0 run.1) commands replies new run.2
+      run_apart run.0 (step_reached answer IsDefaultElement IsDefaultHeader family old fits command reply run.0 run.1)
+      (step_apart old fits apart command reply run.0 run.1) commands replies new run.2
   run_apart old fits apart [] (reply ∷ replies) new run = absurd run
   run_apart old fits apart (command ∷ commands) [] new run = absurd run
 
   -- what holds of every state that a run reaches from the empty hub
-  pub run_from_empty : (limits : Limits) (node_id : ℕ) → hub_refusal limits ≡ None → (commands : List (Command T H K)) (replies : List (Reply T H)) (s : State T H T H K) →
-      Run answer IsDefaultElement IsDefaultHeader family (empty_hub limits node_id) commands replies s → IsReached s × IsApart s × (s.limits ≡ limits)
+  pub run_from_empty : (limits : Limits) (node_id : ℕ) → hub_refusal limits ≡ None
+      → (commands : List (Command T H K)) (replies : List (Reply T H)) (s : State T H T H K) →
+      Run answer IsDefaultElement IsDefaultHeader family (empty_hub limits node_id) commands replies s → IsReached s × IsApart s
+      × (s.limits ≡ limits)
   run_from_empty limits node_id makes_hub commands replies s run =
       let start = empty_hub_reached limits node_id makes_hub in (
         run_reached answer IsDefaultElement IsDefaultHeader family (empty_hub limits node_id) start commands replies s run,

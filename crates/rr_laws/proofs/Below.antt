@@ -32,7 +32,8 @@ any_below (suc n) k h = go (any_below n k)
 none_below : (p : ℕ → Bool) (j : ℕ) → ((k : ℕ) → p k ≡ true → k ≡ j) → (n : ℕ) → n ≤ j → count_by p (all_below n) ≡ 0
 unfolding all_below
 none_below p j only zero h = refl
-none_below p j only (suc n) h = count-cons p n (all_below n) ∙ ap (λ m. mark (p n) + m) (none_below p j only n (omega arith)) ∙ go (p n) refl
+none_below p j only (suc n) h = count-cons p n (all_below n) ∙ ap (λ m. mark (p n) + m) (none_below p j only n (omega arith))
+    ∙ go (p n) refl
   where
     go : (b : Bool) → p n ≡ b → mark b + 0 ≡ 0
     go true e = absurd (let same = only n e in omega arith)
@@ -59,7 +60,8 @@ pub search_below : (p : ℕ → Bool) (n : ℕ) → ((k : ℕ) → k < n → p k
 search_below p zero = inl (λ k l. absurd (omega arith))
 search_below p (suc n) = go (search_below p n) (p n) refl
   where
-    go : ((k : ℕ) → k < n → p k ≡ true) ⊎ ((k : ℕ) × (k < n) × (p k ≡ false)) → (b : Bool) → p n ≡ b → ((k : ℕ) → k < suc n → p k ≡ true) ⊎ ((k : ℕ) × (k < suc n) × (p k ≡ false))
+    go : ((k : ℕ) → k < n → p k ≡ true) ⊎ ((k : ℕ) × (k < n) × (p k ≡ false)) → (b : Bool) → p n ≡ b → ((k : ℕ) → k < suc n → p k ≡ true)
+        ⊎ ((k : ℕ) × (k < suc n) × (p k ≡ false))
     go (inr found) b e = inr (found.0, omega (arith, found.1), found.2)
     go (inl all) false e = inr (n, omega arith, e)
     go (inl all) true e = inl (λ k l. ⊎_elim (λ same. ap p same ∙ e) (λ other. all k (omega arith)) (cases_eq k n))

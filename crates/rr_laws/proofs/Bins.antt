@@ -28,7 +28,8 @@ module _ {X : Type 0} where
   all_of R h (x ∷ xs) = (h x, all_of R h xs)
 
   -- different numbers of the elements that pass a test, in two lists
-  pub distinct_parts : (number : X → ℕ) (p : X → Bool) (xs ys : List X) → distinct_count (map number (filter p (xs ++ ys))) ≤ count_by p xs + count_by p ys
+  pub distinct_parts : (number : X → ℕ) (p : X → Bool) (xs ys : List X)
+      → distinct_count (map number (filter p (xs ++ ys))) ≤ count_by p xs + count_by p ys
   distinct_parts number p xs ys =
       let all = filter p (xs ++ ys) in
       omega (arith, distinct_count_le (map number all), length-map all number, length-filter p (xs ++ ys), count-append p xs ys)
@@ -40,7 +41,8 @@ module _ {X Y Z : Type 0} where
 
 module _ {A X : Type 0} {cmp : A → A → Ordering} (o : IsTotalOrder cmp) where
   -- what holds of each filled key and its list holds of each entry
-  pub all_lists : (R : A × (X × List X) → Type 0) (lists : Lists cmp X) → ((key : A) (x : X) (rest : List X) → at lists key ≡ x ∷ rest → R (key, (x, rest))) → AllByRecursion R (entries lists)
+  pub all_lists : (R : A × (X × List X) → Type 0) (lists : Lists cmp X)
+      → ((key : A) (x : X) (rest : List X) → at lists key ≡ x ∷ rest → R (key, (x, rest))) → AllByRecursion R (entries lists)
   all_lists R lists h = all_entries o R lists (λ key kept e. h key kept.0 kept.1 (ap list_of e))
 
   -- what lists hold that pass a test, where those that have any pass a test of their own
@@ -48,7 +50,9 @@ module _ {A X : Type 0} {cmp : A → A → Ordering} (o : IsTotalOrder cmp) wher
       ((key : A) → AllByRecursion (λ x. p x ≡ true → q key ≡ true) (at lists key)) →
       count_by p (all_elements lists) ≤ count_by (λ (e : A × (X × List X)). q e.0) (entries lists) * most
   count_elements p q most lists short owned =
-      subst (λ xs. count_by p xs ≤ count_by (λ (e : A × (X × List X)). q e.0) (entries lists) * most) (sym (flat_map-map (λ (e : A × (X × List X)). e.1) (λ kept. kept.0 ∷ kept.1) (entries lists)))
+      subst (λ xs. count_by p xs ≤ count_by (λ (e : A × (X × List X)). q e.0) (entries lists) * most)
+      (sym (flat_map-map (λ (e : A × (X × List X)). e.1) (λ kept. kept.0 ∷ kept.1) (entries lists)))
       (count-flat_map (λ (e : A × (X × List X)). e.1.0 ∷ e.1.1) p (λ e. q e.0) most (entries lists)
-      (all_lists (λ e. (length (e.1.0 ∷ e.1.1) ≤ most) × AllByRecursion (λ x. p x ≡ true → q e.0 ≡ true) (e.1.0 ∷ e.1.1)) lists (λ key x rest e.
+      (all_lists (λ e. (length (e.1.0 ∷ e.1.1) ≤ most) × AllByRecursion (λ x. p x ≡ true → q e.0 ≡ true) (e.1.0 ∷ e.1.1)) lists
+      (λ key x rest e.
       (subst (λ xs. length xs ≤ most) e (short key), subst (AllByRecursion (λ y. p y ≡ true → q key ≡ true)) e (owned key)))))

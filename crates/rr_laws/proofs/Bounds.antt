@@ -27,7 +27,9 @@ module _ {Q QH P PH K : Type 0} (s : State Q QH P PH K) (fits : IsReached s) whe
 
 module _ {T H K : Type 0} (IsDefaultElement : T → Type 0) (IsDefaultHeader : H → Type 0) where
   -- what holds of a reached state by its own limits holds of every run
-  pub of_runs : (R : Limits → State T H T H K → Type 0) → ((s : State T H T H K) → IsReached s → R s.limits s) → HoldsOfRuns IsDefaultElement IsDefaultHeader R
+  pub of_runs : (R : Limits → State T H T H K → Type 0) → ((s : State T H T H K) → IsReached s → R s.limits s)
+      → HoldsOfRuns IsDefaultElement IsDefaultHeader R
   of_runs R holds limits node_id makes_hub answer family commands replies s run =
       subst (λ l. R l s) (run_keeps_limits answer IsDefaultElement IsDefaultHeader family (empty_hub limits node_id) commands replies s run)
-      (holds s (run_reached answer IsDefaultElement IsDefaultHeader family (empty_hub limits node_id) (empty_hub_reached limits node_id makes_hub) commands replies s run))
+      (holds s (run_reached answer IsDefaultElement IsDefaultHeader family (empty_hub limits node_id)
+      (empty_hub_reached limits node_id makes_hub) commands replies s run))

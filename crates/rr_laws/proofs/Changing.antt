@@ -32,7 +32,8 @@ module _ {Q QH P PH : Type 0} where
   hint_role (Response m) = refl
 
   -- so does a write in a request
-  pub request_content_role : (change : Content Q QH → Content Q QH) (h : Handle Q QH P PH) → role_of (with_request_content change h) ≡ role_of h
+  pub request_content_role : (change : Content Q QH → Content Q QH) (h : Handle Q QH P PH)
+      → role_of (with_request_content change h) ≡ role_of h
   request_content_role change (RequestMutUninit m) = refl
   request_content_role change (RequestMut m) = refl
   request_content_role change (PendingResponse p) = refl
@@ -42,7 +43,8 @@ module _ {Q QH P PH : Type 0} where
   request_content_role change (Response m) = refl
 
   -- and one in a response
-  pub response_content_role : (change : Content P PH → Content P PH) (h : Handle Q QH P PH) → role_of (with_response_content change h) ≡ role_of h
+  pub response_content_role : (change : Content P PH → Content P PH) (h : Handle Q QH P PH)
+      → role_of (with_response_content change h) ≡ role_of h
   response_content_role change (RequestMutUninit m) = refl
   response_content_role change (RequestMut m) = refl
   response_content_role change (PendingResponse p) = refl
@@ -52,7 +54,8 @@ module _ {Q QH P PH : Type 0} where
   response_content_role change (Response m) = refl
 
 module _ {Q QH P PH K : Type 0} where
-  with_changed_reached : (s : State Q QH P PH K) (n : ℕ) (change : Handle Q QH P PH → Handle Q QH P PH) → ((h : Handle Q QH P PH) → role_of (change h) ≡ role_of h) → IsReached s → IsReached (with_changed s n change)
+  with_changed_reached : (s : State Q QH P PH K) (n : ℕ) (change : Handle Q QH P PH → Handle Q QH P PH)
+      → ((h : Handle Q QH P PH) → role_of (change h) ≡ role_of h) → IsReached s → IsReached (with_changed s n change)
   with_changed_reached s n change same fits =
       subst (λ r. Fits s.limits s.clients s.servers r s.requests s.responses s.next) (sym (roles-changed change same s.handles n)) fits
 
@@ -65,8 +68,10 @@ module _ {Q QH P PH K : Type 0} where
   hint_reached s n fits = with_changed_reached s n with_hint hint_role fits
 
   -- a message says something else, or was complete already
-  pub push_reached : {X : Type 0} (s : State Q QH P PH K) (n : ℕ) (change : Handle Q QH P PH → Handle Q QH P PH) → ((h : Handle Q QH P PH) → role_of (change h) ≡ role_of h) →
-      (pushed : Bool) (o : Option X) (R : X → Type 0) (new : State Q QH P PH K) → IsReached s → IsSomeAnd o (λ m. R m × (new ≡ cond pushed (with_changed s n change) s)) → IsReached new
+  pub push_reached : {X : Type 0} (s : State Q QH P PH K) (n : ℕ) (change : Handle Q QH P PH → Handle Q QH P PH)
+      → ((h : Handle Q QH P PH) → role_of (change h) ≡ role_of h) →
+      (pushed : Bool) (o : Option X) (R : X → Type 0) (new : State Q QH P PH K) → IsReached s
+      → IsSomeAnd o (λ m. R m × (new ≡ cond pushed (with_changed s n change) s)) → IsReached new
   push_reached s n change same pushed o R new fits seen =
       subst (λ (x : State Q QH P PH K). IsReached x) (sym (some_and o _ seen).2.1) (go pushed)
     where
@@ -76,14 +81,18 @@ module _ {Q QH P PH K : Type 0} where
 
 module _ {T H : Type 0} where
   -- so does a write in a message of either kind
-  pub content_role : (change : Content T H → Content T H) (h : Handle T H T H) → role_of (with_request_content change (with_response_content change h)) ≡ role_of h
+  pub content_role : (change : Content T H → Content T H) (h : Handle T H T H)
+      → role_of (with_request_content change (with_response_content change h)) ≡ role_of h
   content_role change h = request_content_role change (with_response_content change h) ∙ response_content_role change h
 
 module _ {T H K : Type 0} where
   -- a message says something else
-  pub content_reached : (s : State T H T H K) (n : ℕ) (change : Content T H → Content T H) → IsReached s → IsReached (with_content s n change)
-  content_reached s n change fits = with_changed_reached s n (λ h. with_request_content change (with_response_content change h)) (content_role change) fits
+  pub content_reached : (s : State T H T H K) (n : ℕ) (change : Content T H → Content T H) → IsReached s
+      → IsReached (with_content s n change)
+  content_reached s n change fits = with_changed_reached s n (λ h. with_request_content change (with_response_content change h))
+      (content_role change) fits
 
   -- all elements of a message are written
   pub complete_reached : (s : State T H T H K) (n : ℕ) (elements : List T) → IsReached s → IsReached (with_complete s n elements)
-  complete_reached s n elements fits = init_reached (with_content s n (with_elements elements)) n (content_reached s n (with_elements elements) fits)
+  complete_reached s n elements fits = init_reached (with_content s n (with_elements elements)) n
+      (content_reached s n (with_elements elements) fits)

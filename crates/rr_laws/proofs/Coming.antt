@@ -78,7 +78,8 @@ module _ {T H K : Type 0} (history : List (Event T H K)) (next after : ℕ) wher
     lends_new = λ k below. refl;
     activates_new = λ s b r below. second_false (eqb server s) (eqb a b) (eqb p r) (ne_eqb a b (λ e. absurd (omega (arith, is, e, below))));
     lends_given = λ k high. refl;
-    activates_given = λ s b r high. second_false (eqb server s) (eqb a b) (eqb p r) (ne_eqb a b (λ e. absurd (omega (arith, is, e, high, more))));
+    activates_given = λ s b r high. second_false (eqb server s) (eqb a b) (eqb p r)
+        (ne_eqb a b (λ e. absurd (omega (arith, is, e, high, more))));
     responds_given = λ k high. refl;
     lenders = λ k n e. absurd (let f : None ≡ Some n = e in cc);
     sends = λ k e. absurd (let f : None ≡ Some k = e in cc);
@@ -87,7 +88,8 @@ module _ {T H K : Type 0} (history : List (Event T H K)) (next after : ℕ) wher
   }
 
   -- a receive of a response that was not received
-  pub responded_comes : (p k : ℕ) → k < next → next ≤ after → count_by (is_response k) history ≡ 0 → EventFits history next after (Command.Receive p, Reply.Response k)
+  pub responded_comes : (p k : ℕ) → k < next → next ≤ after → count_by (is_response k) history ≡ 0
+      → EventFits history next after (Command.Receive p, Reply.Response k)
   responded_comes p k given more unreceived = record {
     more = more;
     lends_new = λ j below. refl;
@@ -117,7 +119,8 @@ module _ {T H K : Type 0} (history : List (Event T H K)) (next after : ℕ) wher
   }
 
   -- a loan under the next number and the send of it
-  pub copied_comes : (n k : ℕ) (v : T) → k ≡ next → next < after → n < next → EventFits history next after (Command.SendCopy n v, Reply.Sent k)
+  pub copied_comes : (n k : ℕ) (v : T) → k ≡ next → next < after → n < next
+      → EventFits history next after (Command.SendCopy n v, Reply.Sent k)
   copied_comes n k v is more below = record {
     more = omega (arith, more);
     lends_new = λ j small. said_of_another k j n (λ e. absurd (omega (arith, is, e, small)));

@@ -62,11 +62,14 @@ neither_part false false e = (refl, refl)
 
 module _ {T H K : Type 0} where
   -- a request that no server with this number received gets no answers from it
-  pub unasked_answers : (history : List (Event T H K)) (server p : ℕ) → ((a : ℕ) → WasReceived history server a p → ⊥) → (k : ℕ) → is_answer history server p k ≡ false
-  unasked_answers history server p not k = any_never (λ a. list_any (is_active_of server a p) history) (λ a. fails (list_any (is_active_of server a p) history) (not a)) (filter_map (lender_of k) history)
+  pub unasked_answers : (history : List (Event T H K)) (server p : ℕ) → ((a : ℕ) → WasReceived history server a p → ⊥) → (k : ℕ)
+      → is_answer history server p k ≡ false
+  unasked_answers history server p not k = any_never (λ a. list_any (is_active_of server a p) history)
+      (λ a. fails (list_any (is_active_of server a p) history) (not a)) (filter_map (lender_of k) history)
 
   -- nothing new was received
-  pub new_unasked : (history : List (Event T H K)) (s : State T H T H K) → Completes history s → (server p : ℕ) → IsNew s server p → (a : ℕ) → WasReceived history server a p → ⊥
+  pub new_unasked : (history : List (Event T H K)) (s : State T H T H K) → Completes history s → (server p : ℕ) → IsNew s server p → (a : ℕ)
+      → WasReceived history server a p → ⊥
   new_unasked history s completes server p new a was =
       let way = completes.under_way a server p was in
       ⊎_elim
@@ -77,7 +80,8 @@ module _ {T H K : Type 0} where
       request)
       new
 
-module _ {T H K : Type 0} {Begins : ℕ → ℕ → Type 0} {Ends : ℕ → Type 0} {GoesOn : ℕ → ℕ → List ℕ → List ℕ → Type 0} (history : List (Event T H K)) (event : Event T H K) (old new : State T H T H K) (fits : IsReached old)
+module _ {T H K : Type 0} {Begins : ℕ → ℕ → Type 0} {Ends : ℕ → Type 0} {GoesOn : ℕ → ℕ → List ℕ → List ℕ → Type 0}
+    (history : List (Event T H K)) (event : Event T H K) (old new : State T H T H K) (fits : IsReached old)
     (completes : Completes history old) (settles : Settles Begins Ends GoesOn old new) (limits : new.limits ≡ old.limits) where
   -- a number that was given has no server yet that is new
   connected_below : (n : ℕ) (c : Server K) → server_at old n ≡ Some c → n < old.next
@@ -89,15 +93,19 @@ module _ {T H K : Type 0} {Begins : ℕ → ℕ → Type 0} {Ends : ℕ → Type
     server_given = omega (arith, way.server_given, settles.next);
     request_given = omega (arith, way.request_given, settles.next);
     sent = λ q e. ⊎_elim (λ was. way.sent q was) (λ high. absurd (omega (arith, high, way.request_given))) (settles.loaned p q e);
-    no_server = λ c e. ⊎_elim (λ was. way.no_server was.0 was.1) (λ high. absurd (omega (arith, high, way.request_given))) (settles.servers p c e);
+    no_server = λ c e. ⊎_elim (λ was. way.no_server was.0 was.1) (λ high. absurd (omega (arith, high, way.request_given)))
+        (settles.servers p c e);
   }
 
   -- what is to be said of an event: what it makes active, which server it creates, which it ends, and of the lists
   pub completes_on : ((a server p : ℕ) → is_active_of server a p event ≡ true → IsUnderWay new server p) →
-      ((n : ℕ) → creates_waiting n event ≡ true → (old.next ≤ n) × (n < new.next) × ((c : Server K) → server_at new n ≡ Some c → IsWaiting c) × (is_server_held new n ≡ true)) →
+      ((n : ℕ) → creates_waiting n event ≡ true → (old.next ≤ n) × (n < new.next)
+      × ((c : Server K) → server_at new n ≡ Some c → IsWaiting c) × (is_server_held new n ≡ true)) →
       ((n : ℕ) → Ends n → is_release n event ≡ true) →
-      (new.limits.enable_safe_overflow_for_responses ≡ false → (server p : ℕ) → creates_waiting server event ≡ true → received_from (history ++ event ∷ []) server p ++ queued new server p ≡ sent_for (history ++ event ∷ []) server p) →
-      (new.limits.enable_safe_overflow_for_responses ≡ false → (server p : ℕ) → list_any (creates_waiting server) history ≡ true → IsServing new server p →
+      (new.limits.enable_safe_overflow_for_responses ≡ false → (server p : ℕ) → creates_waiting server event ≡ true
+      → received_from (history ++ event ∷ []) server p ++ queued new server p ≡ sent_for (history ++ event ∷ []) server p) →
+      (new.limits.enable_safe_overflow_for_responses ≡ false → (server p : ℕ) → list_any (creates_waiting server) history ≡ true
+      → IsServing new server p →
       received_from (history ++ event ∷ []) server p ++ queued new server p ≡ sent_for (history ++ event ∷ []) server p) →
       (new.limits.enable_safe_overflow_for_responses ≡ false → (server p : ℕ) → list_any (creates_waiting server) history ≡ true →
       IsPrefix (received_from (history ++ event ∷ []) server p ++ queued new server p) (sent_for (history ++ event ∷ []) server p)) →
@@ -119,7 +127,8 @@ module _ {T H K : Type 0} {Begins : ℕ → ℕ → Type 0} {Ends : ℕ → Type
         (λ now. (creates n now).2 c e)
         (parts (creates_waiting n) made);
     held = λ n made kept.
-        let neither = neither_part (list_any (is_release n) history) (is_release n event) (sym (list_any-append (is_release n) history (event ∷ [])) ∙ kept) in
+        let neither = neither_part (list_any (is_release n) history) (is_release n event)
+        (sym (list_any-append (is_release n) history (event ∷ [])) ∙ kept) in
         ⊎_elim
         (λ before. ⊎_elim
         (λ is. is)
@@ -141,7 +150,8 @@ module _ {T H K : Type 0} {Begins : ℕ → ℕ → Type 0} {Ends : ℕ → Type
       parts : (f : Event T H K → Bool) → list_any f (history ++ event ∷ []) ≡ true → (list_any f history ≡ true) ⊎ (f event ≡ true)
       parts f e = either_part (list_any f history) (f event) (sym (list_any-append f history (event ∷ [])) ∙ e)
 
-module _ {T H K : Type 0} (history : List (Event T H K)) (event : Event T H K) (old new : State T H T H K) (follows : Follows history old) (comes : EventFits history old.next new.next event) where
+module _ {T H K : Type 0} (history : List (Event T H K)) (event : Event T H K) (old new : State T H T H K) (follows : Follows history old)
+    (comes : EventFits history old.next new.next event) where
   -- what was sent, where the event sends nothing
   pub sent_same : (server p : ℕ) → sent_by event ≡ None → sent_for (history ++ event ∷ []) server p ≡ sent_for history server p
   sent_same server p none =
@@ -149,29 +159,40 @@ module _ {T H K : Type 0} (history : List (Event T H K)) (event : Event T H K) (
       ∙ ap (λ o. sent_for history server p ++ filter (is_answer (history ++ event ∷ []) server p) (cons_option o [])) none ∙ append-nil _
 
   -- all is received that was sent where nothing was, by an event that sends and receives nothing
-  pub new_whole : Completes history old → Follows (history ++ event ∷ []) new → sent_by event ≡ None → ((p : ℕ) → received_by p event ≡ None) → (server p : ℕ) → IsNew old server p →
+  pub new_whole : Completes history old → Follows (history ++ event ∷ []) new → sent_by event ≡ None
+      → ((p : ℕ) → received_by p event ≡ None) → (server p : ℕ) → IsNew old server p →
       received_from (history ++ event ∷ []) server p ++ queued new server p ≡ sent_for (history ++ event ∷ []) server p
   new_whole completes after sends receives server p is =
       let unasked = unasked_answers history server p (new_unasked history old completes server p is) in
-      let sent : sent_for (history ++ event ∷ []) server p ≡ [] = sent_same server p sends ∙ filter_never (is_answer history server p) unasked (filter_map sent_by history) in
-      let received : received_from (history ++ event ∷ []) server p ≡ [] = received_same history event old new follows comes server p (receives p) ∙ filter_never (is_answer history server p) unasked (filter_map (received_by p) history) in
-      let left : queued new server p ≡ [] = part_of_empty (queued new server p) (subst (λ xs. IsSubsequence (xs ++ queued new server p) []) received (subst (IsSubsequence (received_from (history ++ event ∷ []) server p ++ queued new server p)) sent (after.order server p))) in
+      let sent : sent_for (history ++ event ∷ []) server p ≡ [] = sent_same server p sends
+      ∙ filter_never (is_answer history server p) unasked (filter_map sent_by history) in
+      let received : received_from (history ++ event ∷ []) server p ≡ [] = received_same history event old new follows comes server p
+      (receives p) ∙ filter_never (is_answer history server p) unasked (filter_map (received_by p) history) in
+      let left : queued new server p ≡ [] = part_of_empty (queued new server p)
+      (subst (λ xs. IsSubsequence (xs ++ queued new server p) []) received
+      (subst (IsSubsequence (received_from (history ++ event ∷ []) server p ++ queued new server p)) sent (after.order server p))) in
       ap (λ xs. xs ++ queued new server p) received ∙ left ∙ sym sent
 
   -- the same as before, where nothing was sent or received and the entries stayed
-  pub whole_stays : sent_by event ≡ None → ((p : ℕ) → received_by p event ≡ None) → (server p : ℕ) → queued new server p ≡ queued old server p → received_from history server p ++ queued old server p ≡ sent_for history server p →
+  pub whole_stays : sent_by event ≡ None → ((p : ℕ) → received_by p event ≡ None) → (server p : ℕ)
+      → queued new server p ≡ queued old server p → received_from history server p ++ queued old server p ≡ sent_for history server p →
       received_from (history ++ event ∷ []) server p ++ queued new server p ≡ sent_for (history ++ event ∷ []) server p
   whole_stays sends receives server p same before =
-      ap (λ xs. xs ++ queued new server p) (received_same history event old new follows comes server p (receives p)) ∙ ap (λ ys. received_from history server p ++ ys) same ∙ before ∙ sym (sent_same server p sends)
+      ap (λ xs. xs ++ queued new server p) (received_same history event old new follows comes server p (receives p))
+      ∙ ap (λ ys. received_from history server p ++ ys) same ∙ before ∙ sym (sent_same server p sends)
 
   -- what was received and stands in the list are the first ones that were sent, if entries stay or are gone, and the request received nothing by the event
-  pub first_stays : (server p : ℕ) → received_from (history ++ event ∷ []) server p ≡ received_from history server p → (queued new server p ≡ []) ⊎ (queued new server p ≡ queued old server p) → IsPrefix (received_from history server p ++ queued old server p) (sent_for history server p) →
+  pub first_stays : (server p : ℕ) → received_from (history ++ event ∷ []) server p ≡ received_from history server p
+      → (queued new server p ≡ []) ⊎ (queued new server p ≡ queued old server p)
+      → IsPrefix (received_from history server p ++ queued old server p) (sent_for history server p) →
       IsPrefix (received_from (history ++ event ∷ []) server p ++ queued new server p) (sent_for (history ++ event ∷ []) server p)
   first_stays server p received either before =
       subst (λ xs. IsPrefix (xs ++ queued new server p) (sent_for (history ++ event ∷ []) server p)) (sym received)
-      (subst (IsPrefix (received_from history server p ++ queued new server p)) (sym (sent_for-grown history old.next new.next event follows.numbers comes server p))
+      (subst (IsPrefix (received_from history server p ++ queued new server p))
+      (sym (sent_for-grown history old.next new.next event follows.numbers comes server p))
       (prefix_longer (received_from history server p ++ queued new server p) (sent_for history server p) _ (⊎_elim
       (λ gone. subst (λ xs. IsPrefix (received_from history server p ++ xs) (sent_for history server p)) (sym gone)
-      (subst (λ xs. IsPrefix xs (sent_for history server p)) (sym (append-nil (received_from history server p))) (prefix_front (received_from history server p) (queued old server p) (sent_for history server p) before)))
+      (subst (λ xs. IsPrefix xs (sent_for history server p)) (sym (append-nil (received_from history server p)))
+      (prefix_front (received_from history server p) (queued old server p) (sent_for history server p) before)))
       (λ same. subst (λ xs. IsPrefix (received_from history server p ++ xs) (sent_for history server p)) (sym same) before)
       either)))

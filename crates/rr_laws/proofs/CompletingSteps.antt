@@ -64,149 +64,198 @@ module _ {T H K : Type 0} where
   SettlesQuietly old new = Settles (IsNew old) (λ n. ⊥) (λ server p before after. after ≡ before) old new
 
   -- what settles where nothing changed
-  unsettled : {Begins : ℕ → ℕ → Type 0} {Ends : ℕ → Type 0} (old new : State T H T H K) → new ≡ old → Settles Begins Ends (λ server p before after. after ≡ before) old new
-  unsettled {Begins} {Ends} old new same = subst (λ (x : State T H T H K). Settles Begins Ends (λ server p before after. after ≡ before) old x) (sym same) (settles_same old old (omega arith) refl refl refl refl)
+  unsettled : {Begins : ℕ → ℕ → Type 0} {Ends : ℕ → Type 0} (old new : State T H T H K) → new ≡ old
+      → Settles Begins Ends (λ server p before after. after ≡ before) old new
+  unsettled {Begins} {Ends} old new same = subst (λ (x : State T H T H K). Settles Begins Ends
+      (λ server p before after. after ≡ before) old x) (sym same) (settles_same old old (omega arith) refl refl refl refl)
 
   -- a change of a handle that keeps its role
-  changed_settles : {Begins : ℕ → ℕ → Type 0} {Ends : ℕ → Type 0} (s : State T H T H K) (n : ℕ) (change : Handle T H T H → Handle T H T H) → ((h : Handle T H T H) → role_of (change h) ≡ role_of h) →
+  changed_settles : {Begins : ℕ → ℕ → Type 0} {Ends : ℕ → Type 0} (s : State T H T H K) (n : ℕ) (change : Handle T H T H → Handle T H T H)
+      → ((h : Handle T H T H) → role_of (change h) ≡ role_of h) →
       Settles Begins Ends (λ server p before after. after ≡ before) s (with_changed s n change)
-  changed_settles s n change same = settles_same s (with_changed s n change) (omega arith) (roles-changed change same s.handles n) refl refl refl
+  changed_settles s n change same = settles_same s (with_changed s n change) (omega arith)
+      (roles-changed change same s.handles n) refl refl refl
 
   -- a message says something else
-  content_settles : {Begins : ℕ → ℕ → Type 0} {Ends : ℕ → Type 0} (s : State T H T H K) (n : ℕ) (change : Content T H → Content T H) → Settles Begins Ends (λ server p before after. after ≡ before) s (with_content s n change)
+  content_settles : {Begins : ℕ → ℕ → Type 0} {Ends : ℕ → Type 0} (s : State T H T H K) (n : ℕ) (change : Content T H → Content T H)
+      → Settles Begins Ends (λ server p before after. after ≡ before) s (with_content s n change)
   content_settles s n change = changed_settles s n (λ h. with_request_content change (with_response_content change h)) (content_role change)
 
   -- all elements of a message are written
-  complete_settles : {Begins : ℕ → ℕ → Type 0} {Ends : ℕ → Type 0} (s : State T H T H K) (n : ℕ) (elements : List T) → Settles Begins Ends (λ server p before after. after ≡ before) s (with_complete s n elements)
+  complete_settles : {Begins : ℕ → ℕ → Type 0} {Ends : ℕ → Type 0} (s : State T H T H K) (n : ℕ) (elements : List T)
+      → Settles Begins Ends (λ server p before after. after ≡ before) s (with_complete s n elements)
   complete_settles s n elements = settles_same s (with_complete s n elements) (omega arith) (complete_roles s n elements) refl refl refl
 
   -- an element is written, or not
-  written_settles : (old new : State T H T H K) (n : ℕ) (b : Bool) (change : Content T H → Content T H) → new ≡ cond b (with_content old n change) old → SettlesQuietly old new
-  written_settles old new n true change same = subst (λ (x : State T H T H K). SettlesQuietly old x) (sym same) (content_settles old n change)
+  written_settles : (old new : State T H T H K) (n : ℕ) (b : Bool) (change : Content T H → Content T H)
+      → new ≡ cond b (with_content old n change) old → SettlesQuietly old new
+  written_settles old new n true change same = subst (λ (x : State T H T H K). SettlesQuietly old x) (sym same)
+      (content_settles old n change)
   written_settles old new n false change same = unsettled old new same
 
   -- a client is created, or not
-  creates_client_settles : (s : State T H T H K) (settings : ClientSettings K) (result : Result ℕ ClientCreateError) (new : State T H T H K) → CreatesClient s settings result new → SettlesQuietly s new
-  creates_client_settles s settings (Ok number) new made = subst (λ (x : State T H T H K). SettlesQuietly s x) (sym made.2) (settles_same s _ (omega arith) refl refl refl refl)
+  creates_client_settles : (s : State T H T H K) (settings : ClientSettings K) (result : Result ℕ ClientCreateError) (new : State T H T H K)
+      → CreatesClient s settings result new → SettlesQuietly s new
+  creates_client_settles s settings (Ok number) new made = subst (λ (x : State T H T H K). SettlesQuietly s x) (sym made.2)
+      (settles_same s _ (omega arith) refl refl refl refl)
   creates_client_settles s settings (Err error) new made = unsettled s new made.1
 
-module _ {T H K : Type 0} (answer : K → ℕ → ℕ → BackpressureAction) (IsDefaultElement : T → Type 0) (IsDefaultHeader : H → Type 0) (family : Family) (history : List (Event T H K)) (old : State T H T H K)
-    (fits : IsReached old) (apart : IsApart old) (left : IsLeftFit old) (follows : Follows history old) (completes : Completes history old) where
+module _ {T H K : Type 0} (answer : K → ℕ → ℕ → BackpressureAction) (IsDefaultElement : T → Type 0) (IsDefaultHeader : H → Type 0)
+    (family : Family) (history : List (Event T H K)) (old : State T H T H K)
+    (fits : IsReached old) (apart : IsApart old) (left : IsLeftFit old) (follows : Follows history old)
+    (completes : Completes history old) where
   -- what is known of a step's new state: that it follows, and has the same limits
   abbrev Steps : Command T H K → Reply T H → State T H T H K → Type 0
   Steps command reply new = Follows (history ++ (command, reply) ∷ []) new × (new.limits ≡ old.limits)
 
   -- after an event that tells nothing, and creates and releases no server
-  quietly : (command : Command T H K) (reply : Reply T H) (new : State T H T H K) → IsSilent (command, reply) → ((n : ℕ) → creates_waiting n (command, reply) ≡ false) → Steps command reply new → MovesQuietly old new → SettlesQuietly old new →
+  quietly : (command : Command T H K) (reply : Reply T H) (new : State T H T H K) → IsSilent (command, reply)
+      → ((n : ℕ) → creates_waiting n (command, reply) ≡ false) → Steps command reply new → MovesQuietly old new → SettlesQuietly old new →
       Completes (history ++ (command, reply) ∷ []) new
   quietly command reply new quiet plain steps moves settles =
-      completes_quietly history (command, reply) old new fits completes steps.1 follows steps.0 (silent_comes history (command, reply) old.next new.next quiet moves.next) settles moves quiet.sends quiet.receives
-      (λ a server p is. absurd (false_is_true (sym (quiet.activates server a p) ∙ is))) (λ n is. absurd (false_is_true (sym (plain n) ∙ is))) (λ n e. absurd e)
+      completes_quietly history (command, reply) old new fits completes steps.1 follows steps.0
+      (silent_comes history (command, reply) old.next new.next quiet moves.next) settles moves quiet.sends quiet.receives
+      (λ a server p is. absurd (false_is_true (sym (quiet.activates server a p) ∙ is)))
+      (λ n is. absurd (false_is_true (sym (plain n) ∙ is))) (λ n e. absurd e)
 
   -- after such an event that changes nothing
-  unchanged : (command : Command T H K) (reply : Reply T H) (new : State T H T H K) → IsSilent (command, reply) → ((n : ℕ) → creates_waiting n (command, reply) ≡ false) → Steps command reply new → new ≡ old → Completes (history ++ (command, reply) ∷ []) new
-  unchanged command reply new quiet plain steps same = quietly command reply new quiet plain steps (unmoved old new same) (unsettled old new same)
+  unchanged : (command : Command T H K) (reply : Reply T H) (new : State T H T H K) → IsSilent (command, reply)
+      → ((n : ℕ) → creates_waiting n (command, reply) ≡ false) → Steps command reply new → new ≡ old
+      → Completes (history ++ (command, reply) ∷ []) new
+  unchanged command reply new quiet plain steps same = quietly command reply new quiet plain steps (unmoved old new same)
+      (unsettled old new same)
 
   -- a server is created, or not
-  created : (settings : ServerSettings K) (n : ℕ) (new : State T H T H K) → Steps (Command.CreateServer settings) (Reply.Created n) new → CreatesServer old (server_settings family settings) (Ok n) new →
+  created : (settings : ServerSettings K) (n : ℕ) (new : State T H T H K) → Steps (Command.CreateServer settings) (Reply.Created n) new
+      → CreatesServer old (server_settings family settings) (Ok n) new →
       Completes (history ++ (Command.CreateServer settings, Reply.Created n) ∷ []) new
   created settings n new steps made =
       let quiet : IsSilent {T = T} {H = H} {K = K} (Command.CreateServer settings, Reply.Created n) = silent _ _ refl in
       let moves = creates_server_quietly old (server_settings family settings) (Ok n) new made in
-      completes_quietly history (Command.CreateServer settings, Reply.Created n) old new fits completes steps.1 follows steps.0 (silent_comes history (Command.CreateServer settings, Reply.Created n) old.next new.next quiet moves.next)
+      completes_quietly history (Command.CreateServer settings, Reply.Created n) old new fits completes steps.1 follows steps.0
+      (silent_comes history (Command.CreateServer settings, Reply.Created n) old.next new.next quiet moves.next)
       {Ends = λ k. ⊥}
-      (subst (λ (x : State T H T H K). SettlesQuietly old x) (sym made.2) (new_server_settles old _ _ fits (omega arith) refl refl refl refl refl))
-      moves refl (λ p. refl) (λ a server p is. absurd (false_is_true is)) (λ k is. created_waits family old fits settings n new made k is) (λ k e. absurd e)
+      (subst (λ (x : State T H T H K). SettlesQuietly old x) (sym made.2)
+      (new_server_settles old _ _ fits (omega arith) refl refl refl refl refl))
+      moves refl (λ p. refl) (λ a server p is. absurd (false_is_true is)) (λ k is. created_waits family old fits settings n new made k is)
+      (λ k e. absurd e)
 
   -- a release
-  released : (n : ℕ) (new : State T H T H K) → Steps (Command.Release n) Reply.Done new → new ≡ after_release old n → Completes (history ++ (Command.Release n, Reply.Done) ∷ []) new
+  released : (n : ℕ) (new : State T H T H K) → Steps (Command.Release n) Reply.Done new → new ≡ after_release old n
+      → Completes (history ++ (Command.Release n, Reply.Done) ∷ []) new
   released n new steps is =
       let quiet : IsSilent {T = T} {H = H} {K = K} (Command.Release n, Reply.Done) = silent _ _ refl in
       let moves = subst (λ (x : State T H T H K). MovesQuietly old x) (sym is) (after_release_quietly old n fits) in
-      completes_quietly history (Command.Release n, Reply.Done) old new fits completes steps.1 follows steps.0 (silent_comes history (Command.Release n, Reply.Done) old.next new.next quiet moves.next)
+      completes_quietly history (Command.Release n, Reply.Done) old new fits completes steps.1 follows steps.0
+      (silent_comes history (Command.Release n, Reply.Done) old.next new.next quiet moves.next)
       {Ends = λ k. k ≡ n}
-      (subst (λ (x : State T H T H K). Settles (IsNew old) (λ k. k ≡ n) (λ server p before after. after ≡ before) old x) (sym is) (after_release_settles old n fits apart.channels left (λ none. refl)))
+      (subst (λ (x : State T H T H K). Settles (IsNew old) (λ k. k ≡ n) (λ server p before after. after ≡ before) old x) (sym is)
+      (after_release_settles old n fits apart.channels left (λ none. refl)))
       moves refl (λ p. refl) (λ a server p is. absurd (false_is_true is)) (λ k is. absurd (false_is_true is)) (λ k e. eq-eqb n k (sym e))
 
   -- a loan
-  loan : (command : Command T H K) (reply : Reply T H) (n len k : ℕ) (mid : State T H T H K) → IsLoan (command, reply) n k → ((n : ℕ) → creates_waiting n (command, reply) ≡ false) → Loans answer IsDefaultElement IsDefaultHeader family old n len (Ok k) mid →
-      (new : State T H T H K) → MovesQuietly mid new → Settles (IsNew old) (λ n. ⊥) (λ server p before after. after ≡ before) mid new → Steps command reply new → Completes (history ++ (command, reply) ∷ []) new
+  loan : (command : Command T H K) (reply : Reply T H) (n len k : ℕ) (mid : State T H T H K) → IsLoan (command, reply) n k
+      → ((n : ℕ) → creates_waiting n (command, reply) ≡ false) → Loans answer IsDefaultElement IsDefaultHeader family old n len (Ok k) mid →
+      (new : State T H T H K) → MovesQuietly mid new → Settles (IsNew old) (λ n. ⊥) (λ server p before after. after ≡ before) mid new
+      → Steps command reply new → Completes (history ++ (command, reply) ∷ []) new
   loan command reply n len k mid is plain loans new moves settles steps = ⊎_elim
       (λ request.
       let moved = loaned_request_moves {Gains = GainsLoan history n k} IsDefaultHeader old fits n len k mid request in
-      this (then_quietly old mid new moved.0 moves) (then_settles old mid new (loaned_request_settles IsDefaultHeader old fits n len k mid request) settles) moved.1 (omega (arith, moved.2, moves.next)) moved.3)
+      this (then_quietly old mid new moved.0 moves) (then_settles old mid new
+      (loaned_request_settles IsDefaultHeader old fits n len k mid request) settles) moved.1
+      (omega (arith, moved.2, moves.next)) moved.3)
       (λ response.
       let moved = loaned_response_moves IsDefaultHeader old fits history follows.held n len k mid response in
-      this (then_quietly old mid new moved.0 moves) (then_settles old mid new (loaned_response_settles IsDefaultHeader old n len k mid response) settles) moved.1 (omega (arith, moved.2, moves.next)) moved.3)
+      this (then_quietly old mid new moved.0 moves) (then_settles old mid new
+      (loaned_response_settles IsDefaultHeader old n len k mid response) settles) moved.1 (omega (arith, moved.2, moves.next)) moved.3)
       loans
     where
-      this : Moves (GainsLoan history n k) (λ server p before after. after ≡ before) old new → SettlesQuietly old new → k ≡ old.next → old.next < new.next → n < old.next → Completes (history ++ (command, reply) ∷ []) new
+      this : Moves (GainsLoan history n k) (λ server p before after. after ≡ before) old new → SettlesQuietly old new → k ≡ old.next
+          → old.next < new.next → n < old.next → Completes (history ++ (command, reply) ∷ []) new
       this moves settles number more below =
-          completes_quietly history (command, reply) old new fits completes steps.1 follows steps.0 (loan_comes history (command, reply) old.next new.next n k is number more below) settles moves is.sends is.receives
-          (λ a server p e. absurd (false_is_true (sym (is.activates server a p) ∙ e))) (λ n e. absurd (false_is_true (sym (plain n) ∙ e))) (λ n e. absurd e)
+          completes_quietly history (command, reply) old new fits completes steps.1 follows steps.0
+          (loan_comes history (command, reply) old.next new.next n k is number more below) settles moves is.sends is.receives
+          (λ a server p e. absurd (false_is_true (sym (is.activates server a p) ∙ e))) (λ n e. absurd (false_is_true (sym (plain n) ∙ e)))
+          (λ n e. absurd e)
 
   -- a loan that is refused
-  refused_settles : (n len : ℕ) (error : LoanError) (new : State T H T H K) → Loans answer IsDefaultElement IsDefaultHeader family old n len (Err error) new → SettlesQuietly old new
+  refused_settles : (n len : ℕ) (error : LoanError) (new : State T H T H K)
+      → Loans answer IsDefaultElement IsDefaultHeader family old n len (Err error) new → SettlesQuietly old new
   refused_settles n len error new loans = ⊎_elim
       (λ (request : LoansRequest IsDefaultHeader old n len (Err error) new). unsettled old new (some_and (client_at old n) _ request).2.1)
       (λ (response : LoansResponse IsDefaultHeader old n len (Err error) new). unsettled old new (open_active old n _ response).4.1)
       loans
 
   -- after a loan that is refused
-  not_loaned : (command : Command T H K) (reply : Reply T H) (n len : ℕ) (error : LoanError) (new : State T H T H K) → IsSilent (command, reply) → ((n : ℕ) → creates_waiting n (command, reply) ≡ false) → Steps command reply new →
+  not_loaned : (command : Command T H K) (reply : Reply T H) (n len : ℕ) (error : LoanError) (new : State T H T H K)
+      → IsSilent (command, reply) → ((n : ℕ) → creates_waiting n (command, reply) ≡ false) → Steps command reply new →
       Loans answer IsDefaultElement IsDefaultHeader family old n len (Err error) new → Completes (history ++ (command, reply) ∷ []) new
   not_loaned command reply n len error new quiet plain steps loans =
-      quietly command reply new quiet plain steps (refused_loan answer IsDefaultElement IsDefaultHeader family history old fits apart follows n len error new loans) (refused_settles n len error new loans)
+      quietly command reply new quiet plain steps (refused_loan answer IsDefaultElement IsDefaultHeader family history old fits apart
+      follows n len error new loans) (refused_settles n len error new loans)
 
   -- a send of a request at once, also one that is refused
-  copied_request_settles : (n k : ℕ) (v : T) (mid new : State T H T H K) (result : Result ℕ RequestSendError) → LoansRequest IsDefaultHeader old n 1 (Ok k) mid → SendsRequest answer (with_complete mid k (v ∷ [])) k result new → SettlesQuietly old new
+  copied_request_settles : (n k : ℕ) (v : T) (mid new : State T H T H K) (result : Result ℕ RequestSendError)
+      → LoansRequest IsDefaultHeader old n 1 (Ok k) mid → SendsRequest answer (with_complete mid k (v ∷ [])) k result new
+      → SettlesQuietly old new
   copied_request_settles n k v mid new result loans sends =
       let complete = with_complete mid k (v ∷ []) in
       let number : k ≡ old.next = (loaned_request_moves {Gains = λ j role. ⊥} IsDefaultHeader old fits n 1 k mid loans).1 in
-      then_settles old mid new (loaned_request_settles IsDefaultHeader old fits n 1 k mid loans) (then_settles mid complete new (complete_settles mid k (v ∷ []))
+      then_settles old mid new (loaned_request_settles IsDefaultHeader old fits n 1 k mid loans)
+      (then_settles mid complete new (complete_settles mid k (v ∷ []))
       (sent_request_settles answer complete
       (complete_reached mid k (v ∷ []) (loans_request_reached old fits IsDefaultHeader n 1 (Ok k) mid loans))
       (complete_apart mid k (v ∷ []) (loans_request_apart IsDefaultHeader old fits apart n 1 (Ok k) mid loans))
-      (loans_request_left IsDefaultHeader old left n 1 (Ok k) mid loans) k result new sends (λ server q e. inr (inl (omega (arith, number))))))
+      (loans_request_left IsDefaultHeader old left n 1 (Ok k) mid loans) k result new sends
+      (λ server q e. inr (inl (omega (arith, number))))))
 
   -- a loan of a response for a send at once
-  complete_response_settles : {Begins : ℕ → ℕ → Type 0} (n k : ℕ) (v : T) (mid : State T H T H K) → LoansResponse IsDefaultHeader old n 1 (Ok k) mid →
+  complete_response_settles : {Begins : ℕ → ℕ → Type 0} (n k : ℕ) (v : T) (mid : State T H T H K)
+      → LoansResponse IsDefaultHeader old n 1 (Ok k) mid →
       Settles Begins (λ j. ⊥) (λ server p before after. after ≡ before) old (with_complete mid k (v ∷ []))
   complete_response_settles n k v mid loans =
-      then_settles old mid (with_complete mid k (v ∷ [])) (loaned_response_settles IsDefaultHeader old n 1 k mid loans) (complete_settles mid k (v ∷ []))
+      then_settles old mid (with_complete mid k (v ∷ [])) (loaned_response_settles IsDefaultHeader old n 1 k mid loans)
+      (complete_settles mid k (v ∷ []))
 
   -- a loan of a response for a send at once that is refused
-  not_copied_settles : (n k : ℕ) (v : T) (e : SendError) (mid new : State T H T H K) → LoansResponse IsDefaultHeader old n 1 (Ok k) mid → SendsResponse {U = ℕ} answer (with_complete mid k (v ∷ [])) k (Err e) new → SettlesQuietly old new
+  not_copied_settles : (n k : ℕ) (v : T) (e : SendError) (mid new : State T H T H K) → LoansResponse IsDefaultHeader old n 1 (Ok k) mid
+      → SendsResponse {U = ℕ} answer (with_complete mid k (v ∷ [])) k (Err e) new → SettlesQuietly old new
   not_copied_settles n k v e mid new loans sends =
       let complete = with_complete mid k (v ∷ []) in
       let holds = loaned_response_complete answer IsDefaultElement IsDefaultHeader family history old fits apart follows n k mid v loans in
       then_settles old complete new (complete_response_settles n k v mid loans)
-      (unsent_response_settles ℕ answer complete holds.0 holds.1 (loans_response_left IsDefaultHeader old left n 1 (Ok k) mid loans) k e new sends)
+      (unsent_response_settles ℕ answer complete holds.0 holds.1
+      (loans_response_left IsDefaultHeader old left n 1 (Ok k) mid loans) k e new sends)
 
   -- a send of a response that was on loan
-  sent : (n : ℕ) (new : State T H T H K) → Steps (Command.Send n) (Reply.Sent n) new → SendsResponse {U = ℕ} answer old n (Ok n) new → Completes (history ++ (Command.Send n, Reply.Sent n) ∷ []) new
+  sent : (n : ℕ) (new : State T H T H K) → Steps (Command.Send n) (Reply.Sent n) new → SendsResponse {U = ℕ} answer old n (Ok n) new
+      → Completes (history ++ (Command.Send n, Reply.Sent n) ∷ []) new
   sent n new steps sends =
       let now = sent_now answer IsDefaultElement IsDefaultHeader family history old fits apart follows n n new sends in
       let m = now.0 in
       let settled = sent_response_settles answer old fits apart left n n new sends m now.1 in
-      completes_sent history (Command.Send n, Reply.Sent n) old new fits completes steps.1 follows steps.0 now.2.comes old m.server m.request n now.2.send now.2.sent (λ k. refl) (λ s a q. refl) settled.0 settled.1 (λ serves. serves)
+      completes_sent history (Command.Send n, Reply.Sent n) old new fits completes steps.1 follows steps.0 now.2.comes old m.server
+      m.request n now.2.send now.2.sent (λ k. refl) (λ s a q. refl) settled.0 settled.1 (λ serves. serves)
       (λ made no_overflow. (no_overflow, completes.waits m.server made))
 
   -- a loan of a response and the send of it
-  copied : (n k : ℕ) (v : T) (mid new : State T H T H K) → Steps (Command.SendCopy n v) (Reply.Sent k) new → LoansResponse IsDefaultHeader old n 1 (Ok k) mid → SendsResponse {U = ℕ} answer (with_complete mid k (v ∷ [])) k (Ok k) new →
+  copied : (n k : ℕ) (v : T) (mid new : State T H T H K) → Steps (Command.SendCopy n v) (Reply.Sent k) new
+      → LoansResponse IsDefaultHeader old n 1 (Ok k) mid → SendsResponse {U = ℕ} answer (with_complete mid k (v ∷ [])) k (Ok k) new →
       Completes (history ++ (Command.SendCopy n v, Reply.Sent k) ∷ []) new
   copied n k v mid new steps loans sends =
       let complete = with_complete mid k (v ∷ []) in
       let now = copied_now answer IsDefaultElement IsDefaultHeader family history old fits apart follows n k v mid new loans sends in
       let m = now.0 in
       let holds = loaned_response_complete answer IsDefaultElement IsDefaultHeader family history old fits apart follows n k mid v loans in
-      let settled = sent_response_settles {Begins = λ s q. ⊥} {Ends = λ j. ⊥} answer complete holds.0 holds.1 (loans_response_left IsDefaultHeader old left n 1 (Ok k) mid loans) k k new sends m now.1 in
+      let settled = sent_response_settles {Begins = λ s q. ⊥} {Ends = λ j. ⊥} answer complete holds.0 holds.1
+      (loans_response_left IsDefaultHeader old left n 1 (Ok k) mid loans) k k new sends m now.1 in
       let gone = (sent_response_moves answer complete holds.0 holds.1 k k new sends).3 in
       let before = complete_response_settles {Begins = λ s q. ⊥} n k v mid loans in
       let opened = open_active old n _ loans in
       let limits : mid.limits ≡ old.limits = ap (λ (x : State T H T H K). x.limits) opened.4.2.2 in
       let servers : mid.servers ≡ old.servers = ap (λ (x : State T H T H K). x.servers) opened.4.2.2 in
-      completes_sent history (Command.SendCopy n v, Reply.Sent k) old new fits completes steps.1 follows steps.0 now.2.comes complete m.server m.request k now.2.send now.2.sent (λ j. refl) (λ s a q. refl)
+      completes_sent history (Command.SendCopy n v, Reply.Sent k) old new fits completes steps.1 follows steps.0 now.2.comes complete
+      m.server m.request k now.2.send now.2.sent (λ j. refl) (λ s a q. refl)
       (settles_after old complete new before settled.0)
       (copy_moves history IsDefaultHeader old fits follows n k mid new (v ∷ []) loans settled.1 gone)
       (λ serves. ⊎_elim (λ was. was.0) (λ begins. absurd begins) (before.serving m.server m.request serves))
@@ -221,7 +270,8 @@ module _ {T H K : Type 0} (answer : K → ℕ → ℕ → BackpressureAction) (I
   refused_same n (ReceiveError.ConnectionFailure failure) new receives = absurd receives
 
   -- a server received a request
-  received : (n a r : ℕ) (new : State T H T H K) → Steps (Command.Receive n) (Reply.Active a r) new → ReceivesRequest old n (Ok (Some a)) new → IsSomeAnd (active_at new a) (λ active. r ≡ active.message.number) →
+  received : (n a r : ℕ) (new : State T H T H K) → Steps (Command.Receive n) (Reply.Active a r) new
+      → ReceivesRequest old n (Ok (Some a)) new → IsSomeAnd (active_at new a) (λ active. r ≡ active.message.number) →
       Completes (history ++ (Command.Receive n, Reply.Active a r) ∷ []) new
   received n a r new steps receives told =
       let moved = received_request_moves old n a r new receives told in
@@ -232,99 +282,147 @@ module _ {T H K : Type 0} (answer : K → ℕ → ℕ → BackpressureAction) (I
       let way : IsUnderWay new n r = record {
         server_given = omega (arith, server_below, settles.next);
         request_given = omega (arith, request_below, settles.next);
-        sent = λ q e. ⊎_elim (λ was. completes.clear r (inl (q, stood.0, was, stood.1))) (λ high. absurd (omega (arith, high, request_below))) (settles.loaned r q e);
-        no_server = λ c e. ⊎_elim (λ was. completes.clear r (inr (was.0, was.1, inr (stood.0, stood.1)))) (λ high. absurd (omega (arith, high, request_below))) (settles.servers r c e);
+        sent = λ q e. ⊎_elim (λ was. completes.clear r (inl (q, stood.0, was, stood.1)))
+            (λ high. absurd (omega (arith, high, request_below))) (settles.loaned r q e);
+        no_server = λ c e. ⊎_elim (λ was. completes.clear r (inr (was.0, was.1, inr (stood.0, stood.1))))
+            (λ high. absurd (omega (arith, high, request_below))) (settles.servers r c e);
       } in
-      completes_quietly history (Command.Receive n, Reply.Active a r) old new fits completes steps.1 follows steps.0 (received_comes history old.next new.next n a r moved.1 moved.2) settles moved.0 refl (λ p. refl)
+      completes_quietly history (Command.Receive n, Reply.Active a r) old new fits completes steps.1 follows steps.0
+      (received_comes history old.next new.next n a r moved.1 moved.2) settles moved.0 refl (λ p. refl)
       (λ b server p is.
       let t = three_true (eqb n server) (eqb a b) (eqb r p) is in
       subst (λ s. IsUnderWay new s p) (eqb-true n server t.0) (subst (IsUnderWay new n) (eqb-true r p t.2) way))
       (λ k is. absurd (false_is_true is)) (λ k e. absurd e)
 
   -- a request received a response
-  responded : (n k : ℕ) (new : State T H T H K) → IsApart new → Steps (Command.Receive n) (Reply.Response k) new → ReceivesResponse old n (Ok (Some k)) new → Completes (history ++ (Command.Receive n, Reply.Response k) ∷ []) new
+  responded : (n k : ℕ) (new : State T H T H K) → IsApart new → Steps (Command.Receive n) (Reply.Response k) new
+      → ReceivesResponse old n (Ok (Some k)) new → Completes (history ++ (Command.Receive n, Reply.Response k) ∷ []) new
   responded n k new after steps receives =
       let taken = received_response_moves old fits apart n k new after receives in
       let was = first_was_sent history old follows taken.0 n k (queued new taken.0 n) taken.1.first in
       completes_responded history old new fits completes steps.1 follows taken.0 n k
-      (responded_comes history old.next new.next n k (loaned_below history old.next taken.0 n was.lender k follows.numbers was.loaned) taken.1.moves.next was.loaned.unreceived)
+      (responded_comes history old.next new.next n k (loaned_below history old.next taken.0 n was.lender k follows.numbers was.loaned)
+      taken.1.moves.next was.loaned.unreceived)
       was taken.1.first taken.1.settles taken.1.moves
 
   -- after any command that acts
-  pub acts_complete : (command : Command T H K) (reply : Reply T H) (new : State T H T H K) → IsApart new → Steps command reply new → Acts answer IsDefaultElement IsDefaultHeader family old command reply new → Completes (history ++ (command, reply) ∷ []) new
+  pub acts_complete : (command : Command T H K) (reply : Reply T H) (new : State T H T H K) → IsApart new → Steps command reply new
+      → Acts answer IsDefaultElement IsDefaultHeader family old command reply new → Completes (history ++ (command, reply) ∷ []) new
   acts_complete (Command.CreateClient settings) (Reply.Created n) new after steps acts =
-      quietly _ _ new (silent _ _ refl) (λ k. refl) steps (creates_client_quietly old (client_settings family settings) (Ok n) new acts) (creates_client_settles old (client_settings family settings) (Ok n) new acts)
+      quietly _ _ new (silent _ _ refl) (λ k. refl) steps (creates_client_quietly old (client_settings family settings) (Ok n) new acts)
+      (creates_client_settles old (client_settings family settings) (Ok n) new acts)
   acts_complete (Command.CreateClient settings) (Reply.ClientError e) new after steps acts =
-      quietly _ _ new (silent _ _ refl) (λ k. refl) steps (creates_client_quietly old (client_settings family settings) (Err e) new acts) (creates_client_settles old (client_settings family settings) (Err e) new acts)
-  acts_complete (Command.CreateClient settings) Reply.NoMemory new after steps acts = unchanged _ _ new (silent _ _ refl) (λ k. refl) steps acts
+      quietly _ _ new (silent _ _ refl) (λ k. refl) steps (creates_client_quietly old (client_settings family settings) (Err e) new acts)
+      (creates_client_settles old (client_settings family settings) (Err e) new acts)
+  acts_complete (Command.CreateClient settings) Reply.NoMemory new after steps acts = unchanged _ _ new (silent _ _ refl)
+      (λ k. refl) steps acts
   acts_complete (Command.CreateServer settings) (Reply.Created n) new after steps acts = created settings n new steps acts
-  acts_complete (Command.CreateServer settings) (Reply.ServerError e) new after steps acts = unchanged _ _ new (silent _ _ refl) (λ k. refl) steps acts.1
-  acts_complete (Command.CreateServer settings) Reply.NoMemory new after steps acts = unchanged _ _ new (silent _ _ refl) (λ k. refl) steps acts
+  acts_complete (Command.CreateServer settings) (Reply.ServerError e) new after steps acts = unchanged _ _ new (silent _ _ refl)
+      (λ k. refl) steps acts.1
+  acts_complete (Command.CreateServer settings) Reply.NoMemory new after steps acts = unchanged _ _ new (silent _ _ refl)
+      (λ k. refl) steps acts
   acts_complete (Command.Loan n len) (Reply.Loaned k) new after steps acts =
-      loan _ _ n len k new (record { sends = refl; receives = λ p. refl; responds = λ j. refl; activates = λ server a p. refl; lends = λ j. refl; loans = both n k }) (λ k. refl) acts new (unmoved new new refl) (unsettled new new refl) steps
-  acts_complete (Command.Loan n len) (Reply.LoanError e) new after steps acts = not_loaned _ _ n len e new (silent _ _ refl) (λ k. refl) steps acts
+      loan _ _ n len k new (record {
+        sends = refl;
+        receives = λ p. refl;
+        responds = λ j. refl;
+        activates = λ server a p. refl;
+        lends = λ j. refl;
+        loans = both n k;
+      }) (λ k. refl) acts new (unmoved new new refl) (unsettled new new refl) steps
+  acts_complete (Command.Loan n len) (Reply.LoanError e) new after steps acts = not_loaned _ _ n len e new (silent _ _ refl)
+      (λ k. refl) steps acts
   acts_complete (Command.Loan n len) Reply.NoMemory new after steps acts = unchanged _ _ new (silent _ _ refl) (λ k. refl) steps acts
   acts_complete (Command.LoanDefault n len) (Reply.Loaned k) new after steps acts =
-      loan _ _ n len k acts.0 (record { sends = refl; receives = λ p. refl; responds = λ j. refl; activates = λ server a p. refl; lends = λ j. refl; loans = both n k }) (λ k. refl) acts.2 new
+      loan _ _ n len k acts.0 (record {
+        sends = refl;
+        receives = λ p. refl;
+        responds = λ j. refl;
+        activates = λ server a p. refl;
+        lends = λ j. refl;
+        loans = both n k;
+      }) (λ k. refl) acts.2 new
       (subst (λ (x : State T H T H K). MovesQuietly acts.0 x) (sym acts.5) (complete_quietly acts.0 k acts.1))
-      (subst (λ (x : State T H T H K). Settles (IsNew old) (λ n. ⊥) (λ server p before after. after ≡ before) acts.0 x) (sym acts.5) (complete_settles acts.0 k acts.1)) steps
-  acts_complete (Command.LoanDefault n len) (Reply.LoanError e) new after steps acts = not_loaned _ _ n len e new (silent _ _ refl) (λ k. refl) steps acts
+      (subst (λ (x : State T H T H K). Settles (IsNew old) (λ n. ⊥) (λ server p before after. after ≡ before) acts.0 x) (sym acts.5)
+      (complete_settles acts.0 k acts.1)) steps
+  acts_complete (Command.LoanDefault n len) (Reply.LoanError e) new after steps acts = not_loaned _ _ n len e new (silent _ _ refl)
+      (λ k. refl) steps acts
   acts_complete (Command.LoanDefault n len) Reply.NoMemory new after steps acts = unchanged _ _ new (silent _ _ refl) (λ k. refl) steps acts
   acts_complete (Command.SendCopy n v) (Reply.Pending k connections) new after steps acts =
-      quietly _ _ new (silent _ _ refl) (λ k. refl) steps (copied_request answer IsDefaultElement IsDefaultHeader family history old fits apart follows n k v acts.0 new (Ok connections) acts.1 acts.2) (copied_request_settles n k v acts.0 new (Ok connections) acts.1 acts.2)
+      quietly _ _ new (silent _ _ refl) (λ k. refl) steps (copied_request answer IsDefaultElement IsDefaultHeader family history old fits
+      apart follows n k v acts.0 new (Ok connections) acts.1 acts.2)
+      (copied_request_settles n k v acts.0 new (Ok connections) acts.1 acts.2)
   acts_complete (Command.SendCopy n v) (Reply.RequestError e) new after steps acts = ⊎_elim
       (λ loaned. not_loaned _ _ n 1 loaned.0 new (silent _ _ refl) (λ k. refl) steps (inl loaned.1))
-      (λ send. quietly _ _ new (silent _ _ refl) (λ k. refl) steps (copied_request answer IsDefaultElement IsDefaultHeader family history old fits apart follows n send.1 v send.0 new (Err e) send.2 send.3)
+      (λ send. quietly _ _ new (silent _ _ refl) (λ k. refl) steps
+      (copied_request answer IsDefaultElement IsDefaultHeader family history old fits apart follows n send.1 v send.0 new
+      (Err e) send.2 send.3)
       (copied_request_settles n send.1 v send.0 new (Err e) send.2 send.3))
       acts
   acts_complete (Command.SendCopy n v) (Reply.Sent k) new after steps acts = copied n k v acts.0 new steps acts.1 acts.2
   acts_complete (Command.SendCopy n v) (Reply.SendError e) new after steps acts = ⊎_elim
       (λ loaned. not_loaned _ _ n 1 loaned.0 new (silent _ _ refl) (λ k. refl) steps (inr loaned.1))
-      (λ send. quietly _ _ new (silent _ _ refl) (λ k. refl) steps (not_copied answer IsDefaultElement IsDefaultHeader family history old fits apart follows n send.1 v e send.0 new send.2 send.3)
+      (λ send. quietly _ _ new (silent _ _ refl) (λ k. refl) steps
+      (not_copied answer IsDefaultElement IsDefaultHeader family history old fits apart follows n send.1 v e send.0 new send.2 send.3)
       (not_copied_settles n send.1 v e send.0 new send.2 send.3))
       acts
   acts_complete (Command.SendCopy n v) Reply.NoMemory new after steps acts = unchanged _ _ new (silent _ _ refl) (λ k. refl) steps acts
   acts_complete (Command.Push n v) (Reply.Flag b) new after steps acts =
-      let same = (some_and (handle_at old n) _ acts).2.1 in quietly _ _ new (silent _ _ refl) (λ k. refl) steps (written old new n b (with_element v) same) (written_settles old new n b (with_element v) same)
+      let same = (some_and (handle_at old n) _ acts).2.1 in quietly _ _ new (silent _ _ refl) (λ k. refl) steps
+      (written old new n b (with_element v) same) (written_settles old new n b (with_element v) same)
   acts_complete (Command.Set n i v) (Reply.Flag b) new after steps acts =
-      let same = (some_and (handle_at old n) _ acts).2.1 in quietly _ _ new (silent _ _ refl) (λ k. refl) steps (written old new n b (with_element_at i v) same) (written_settles old new n b (with_element_at i v) same)
+      let same = (some_and (handle_at old n) _ acts).2.1 in quietly _ _ new (silent _ _ refl) (λ k. refl) steps
+      (written old new n b (with_element_at i v) same) (written_settles old new n b (with_element_at i v) same)
   acts_complete (Command.SetUserHeader n h) Reply.Done new after steps acts =
-      quietly _ _ new (silent _ _ refl) (λ k. refl) steps (written old new n true (with_user_header h) acts) (written_settles old new n true (with_user_header h) acts)
+      quietly _ _ new (silent _ _ refl) (λ k. refl) steps (written old new n true (with_user_header h) acts)
+      (written_settles old new n true (with_user_header h) acts)
   acts_complete (Command.AssumeInit n) Reply.Done new after steps acts =
-      quietly _ _ new (silent _ _ refl) (λ k. refl) steps (subst (λ (x : State T H T H K). MovesQuietly old x) (sym acts) (changed_quietly old n after_init init_role))
+      quietly _ _ new (silent _ _ refl) (λ k. refl) steps (subst (λ (x : State T H T H K). MovesQuietly old x) (sym acts)
+      (changed_quietly old n after_init init_role))
       (subst (λ (x : State T H T H K). SettlesQuietly old x) (sym acts) (changed_settles old n after_init init_role))
   acts_complete (Command.IsDeliverable n) (Reply.Flag b) new after steps acts = unchanged _ _ new (silent _ _ refl) (λ k. refl) steps acts.1
   acts_complete (Command.Send n) (Reply.Pending k connections) new after steps acts =
       quietly _ _ new (silent _ _ refl) (λ k. refl) steps (sent_request_quietly answer old fits apart n (Ok connections) new acts.1)
       (sent_request_settles answer old fits apart left n (Ok connections) new acts.1 (λ server q e. inr (inr (q, e))))
   acts_complete (Command.Send n) (Reply.RequestError e) new after steps acts =
-      quietly _ _ new (silent _ _ refl) (λ k. refl) steps (sent_request_quietly answer old fits apart n (Err e) new acts) (sent_request_settles answer old fits apart left n (Err e) new acts (λ server q e. inr (inr (q, e))))
+      quietly _ _ new (silent _ _ refl) (λ k. refl) steps (sent_request_quietly answer old fits apart n (Err e) new acts)
+      (sent_request_settles answer old fits apart left n (Err e) new acts (λ server q e. inr (inr (q, e))))
   acts_complete (Command.Send n) (Reply.Sent k) new after steps acts =
-      subst (λ j. Steps (Command.Send n) (Reply.Sent j) new → SendsResponse {U = ℕ} answer old n (Ok j) new → Completes (history ++ (Command.Send n, Reply.Sent j) ∷ []) new) (sym acts.0) (sent n new) steps acts.1
+      subst (λ j. Steps (Command.Send n) (Reply.Sent j) new → SendsResponse {U = ℕ} answer old n (Ok j) new
+      → Completes (history ++ (Command.Send n, Reply.Sent j) ∷ []) new) (sym acts.0) (sent n new) steps acts.1
   acts_complete (Command.Send n) (Reply.SendError e) new after steps acts =
-      quietly _ _ new (silent _ _ refl) (λ k. refl) steps (unsent_response_moves ℕ answer old fits n e new acts).0 (unsent_response_settles ℕ answer old fits apart left n e new acts)
+      quietly _ _ new (silent _ _ refl) (λ k. refl) steps (unsent_response_moves ℕ answer old fits n e new acts).0
+      (unsent_response_settles ℕ answer old fits apart left n e new acts)
   acts_complete (Command.Receive n) (Reply.Active a r) new after steps acts = received n a r new steps acts.0 acts.1
   acts_complete (Command.Receive n) (Reply.Response k) new after steps acts = responded n k new after steps acts
   acts_complete (Command.Receive n) Reply.Nothing new after steps acts = ⊎_elim
-      (λ request. quietly _ _ new (silent _ _ refl) (λ k. refl) steps (no_request_quietly old n new request) (received_request_settles old n (Ok None) new request))
-      (λ (response : ReceivesResponse old n (Ok None) new). unchanged _ _ new (silent _ _ refl) (λ k. refl) steps (some_and (pending_at old n) _ response).2.1)
+      (λ request. quietly _ _ new (silent _ _ refl) (λ k. refl) steps (no_request_quietly old n new request)
+      (received_request_settles old n (Ok None) new request))
+      (λ (response : ReceivesResponse old n (Ok None) new). unchanged _ _ new (silent _ _ refl) (λ k. refl) steps
+      (some_and (pending_at old n) _ response).2.1)
       acts
   acts_complete (Command.Receive n) (Reply.ReceiveError e) new after steps acts = ⊎_elim
-      (λ request. quietly _ _ new (silent _ _ refl) (λ k. refl) steps (refused_request_quietly old n e new request) (received_request_settles old n (Err e) new request))
+      (λ request. quietly _ _ new (silent _ _ refl) (λ k. refl) steps (refused_request_quietly old n e new request)
+      (received_request_settles old n (Err e) new request))
       (λ response. unchanged _ _ new (silent _ _ refl) (λ k. refl) steps (refused_same n e new response))
       acts
   acts_complete (Command.Receive n) Reply.NoMemory new after steps acts = unchanged _ _ new (silent _ _ refl) (λ k. refl) steps acts
   acts_complete (Command.HasEntries n) (Reply.Flag b) new after steps acts = unchanged _ _ new (silent _ _ refl) (λ k. refl) steps acts.1
   acts_complete (Command.IsConnected n) (Reply.Flag b) new after steps acts = unchanged _ _ new (silent _ _ refl) (λ k. refl) steps acts.1
   acts_complete (Command.SetHint n) Reply.Done new after steps acts =
-      quietly _ _ new (silent _ _ refl) (λ k. refl) steps (subst (λ (x : State T H T H K). MovesQuietly old x) (sym acts) (changed_quietly old n with_hint hint_role))
+      quietly _ _ new (silent _ _ refl) (λ k. refl) steps (subst (λ (x : State T H T H K). MovesQuietly old x) (sym acts)
+      (changed_quietly old n with_hint hint_role))
       (subst (λ (x : State T H T H K). SettlesQuietly old x) (sym acts) (changed_settles old n with_hint hint_role))
   acts_complete (Command.HasHint n) (Reply.Flag b) new after steps acts = unchanged _ _ new (silent _ _ refl) (λ k. refl) steps acts.1
   acts_complete (Command.Servers n) (Reply.Count c) new after steps acts = unchanged _ _ new (silent _ _ refl) (λ k. refl) steps acts.1
-  acts_complete (Command.Header n) (Reply.RequestHeader h) new after steps acts = unchanged _ _ new (silent _ _ refl) (λ k. refl) steps acts.1
-  acts_complete (Command.Header n) (Reply.ResponseHeader h) new after steps acts = unchanged _ _ new (silent _ _ refl) (λ k. refl) steps acts.1
-  acts_complete (Command.UserHeader n) (Reply.UserHeader h) new after steps acts = unchanged _ _ new (silent _ _ refl) (λ k. refl) steps acts.1
-  acts_complete (Command.Payload n) (Reply.Payload elements) new after steps acts = unchanged _ _ new (silent _ _ refl) (λ k. refl) steps acts.1
+  acts_complete (Command.Header n) (Reply.RequestHeader h) new after steps acts = unchanged _ _ new (silent _ _ refl)
+      (λ k. refl) steps acts.1
+  acts_complete (Command.Header n) (Reply.ResponseHeader h) new after steps acts = unchanged _ _ new (silent _ _ refl)
+      (λ k. refl) steps acts.1
+  acts_complete (Command.UserHeader n) (Reply.UserHeader h) new after steps acts = unchanged _ _ new (silent _ _ refl)
+      (λ k. refl) steps acts.1
+  acts_complete (Command.Payload n) (Reply.Payload elements) new after steps acts = unchanged _ _ new (silent _ _ refl)
+      (λ k. refl) steps acts.1
   acts_complete (Command.Payload n) Reply.NoMemory new after steps acts = unchanged _ _ new (silent _ _ refl) (λ k. refl) steps acts
   acts_complete (Command.Origin n) (Reply.Id m) new after steps acts = unchanged _ _ new (silent _ _ refl) (λ k. refl) steps acts.1
   acts_complete (Command.Strategy n) (Reply.Strategy s) new after steps acts = unchanged _ _ new (silent _ _ refl) (λ k. refl) steps acts.1
@@ -334,10 +432,13 @@ module _ {T H K : Type 0} (answer : K → ℕ → ℕ → BackpressureAction) (I
   acts_complete command reply new after steps acts = absurd acts
 
   -- after any step
-  pub step_completes : (command : Command T H K) (reply : Reply T H) (new : State T H T H K) → IsApart new → Steps command reply new → Step answer IsDefaultElement IsDefaultHeader family old command reply new → Completes (history ++ (command, reply) ∷ []) new
+  pub step_completes : (command : Command T H K) (reply : Reply T H) (new : State T H T H K) → IsApart new → Steps command reply new
+      → Step answer IsDefaultElement IsDefaultHeader family old command reply new → Completes (history ++ (command, reply) ∷ []) new
   step_completes command reply new after steps step = go (refusal family old command) refl step
     where
-      go : (o : Option (Reply T H)) → refusal family old command ≡ o → MatchOption o (Acts answer IsDefaultElement IsDefaultHeader family old command reply new) (λ refused. (reply ≡ refused) × (new ≡ old)) → Completes (history ++ (command, reply) ∷ []) new
+      go : (o : Option (Reply T H)) → refusal family old command ≡ o
+          → MatchOption o (Acts answer IsDefaultElement IsDefaultHeader family old command reply new)
+          (λ refused. (reply ≡ refused) × (new ≡ old)) → Completes (history ++ (command, reply) ∷ []) new
       go None due step = acts_complete command reply new after steps step
       go (Some refused) due step =
           let refuses : is_refusing reply ≡ true = ap is_refusing step.0 ∙ refusal_refuses family old command refused due in

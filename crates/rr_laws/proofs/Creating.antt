@@ -30,11 +30,19 @@ use Rattle.rr_laws.proofs.Tests.{not_due, below_of_test, positive}
 
 module _ {Q QH P PH K : Type 0} where
   -- the empty hub
-  pub empty_hub_reached : (limits : Limits) (node_id : ℕ) → hub_refusal limits ≡ None → IsReached (empty_hub {Q = Q} {QH = QH} {P = P} {PH = PH} {K = K} limits node_id)
+  pub empty_hub_reached : (limits : Limits) (node_id : ℕ) → hub_refusal limits ≡ None
+      → IsReached (empty_hub {Q = Q} {QH = QH} {P = P} {PH = PH} {K = K} limits node_id)
   empty_hub_reached limits node_id makes_hub =
-      subst (λ r. Fits {Q = Q} {QH = QH} {P = P} {PH = PH} {K = K} limits [] [] r no_lists no_lists 0) (sym (map_values-empty role_of)) (record {
+      subst (λ r. Fits {Q = Q} {QH = QH} {P = P} {PH = PH} {K = K} limits [] [] r no_lists no_lists 0) (sym (map_values-empty role_of))
+      (record {
         makes_hub = makes_hub;
-        ports = record { few_clients = omega arith; few_servers = omega arith; client_numbers = tt; server_numbers = tt; client_pools = tt };
+        ports = record {
+          few_clients = omega arith;
+          few_servers = omega arith;
+          client_numbers = tt;
+          server_numbers = tt;
+          client_pools = tt;
+        };
         handles = λ n role e. absurd (let none : get (empty {X = Role} {R = nat_cmp}) n ≡ None = get-empty nat_cmp n in cc);
         counts = record {
           request_loans = λ client. rw tally-empty (omega arith);
@@ -92,22 +100,30 @@ module _ {Q QH P PH K : Type 0} (s : State Q QH P PH K) (fits : IsReached s) whe
           few_servers = ports.few_servers;
           client_numbers = all_append _ s.clients new ports.client_numbers (omega arith);
           server_numbers = ports.server_numbers;
-          client_pools = all_append _ s.clients new ports.client_pools (pool_size_le _ settings.pool (positive s.limits fits.makes_hub).worst);
+          client_pools = all_append _ s.clients new ports.client_pools
+              (pool_size_le _ settings.pool (positive s.limits fits.makes_hub).worst);
         };
         handles = handles_with_ports s.clients (s.clients ++ new ∷ []) s.servers s.servers s.limits (roles_of s.handles) (s.next + 1)
-            (λ n role e. port_stays s.clients (s.clients ++ new ∷ []) s.servers s.servers role (has-append (λ c. c.id) s.clients new (port_number role)) (λ h. h))
-            (λ n role e. role_stays (roles_of s.handles) (roles_of s.handles) s.next (s.next + 1) more (λ k p below e. e) s.limits s.servers s.clients n role (fits.handles n role e));
+            (λ n role e. port_stays s.clients (s.clients ++ new ∷ []) s.servers s.servers role
+            (has-append (λ c. c.id) s.clients new (port_number role)) (λ h. h))
+            (λ n role e. role_stays (roles_of s.handles) (roles_of s.handles) s.next (s.next + 1) more
+            (λ k p below e. e) s.limits s.servers s.clients n role (fits.handles n role e));
         counts = fits.counts;
-        request_lists = requests_stay (roles_of s.handles) (roles_of s.handles) s.next (s.next + 1) more (λ k p below e. e) s.limits s.servers s.requests fits.request_lists;
-        response_lists = responses_stay (roles_of s.handles) (roles_of s.handles) s.next (s.next + 1) more (λ k p below e. e) s.limits s.servers (λ k q e. e) s.responses fits.response_lists;
+        request_lists = requests_stay (roles_of s.handles) (roles_of s.handles) s.next (s.next + 1) more
+            (λ k p below e. e) s.limits s.servers s.requests fits.request_lists;
+        response_lists = responses_stay (roles_of s.handles) (roles_of s.handles) s.next (s.next + 1) more
+            (λ k p below e. e) s.limits s.servers (λ k q e. e) s.responses fits.response_lists;
       }
 
   -- a number that was not given names no server with loans
   no_loans : tally (loans_response s.next) (roles_of s.handles) ≡ 0
-  no_loans = count-none (λ (e : ℕ × Role). loans_response s.next e.1) _ (all_entries nat_cmp_total (λ e. loans_response s.next e.1 ≡ false) (roles_of s.handles) (λ n role e. go role (fits.handles n role e).connected))
+  no_loans = count-none (λ (e : ℕ × Role). loans_response s.next e.1) _
+      (all_entries nat_cmp_total (λ e. loans_response s.next e.1 ≡ false) (roles_of s.handles)
+      (λ n role e. go role (fits.handles n role e).connected))
     where
       go : (role : Role) → has_port s.clients s.servers role ≡ true → loans_response s.next role ≡ false
-      go (LoanedResponse a) h = ne_eqb a.server s.next (λ same. let below = has_below (λ c. c.id) s.servers a.server s.next fits.ports.server_numbers h in absurd (omega arith))
+      go (LoanedResponse a) h = ne_eqb a.server s.next (λ same. let below = has_below
+          (λ c. c.id) s.servers a.server s.next fits.ports.server_numbers h in absurd (omega arith))
       go (LoanedRequest q) h = refl
       go (SentRequest q) h = refl
       go (ReceivedRequest server q) h = refl
@@ -130,10 +146,13 @@ module _ {Q QH P PH K : Type 0} (s : State Q QH P PH K) (fits : IsReached s) whe
       }
 
   -- a server found after one more was made was there before, or is that one
-  found_before_or_made : (made server : Server K) (n : ℕ) → find (λ c. eqb c.id n) (s.servers ++ made ∷ []) ≡ Some server → (find (λ c. eqb c.id n) s.servers ≡ Some server) ⊎ (made.id ≡ n)
-  found_before_or_made made server n e = go (find (λ c. eqb c.id n) s.servers) (eqb made.id n) refl refl (sym (find-append (λ c. eqb c.id n) s.servers made) ∙ e)
+  found_before_or_made : (made server : Server K) (n : ℕ) → find (λ c. eqb c.id n) (s.servers ++ made ∷ []) ≡ Some server
+      → (find (λ c. eqb c.id n) s.servers ≡ Some server) ⊎ (made.id ≡ n)
+  found_before_or_made made server n e = go (find (λ c. eqb c.id n) s.servers) (eqb made.id n) refl refl
+      (sym (find-append (λ c. eqb c.id n) s.servers made) ∙ e)
     where
-      go : (o : Option (Server K)) (b : Bool) → find (λ c. eqb c.id n) s.servers ≡ o → eqb made.id n ≡ b → cond (is_some o) o (cond b (Some made) None) ≡ Some server →
+      go : (o : Option (Server K)) (b : Bool) → find (λ c. eqb c.id n) s.servers ≡ o → eqb made.id n ≡ b
+          → cond (is_some o) o (cond b (Some made) None) ≡ Some server →
           (find (λ c. eqb c.id n) s.servers ≡ Some server) ⊎ (made.id ≡ n)
       go (Some x) b is test e = inl (is ∙ e)
       go None true is test e = inr (eqb-true _ _ test)
@@ -156,8 +175,10 @@ module _ {Q QH P PH K : Type 0} (s : State Q QH P PH K) (fits : IsReached s) whe
           client_pools = ports.client_pools;
         };
         handles = handles_with_ports s.clients s.clients s.servers (s.servers ++ new ∷ []) s.limits (roles_of s.handles) (s.next + 1)
-            (λ n role e. port_stays s.clients s.clients s.servers (s.servers ++ new ∷ []) role (λ h. h) (has-append (λ c. c.id) s.servers new (port_number role)))
-            (λ n role e. role_stays (roles_of s.handles) (roles_of s.handles) s.next (s.next + 1) more (λ k p below e. e) s.limits s.servers s.clients n role (fits.handles n role e));
+            (λ n role e. port_stays s.clients s.clients s.servers (s.servers ++ new ∷ []) role (λ h. h)
+            (has-append (λ c. c.id) s.servers new (port_number role)))
+            (λ n role e. role_stays (roles_of s.handles) (roles_of s.handles) s.next (s.next + 1) more
+            (λ k p below e. e) s.limits s.servers s.clients n role (fits.handles n role e));
         counts = record {
           request_loans = fits.counts.request_loans;
           waiting = fits.counts.waiting;
@@ -168,17 +189,24 @@ module _ {Q QH P PH K : Type 0} (s : State Q QH P PH K) (fits : IsReached s) whe
               (found_before_or_made new server n e);
           held_responses = fits.counts.held_responses;
         };
-        request_lists = requests_with_servers s.servers (s.servers ++ new ∷ []) s.limits (roles_of s.handles) (s.next + 1) (λ n. has-append (λ c. c.id) s.servers new n) s.requests
-            (requests_stay (roles_of s.handles) (roles_of s.handles) s.next (s.next + 1) more (λ k p below e. e) s.limits s.servers s.requests fits.request_lists);
-        response_lists = responses_stay (roles_of s.handles) (roles_of s.handles) s.next (s.next + 1) more (λ k p below e. e) s.limits s.servers (λ k q e. e) s.responses fits.response_lists;
+        request_lists = requests_with_servers s.servers (s.servers ++ new ∷ []) s.limits (roles_of s.handles) (s.next + 1)
+            (λ n. has-append (λ c. c.id) s.servers new n) s.requests
+            (requests_stay (roles_of s.handles) (roles_of s.handles) s.next (s.next + 1) more
+            (λ k p below e. e) s.limits s.servers s.requests fits.request_lists);
+        response_lists = responses_stay (roles_of s.handles) (roles_of s.handles) s.next (s.next + 1) more
+            (λ k p below e. e) s.limits s.servers (λ k q e. e) s.responses fits.response_lists;
       }
 
   -- after a client was created, or refused
-  pub creates_client_reached : (settings : ClientSettings K) (result : Result ℕ ClientCreateError) (new : State Q QH P PH K) → CreatesClient s settings result new → IsReached new
-  creates_client_reached settings (Ok number) new made = subst (λ (x : State Q QH P PH K). IsReached x) (sym made.2) (with_client_reached settings made.0)
+  pub creates_client_reached : (settings : ClientSettings K) (result : Result ℕ ClientCreateError) (new : State Q QH P PH K)
+      → CreatesClient s settings result new → IsReached new
+  creates_client_reached settings (Ok number) new made = subst (λ (x : State Q QH P PH K). IsReached x) (sym made.2)
+      (with_client_reached settings made.0)
   creates_client_reached settings (Err error) new made = subst (λ (x : State Q QH P PH K). IsReached x) (sym made.1) fits
 
   -- after a server was created, or refused
-  pub creates_server_reached : (settings : ServerSettings K) (result : Result ℕ ServerCreateError) (new : State Q QH P PH K) → CreatesServer s settings result new → IsReached new
-  creates_server_reached settings (Ok number) new made = subst (λ (x : State Q QH P PH K). IsReached x) (sym made.2) (with_server_reached settings made.0)
+  pub creates_server_reached : (settings : ServerSettings K) (result : Result ℕ ServerCreateError) (new : State Q QH P PH K)
+      → CreatesServer s settings result new → IsReached new
+  creates_server_reached settings (Ok number) new made = subst (λ (x : State Q QH P PH K). IsReached x) (sym made.2)
+      (with_server_reached settings made.0)
   creates_server_reached settings (Err error) new made = subst (λ (x : State Q QH P PH K). IsReached x) (sym made.1) fits

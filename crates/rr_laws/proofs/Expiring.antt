@@ -19,36 +19,58 @@ module _ {Q QH P PH K : Type 0} where
   -- a hub in which a list of left senders, and with it some lists of requests, are others
   abbrev pub WithRequests : State Q QH P PH K → State Q QH P PH K → Type 0
   WithRequests s new =
-      (requests : Lists request_key_cmp (RequestMessage Q QH)) × (expired : Lists nat_cmp ℕ) × (new ≡ record s { requests = requests; expired = expired })
+      (requests : Lists request_key_cmp (RequestMessage Q QH)) × (expired : Lists nat_cmp ℕ)
+      × (new ≡ record s { requests = requests; expired = expired })
       × IsReached (record s { requests = requests; expired = expired })
 
   -- the same with lists of responses
   abbrev pub WithResponses : State Q QH P PH K → State Q QH P PH K → Type 0
   WithResponses s new =
-      (responses : Lists response_key_cmp (ResponseMessage P PH)) × (expired : Lists nat_cmp ℕ) × (new ≡ record s { responses = responses; expired = expired })
+      (responses : Lists response_key_cmp (ResponseMessage P PH)) × (expired : Lists nat_cmp ℕ)
+      × (new ≡ record s { responses = responses; expired = expired })
       × IsReached (record s { responses = responses; expired = expired })
 
   -- lists of requests of which those under some keys were dropped
-  pub requests_dropped : (s : State Q QH P PH K) (kept : RequestKey → Bool) → IsReached s → RequestsFit s.limits s.servers (roles_of s.handles) s.next (fin_map.retain_keys s.requests kept)
+  pub requests_dropped : (s : State Q QH P PH K) (kept : RequestKey → Bool) → IsReached s
+      → RequestsFit s.limits s.servers (roles_of s.handles) s.next (fin_map.retain_keys s.requests kept)
   requests_dropped s kept fits =
-      requests_shrink s.limits (roles_of s.handles) s.next s.servers s.requests (fin_map.retain_keys s.requests kept) (shrinks_retained request_keys_total request_keys_exact s.requests kept) fits.request_lists
+      requests_shrink s.limits (roles_of s.handles) s.next s.servers s.requests (fin_map.retain_keys s.requests kept)
+      (shrinks_retained request_keys_total request_keys_exact s.requests kept) fits.request_lists
 
   -- lists of responses of which those under some keys were dropped
-  pub responses_dropped : (s : State Q QH P PH K) (kept : ResponseKey → Bool) → IsReached s → ResponsesFit s.limits (roles_of s.handles) s.next (fin_map.retain_keys s.responses kept)
+  pub responses_dropped : (s : State Q QH P PH K) (kept : ResponseKey → Bool) → IsReached s
+      → ResponsesFit s.limits (roles_of s.handles) s.next (fin_map.retain_keys s.responses kept)
   responses_dropped s kept fits =
-      responses_shrink s.limits (roles_of s.handles) s.next s.responses (fin_map.retain_keys s.responses kept) (shrinks_retained response_keys_total response_keys_exact s.responses kept) fits.response_lists
+      responses_shrink s.limits (roles_of s.handles) s.next s.responses (fin_map.retain_keys s.responses kept)
+      (shrinks_retained response_keys_total response_keys_exact s.responses kept) fits.response_lists
 
   -- other lists of requests
-  pub fits_with_requests : (s : State Q QH P PH K) (requests : Lists request_key_cmp (RequestMessage Q QH)) → IsReached s → RequestsFit s.limits s.servers (roles_of s.handles) s.next requests →
+  pub fits_with_requests : (s : State Q QH P PH K) (requests : Lists request_key_cmp (RequestMessage Q QH)) → IsReached s
+      → RequestsFit s.limits s.servers (roles_of s.handles) s.next requests →
       Fits s.limits s.clients s.servers (roles_of s.handles) requests s.responses s.next
   fits_with_requests s requests fits lists =
-      record { makes_hub = fits.makes_hub; ports = fits.ports; handles = fits.handles; counts = fits.counts; request_lists = lists; response_lists = fits.response_lists }
+      record {
+        makes_hub = fits.makes_hub;
+        ports = fits.ports;
+        handles = fits.handles;
+        counts = fits.counts;
+        request_lists = lists;
+        response_lists = fits.response_lists;
+      }
 
   -- other lists of responses
-  pub fits_with_responses : (s : State Q QH P PH K) (responses : Lists response_key_cmp (ResponseMessage P PH)) → IsReached s → ResponsesFit s.limits (roles_of s.handles) s.next responses →
+  pub fits_with_responses : (s : State Q QH P PH K) (responses : Lists response_key_cmp (ResponseMessage P PH)) → IsReached s
+      → ResponsesFit s.limits (roles_of s.handles) s.next responses →
       Fits s.limits s.clients s.servers (roles_of s.handles) s.requests responses s.next
   fits_with_responses s responses fits lists =
-      record { makes_hub = fits.makes_hub; ports = fits.ports; handles = fits.handles; counts = fits.counts; request_lists = fits.request_lists; response_lists = lists }
+      record {
+        makes_hub = fits.makes_hub;
+        ports = fits.ports;
+        handles = fits.handles;
+        counts = fits.counts;
+        request_lists = fits.request_lists;
+        response_lists = lists;
+      }
 
   -- a server's list of left clients after one more left
   one_client_expired : (client server : ℕ) (s : State Q QH P PH K) → IsReached s → WithRequests s (with_expired_client client s server)
@@ -68,7 +90,8 @@ module _ {Q QH P PH K : Type 0} where
       go false = (s.requests, s.expired, refl, fits)
 
   -- after a client left all servers
-  pub clients_expired : (client : ℕ) (servers : List ℕ) (s : State Q QH P PH K) → IsReached s → WithRequests s (fold (with_expired_client client) s servers)
+  pub clients_expired : (client : ℕ) (servers : List ℕ) (s : State Q QH P PH K) → IsReached s
+      → WithRequests s (fold (with_expired_client client) s servers)
   clients_expired client [] s fits = (s.requests, s.expired, refl, fits)
   clients_expired client (server ∷ servers) s fits =
       let one = one_client_expired client server s fits in
@@ -93,7 +116,8 @@ module _ {Q QH P PH K : Type 0} where
       go false = (s.responses, s.expired, refl, fits)
 
   -- after a server left all clients
-  pub servers_expired : (server : ℕ) (clients : List ℕ) (s : State Q QH P PH K) → IsReached s → WithResponses s (fold (with_expired_server server) s clients)
+  pub servers_expired : (server : ℕ) (clients : List ℕ) (s : State Q QH P PH K) → IsReached s
+      → WithResponses s (fold (with_expired_server server) s clients)
   servers_expired server [] s fits = (s.responses, s.expired, refl, fits)
   servers_expired server (client ∷ clients) s fits =
       let one = one_server_expired server client s fits in

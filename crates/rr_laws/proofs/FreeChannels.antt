@@ -39,7 +39,8 @@ unfolding each_once
 length-each_once [] = refl
 length-each_once (n ∷ ns) = go (length-each_once ns) (list_any (λ m. eqb m n) ns)
   where
-    go : length (each_once ns) ≡ distinct_count ns → (b : Bool) → length (cond b (each_once ns) (n ∷ each_once ns)) ≡ cond b 0 1 + distinct_count ns
+    go : length (each_once ns) ≡ distinct_count ns → (b : Bool)
+        → length (cond b (each_once ns) (n ∷ each_once ns)) ≡ cond b 0 1 + distinct_count ns
     go rest true = omega (arith, rest)
     go rest false = omega (arith, rest)
 
@@ -48,7 +49,8 @@ unfolding each_once
 any_each_once k [] e = e
 any_each_once k (n ∷ ns) e = go (any_each_once k ns) (list_any (λ m. eqb m n) ns) refl (eqb n k) refl e
   where
-    go : (list_any (λ m. eqb m k) ns ≡ true → list_any (λ m. eqb m k) (each_once ns) ≡ true) → (b : Bool) → list_any (λ m. eqb m n) ns ≡ b → (c : Bool) → eqb n k ≡ c →
+    go : (list_any (λ m. eqb m k) ns ≡ true → list_any (λ m. eqb m k) (each_once ns) ≡ true) → (b : Bool) → list_any (λ m. eqb m n) ns ≡ b
+        → (c : Bool) → eqb n k ≡ c →
         (c || list_any (λ m. eqb m k) ns) ≡ true → list_any (λ m. eqb m k) (cond b (each_once ns) (n ∷ each_once ns)) ≡ true
     go rest true there true same e = rest (subst (λ j. list_any (λ m. eqb m j) ns ≡ true) (eqb-true n k same) there)
     go rest true there false same e = rest e
@@ -72,19 +74,24 @@ module _ {Q QH P PH K : Type 0} (s : State Q QH P PH K) (fits : IsReached s) (cl
   live_numbers = map (λ m. m.number) (filter (λ m. eqb m.client client) (filter_map request_in (all_handles s) ++ all_elements s.requests))
 
   -- the number of a request that its client still has is one of a live request
-  is_live : (n : ℕ) (role : Role) → get (roles_of s.handles) n ≡ Some role → still_has client role ≡ true → list_any (λ m. eqb m n) live_numbers ≡ true
+  is_live : (n : ℕ) (role : Role) → get (roles_of s.handles) n ≡ Some role → still_has client role ≡ true
+      → list_any (λ m. eqb m n) live_numbers ≡ true
   unfolding live_numbers still_has
   is_live n role e has =
       let h = handle_of s.handles n role e in
-      any-map (λ (m : RequestMessage Q QH). m.number) (λ m. eqb m n) (filter (λ m. eqb m.client client) (filter_map request_in (all_handles s) ++ all_elements s.requests))
+      any-map (λ (m : RequestMessage Q QH). m.number) (λ m. eqb m n)
+      (filter (λ m. eqb m.client client) (filter_map request_in (all_handles s) ++ all_elements s.requests))
       ∙ any-filter (λ m. eqb m.number n) (λ m. eqb m.client client) (filter_map request_in (all_handles s) ++ all_elements s.requests)
       (any-append (λ m. eqb m.client client && eqb m.number n) (filter_map request_in (all_handles s)) (all_elements s.requests)
       (any-filter_map request_in (λ m. eqb m.client client && eqb m.number n) (all_handles s)
-      ∙ any-map (λ (x : ℕ × Handle Q QH P PH). x.1) (λ x. option_map_or (λ m. eqb m.client client && eqb m.number n) (request_in x) false) (entries s.handles)
+      ∙ any-map (λ (x : ℕ × Handle Q QH P PH). x.1) (λ x. option_map_or (λ m. eqb m.client client && eqb m.number n) (request_in x) false)
+      (entries s.handles)
       ∙ any_value (λ x. option_map_or (λ m. eqb m.client client && eqb m.number n) (request_in x) false) s.handles n h.0 h.1
-      (this h.0 (subst (λ r. number_of n r ≡ n) (sym h.2) ((fits.handles n role e).own_number)) (subst (λ r. still_has client r ≡ true) (sym h.2) has))))
+      (this h.0 (subst (λ r. number_of n r ≡ n) (sym h.2) ((fits.handles n role e).own_number))
+      (subst (λ r. still_has client r ≡ true) (sym h.2) has))))
     where
-      this : (h : Handle Q QH P PH) → number_of n (role_of h) ≡ n → still_has client (role_of h) ≡ true → option_map_or (λ m. eqb m.client client && eqb m.number n) (request_in h) false ≡ true
+      this : (h : Handle Q QH P PH) → number_of n (role_of h) ≡ n → still_has client (role_of h) ≡ true
+          → option_map_or (λ m. eqb m.client client && eqb m.number n) (request_in h) false ≡ true
       this (RequestMutUninit m) own has = both_true _ _ has (eq-eqb m.number n own)
       this (RequestMut m) own has = both_true _ _ has (eq-eqb m.number n own)
       this (PendingResponse p) own has = both_true _ _ has (eq-eqb p.message.number n own)
@@ -101,13 +108,16 @@ module _ {Q QH P PH K : Type 0} (s : State Q QH P PH K) (fits : IsReached s) (cl
   unfolding live_numbers
   still_had_le =
       one_more_times _ (length (each_once live_numbers)) (live_requests s client)
-      (count-bins (λ (number : ℕ) (e : ℕ × Role). eqb number e.0) 1 (λ e. still_has client e.1) (each_once live_numbers) (entries (roles_of s.handles))
+      (count-bins (λ (number : ℕ) (e : ℕ × Role). eqb number e.0) 1 (λ e. still_has client e.1) (each_once live_numbers)
+      (entries (roles_of s.handles))
       (all_entries nat_cmp_total _ (roles_of s.handles) (λ n role e has. any_each_once n live_numbers (is_live n role e has)))
-      (all_of _ (λ number. one_entry nat_cmp_total (λ n. eqb number n) number (λ n h. sym (eqb-true number n h)) (roles_of s.handles)) (each_once live_numbers)))
+      (all_of _ (λ number. one_entry nat_cmp_total (λ n. eqb number n) number (λ n h. sym (eqb-true number n h)) (roles_of s.handles))
+      (each_once live_numbers)))
       (length-each_once live_numbers)
 
   -- where a channel is held, a request that the client still has holds it
-  held_by : (channel : ℕ) → list_any (holds_channel client channel) (all_handles s) ≡ list_any (λ (e : ℕ × Role). has_channel client channel e.1) (entries (roles_of s.handles))
+  held_by : (channel : ℕ) → list_any (holds_channel client channel) (all_handles s) ≡ list_any
+      (λ (e : ℕ × Role). has_channel client channel e.1) (entries (roles_of s.handles))
   unfolding has_channel
   held_by channel =
       any-map (λ (x : ℕ × Handle Q QH P PH). x.1) (holds_channel client channel) (entries s.handles)
@@ -125,7 +135,8 @@ module _ {Q QH P PH K : Type 0} (s : State Q QH P PH K) (fits : IsReached s) (cl
       same (Response m) = refl
 
   -- fewer live requests than channels leave one free
-  pub free_channel : (channels : ℕ) → live_requests s client < channels → (channel : ℕ) × (channel < channels) × (list_any (holds_channel client channel) (all_handles s) ≡ false)
+  pub free_channel : (channels : ℕ) → live_requests s client < channels → (channel : ℕ) × (channel < channels)
+      × (list_any (holds_channel client channel) (all_handles s) ≡ false)
   unfolding still_has has_channel
   free_channel channels few = go (search_below (λ channel. list_any (holds_channel client channel) (all_handles s)) channels)
     where
@@ -146,22 +157,35 @@ module _ {Q QH P PH K : Type 0} (s : State Q QH P PH K) (fits : IsReached s) (cl
       bins : List (ℕ × Role)
       bins = filter (λ e. still_has client e.1) (entries (roles_of s.handles))
 
-      all_held : ((channel : ℕ) → channel < channels → list_any (holds_channel client channel) (all_handles s) ≡ true) → channels ≤ length bins * 1
+      all_held : ((channel : ℕ) → channel < channels → list_any (holds_channel client channel) (all_handles s) ≡ true)
+          → channels ≤ length bins * 1
       all_held held =
           subst (λ n. n ≤ length bins * 1) (count-all (λ channel. list_any (holds_channel client channel) (all_handles s)) channels held)
-          (count-bins (λ (e : ℕ × Role) channel. has_channel client channel e.1) 1 (λ channel. list_any (holds_channel client channel) (all_handles s)) bins (all_below channels)
-          (all_of _ (λ channel h. any-filter_same (λ (e : ℕ × Role). has_channel client channel e.1) (λ e. still_has client e.1) true (λ e. holder channel e.1) (entries (roles_of s.handles)) ∙ sym (held_by channel) ∙ h) (all_below channels))
+          (count-bins (λ (e : ℕ × Role) channel. has_channel client channel e.1) 1
+          (λ channel. list_any (holds_channel client channel) (all_handles s)) bins (all_below channels)
+          (all_of _ (λ channel h. any-filter_same (λ (e : ℕ × Role). has_channel client channel e.1) (λ e. still_has client e.1) true
+          (λ e. holder channel e.1) (entries (roles_of s.handles)) ∙ sym (held_by channel) ∙ h) (all_below channels))
           (all_of _ (λ e. one_below (λ channel. has_channel client channel e.1) (subject_of e.1).channel (only e.1) channels) bins))
 
-      go : ((channel : ℕ) → channel < channels → list_any (holds_channel client channel) (all_handles s) ≡ true) ⊎ ((channel : ℕ) × (channel < channels) × (list_any (holds_channel client channel) (all_handles s) ≡ false)) →
+      go : ((channel : ℕ) → channel < channels → list_any (holds_channel client channel) (all_handles s) ≡ true)
+          ⊎ ((channel : ℕ) × (channel < channels) × (list_any (holds_channel client channel) (all_handles s) ≡ false)) →
           (channel : ℕ) × (channel < channels) × (list_any (holds_channel client channel) (all_handles s) ≡ false)
-      go (inl held) = absurd (omega (arith, all_held held, length-filter (λ (e : ℕ × Role). still_has client e.1) (entries (roles_of s.handles)), still_had_le, few))
+      go (inl held) = absurd (omega (
+        arith,
+        all_held held,
+        length-filter (λ (e : ℕ × Role). still_has client e.1)
+            (entries (roles_of s.handles)),
+        still_had_le,
+        few,
+      ))
       go (inr free) = free
 
 -- where a loan is not refused, some channel is free
 pub finds_channel : {Q QH P PH K : Type 0} (s : State Q QH P PH K) → IsReached s → FindsChannel s
 finds_channel s fits n len client is due =
     let room : (if nat_le client.pool_size (live_requests s client.id) then Some LoanError.OutOfMemory else None) ≡ None =
-    (not_due (nat_le s.limits.max_loaned_requests (loaned_requests s client.id)) _ _ ((not_due (is_too_long client.port len) _ _ due).1)).1 in
-    let free = free_channel s fits client.id client.pool_size (below_of_test client.pool_size (live_requests s client.id) (not_due _ _ None room).0) in
+    (not_due (nat_le s.limits.max_loaned_requests (loaned_requests s client.id)) _ _ ((not_due (is_too_long client.port len) _ _ due).1)).1
+    in
+    let free = free_channel s fits client.id client.pool_size
+    (below_of_test client.pool_size (live_requests s client.id) (not_due _ _ None room).0) in
     (free.0, (free.1, free.2))

@@ -38,22 +38,26 @@ module _ {T H K : Type 0} where
     pub first : (k : ℕ) → is_response k event ≡ true → count_by (is_response k) history ≡ 0
 
   -- a response that was loaned has a number that was given
-  pub loaned_below : (history : List (Event T H K)) (next server p a k : ℕ) → NumbersFit history next → IsLoaned history server p a k → k < next
+  pub loaned_below : (history : List (Event T H K)) (next server p a k : ℕ) → NumbersFit history next → IsLoaned history server p a k
+      → k < next
   loaned_below history next server p a k fits loaned = ⊎_elim
       (λ below. below)
       (λ not. absurd (let f : [] ≡ a ∷ [] = sym (fits.unused k not).no_lender ∙ loaned.lenders in cc))
       (below_or_not k next)
 
   -- a response that was loaned answers the request of its active request
-  pub loaned_answers : (history : List (Event T H K)) (server p a k : ℕ) → IsLoaned history server p a k → is_answer history server p k ≡ true
+  pub loaned_answers : (history : List (Event T H K)) (server p a k : ℕ) → IsLoaned history server p a k
+      → is_answer history server p k ≡ true
   loaned_answers history server p a k loaned =
       ap (list_any (λ j. list_any (is_active_of server j p) history)) loaned.lenders ∙ or-false _ ∙ loaned.active
 
   -- and no other
-  pub loaned_answers_one : (history : List (Event T H K)) (next server p a k : ℕ) → NumbersFit history next → IsLoaned history server p a k → (other q : ℕ) → is_answer history other q k ≡ true → (other ≡ server) × (q ≡ p)
+  pub loaned_answers_one : (history : List (Event T H K)) (next server p a k : ℕ) → NumbersFit history next → IsLoaned history server p a k
+      → (other q : ℕ) → is_answer history other q k ≡ true → (other ≡ server) × (q ≡ p)
   loaned_answers_one history next server p a k fits loaned other q e =
       fits.one_receiver a other server q p
-      (sym (ap (list_any (λ j. list_any (is_active_of other j q) history)) loaned.lenders ∙ or-false (list_any (is_active_of other a q) history)) ∙ e) loaned.active
+      (sym (ap (list_any (λ j. list_any (is_active_of other j q) history)) loaned.lenders
+      ∙ or-false (list_any (is_active_of other a q) history)) ∙ e) loaned.active
 
 module _ {T H K : Type 0} (history : List (Event T H K)) (event : Event T H K) where
   -- the history with the event
@@ -66,15 +70,18 @@ module _ {T H K : Type 0} (history : List (Event T H K)) (event : Event T H K) w
 
   -- what the event makes active was received
   pub received_now : (server a p : ℕ) → is_active_of server a p event ≡ true → WasReceived grown server a p
-  received_now server a p h = list_any-append (is_active_of server a p) history (event ∷ []) ∙ ap (λ b. list_any (is_active_of server a p) history || (b || false)) h ∙ go (list_any (is_active_of server a p) history)
+  received_now server a p h = list_any-append (is_active_of server a p) history (event ∷ [])
+      ∙ ap (λ b. list_any (is_active_of server a p) history || (b || false)) h ∙ go (list_any (is_active_of server a p) history)
     where
       go : (b : Bool) → (b || true) ≡ true
       go true = refl
       go false = refl
 
   -- what was not received before was received by the event
-  pub received_parts : (server a p : ℕ) → WasReceived grown server a p → WasReceived history server a p ⊎ (is_active_of server a p event ≡ true)
-  received_parts server a p h = go (list_any (is_active_of server a p) history) (is_active_of server a p event) (sym (list_any-append (is_active_of server a p) history (event ∷ [])) ∙ h)
+  pub received_parts : (server a p : ℕ) → WasReceived grown server a p → WasReceived history server a p
+      ⊎ (is_active_of server a p event ≡ true)
+  received_parts server a p h = go (list_any (is_active_of server a p) history) (is_active_of server a p event)
+      (sym (list_any-append (is_active_of server a p) history (event ∷ [])) ∙ h)
     where
       go : (b c : Bool) → (b || (c || false)) ≡ true → (b ≡ true) ⊎ (c ≡ true)
       go true c h = inl refl
@@ -83,14 +90,21 @@ module _ {T H K : Type 0} (history : List (Event T H K)) (event : Event T H K) w
 
   -- the lenders of a number, where the event loans nothing under it
   pub lenders-grown : (k : ℕ) → lender_of k event ≡ None → filter_map (lender_of k) grown ≡ filter_map (lender_of k) history
-  lenders-grown k none = filter_map-append (lender_of k) history (event ∷ []) ∙ ap (λ o. filter_map (lender_of k) history ++ cons_option o []) none ∙ append-nil _
+  lenders-grown k none = filter_map-append (lender_of k) history (event ∷ [])
+      ∙ ap (λ o. filter_map (lender_of k) history ++ cons_option o []) none ∙ append-nil _
 
   -- how often a number was received, where the event does not
   pub responses-grown : (k : ℕ) → is_response k event ≡ false → count_by (is_response k) grown ≡ count_by (is_response k) history
-  responses-grown k quiet = omega (arith, count-append (is_response k) history (event ∷ []), count-cons (is_response k) event [], ap mark quiet)
+  responses-grown k quiet = omega (
+    arith,
+    count-append (is_response k) history (event ∷ []),
+    count-cons (is_response k) event [],
+    ap mark quiet,
+  )
 
   -- a loan stays
-  pub loaned_later : (server p a k : ℕ) → IsLoaned history server p a k → lender_of k event ≡ None → is_response k event ≡ false → IsLoaned grown server p a k
+  pub loaned_later : (server p a k : ℕ) → IsLoaned history server p a k → lender_of k event ≡ None → is_response k event ≡ false
+      → IsLoaned grown server p a k
   loaned_later server p a k loaned none quiet = record {
     active = received_later server a p loaned.active;
     lenders = lenders-grown k none ∙ loaned.lenders;
@@ -104,14 +118,17 @@ module _ {T H K : Type 0} (history : List (Event T H K)) (event : Event T H K) w
       (λ copied. inr (occurs_later (is_active a p ∷ is_sent_copy a k ∷ []) history event copied))
       h
 
-module _ {T H K : Type 0} (history : List (Event T H K)) (next after : ℕ) (event : Event T H K) (fits : NumbersFit history next) (comes : EventFits history next after event) where
+module _ {T H K : Type 0} (history : List (Event T H K)) (next after : ℕ) (event : Event T H K) (fits : NumbersFit history next)
+    (comes : EventFits history next after event) where
   -- responses that were sent and that the event does not receive stay so
-  pub all_sent_later : (server p : ℕ) (xs : List ℕ) → AllByRecursion (WasSent history server p) xs → AllByRecursion (λ k. is_response k event ≡ false) xs → AllByRecursion (WasSent (history ++ event ∷ []) server p) xs
+  pub all_sent_later : (server p : ℕ) (xs : List ℕ) → AllByRecursion (WasSent history server p) xs
+      → AllByRecursion (λ k. is_response k event ≡ false) xs → AllByRecursion (WasSent (history ++ event ∷ []) server p) xs
   all_sent_later server p [] sent quiet = tt
   all_sent_later server p (k ∷ xs) sent quiet = (
     record {
       lender = sent.0.lender;
-      loaned = loaned_later history event server p sent.0.lender k sent.0.loaned (comes.lends_new k (loaned_below history next server p sent.0.lender k fits sent.0.loaned)) quiet.0;
+      loaned = loaned_later history event server p sent.0.lender k sent.0.loaned
+          (comes.lends_new k (loaned_below history next server p sent.0.lender k fits sent.0.loaned)) quiet.0;
       occurs = send_occurs_later history event p sent.0.lender k sent.0.occurs;
     },
     all_sent_later server p xs sent.1 quiet.1,
@@ -120,31 +137,39 @@ module _ {T H K : Type 0} (history : List (Event T H K)) (next after : ℕ) (eve
   -- whom a response with a given number answers was decided
   pub answer-grown : (server p k : ℕ) → k < next → is_answer (history ++ event ∷ []) server p k ≡ is_answer history server p k
   answer-grown server p k below =
-      ap (list_any (λ a. list_any (is_active_of server a p) (history ++ event ∷ []))) (lenders-grown history event k (comes.lends_new k below))
+      ap (list_any (λ a. list_any (is_active_of server a p) (history ++ event ∷ []))) (lenders-grown history event k
+      (comes.lends_new k below))
       ∙ any_agree (λ a. list_any (is_active_of server a p) (history ++ event ∷ [])) (λ a. list_any (is_active_of server a p) history) next
-      (λ a small. list_any-append (is_active_of server a p) history (event ∷ []) ∙ ap (λ b. list_any (is_active_of server a p) history || (b || false)) (comes.activates_new server a p small) ∙ or-false _)
+      (λ a small. list_any-append (is_active_of server a p) history (event ∷ [])
+      ∙ ap (λ b. list_any (is_active_of server a p) history || (b || false)) (comes.activates_new server a p small) ∙ or-false _)
       (filter_map (lender_of k) history) (fits.lenders k)
 
   -- what was sent for a request, and what the event sends for it
-  pub sent_for-grown : (server p : ℕ) → sent_for (history ++ event ∷ []) server p ≡ sent_for history server p ++ filter (is_answer (history ++ event ∷ []) server p) (filter_map sent_by (event ∷ []))
+  pub sent_for-grown : (server p : ℕ) → sent_for (history ++ event ∷ []) server p ≡ sent_for history server p ++ filter
+      (is_answer (history ++ event ∷ []) server p) (filter_map sent_by (event ∷ []))
   sent_for-grown server p =
       let later = is_answer (history ++ event ∷ []) server p in
       ap (filter later) (filter_map-append sent_by history (event ∷ []))
       ∙ filter-append later (filter_map sent_by history) (filter_map sent_by (event ∷ []))
-      ∙ ap (λ xs. xs ++ filter later (filter_map sent_by (event ∷ []))) (filter_agree later (is_answer history server p) next (λ k below. answer-grown server p k below) (filter_map sent_by history) fits.sent)
+      ∙ ap (λ xs. xs ++ filter later (filter_map sent_by (event ∷ []))) (filter_agree later (is_answer history server p) next
+      (λ k below. answer-grown server p k below) (filter_map sent_by history) fits.sent)
 
   -- what a request received, and what it receives by the event
-  pub received_from-grown : (server p : ℕ) → received_from (history ++ event ∷ []) server p ≡ received_from history server p ++ filter (is_answer (history ++ event ∷ []) server p) (filter_map (received_by p) (event ∷ []))
+  pub received_from-grown : (server p : ℕ) → received_from (history ++ event ∷ []) server p ≡ received_from history server p ++ filter
+      (is_answer (history ++ event ∷ []) server p) (filter_map (received_by p) (event ∷ []))
   received_from-grown server p =
       let later = is_answer (history ++ event ∷ []) server p in
       ap (filter later) (filter_map-append (received_by p) history (event ∷ []))
       ∙ filter-append later (filter_map (received_by p) history) (filter_map (received_by p) (event ∷ []))
-      ∙ ap (λ xs. xs ++ filter later (filter_map (received_by p) (event ∷ []))) (filter_agree later (is_answer history server p) next (λ k below. answer-grown server p k below) (filter_map (received_by p) history) (fits.received p))
+      ∙ ap (λ xs. xs ++ filter later (filter_map (received_by p) (event ∷ []))) (filter_agree later (is_answer history server p) next
+      (λ k below. answer-grown server p k below) (filter_map (received_by p) history) (fits.received p))
 
   -- numbers that an event names were given, and so were those before
-  all_grown : (f : Event T H K → Option ℕ) → AllByRecursion (λ k. k < next) (filter_map f history) → ((k : ℕ) → f event ≡ Some k → k < after) → AllByRecursion (λ k. k < after) (filter_map f (history ++ event ∷ []))
+  all_grown : (f : Event T H K → Option ℕ) → AllByRecursion (λ k. k < next) (filter_map f history)
+      → ((k : ℕ) → f event ≡ Some k → k < after) → AllByRecursion (λ k. k < after) (filter_map f (history ++ event ∷ []))
   all_grown f all one = subst (AllByRecursion (λ k. k < after)) (sym (filter_map-append f history (event ∷ [])))
-      (all_joined (λ k. k < after) (filter_map f history) (filter_map f (event ∷ [])) (all_each (λ k. k < next) (λ k. k < after) (λ k small. omega (arith, small, comes.more)) (filter_map f history) all) (go (f event) one))
+      (all_joined (λ k. k < after) (filter_map f history) (filter_map f (event ∷ [])) (all_each (λ k. k < next) (λ k. k < after)
+      (λ k small. omega (arith, small, comes.more)) (filter_map f history) all) (go (f event) one))
     where
       go : (o : Option ℕ) → ((k : ℕ) → o ≡ Some k → k < after) → AllByRecursion (λ k. k < after) (cons_option o [])
       go None one = tt
@@ -152,7 +177,13 @@ module _ {T H K : Type 0} (history : List (Event T H K)) (next after : ℕ) (eve
 
   -- a number is received once at most
   count_once : (k : ℕ) (b : Bool) → is_response k event ≡ b → count_by (is_response k) (history ++ event ∷ []) ≤ 1
-  count_once k true is = omega (arith, count-append (is_response k) history (event ∷ []), count-cons (is_response k) event [], ap mark is, comes.first k is)
+  count_once k true is = omega (
+    arith,
+    count-append (is_response k) history (event ∷ []),
+    count-cons (is_response k) event [],
+    ap mark is,
+    comes.first k is,
+  )
   count_once k false is = omega (arith, responses-grown history event k is, fits.once k)
 
   -- the numbers in the longer history fit
@@ -163,7 +194,9 @@ module _ {T H K : Type 0} (history : List (Event T H K)) (next after : ℕ) (eve
         record {
           no_lender = lenders-grown history event k (comes.lends_given k high) ∙ was.no_lender;
           no_response = responses-grown history event k (comes.responds_given k high) ∙ was.no_response;
-          not_active = λ server p. list_any-append (is_active_of server k p) history (event ∷ []) ∙ ap (λ b. b || (is_active_of server k p event || false)) (was.not_active server p) ∙ ap (λ b. b || false) (comes.activates_given server k p high);
+          not_active = λ server p. list_any-append (is_active_of server k p) history (event ∷ [])
+              ∙ ap (λ b. b || (is_active_of server k p event || false)) (was.not_active server p)
+              ∙ ap (λ b. b || false) (comes.activates_given server k p high);
         };
     lenders = λ k. all_grown (lender_of k) (fits.lenders k) (comes.lenders k);
     sent = all_grown sent_by fits.sent comes.sends;

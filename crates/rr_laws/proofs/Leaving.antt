@@ -46,10 +46,12 @@ module _ {Q QH P PH : Type 0} where
 module _ {K : Type 0} (n : ℕ) where
   -- a port without its value has its number
   pub without_value_id : (port : Port K) → (without_value n port).id ≡ port.id
-  without_value_id port = elim (eqb port.id n) as (λ b. (cond b (record port { is_held = false }) port).id ≡ port.id) [ true ↦ refl | false ↦ refl ]
+  without_value_id port = elim (eqb port.id n) as (λ b. (cond b (record port { is_held = false }) port).id ≡ port.id)
+      [ true ↦ refl | false ↦ refl ]
 
   without_value_pool : (port : Port K) → (without_value n port).pool_size ≡ port.pool_size
-  without_value_pool port = elim (eqb port.id n) as (λ b. (cond b (record port { is_held = false }) port).pool_size ≡ port.pool_size) [ true ↦ refl | false ↦ refl ]
+  without_value_pool port = elim (eqb port.id n) as (λ b. (cond b (record port { is_held = false }) port).pool_size ≡ port.pool_size)
+      [ true ↦ refl | false ↦ refl ]
 
   client_without : Client K → Client K
   client_without c = record c { port = without_value n c.port }
@@ -63,16 +65,19 @@ module _ {K : Type 0} (n : ℕ) where
 
 module _ {Q QH P PH K : Type 0} where
   -- no handle is of a port that is not in use
-  pub no_handle_of : (s : State Q QH P PH K) (port : ℕ) → is_in_use s port ≡ false → (n : ℕ) (role : Role) → get (roles_of s.handles) n ≡ Some role → port_number role ≢ port
+  pub no_handle_of : (s : State Q QH P PH K) (port : ℕ) → is_in_use s port ≡ false → (n : ℕ) (role : Role)
+      → get (roles_of s.handles) n ≡ Some role → port_number role ≢ port
   no_handle_of s port unused n role e same =
       let h = handle_of s.handles n role e in
       let its : port_of h.0 ≡ port = port_of-role h.0 ∙ ap port_number h.2 ∙ same in
       let found : list_any (λ x. eqb (port_of x) port) (all_handles s) ≡ true =
-      any-map (λ (x : ℕ × Handle Q QH P PH). x.1) (λ x. eqb (port_of x) port) (entries s.handles) ∙ any_value (λ x. eqb (port_of x) port) s.handles n h.0 h.1 (eq-eqb _ _ its) in
+      any-map (λ (x : ℕ × Handle Q QH P PH). x.1) (λ x. eqb (port_of x) port) (entries s.handles)
+      ∙ any_value (λ x. eqb (port_of x) port) s.handles n h.0 h.1 (eq-eqb _ _ its) in
       absurd (let t : true ≡ false = sym found ∙ or_no (is_client_held s port || is_server_held s port) _ unused in cc)
 
   client_left_fits : (s : State Q QH P PH K) (client : ℕ) → IsReached s → is_in_use s client ≡ false →
-      Fits s.limits (filter (λ c. not (eqb c.id client)) s.clients) s.servers (roles_of s.handles) s.requests (fin_map.retain_keys s.responses (λ key. not (eqb key.client client))) s.next
+      Fits s.limits (filter (λ c. not (eqb c.id client)) s.clients) s.servers (roles_of s.handles) s.requests
+      (fin_map.retain_keys s.responses (λ key. not (eqb key.client client))) s.next
   client_left_fits s client fits unused =
       let rest = filter (λ (c : Client K). not (eqb c.id client)) s.clients in
       record {
@@ -85,14 +90,16 @@ module _ {Q QH P PH K : Type 0} where
           client_pools = all_filter _ (λ c. not (eqb c.id client)) s.clients fits.ports.client_pools;
         };
         handles = handles_with_ports s.clients rest s.servers s.servers s.limits (roles_of s.handles) s.next (λ n role e.
-            port_stays s.clients rest s.servers s.servers role (has-gone (λ c. c.id) client (port_number role) s.clients (no_handle_of s client unused n role e)) (λ h. h)) fits.handles;
+            port_stays s.clients rest s.servers s.servers role
+            (has-gone (λ c. c.id) client (port_number role) s.clients (no_handle_of s client unused n role e)) (λ h. h)) fits.handles;
         counts = fits.counts;
         request_lists = fits.request_lists;
         response_lists = responses_dropped s (λ key. not (eqb key.client client)) fits;
       }
 
   -- after a client left that was not in use
-  pub client_left_reached : (s : State Q QH P PH K) (client : ℕ) → IsReached s → is_in_use s client ≡ false → IsReached (after_client_left s client)
+  pub client_left_reached : (s : State Q QH P PH K) (client : ℕ) → IsReached s → is_in_use s client ≡ false
+      → IsReached (after_client_left s client)
   client_left_reached s client fits unused =
       let left = clients_expired client (map (λ c. c.id) s.servers) s fits in
       let mid : State Q QH P PH K = record s { requests = left.0; expired = left.1 } in
@@ -103,23 +110,30 @@ module _ {Q QH P PH K : Type 0} where
       })) (sym left.2) (client_left_fits mid client left.3 unused)
 
   server_lists_fit : (s : State Q QH P PH K) (server : ℕ) → IsReached s →
-      RequestsFit s.limits (filter (λ c. not (eqb c.id server)) s.servers) (roles_of s.handles) s.next (fin_map.retain_keys s.requests (λ key. not (eqb key.server server)))
+      RequestsFit s.limits (filter (λ c. not (eqb c.id server)) s.servers) (roles_of s.handles) s.next
+      (fin_map.retain_keys s.requests (λ key. not (eqb key.server server)))
   server_lists_fit s server fits =
       record {
-        each = λ key. subst (AllByRecursion (RequestFits s.limits rest (roles_of s.handles) s.next key)) (sym (at-retain_keys request_keys_total request_keys_exact s.requests (λ k. not (eqb k.server server)) key)) (go key (eqb key.server server) refl);
+        each = λ key. subst (AllByRecursion (RequestFits s.limits rest (roles_of s.handles) s.next key))
+            (sym (at-retain_keys request_keys_total request_keys_exact s.requests (λ k. not (eqb k.server server)) key))
+            (go key (eqb key.server server) refl);
         short = (requests_dropped s (λ key. not (eqb key.server server)) fits).short;
       }
     where
       rest : List (Server K)
       rest = filter (λ c. not (eqb c.id server)) s.servers
 
-      go : (key : RequestKey) (b : Bool) → eqb key.server server ≡ b → AllByRecursion (RequestFits s.limits rest (roles_of s.handles) s.next key) (cond (not b) (at s.requests key) [])
+      go : (key : RequestKey) (b : Bool) → eqb key.server server ≡ b
+          → AllByRecursion (RequestFits s.limits rest (roles_of s.handles) s.next key) (cond (not b) (at s.requests key) [])
       go key true e = tt
       go key false e =
-          request_with_servers s.servers rest s.limits (roles_of s.handles) s.next key (has-gone (λ c. c.id) server key.server s.servers (λ same. eqb-false key.server server e same)) (at s.requests key) (fits.request_lists.each key)
+          request_with_servers s.servers rest s.limits (roles_of s.handles) s.next key
+          (has-gone (λ c. c.id) server key.server s.servers (λ same. eqb-false key.server server e same)) (at s.requests key)
+          (fits.request_lists.each key)
 
   server_left_fits : (s : State Q QH P PH K) (server : ℕ) → IsReached s → is_in_use s server ≡ false →
-      Fits s.limits s.clients (filter (λ c. not (eqb c.id server)) s.servers) (roles_of s.handles) (fin_map.retain_keys s.requests (λ key. not (eqb key.server server))) s.responses s.next
+      Fits s.limits s.clients (filter (λ c. not (eqb c.id server)) s.servers) (roles_of s.handles)
+      (fin_map.retain_keys s.requests (λ key. not (eqb key.server server))) s.responses s.next
   server_left_fits s server fits unused =
       let rest = filter (λ (c : Server K). not (eqb c.id server)) s.servers in
       record {
@@ -132,24 +146,28 @@ module _ {Q QH P PH K : Type 0} where
           client_pools = fits.ports.client_pools;
         };
         handles = handles_with_ports s.clients s.clients s.servers rest s.limits (roles_of s.handles) s.next (λ n role e.
-            port_stays s.clients s.clients s.servers rest role (λ h. h) (has-gone (λ c. c.id) server (port_number role) s.servers (no_handle_of s server unused n role e))) fits.handles;
+            port_stays s.clients s.clients s.servers rest role (λ h. h)
+            (has-gone (λ c. c.id) server (port_number role) s.servers (no_handle_of s server unused n role e))) fits.handles;
         counts = record {
           request_loans = fits.counts.request_loans;
           waiting = fits.counts.waiting;
           held_requests = fits.counts.held_requests;
-          response_loans = λ n x e. fits.counts.response_loans n x (was_there n x (eqb n server) (sym (find-gone (λ c. c.id) server n s.servers) ∙ e));
+          response_loans = λ n x e. fits.counts.response_loans n x
+              (was_there n x (eqb n server) (sym (find-gone (λ c. c.id) server n s.servers) ∙ e));
           held_responses = fits.counts.held_responses;
         };
         request_lists = server_lists_fit s server fits;
         response_lists = fits.response_lists;
       }
     where
-      was_there : (n : ℕ) (x : Server K) (b : Bool) → cond b None (find (λ c. eqb c.id n) s.servers) ≡ Some x → find (λ c. eqb c.id n) s.servers ≡ Some x
+      was_there : (n : ℕ) (x : Server K) (b : Bool) → cond b None (find (λ c. eqb c.id n) s.servers) ≡ Some x
+          → find (λ c. eqb c.id n) s.servers ≡ Some x
       was_there n x true e = absurd (cc)
       was_there n x false e = e
 
   -- after a server left that was not in use
-  pub server_left_reached : (s : State Q QH P PH K) (server : ℕ) → IsReached s → is_in_use s server ≡ false → IsReached (after_server_left s server)
+  pub server_left_reached : (s : State Q QH P PH K) (server : ℕ) → IsReached s → is_in_use s server ≡ false
+      → IsReached (after_server_left s server)
   server_left_reached s server fits unused =
       let left = servers_expired server (map (λ c. c.id) s.clients) s fits in
       let mid : State Q QH P PH K = record s { responses = left.0; expired = left.1 } in
@@ -159,14 +177,17 @@ module _ {Q QH P PH K : Type 0} where
         requests = fin_map.retain_keys x.requests (λ key. not (eqb key.server server));
         expired = with_at x.expired server [];
       })) (sym left.2)
-      (subst (λ r. Fits mid.limits mid.clients (filter (λ c. not (eqb c.id server)) mid.servers) r (fin_map.retain_keys mid.requests (λ key. not (eqb key.server server))) mid.responses mid.next)
-      (sym (roles-map_handles (without_server server) (without_server-role server) mid.handles)) (server_left_fits mid server left.3 unused))
+      (subst (λ r. Fits mid.limits mid.clients (filter (λ c. not (eqb c.id server)) mid.servers) r
+      (fin_map.retain_keys mid.requests (λ key. not (eqb key.server server))) mid.responses mid.next)
+      (sym (roles-map_handles (without_server server) (without_server-role server) mid.handles))
+      (server_left_fits mid server left.3 unused))
 
   -- a port that is not in use leaves
   pub without_unused_port_reached : (s : State Q QH P PH K) (port : ℕ) → IsReached s → IsReached (without_unused_port s port)
   without_unused_port_reached s port fits = go (is_in_use s port) (is_some (client_at s port)) refl
     where
-      go : (used client : Bool) → is_in_use s port ≡ used → IsReached (cond used s (cond client (after_client_left s port) (after_server_left s port)))
+      go : (used client : Bool) → is_in_use s port ≡ used → IsReached
+          (cond used s (cond client (after_client_left s port) (after_server_left s port)))
       go true client e = fits
       go false true e = client_left_reached s port fits e
       go false false e = server_left_reached s port fits e
@@ -184,9 +205,12 @@ module _ {Q QH P PH K : Type 0} where
         ports = record {
           few_clients = omega (arith, length-map s.clients (client_without n), fits.ports.few_clients);
           few_servers = omega (arith, length-map s.servers (server_without n), fits.ports.few_servers);
-          client_numbers = all_map (client_without n) _ _ (λ c h. omega (arith, without_value_id n c.port, h)) s.clients fits.ports.client_numbers;
-          server_numbers = all_map (server_without n) _ _ (λ c h. omega (arith, without_value_id n c.port, h)) s.servers fits.ports.server_numbers;
-          client_pools = all_map (client_without n) _ _ (λ c h. omega (arith, without_value_pool n c.port, h)) s.clients fits.ports.client_pools;
+          client_numbers = all_map (client_without n) _ _ (λ c h. omega (arith, without_value_id n c.port, h)) s.clients
+              fits.ports.client_numbers;
+          server_numbers = all_map (server_without n) _ _ (λ c h. omega (arith, without_value_id n c.port, h)) s.servers
+              fits.ports.server_numbers;
+          client_pools = all_map (client_without n) _ _ (λ c h. omega (arith, without_value_pool n c.port, h)) s.clients
+              fits.ports.client_pools;
         };
         handles = handles_with_ports s.clients clients s.servers servers s.limits (roles_of s.handles) s.next (λ k role e.
             port_stays s.clients clients s.servers servers role
@@ -196,26 +220,33 @@ module _ {Q QH P PH K : Type 0} where
           request_loans = fits.counts.request_loans;
           waiting = fits.counts.waiting;
           held_requests = fits.counts.held_requests;
-          response_loans = λ k x e. was_there k x (find (λ c. eqb c.id k) s.servers) refl (sym (find-changed (λ c. c.id) (server_without n) server_id k s.servers) ∙ e);
+          response_loans = λ k x e. was_there k x (find (λ c. eqb c.id k) s.servers) refl
+              (sym (find-changed (λ c. c.id) (server_without n) server_id k s.servers) ∙ e);
           held_responses = fits.counts.held_responses;
         };
-        request_lists = requests_with_servers s.servers servers s.limits (roles_of s.handles) s.next (has-changed (λ c. c.id) (server_without n) server_id s.servers) s.requests fits.request_lists;
+        request_lists = requests_with_servers s.servers servers s.limits (roles_of s.handles) s.next
+            (has-changed (λ c. c.id) (server_without n) server_id s.servers) s.requests fits.request_lists;
         response_lists = fits.response_lists;
       }
     where
-      was_there : (k : ℕ) (x : Server K) (o : Option (Server K)) → find (λ c. eqb c.id k) s.servers ≡ o → option_map (server_without n) o ≡ Some x →
+      was_there : (k : ℕ) (x : Server K) (o : Option (Server K)) → find (λ c. eqb c.id k) s.servers ≡ o
+          → option_map (server_without n) o ≡ Some x →
           tally (loans_response k) (roles_of s.handles) ≤ max_loaned_responses s.limits x.max_loaned_responses_per_request
       was_there k x None is e = absurd (cc)
       was_there k x (Some old) is e =
           let same : server_without n old ≡ x = (cc) in
-          let loans : (server_without n old).max_loaned_responses_per_request ≡ x.max_loaned_responses_per_request = ap (λ (c : Server K). c.max_loaned_responses_per_request) same in
-          subst (λ m. tally (loans_response k) (roles_of s.handles) ≤ max_loaned_responses s.limits m) (server_without_loans n old ∙ loans) (fits.counts.response_loans k old is)
+          let loans : (server_without n old).max_loaned_responses_per_request ≡ x.max_loaned_responses_per_request = ap
+          (λ (c : Server K). c.max_loaned_responses_per_request) same in
+          subst (λ m. tally (loans_response k) (roles_of s.handles) ≤ max_loaned_responses s.limits m) (server_without_loans n old ∙ loans)
+          (fits.counts.response_loans k old is)
 
   -- after a release
   pub after_release_reached : (s : State Q QH P PH K) (n : ℕ) → IsReached s → IsReached (after_release s n)
   after_release_reached s n fits = go (handle_at s n) refl
     where
       go : (o : Option (Handle Q QH P PH)) → handle_at s n ≡ o →
-          IsReached (option_map_or (λ handle. without_unused_port (after_handle_gone (record s { handles = fin_map.remove s.handles n }) handle) (port_of handle)) o (without_unused_port (without_port_value s n) n))
+          IsReached (option_map_or (λ handle. without_unused_port
+          (after_handle_gone (record s { handles = fin_map.remove s.handles n }) handle) (port_of handle)) o
+          (without_unused_port (without_port_value s n) n))
       go None e = without_unused_port_reached (without_port_value s n) n (without_port_value_reached s n fits)
       go (Some h) e = without_unused_port_reached _ (port_of h) (handle_gone_reached s fits n h e)

@@ -19,7 +19,8 @@ use Rattle.rr_laws.proofs.Putting.{each_list_with}
 
 module _ {X : Type 0} (id : X → ℕ) where
   -- who was not there is not there after one more with another number came
-  pub hasn't-append : (xs : List X) (y : X) (n : ℕ) → id y ≢ n → is_some (find (λ x. eqb (id x) n) xs) ≡ false → is_some (find (λ x. eqb (id x) n) (xs ++ y ∷ [])) ≡ false
+  pub hasn't-append : (xs : List X) (y : X) (n : ℕ) → id y ≢ n → is_some (find (λ x. eqb (id x) n) xs) ≡ false
+      → is_some (find (λ x. eqb (id x) n) (xs ++ y ∷ [])) ≡ false
   hasn't-append xs y n other h = rw (find-append (λ x. eqb (id x) n) xs y, ne_eqb (id y) n other) (go (find (λ x. eqb (id x) n) xs) h)
     where
       go : (o : Option X) → is_some o ≡ false → is_some (cond (is_some o) o None) ≡ false
@@ -27,16 +28,20 @@ module _ {X : Type 0} (id : X → ℕ) where
       go (Some x) h = absurd (cc)
 
   -- who is there after one more came was there before, or is that one
-  pub has-append_cases : (xs : List X) (y : X) (n : ℕ) → is_some (find (λ x. eqb (id x) n) (xs ++ y ∷ [])) ≡ true → (is_some (find (λ x. eqb (id x) n) xs) ≡ true) ⊎ (id y ≡ n)
-  has-append_cases xs y n h = go (find (λ x. eqb (id x) n) xs) (eqb (id y) n) refl refl (sym (ap is_some (find-append (λ x. eqb (id x) n) xs y)) ∙ h)
+  pub has-append_cases : (xs : List X) (y : X) (n : ℕ) → is_some (find (λ x. eqb (id x) n) (xs ++ y ∷ [])) ≡ true
+      → (is_some (find (λ x. eqb (id x) n) xs) ≡ true) ⊎ (id y ≡ n)
+  has-append_cases xs y n h = go (find (λ x. eqb (id x) n) xs) (eqb (id y) n) refl refl
+      (sym (ap is_some (find-append (λ x. eqb (id x) n) xs y)) ∙ h)
     where
-      go : (o : Option X) (b : Bool) → find (λ x. eqb (id x) n) xs ≡ o → eqb (id y) n ≡ b → is_some (cond (is_some o) o (cond b (Some y) None)) ≡ true → (is_some (find (λ x. eqb (id x) n) xs) ≡ true) ⊎ (id y ≡ n)
+      go : (o : Option X) (b : Bool) → find (λ x. eqb (id x) n) xs ≡ o → eqb (id y) n ≡ b
+          → is_some (cond (is_some o) o (cond b (Some y) None)) ≡ true → (is_some (find (λ x. eqb (id x) n) xs) ≡ true) ⊎ (id y ≡ n)
       go (Some x) b is e h = inl (ap is_some is)
       go None true is e h = inr (eqb-true (id y) n e)
       go None false is e h = absurd (cc)
 
   -- who is there after each changed, but for its number
-  pub has-same : (f : X → X) → ((x : X) → id (f x) ≡ id x) → (xs : List X) (n : ℕ) → is_some (find (λ x. eqb (id x) n) (map f xs)) ≡ is_some (find (λ x. eqb (id x) n) xs)
+  pub has-same : (f : X → X) → ((x : X) → id (f x) ≡ id x) → (xs : List X) (n : ℕ)
+      → is_some (find (λ x. eqb (id x) n) (map f xs)) ≡ is_some (find (λ x. eqb (id x) n) xs)
   has-same f same xs n = ap is_some (find-changed id f same n xs) ∙ go (find (λ x. eqb (id x) n) xs)
     where
       go : (o : Option X) → is_some (option_map f o) ≡ is_some o
@@ -45,7 +50,8 @@ module _ {X : Type 0} (id : X → ℕ) where
 
   -- those with a number that is gone are not there
   pub hasn't-gone : (gone : ℕ) (xs : List X) → is_some (find (λ x. eqb (id x) gone) (filter (λ x. not (eqb (id x) gone)) xs)) ≡ false
-  hasn't-gone gone xs = ap is_some (find-gone id gone gone xs) ∙ ap (λ b. is_some (cond b None (find (λ x. eqb (id x) gone) xs))) (eq-eqb gone gone refl)
+  hasn't-gone gone xs = ap is_some (find-gone id gone gone xs)
+      ∙ ap (λ b. is_some (cond b None (find (λ x. eqb (id x) gone) xs))) (eq-eqb gone gone refl)
 
   hidden : (b : Bool) (o : Option X) → is_some (cond b None o) ≡ true → is_some o ≡ true
   hidden true o h = absurd (cc)
@@ -56,11 +62,13 @@ module _ {X : Type 0} (id : X → ℕ) where
   still_hidden false o h = h
 
   -- who is there after some are gone was there before
-  pub had : (gone n : ℕ) (xs : List X) → is_some (find (λ x. eqb (id x) n) (filter (λ x. not (eqb (id x) gone)) xs)) ≡ true → is_some (find (λ x. eqb (id x) n) xs) ≡ true
+  pub had : (gone n : ℕ) (xs : List X) → is_some (find (λ x. eqb (id x) n) (filter (λ x. not (eqb (id x) gone)) xs)) ≡ true
+      → is_some (find (λ x. eqb (id x) n) xs) ≡ true
   had gone n xs h = hidden (eqb n gone) _ (sym (ap is_some (find-gone id gone n xs)) ∙ h)
 
   -- and who was not there is not
-  pub hadn't : (gone n : ℕ) (xs : List X) → is_some (find (λ x. eqb (id x) n) xs) ≡ false → is_some (find (λ x. eqb (id x) n) (filter (λ x. not (eqb (id x) gone)) xs)) ≡ false
+  pub hadn't : (gone n : ℕ) (xs : List X) → is_some (find (λ x. eqb (id x) n) xs) ≡ false
+      → is_some (find (λ x. eqb (id x) n) (filter (λ x. not (eqb (id x) gone)) xs)) ≡ false
   hadn't gone n xs h = ap is_some (find-gone id gone n xs) ∙ still_hidden (eqb n gone) _ h
 
 -- a test that can't pass fails
@@ -68,22 +76,26 @@ pub not_both : (b : Bool) → (b ≡ true → ⊥) → b ≡ false
 not_both true h = absurd (h refl)
 not_both false h = refl
 
-module _ {K : Type 0} (clients : List (Client K)) (servers : List (Server K)) (expired : Lists nat_cmp ℕ) (next : ℕ) (fits : LeftFit clients servers expired next) where
+module _ {K : Type 0} (clients : List (Client K)) (servers : List (Server K)) (expired : Lists nat_cmp ℕ) (next : ℕ)
+    (fits : LeftFit clients servers expired next) where
   -- more numbers were given
   pub left_with_more : (after : ℕ) → next ≤ after → LeftFit clients servers expired after
   left_with_more after more =
       record {
         one_kind = fits.one_kind;
-        gone = λ n. all_each _ _ (λ c g. record { below = omega (arith, more, g.below); no_client = g.no_client; no_server = g.no_server }) (at expired n) (fits.gone n);
+        gone = λ n. all_each _ _ (λ c g. record { below = omega (arith, more, g.below); no_client = g.no_client; no_server = g.no_server })
+            (at expired n) (fits.gone n);
       }
 
   -- a client with the next number
-  pub left_with_client : (limits : Limits) → PortsFit limits clients servers next → (new : Client K) → new.id ≡ next → LeftFit (clients ++ new ∷ []) servers expired (next + 1)
+  pub left_with_client : (limits : Limits) → PortsFit limits clients servers next → (new : Client K) → new.id ≡ next
+      → LeftFit (clients ++ new ∷ []) servers expired (next + 1)
   left_with_client limits ports new is =
       record {
         one_kind = λ n h. ⊎_elim
             (λ before. fits.one_kind n before)
-            (λ same. not_both (has_server servers n) (λ there. let low = has_below (λ c. c.id) servers n next ports.server_numbers there in omega (arith, low, is, same)))
+            (λ same. not_both (has_server servers n) (λ there. let low = has_below (λ c. c.id) servers n next ports.server_numbers there in
+            omega (arith, low, is, same)))
             (has-append_cases (λ c. c.id) clients new n h);
         gone = λ n. all_each _ _ (λ c g. record {
           below = omega (arith, g.below);
@@ -93,10 +105,13 @@ module _ {K : Type 0} (clients : List (Client K)) (servers : List (Server K)) (e
       }
 
   -- a server with the next number
-  pub left_with_server : (limits : Limits) → PortsFit limits clients servers next → (new : Server K) → new.id ≡ next → LeftFit clients (servers ++ new ∷ []) expired (next + 1)
+  pub left_with_server : (limits : Limits) → PortsFit limits clients servers next → (new : Server K) → new.id ≡ next
+      → LeftFit clients (servers ++ new ∷ []) expired (next + 1)
   left_with_server limits ports new is =
       record {
-        one_kind = λ n h. hasn't-append (λ c. c.id) servers new n (λ same. let low = has_below (λ c. c.id) clients n next ports.client_numbers h in omega (arith, low, is, same)) (fits.one_kind n h);
+        one_kind = λ n h. hasn't-append (λ c. c.id) servers new n
+            (λ same. let low = has_below (λ c. c.id) clients n next ports.client_numbers h in omega (arith, low, is, same))
+            (fits.one_kind n h);
         gone = λ n. all_each _ _ (λ c g. record {
           below = omega (arith, g.below);
           no_client = g.no_client;
@@ -109,7 +124,12 @@ module _ {K : Type 0} (clients : List (Client K)) (servers : List (Server K)) (e
   left_with_clients f same =
       record {
         one_kind = λ n h. fits.one_kind n (sym (has-same (λ c. c.id) f same clients n) ∙ h);
-        gone = λ n. all_each _ _ (λ c e. record { below = e.below; no_client = has-same (λ x. x.id) f same clients c ∙ e.no_client; no_server = e.no_server }) (at expired n) (fits.gone n);
+        gone = λ n. all_each _ _ (λ c e. record {
+          below = e.below;
+          no_client = has-same (λ x. x.id) f same clients c
+              ∙ e.no_client;
+          no_server = e.no_server;
+        }) (at expired n) (fits.gone n);
       }
 
   -- servers that changed, but for their numbers
@@ -117,20 +137,28 @@ module _ {K : Type 0} (clients : List (Client K)) (servers : List (Server K)) (e
   left_with_servers f same =
       record {
         one_kind = λ n h. has-same (λ c. c.id) f same servers n ∙ fits.one_kind n h;
-        gone = λ n. all_each _ _ (λ c e. record { below = e.below; no_client = e.no_client; no_server = has-same (λ x. x.id) f same servers c ∙ e.no_server }) (at expired n) (fits.gone n);
+        gone = λ n. all_each _ _ (λ c e. record {
+          below = e.below;
+          no_client = e.no_client;
+          no_server = has-same (λ x. x.id) f same servers c ∙ e.no_server;
+        }) (at expired n) (fits.gone n);
       }
 
   -- a receiver's list that holds no one else
-  pub left_with_list : (key : ℕ) (rest : List ℕ) → AllByRecursion (IsGone clients servers next) rest → LeftFit clients servers (with_at expired key rest) next
+  pub left_with_list : (key : ℕ) (rest : List ℕ) → AllByRecursion (IsGone clients servers next) rest
+      → LeftFit clients servers (with_at expired key rest) next
   left_with_list key rest all =
       record {
         one_kind = fits.one_kind;
-        gone = each_list_with nat_cmp_total nat_cmp-IsAntisymmetric (λ k xs. AllByRecursion (IsGone clients servers next) xs) expired key rest all fits.gone;
+        gone = each_list_with nat_cmp_total nat_cmp-IsAntisymmetric
+            (λ k xs. AllByRecursion (IsGone clients servers next) xs) expired key rest all fits.gone;
       }
 
 -- the newest of some senders and one more
-kept_all : (R : ℕ → Type 0) (room : ℕ) (senders : List ℕ) (sender : ℕ) → AllByRecursion R senders → R sender → AllByRecursion R (kept_senders room senders sender)
-kept_all R room senders sender all one = all_drop R (length senders + 1 - room) (senders ++ sender ∷ []) (all_append R senders sender all one)
+kept_all : (R : ℕ → Type 0) (room : ℕ) (senders : List ℕ) (sender : ℕ) → AllByRecursion R senders → R sender
+    → AllByRecursion R (kept_senders room senders sender)
+kept_all R room senders sender all one = all_drop R (length senders + 1 - room)
+    (senders ++ sender ∷ []) (all_append R senders sender all one)
 
 module _ {Q QH P PH K : Type 0} where
   -- what holds of all that are listed as left
@@ -142,17 +170,21 @@ module _ {Q QH P PH K : Type 0} where
   either_listed R false x y e f = f
 
   -- and of a client that leaves
-  pub listed_clients : (R : ℕ → Type 0) (client : ℕ) → R client → (servers : List ℕ) (s : State Q QH P PH K) → AllListed R s → AllListed R (fold (with_expired_client client) s servers)
+  pub listed_clients : (R : ℕ → Type 0) (client : ℕ) → R client → (servers : List ℕ) (s : State Q QH P PH K) → AllListed R s
+      → AllListed R (fold (with_expired_client client) s servers)
   listed_clients R client one [] s all = all
   listed_clients R client one (server ∷ servers) s all =
       listed_clients R client one servers (with_expired_client client s server)
       (either_listed R (has_requests_from s server client) _ s
-      (each_list_with nat_cmp_total nat_cmp-IsAntisymmetric (λ k xs. AllByRecursion R xs) s.expired server _ (kept_all R (room_for_expired_clients s) (at s.expired server) client (all server) one) all) all)
+      (each_list_with nat_cmp_total nat_cmp-IsAntisymmetric (λ k xs. AllByRecursion R xs) s.expired server _
+      (kept_all R (room_for_expired_clients s) (at s.expired server) client (all server) one) all) all)
 
   -- and of a server that leaves
-  pub listed_servers : (R : ℕ → Type 0) (server : ℕ) → R server → (clients : List ℕ) (s : State Q QH P PH K) → AllListed R s → AllListed R (fold (with_expired_server server) s clients)
+  pub listed_servers : (R : ℕ → Type 0) (server : ℕ) → R server → (clients : List ℕ) (s : State Q QH P PH K) → AllListed R s
+      → AllListed R (fold (with_expired_server server) s clients)
   listed_servers R server one [] s all = all
   listed_servers R server one (client ∷ clients) s all =
       listed_servers R server one clients (with_expired_server server s client)
       (either_listed R (has_responses_from s client server) _ s
-      (each_list_with nat_cmp_total nat_cmp-IsAntisymmetric (λ k xs. AllByRecursion R xs) s.expired client _ (kept_all R s.limits.client_expired_connection_buffer (at s.expired client) server (all client) one) all) all)
+      (each_list_with nat_cmp_total nat_cmp-IsAntisymmetric (λ k xs. AllByRecursion R xs) s.expired client _
+      (kept_all R s.limits.client_expired_connection_buffer (at s.expired client) server (all client) one) all) all)

@@ -42,15 +42,22 @@ module _ {T H K : Type 0} where
   same_left : (old new : State T H T H K) → new ≡ old → IsLeftFit old → IsLeftFit new
   same_left old new same left = subst (λ (x : State T H T H K). IsLeftFit x) (sym same) left
 
-  creates_client_left : (s : State T H T H K) → IsReached s → IsLeftFit s → (settings : ClientSettings K) (result : Result ℕ ClientCreateError) (new : State T H T H K) → CreatesClient s settings result new → IsLeftFit new
-  creates_client_left s fits left settings (Ok number) new made = same_left _ new made.2 (left_with_client s.clients s.servers s.expired s.next left s.limits fits.ports _ refl)
+  creates_client_left : (s : State T H T H K) → IsReached s → IsLeftFit s
+      → (settings : ClientSettings K) (result : Result ℕ ClientCreateError) (new : State T H T H K) → CreatesClient s settings result new
+      → IsLeftFit new
+  creates_client_left s fits left settings (Ok number) new made = same_left _ new made.2
+      (left_with_client s.clients s.servers s.expired s.next left s.limits fits.ports _ refl)
   creates_client_left s fits left settings (Err error) new made = same_left s new made.1 left
 
-  creates_server_left : (s : State T H T H K) → IsReached s → IsLeftFit s → (settings : ServerSettings K) (result : Result ℕ ServerCreateError) (new : State T H T H K) → CreatesServer s settings result new → IsLeftFit new
-  creates_server_left s fits left settings (Ok number) new made = same_left _ new made.2 (left_with_server s.clients s.servers s.expired s.next left s.limits fits.ports _ refl)
+  creates_server_left : (s : State T H T H K) → IsReached s → IsLeftFit s
+      → (settings : ServerSettings K) (result : Result ℕ ServerCreateError) (new : State T H T H K) → CreatesServer s settings result new
+      → IsLeftFit new
+  creates_server_left s fits left settings (Ok number) new made = same_left _ new made.2
+      (left_with_server s.clients s.servers s.expired s.next left s.limits fits.ports _ refl)
   creates_server_left s fits left settings (Err error) new made = same_left s new made.1 left
 
-  written : (old new : State T H T H K) (n : ℕ) (b : Bool) (change : Content T H → Content T H) → new ≡ cond b (with_content old n change) old → IsLeftFit old → IsLeftFit new
+  written : (old new : State T H T H K) (n : ℕ) (b : Bool) (change : Content T H → Content T H)
+      → new ≡ cond b (with_content old n change) old → IsLeftFit old → IsLeftFit new
   written old new n true change same left = same_left (with_content old n change) new same left
   written old new n false change same left = same_left old new same left
 
@@ -60,33 +67,47 @@ module _ {T H K : Type 0} where
     where
       client : is_client_held s n ≡ true → n < s.next
       client held = has_below (λ (c : Client K). c.id) s.clients n s.next fits.ports.client_numbers
-          (any_found (λ (c : Client K). eqb c.id n) s.clients ∙ any_weaker (λ (c : Client K). eqb c.id n && c.is_held) (λ c. eqb c.id n) (λ c h. and_first (eqb c.id n) c.is_held h) s.clients held)
+          (any_found (λ (c : Client K). eqb c.id n) s.clients
+          ∙ any_weaker (λ (c : Client K). eqb c.id n && c.is_held) (λ c. eqb c.id n)
+          (λ c h. and_first (eqb c.id n) c.is_held h) s.clients held)
 
       server : is_server_held s n ≡ true → n < s.next
       server held = has_below (λ (c : Server K). c.id) s.servers n s.next fits.ports.server_numbers
-          (any_found (λ (c : Server K). eqb c.id n) s.servers ∙ any_weaker (λ (c : Server K). eqb c.id n && c.is_held) (λ c. eqb c.id n) (λ c h. and_first (eqb c.id n) c.is_held h) s.servers held)
+          (any_found (λ (c : Server K). eqb c.id n) s.servers
+          ∙ any_weaker (λ (c : Server K). eqb c.id n && c.is_held) (λ c. eqb c.id n)
+          (λ c h. and_first (eqb c.id n) c.is_held h) s.servers held)
 
-      go : (is_client is_server : Bool) (h : Option (Handle T H T H)) → is_client_held s n ≡ is_client → is_server_held s n ≡ is_server → handle_at s n ≡ h →
-          option_map_or (refusal_of_kind family s (Command.Release n)) (if is_client then Some Kind.Client else if is_server then Some Kind.Server else option_map kind_of h) (Some Reply.Unknown) ≡ None → n < s.next
+      go : (is_client is_server : Bool) (h : Option (Handle T H T H)) → is_client_held s n ≡ is_client → is_server_held s n ≡ is_server
+          → handle_at s n ≡ h →
+          option_map_or (refusal_of_kind family s (Command.Release n))
+          (if is_client then Some Kind.Client else if is_server then Some Kind.Server else option_map kind_of h)
+          (Some Reply.Unknown) ≡ None → n < s.next
       go true is_server h a b c e = client a
       go false true h a b c e = server b
       go false false (Some h) a b c e = (fits.handles n (role_of h) (role_at s.handles n h c)).below
       go false false None a b c e = absurd (cc)
 
-module _ {T H K : Type 0} (answer : K → ℕ → ℕ → BackpressureAction) (IsDefaultElement : T → Type 0) (IsDefaultHeader : H → Type 0) (family : Family) where
+module _ {T H K : Type 0} (answer : K → ℕ → ℕ → BackpressureAction) (IsDefaultElement : T → Type 0) (IsDefaultHeader : H → Type 0)
+    (family : Family) where
   loans_left : (old : State T H T H K) → IsLeftFit old → (n len : ℕ) (result : Result ℕ LoanError) (new : State T H T H K) →
       Loans answer IsDefaultElement IsDefaultHeader family old n len result new → IsLeftFit new
   loans_left old left n len result new loans =
-      ⊎_elim (loans_request_left IsDefaultHeader old left n len result new) (loans_response_left IsDefaultHeader old left n len result new) loans
+      ⊎_elim (loans_request_left IsDefaultHeader old left n len result new)
+      (loans_response_left IsDefaultHeader old left n len result new) loans
 
   -- after any command that acts, if what it releases was given
-  acts_left : (old : State T H T H K) → IsReached old → IsLeftFit old → (command : Command T H K) (reply : Reply T H) (new : State T H T H K) → ((n : ℕ) → command ≡ Command.Release n → n < old.next) →
+  acts_left : (old : State T H T H K) → IsReached old → IsLeftFit old
+      → (command : Command T H K) (reply : Reply T H) (new : State T H T H K) → ((n : ℕ) → command ≡ Command.Release n → n < old.next) →
       Acts answer IsDefaultElement IsDefaultHeader family old command reply new → IsLeftFit new
-  acts_left old fits left (Command.CreateClient settings) (Reply.Created n) new given acts = creates_client_left old fits left (client_settings family settings) (Ok n) new acts
-  acts_left old fits left (Command.CreateClient settings) (Reply.ClientError e) new given acts = creates_client_left old fits left (client_settings family settings) (Err e) new acts
+  acts_left old fits left (Command.CreateClient settings) (Reply.Created n) new given acts = creates_client_left old fits left
+      (client_settings family settings) (Ok n) new acts
+  acts_left old fits left (Command.CreateClient settings) (Reply.ClientError e) new given acts = creates_client_left old fits left
+      (client_settings family settings) (Err e) new acts
   acts_left old fits left (Command.CreateClient settings) Reply.NoMemory new given acts = same_left old new acts left
-  acts_left old fits left (Command.CreateServer settings) (Reply.Created n) new given acts = creates_server_left old fits left (server_settings family settings) (Ok n) new acts
-  acts_left old fits left (Command.CreateServer settings) (Reply.ServerError e) new given acts = creates_server_left old fits left (server_settings family settings) (Err e) new acts
+  acts_left old fits left (Command.CreateServer settings) (Reply.Created n) new given acts = creates_server_left old fits left
+      (server_settings family settings) (Ok n) new acts
+  acts_left old fits left (Command.CreateServer settings) (Reply.ServerError e) new given acts = creates_server_left old fits left
+      (server_settings family settings) (Err e) new acts
   acts_left old fits left (Command.CreateServer settings) Reply.NoMemory new given acts = same_left old new acts left
   acts_left old fits left (Command.Loan n len) (Reply.Loaned k) new given acts = loans_left old left n len (Ok k) new acts
   acts_left old fits left (Command.Loan n len) (Reply.LoanError e) new given acts = loans_left old left n len (Err e) new acts
@@ -118,19 +139,26 @@ module _ {T H K : Type 0} (answer : K → ℕ → ℕ → BackpressureAction) (I
       ((loans_response_left IsDefaultHeader old left n 1 (Ok send.1) send.0 send.2)) send.1 (Err e) new send.3)
       acts
   acts_left old fits left (Command.SendCopy n v) Reply.NoMemory new given acts = same_left old new acts left
-  acts_left old fits left (Command.Push n v) (Reply.Flag b) new given acts = written old new n b _ ((some_and (handle_at old n) _ acts).2.1) left
-  acts_left old fits left (Command.Set n i v) (Reply.Flag b) new given acts = written old new n b _ ((some_and (handle_at old n) _ acts).2.1) left
+  acts_left old fits left (Command.Push n v) (Reply.Flag b) new given acts = written old new n b _
+      ((some_and (handle_at old n) _ acts).2.1) left
+  acts_left old fits left (Command.Set n i v) (Reply.Flag b) new given acts = written old new n b _
+      ((some_and (handle_at old n) _ acts).2.1) left
   acts_left old fits left (Command.SetUserHeader n h) Reply.Done new given acts = same_left _ new acts (left)
   acts_left old fits left (Command.AssumeInit n) Reply.Done new given acts = same_left _ new acts (left)
   acts_left old fits left (Command.IsDeliverable n) (Reply.Flag b) new given acts = same_left old new acts.1 left
-  acts_left old fits left (Command.Send n) (Reply.Pending k connections) new given acts = sends_request_left answer old fits left n (Ok connections) new acts.1
-  acts_left old fits left (Command.Send n) (Reply.RequestError e) new given acts = sends_request_left answer old fits left n (Err e) new acts
+  acts_left old fits left (Command.Send n) (Reply.Pending k connections) new given acts = sends_request_left answer old fits left n
+      (Ok connections) new acts.1
+  acts_left old fits left (Command.Send n) (Reply.RequestError e) new given acts = sends_request_left answer old fits left n
+      (Err e) new acts
   acts_left old fits left (Command.Send n) (Reply.Sent k) new given acts = sends_response_left answer old fits left n (Ok k) new acts.1
-  acts_left old fits left (Command.Send n) (Reply.SendError e) new given acts = sends_response_left {U = ℕ} answer old fits left n (Err e) new acts
+  acts_left old fits left (Command.Send n) (Reply.SendError e) new given acts = sends_response_left {U = ℕ} answer old fits left n
+      (Err e) new acts
   acts_left old fits left (Command.Receive n) (Reply.Active a r) new given acts = receives_request_left old left n (Ok (Some a)) new acts.0
   acts_left old fits left (Command.Receive n) (Reply.Response k) new given acts = receives_response_left old left n (Ok (Some k)) new acts
-  acts_left old fits left (Command.Receive n) Reply.Nothing new given acts = ⊎_elim (receives_request_left old left n (Ok None) new) (receives_response_left old left n (Ok None) new) acts
-  acts_left old fits left (Command.Receive n) (Reply.ReceiveError e) new given acts = ⊎_elim (receives_request_left old left n (Err e) new) (receives_response_left old left n (Err e) new) acts
+  acts_left old fits left (Command.Receive n) Reply.Nothing new given acts = ⊎_elim (receives_request_left old left n (Ok None) new)
+      (receives_response_left old left n (Ok None) new) acts
+  acts_left old fits left (Command.Receive n) (Reply.ReceiveError e) new given acts = ⊎_elim (receives_request_left old left n (Err e) new)
+      (receives_response_left old left n (Err e) new) acts
   acts_left old fits left (Command.Receive n) Reply.NoMemory new given acts = same_left old new acts left
   acts_left old fits left (Command.HasEntries n) (Reply.Flag b) new given acts = same_left old new acts.1 left
   acts_left old fits left (Command.IsConnected n) (Reply.Flag b) new given acts = same_left old new acts.1 left
@@ -146,29 +174,37 @@ module _ {T H K : Type 0} (answer : K → ℕ → ℕ → BackpressureAction) (I
   acts_left old fits left (Command.Strategy n) (Reply.Strategy s) new given acts = same_left old new acts.1 left
   acts_left old fits left (Command.MaxSliceLen n) (Reply.Count c) new given acts = same_left old new acts.1 left
   acts_left old fits left (Command.UpdateConnections n) Reply.Done new given acts = same_left old new acts left
-  acts_left old fits left (Command.Release n) Reply.Done new given acts = same_left _ new acts (after_release_left old n fits left (given n refl))
+  acts_left old fits left (Command.Release n) Reply.Done new given acts = same_left _ new acts
+      (after_release_left old n fits left (given n refl))
   acts_left old fits left command reply new given acts = absurd acts
 
   -- after any step
-  pub step_left : (old : State T H T H K) → IsReached old → IsLeftFit old → (command : Command T H K) (reply : Reply T H) (new : State T H T H K) →
+  pub step_left : (old : State T H T H K) → IsReached old → IsLeftFit old
+      → (command : Command T H K) (reply : Reply T H) (new : State T H T H K) →
       Step answer IsDefaultElement IsDefaultHeader family old command reply new → IsLeftFit new
   step_left old fits left command reply new step = go (refusal family old command) refl step
     where
-      go : (o : Option (Reply T H)) → refusal family old command ≡ o → MatchOption o (Acts answer IsDefaultElement IsDefaultHeader family old command reply new) (λ refused. (reply ≡ refused) × (new ≡ old)) → IsLeftFit new
-      go None due step = acts_left old fits left command reply new (λ n is. named_below family old fits n (sym (ap (refusal family old) is) ∙ due)) step
+      go : (o : Option (Reply T H)) → refusal family old command ≡ o
+          → MatchOption o (Acts answer IsDefaultElement IsDefaultHeader family old command reply new)
+          (λ refused. (reply ≡ refused) × (new ≡ old)) → IsLeftFit new
+      go None due step = acts_left old fits left command reply new
+          (λ n is. named_below family old fits n (sym (ap (refusal family old) is) ∙ due)) step
       go (Some refused) due step = same_left old new step.1 left
 
   -- whatever is run, who is listed as left is gone
-  pub run_left : (old : State T H T H K) → IsReached old → IsLeftFit old → (commands : List (Command T H K)) (replies : List (Reply T H)) (new : State T H T H K) →
+  pub run_left : (old : State T H T H K) → IsReached old → IsLeftFit old
+      → (commands : List (Command T H K)) (replies : List (Reply T H)) (new : State T H T H K) →
       Run answer IsDefaultElement IsDefaultHeader family old commands replies new → IsLeftFit new
   run_left old fits left [] [] new run = same_left old new run left
   run_left old fits left (command ∷ commands) (reply ∷ replies) new run =
-      run_left run.0 (step_reached answer IsDefaultElement IsDefaultHeader family old fits command reply run.0 run.1) (step_left old fits left command reply run.0 run.1) commands replies new run.2
+      run_left run.0 (step_reached answer IsDefaultElement IsDefaultHeader family old fits command reply run.0 run.1)
+      (step_left old fits left command reply run.0 run.1) commands replies new run.2
   run_left old fits left [] (reply ∷ replies) new run = absurd run
   run_left old fits left (command ∷ commands) [] new run = absurd run
 
   -- in every state that a run reaches from the empty hub
-  pub left_from_empty : (limits : Limits) (node_id : ℕ) → hub_refusal limits ≡ None → (commands : List (Command T H K)) (replies : List (Reply T H)) (s : State T H T H K) →
+  pub left_from_empty : (limits : Limits) (node_id : ℕ) → hub_refusal limits ≡ None
+      → (commands : List (Command T H K)) (replies : List (Reply T H)) (s : State T H T H K) →
       Run answer IsDefaultElement IsDefaultHeader family (empty_hub limits node_id) commands replies s → IsLeftFit s
   left_from_empty limits node_id makes_hub commands replies s run =
       run_left (empty_hub limits node_id) (empty_hub_reached limits node_id makes_hub)

@@ -25,57 +25,72 @@ module _ {T H : Type 0} where
   drops_none lists key = inl refl
 
   -- those under some keys were
-  pub drops_retained : (lists : Lists response_key_cmp (ResponseMessage T H)) (kept : ResponseKey → Bool) → DropsLists lists (fin_map.retain_keys lists kept)
+  pub drops_retained : (lists : Lists response_key_cmp (ResponseMessage T H)) (kept : ResponseKey → Bool)
+      → DropsLists lists (fin_map.retain_keys lists kept)
   drops_retained lists kept key = go (kept key) refl
     where
-      go : (b : Bool) → kept key ≡ b → (at (fin_map.retain_keys lists kept) key ≡ at lists key) ⊎ (at (fin_map.retain_keys lists kept) key ≡ [])
+      go : (b : Bool) → kept key ≡ b → (at (fin_map.retain_keys lists kept) key ≡ at lists key)
+          ⊎ (at (fin_map.retain_keys lists kept) key ≡ [])
       go true e = inl (at-retain_keys response_keys_total response_keys_exact lists kept key ∙ ap (λ b. cond b (at lists key) []) e)
       go false e = inr (at-retain_keys response_keys_total response_keys_exact lists kept key ∙ ap (λ b. cond b (at lists key) []) e)
 
   -- and more after that
-  pub drops_more : (lists rest less : Lists response_key_cmp (ResponseMessage T H)) → DropsLists lists rest → DropsLists rest less → DropsLists lists less
+  pub drops_more : (lists rest less : Lists response_key_cmp (ResponseMessage T H)) → DropsLists lists rest → DropsLists rest less
+      → DropsLists lists less
   drops_more lists rest less first then key = ⊎_elim
       (λ same. ⊎_elim (λ was. inl (same ∙ was)) (λ gone. inr (same ∙ gone)) (first key))
       (λ gone. inr gone)
       (then key)
 
   -- the entries for a request that waits
-  pub entries-waiting : (roles : Roles) (lists : Lists response_key_cmp (ResponseMessage T H)) (server p : ℕ) (role : Role) (q : Question) → get roles p ≡ Some role → waiting_question role ≡ Some q →
+  pub entries-waiting : (roles : Roles) (lists : Lists response_key_cmp (ResponseMessage T H)) (server p : ℕ) (role : Role) (q : Question)
+      → get roles p ≡ Some role → waiting_question role ≡ Some q →
       entries_for roles lists server p ≡ map (λ m. m.number) (at lists (channel_key server q))
   entries-waiting roles lists server p role q e w =
-      ap (λ o. option_map_or (λ q. map (λ m. m.number) (at lists (channel_key server q))) o []) (ap (option_and_then waiting_question) e ∙ w)
+      ap (λ o. option_map_or (λ q. map (λ m. m.number) (at lists (channel_key server q))) o []) (ap (option_and_then waiting_question) e
+      ∙ w)
 
   -- no role of a request that waits has any
-  pub entries-none : (roles : Roles) (lists : Lists response_key_cmp (ResponseMessage T H)) (server p : ℕ) → option_and_then waiting_question (get roles p) ≡ None → entries_for roles lists server p ≡ []
+  pub entries-none : (roles : Roles) (lists : Lists response_key_cmp (ResponseMessage T H)) (server p : ℕ)
+      → option_and_then waiting_question (get roles p) ≡ None → entries_for roles lists server p ≡ []
   entries-none roles lists server p none = ap (λ o. option_map_or (λ q. map (λ m. m.number) (at lists (channel_key server q))) o []) none
 
   -- the same role has the same entries
-  pub entries-same_role : (roles later : Roles) (lists : Lists response_key_cmp (ResponseMessage T H)) (server p : ℕ) → get later p ≡ get roles p → entries_for later lists server p ≡ entries_for roles lists server p
-  entries-same_role roles later lists server p same = ap (λ r. option_map_or (λ q. map (λ m. m.number) (at lists (channel_key server q))) (option_and_then waiting_question r) []) same
+  pub entries-same_role : (roles later : Roles) (lists : Lists response_key_cmp (ResponseMessage T H)) (server p : ℕ)
+      → get later p ≡ get roles p → entries_for later lists server p ≡ entries_for roles lists server p
+  entries-same_role roles later lists server p same = ap (λ r. option_map_or (λ q. map (λ m. m.number) (at lists (channel_key server q)))
+      (option_and_then waiting_question r) []) same
 
   -- roles that were there, over lists of which some were dropped, have the same entries or none
-  pub entries_fewer : (roles later : Roles) (lists rest : Lists response_key_cmp (ResponseMessage T H)) → ((n : ℕ) (role : Role) → get later n ≡ Some role → get roles n ≡ Some role) → DropsLists lists rest →
+  pub entries_fewer : (roles later : Roles) (lists rest : Lists response_key_cmp (ResponseMessage T H))
+      → ((n : ℕ) (role : Role) → get later n ≡ Some role → get roles n ≡ Some role) → DropsLists lists rest →
       (server p : ℕ) → (entries_for later rest server p ≡ []) ⊎ (entries_for later rest server p ≡ entries_for roles lists server p)
   entries_fewer roles later lists rest was drops server p = go (get later p) refl
     where
-      go : (o : Option Role) → get later p ≡ o → (entries_for later rest server p ≡ []) ⊎ (entries_for later rest server p ≡ entries_for roles lists server p)
+      go : (o : Option Role) → get later p ≡ o → (entries_for later rest server p ≡ [])
+          ⊎ (entries_for later rest server p ≡ entries_for roles lists server p)
       go None is = inl (entries-none later rest server p (ap (option_and_then waiting_question) is))
       go (Some role) is = asked (waiting_question role) refl
         where
-          asked : (o : Option Question) → waiting_question role ≡ o → (entries_for later rest server p ≡ []) ⊎ (entries_for later rest server p ≡ entries_for roles lists server p)
+          asked : (o : Option Question) → waiting_question role ≡ o → (entries_for later rest server p ≡ [])
+              ⊎ (entries_for later rest server p ≡ entries_for roles lists server p)
           asked None none = inl (entries-none later rest server p (ap (option_and_then waiting_question) is ∙ none))
           asked (Some q) some = ⊎_elim
-              (λ same. inr (entries-waiting later rest server p role q is some ∙ ap (map (λ m. m.number)) same ∙ sym (entries-waiting roles lists server p role q (was p role is) some)))
+              (λ same. inr (entries-waiting later rest server p role q is some ∙ ap (map (λ m. m.number)) same
+              ∙ sym (entries-waiting roles lists server p role q (was p role is) some)))
               (λ gone. inl (entries-waiting later rest server p role q is some ∙ ap (map (λ m. m.number)) gone))
               (drops (channel_key server q))
 
   -- the entries for a role that waits for nothing
-  pub none_for : (roles : Roles) (lists : Lists response_key_cmp (ResponseMessage T H)) (n : ℕ) (role : Role) → waiting_question role ≡ None → (server : ℕ) → entries_for (insert roles n role) lists server n ≡ []
-  none_for roles lists n role none server = entries-none (insert roles n role) lists server n (ap (option_and_then waiting_question) (get-insert_same roles n role n refl) ∙ none)
+  pub none_for : (roles : Roles) (lists : Lists response_key_cmp (ResponseMessage T H)) (n : ℕ) (role : Role) → waiting_question role ≡ None
+      → (server : ℕ) → entries_for (insert roles n role) lists server n ≡ []
+  none_for roles lists n role none server = entries-none (insert roles n role) lists server n
+      (ap (option_and_then waiting_question) (get-insert_same roles n role n refl) ∙ none)
 
 module _ {Q QH P PH K : Type 0} where
   -- roles that were there, and lists of which some were dropped
-  pub moves_quietly : (old new : State Q QH P PH K) → old.next ≤ new.next → ((n : ℕ) (role : Role) → get (roles_of new.handles) n ≡ Some role → get (roles_of old.handles) n ≡ Some role) →
+  pub moves_quietly : (old new : State Q QH P PH K) → old.next ≤ new.next
+      → ((n : ℕ) (role : Role) → get (roles_of new.handles) n ≡ Some role → get (roles_of old.handles) n ≡ Some role) →
       DropsLists old.responses new.responses → MovesQuietly old new
   moves_quietly old new more was drops = record {
     next = more;
@@ -84,12 +99,14 @@ module _ {Q QH P PH K : Type 0} where
   }
 
   -- the same roles and lists
-  pub moves_same : (old new : State Q QH P PH K) → old.next ≤ new.next → roles_of new.handles ≡ roles_of old.handles → new.responses ≡ old.responses → MovesQuietly old new
+  pub moves_same : (old new : State Q QH P PH K) → old.next ≤ new.next → roles_of new.handles ≡ roles_of old.handles
+      → new.responses ≡ old.responses → MovesQuietly old new
   moves_same old new more same lists =
       moves_quietly old new more (λ n role e. sym (ap (λ r. get r n) same) ∙ e) (λ key. inl (ap (λ l. at l key) lists))
 
   -- what moves, and then moves quietly
-  pub then_quietly : {Gains : ℕ → Role → Type 0} {GoesOn : ℕ → ℕ → List ℕ → List ℕ → Type 0} (old mid new : State Q QH P PH K) → Moves Gains GoesOn old mid → MovesQuietly mid new → Moves Gains GoesOn old new
+  pub then_quietly : {Gains : ℕ → Role → Type 0} {GoesOn : ℕ → ℕ → List ℕ → List ℕ → Type 0} (old mid new : State Q QH P PH K)
+      → Moves Gains GoesOn old mid → MovesQuietly mid new → Moves Gains GoesOn old new
   then_quietly {Gains} {GoesOn} old mid new first then = record {
     next = omega (arith, first.next, then.next);
     roles = λ n role servers e. ⊎_elim (λ was. first.roles n role servers was) (λ gained. absurd gained) (then.roles n role servers e);
@@ -103,29 +120,38 @@ module _ {Q QH P PH K : Type 0} where
   }
 
   -- what moves from a state with the same roles and lists
-  pub from_same : {Gains : ℕ → Role → Type 0} {GoesOn : ℕ → ℕ → List ℕ → List ℕ → Type 0} (old mid new : State Q QH P PH K) → old.next ≤ mid.next → roles_of mid.handles ≡ roles_of old.handles → mid.responses ≡ old.responses →
+  pub from_same : {Gains : ℕ → Role → Type 0} {GoesOn : ℕ → ℕ → List ℕ → List ℕ → Type 0} (old mid new : State Q QH P PH K)
+      → old.next ≤ mid.next → roles_of mid.handles ≡ roles_of old.handles → mid.responses ≡ old.responses →
       Moves Gains GoesOn mid new → Moves Gains GoesOn old new
   from_same {Gains} {GoesOn} old mid new more same lists moves = record {
     next = omega (arith, more, moves.next);
     roles = λ n role servers e. subst (λ r. (get r n ≡ Some role) ⊎ Gains n role) same (moves.roles n role servers e);
     entries = λ server p. subst (λ xs. (queued new server p ≡ []) ⊎ GoesOn server p xs (queued new server p))
-        (ap (λ r. entries_for r mid.responses server p) same ∙ ap (λ l. entries_for (roles_of old.handles) l server p) lists) (moves.entries server p);
+        (ap (λ r. entries_for r mid.responses server p) same ∙ ap (λ l. entries_for (roles_of old.handles) l server p) lists)
+        (moves.entries server p);
   }
 
   -- one more role, over the same lists, where no entries stand for it
-  pub moves_with_role : {Gains : ℕ → Role → Type 0} (old new : State Q QH P PH K) (n : ℕ) (role : Role) → old.next ≤ new.next → roles_of new.handles ≡ insert (roles_of old.handles) n role → new.responses ≡ old.responses →
-      (is_servers role ≡ true → Gains n role) → ((server : ℕ) → entries_for (insert (roles_of old.handles) n role) old.responses server n ≡ []) → Moves Gains (λ server p before after. after ≡ before) old new
+  pub moves_with_role : {Gains : ℕ → Role → Type 0} (old new : State Q QH P PH K) (n : ℕ) (role : Role) → old.next ≤ new.next
+      → roles_of new.handles ≡ insert (roles_of old.handles) n role → new.responses ≡ old.responses →
+      (is_servers role ≡ true → Gains n role) → ((server : ℕ)
+      → entries_for (insert (roles_of old.handles) n role) old.responses server n ≡ [])
+      → Moves Gains (λ server p before after. after ≡ before) old new
   moves_with_role {Gains} old new n role more same lists gains none = record {
     next = more;
     roles = λ k other servers e. ⊎_elim
-        (λ this. inr (subst (λ r. is_servers r ≡ true → Gains k r) this.1 (subst (λ j. is_servers role ≡ true → Gains j role) (sym this.0) gains) servers))
+        (λ this. inr (subst (λ r. is_servers r ≡ true → Gains k r) this.1
+        (subst (λ j. is_servers role ≡ true → Gains j role) (sym this.0) gains) servers))
         (λ was. inl was.1)
         (get-insert_cases (roles_of old.handles) n role k other (sym (ap (λ r. get r k) same) ∙ e));
     entries = λ server p.
         let now : queued new server p ≡ entries_for (insert (roles_of old.handles) n role) old.responses server p =
-        ap (λ r. entries_for r new.responses server p) same ∙ ap (λ l. entries_for (insert (roles_of old.handles) n role) l server p) lists in
+        ap (λ r. entries_for r new.responses server p) same ∙ ap
+        (λ l. entries_for (insert (roles_of old.handles) n role) l server p) lists in
         ⊎_elim
-        (λ is. inl (now ∙ subst (λ j. entries_for (insert (roles_of old.handles) n role) old.responses server j ≡ []) (sym is) (none server)))
-        (λ other. inr (now ∙ entries-same_role (roles_of old.handles) (insert (roles_of old.handles) n role) old.responses server p (get-insert_other (roles_of old.handles) n role p other)))
+        (λ is. inl (now ∙ subst (λ j. entries_for (insert (roles_of old.handles) n role) old.responses server j ≡ []) (sym is)
+        (none server)))
+        (λ other. inr (now ∙ entries-same_role (roles_of old.handles) (insert (roles_of old.handles) n role) old.responses server p
+        (get-insert_other (roles_of old.handles) n role p other)))
         (cases_eq p n);
   }

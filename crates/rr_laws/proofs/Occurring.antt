@@ -17,38 +17,45 @@ either_grows false b c d e f g h = g h
 
 module _ {T H K : Type 0} where
   -- what occurred in a history occurred in a longer one
-  pub occurs_later : (tests : List (Event T H K → Bool)) (history : List (Event T H K)) (event : Event T H K) → occur_in_order tests history ≡ true → occur_in_order tests (history ++ event ∷ []) ≡ true
+  pub occurs_later : (tests : List (Event T H K → Bool)) (history : List (Event T H K)) (event : Event T H K)
+      → occur_in_order tests history ≡ true → occur_in_order tests (history ++ event ∷ []) ≡ true
   occurs_later [] history event h = refl
   occurs_later (test ∷ tests) [] event h = absurd (false_is_true h)
   occurs_later (test ∷ tests) (first ∷ history) event h =
       either_grows (test first) _ _ _ _ (occurs_later tests history event) (occurs_later (test ∷ tests) history event) h
 
   -- and so does an event after it
-  pub occurs_then : (tests : List (Event T H K → Bool)) (test : Event T H K → Bool) (history : List (Event T H K)) (event : Event T H K) → occur_in_order tests history ≡ true → test event ≡ true →
+  pub occurs_then : (tests : List (Event T H K → Bool)) (test : Event T H K → Bool) (history : List (Event T H K)) (event : Event T H K)
+      → occur_in_order tests history ≡ true → test event ≡ true →
       occur_in_order (tests ++ test ∷ []) (history ++ event ∷ []) ≡ true
   occurs_then [] test [] event h t = ap (λ b. (b && true) || false) t
   occurs_then [] test (first ∷ history) event h t = or_true (test first && true) _ (occurs_then [] test history event refl t)
   occurs_then (other ∷ tests) test [] event h t = absurd (false_is_true h)
   occurs_then (other ∷ tests) test (first ∷ history) event h t =
-      either_grows (other first) _ _ _ _ (λ e. occurs_then tests test history event e t) (λ e. occurs_then (other ∷ tests) test history event e t) h
+      either_grows (other first) _ _ _ _ (λ e. occurs_then tests test history event e t)
+      (λ e. occurs_then (other ∷ tests) test history event e t) h
 
   -- one event that is there occurs
-  pub occurs_alone : (test : Event T H K → Bool) (history : List (Event T H K)) → list_any test history ≡ true → occur_in_order (test ∷ []) history ≡ true
+  pub occurs_alone : (test : Event T H K → Bool) (history : List (Event T H K)) → list_any test history ≡ true
+      → occur_in_order (test ∷ []) history ≡ true
   occurs_alone test [] h = absurd (false_is_true h)
   occurs_alone test (first ∷ history) h = go (occurs_alone test history) (test first) h
     where
-      go : (list_any test history ≡ true → occur_in_order (test ∷ []) history ≡ true) → (b : Bool) → (b || list_any test history) ≡ true → ((b && true) || occur_in_order (test ∷ []) history) ≡ true
+      go : (list_any test history ≡ true → occur_in_order (test ∷ []) history ≡ true) → (b : Bool) → (b || list_any test history) ≡ true
+          → ((b && true) || occur_in_order (test ∷ []) history) ≡ true
       go rest true h = refl
       go rest false h = rest h
 
 -- tests that agree on small numbers choose the same of them
-pub filter_agree : (f g : ℕ → Bool) (n : ℕ) → ((k : ℕ) → k < n → f k ≡ g k) → (xs : List ℕ) → AllByRecursion (λ k. k < n) xs → filter f xs ≡ filter g xs
+pub filter_agree : (f g : ℕ → Bool) (n : ℕ) → ((k : ℕ) → k < n → f k ≡ g k) → (xs : List ℕ) → AllByRecursion (λ k. k < n) xs
+    → filter f xs ≡ filter g xs
 filter_agree f g n same [] all = refl
 filter_agree f g n same (x ∷ xs) all =
     ap (λ b. cond b (x ∷ filter f xs) (filter f xs)) (same x all.0) ∙ ap (λ ys. cond (g x) (x ∷ ys) ys) (filter_agree f g n same xs all.1)
 
 -- tests that agree on all elements find alike
-pub any_agree : (f g : ℕ → Bool) (n : ℕ) → ((k : ℕ) → k < n → f k ≡ g k) → (xs : List ℕ) → AllByRecursion (λ k. k < n) xs → list_any f xs ≡ list_any g xs
+pub any_agree : (f g : ℕ → Bool) (n : ℕ) → ((k : ℕ) → k < n → f k ≡ g k) → (xs : List ℕ) → AllByRecursion (λ k. k < n) xs
+    → list_any f xs ≡ list_any g xs
 any_agree f g n same [] all = refl
 any_agree f g n same (x ∷ xs) all = ap (λ b. b || list_any f xs) (same x all.0) ∙ ap (λ b. g x || b) (any_agree f g n same xs all.1)
 

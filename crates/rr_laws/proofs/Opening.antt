@@ -11,59 +11,44 @@ some_and None P h = absurd h
 some_and (Some x) P h = (x, refl, h)
 
 -- two facts of what is there make a third
-pub with_both : {X : Type 0} (o : Option X) (P R T : X → Type 0) → ((x : X) → P x → R x → T x) → IsSomeAnd o P → IsSomeAnd o R → IsSomeAnd o T
+pub with_both : {X : Type 0} (o : Option X) (P R T : X → Type 0) → ((x : X) → P x → R x → T x) → IsSomeAnd o P → IsSomeAnd o R
+    → IsSomeAnd o T
 with_both None P R T make h k = absurd h
 with_both (Some x) P R T make h k = make x h k
 
 module _ {Q QH P PH : Type 0} where
   -- the handle of a request that can be sent
-  pub from_request_mut : (o : Option (Handle Q QH P PH)) (m : RequestMessage Q QH) → option_and_then as_request_mut o ≡ Some m → o ≡ Some (RequestMut m)
+  pub from_request_mut : (o : Option (Handle Q QH P PH)) (m : RequestMessage Q QH) → option_and_then as_request_mut o ≡ Some m
+      → o ≡ Some (RequestMut m)
   from_request_mut None m e = absurd (cc)
   from_request_mut (Some (RequestMut x)) m e = (cc)
-  from_request_mut (Some (RequestMutUninit x)) m e = absurd (cc)
-  from_request_mut (Some (PendingResponse x)) m e = absurd (cc)
-  from_request_mut (Some (ActiveRequest x)) m e = absurd (cc)
-  from_request_mut (Some (ResponseMutUninit x)) m e = absurd (cc)
-  from_request_mut (Some (ResponseMut x)) m e = absurd (cc)
-  from_request_mut (Some (Response x)) m e = absurd (cc)
+  from_request_mut (Some other) m e = absurd (cc)
 
   -- the handle of a pending response
-  pub from_pending : (o : Option (Handle Q QH P PH)) (p : Pending Q QH) → option_and_then as_pending o ≡ Some p → o ≡ Some (PendingResponse p)
+  pub from_pending : (o : Option (Handle Q QH P PH)) (p : Pending Q QH) → option_and_then as_pending o ≡ Some p
+      → o ≡ Some (PendingResponse p)
   from_pending None p e = absurd (cc)
   from_pending (Some (PendingResponse x)) p e = (cc)
-  from_pending (Some (RequestMutUninit x)) p e = absurd (cc)
-  from_pending (Some (RequestMut x)) p e = absurd (cc)
-  from_pending (Some (ActiveRequest x)) p e = absurd (cc)
-  from_pending (Some (ResponseMutUninit x)) p e = absurd (cc)
-  from_pending (Some (ResponseMut x)) p e = absurd (cc)
-  from_pending (Some (Response x)) p e = absurd (cc)
+  from_pending (Some other) p e = absurd (cc)
 
   -- the handle of an active request
   pub from_active : (o : Option (Handle Q QH P PH)) (a : Active Q QH) → option_and_then as_active o ≡ Some a → o ≡ Some (ActiveRequest a)
   from_active None a e = absurd (cc)
   from_active (Some (ActiveRequest x)) a e = (cc)
-  from_active (Some (RequestMutUninit x)) a e = absurd (cc)
-  from_active (Some (RequestMut x)) a e = absurd (cc)
-  from_active (Some (PendingResponse x)) a e = absurd (cc)
-  from_active (Some (ResponseMutUninit x)) a e = absurd (cc)
-  from_active (Some (ResponseMut x)) a e = absurd (cc)
-  from_active (Some (Response x)) a e = absurd (cc)
+  from_active (Some other) a e = absurd (cc)
 
   -- the handle of a response that can be sent
-  pub from_response_mut : (o : Option (Handle Q QH P PH)) (m : ResponseMessage P PH) → option_and_then as_response_mut o ≡ Some m → o ≡ Some (ResponseMut m)
+  pub from_response_mut : (o : Option (Handle Q QH P PH)) (m : ResponseMessage P PH) → option_and_then as_response_mut o ≡ Some m
+      → o ≡ Some (ResponseMut m)
   from_response_mut None m e = absurd (cc)
   from_response_mut (Some (ResponseMut x)) m e = (cc)
-  from_response_mut (Some (RequestMutUninit x)) m e = absurd (cc)
-  from_response_mut (Some (RequestMut x)) m e = absurd (cc)
-  from_response_mut (Some (PendingResponse x)) m e = absurd (cc)
-  from_response_mut (Some (ActiveRequest x)) m e = absurd (cc)
-  from_response_mut (Some (ResponseMutUninit x)) m e = absurd (cc)
-  from_response_mut (Some (Response x)) m e = absurd (cc)
+  from_response_mut (Some other) m e = absurd (cc)
 
 module _ {Q QH P PH K : Type 0} (s : State Q QH P PH K) (n : ℕ) where
   -- a request that can be sent, its client, and a fact of both
   pub open_request_mut : (R : Client K → RequestMessage Q QH → Type 0) → IsRequestMutAnd s n R →
-      (client : Client K) × (message : RequestMessage Q QH) × (handle_at s n ≡ Some (RequestMut message)) × (client_at s message.client ≡ Some client) × R client message
+      (client : Client K) × (message : RequestMessage Q QH) × (handle_at s n ≡ Some (RequestMut message))
+      × (client_at s message.client ≡ Some client) × R client message
   open_request_mut R h =
       let m = some_and (request_at s n) _ h in
       let c = some_and (client_at s m.0.client) _ m.2 in
@@ -71,7 +56,8 @@ module _ {Q QH P PH K : Type 0} (s : State Q QH P PH K) (n : ℕ) where
 
   -- a response that can be sent, its server, and a fact of both
   pub open_response_mut : (R : Server K → ResponseMessage P PH → Type 0) → IsResponseMutAnd s n R →
-      (server : Server K) × (message : ResponseMessage P PH) × (handle_at s n ≡ Some (ResponseMut message)) × (server_at s message.server ≡ Some server) × R server message
+      (server : Server K) × (message : ResponseMessage P PH) × (handle_at s n ≡ Some (ResponseMut message))
+      × (server_at s message.server ≡ Some server) × R server message
   open_response_mut R h =
       let m = some_and (response_at s n) _ h in
       let c = some_and (server_at s m.0.server) _ m.2 in
@@ -79,7 +65,8 @@ module _ {Q QH P PH K : Type 0} (s : State Q QH P PH K) (n : ℕ) where
 
   -- an active request, its server, and a fact of both
   pub open_active : (R : Server K → Active Q QH → Type 0) → IsActiveAnd s n R →
-      (server : Server K) × (active : Active Q QH) × (handle_at s n ≡ Some (ActiveRequest active)) × (server_at s active.server ≡ Some server) × R server active
+      (server : Server K) × (active : Active Q QH) × (handle_at s n ≡ Some (ActiveRequest active))
+      × (server_at s active.server ≡ Some server) × R server active
   open_active R h =
       let m = some_and (active_at s n) _ h in
       let c = some_and (server_at s m.0.server) _ m.2 in

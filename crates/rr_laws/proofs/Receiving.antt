@@ -24,26 +24,32 @@ use Rattle.rr_laws.proofs.Expiring.{fits_with_requests, fits_with_responses}
 
 module _ {Q QH P PH K : Type 0} where
   -- what the first entry of a list was
-  first_request : (s : State Q QH P PH K) → IsReached s → (key : RequestKey) (m : RequestMessage Q QH) (rest : List (RequestMessage Q QH)) → at s.requests key ≡ m ∷ rest →
+  first_request : (s : State Q QH P PH K) → IsReached s → (key : RequestKey) (m : RequestMessage Q QH) (rest : List (RequestMessage Q QH))
+      → at s.requests key ≡ m ∷ rest →
       RequestFits s.limits s.servers (roles_of s.handles) s.next key m
-  first_request s fits key m rest e = (subst (AllByRecursion (RequestFits s.limits s.servers (roles_of s.handles) s.next key)) e (fits.request_lists.each key)).0
+  first_request s fits key m rest e = (subst (AllByRecursion (RequestFits s.limits s.servers (roles_of s.handles) s.next key)) e
+      (fits.request_lists.each key)).0
 
   -- after the first request left a list
-  pub takes_request_reached : (s : State Q QH P PH K) → IsReached s → (key : RequestKey) (m : RequestMessage Q QH) (new : State Q QH P PH K) → TakesRequest s key m new → IsReached new
+  pub takes_request_reached : (s : State Q QH P PH K) → IsReached s → (key : RequestKey) (m : RequestMessage Q QH) (new : State Q QH P PH K)
+      → TakesRequest s key m new → IsReached new
   takes_request_reached s fits key m new takes =
       let rest = takes.1.0 in
       subst (λ (x : State Q QH P PH K). IsReached x) (sym takes.1.2)
       (fits_with_requests s (with_at s.requests key rest) fits
-      (requests_shrink s.limits (roles_of s.handles) s.next s.servers s.requests (with_at s.requests key rest) (shrinks_taken request_keys_total request_keys_exact s.requests key m rest takes.1.1) fits.request_lists))
+      (requests_shrink s.limits (roles_of s.handles) s.next s.servers s.requests (with_at s.requests key rest)
+      (shrinks_taken request_keys_total request_keys_exact s.requests key m rest takes.1.1) fits.request_lists))
 
   -- after dead requests left the fronts of lists
-  pub skims_reached : (clients : List ℕ) (s : State Q QH P PH K) → IsReached s → (server : ℕ) (new : State Q QH P PH K) → Skims s server clients new → IsReached new
+  pub skims_reached : (clients : List ℕ) (s : State Q QH P PH K) → IsReached s → (server : ℕ) (new : State Q QH P PH K)
+      → Skims s server clients new → IsReached new
   skims_reached [] s fits server new skims = subst (λ (x : State Q QH P PH K). IsReached x) (sym skims) fits
   skims_reached (client ∷ clients) s fits server new skims =
       skims_reached clients skims.1 (takes_request_reached s fits (request_key client server) skims.0 skims.1 skims.3) server new skims.4
 
   -- a request that is handed to a server
-  with_active_request_reached : (s : State Q QH P PH K) → IsReached s → (client server : ℕ) (m : RequestMessage Q QH) (mid : State Q QH P PH K) → TakesRequest s (request_key client server) m mid →
+  with_active_request_reached : (s : State Q QH P PH K) → IsReached s
+      → (client server : ℕ) (m : RequestMessage Q QH) (mid : State Q QH P PH K) → TakesRequest s (request_key client server) m mid →
       IsReached (with_active_request mid server m)
   with_active_request_reached s fits client server m mid takes =
       let key = request_key client server in
@@ -53,7 +59,8 @@ module _ {Q QH P PH K : Type 0} where
       let roles = roles_of s.handles in
       let lists = with_at s.requests key rest in
       let mid_fits = fits_with_requests s lists fits
-      (requests_shrink s.limits roles s.next s.servers s.requests lists (shrinks_taken request_keys_total request_keys_exact s.requests key m rest takes.1.1) fits.request_lists) in
+      (requests_shrink s.limits roles s.next s.servers s.requests lists
+      (shrinks_taken request_keys_total request_keys_exact s.requests key m rest takes.1.1) fits.request_lists) in
       let left : tally (holds_request (request_key m.client server)) roles < s.limits.max_active_requests_per_client =
       subst (λ c. tally (holds_request (request_key c server)) roles < s.limits.max_active_requests_per_client) (sym f.client)
       (subst (λ k. k < s.limits.max_active_requests_per_client) (borrowed_requests-roles s key) (ltb-true _ _ takes.0)) in
@@ -69,22 +76,26 @@ module _ {Q QH P PH K : Type 0} where
       })
       (counts_with_received_request s.limits s.servers roles fits.counts s.next server q left)))
 
-  unskimmed_reached : (s : State Q QH P PH K) → IsReached s → (server : ℕ) (result : Result (Option ℕ) ReceiveError) (new : State Q QH P PH K) → ReceivesUnskimmed s server result new → IsReached new
+  unskimmed_reached : (s : State Q QH P PH K) → IsReached s → (server : ℕ) (result : Result (Option ℕ) ReceiveError)
+      (new : State Q QH P PH K) → ReceivesUnskimmed s server result new → IsReached new
   unskimmed_reached s fits server (Ok (Some number)) new receives =
       let r = receives.1 in
       subst (λ (x : State Q QH P PH K). IsReached x) (sym r.5) (with_active_request_reached s fits r.0 server r.1 r.2 r.3)
   unskimmed_reached s fits server (Ok None) new receives = subst (λ (x : State Q QH P PH K). IsReached x) (sym receives.1) fits
-  unskimmed_reached s fits server (Err ReceiveError.ExceedsMaxBorrows) new receives = subst (λ (x : State Q QH P PH K). IsReached x) (sym receives.2) fits
+  unskimmed_reached s fits server (Err ReceiveError.ExceedsMaxBorrows) new receives = subst (λ (x : State Q QH P PH K). IsReached x)
+      (sym receives.2) fits
   unskimmed_reached s fits server (Err (ReceiveError.ConnectionFailure failure)) new receives = absurd receives
 
   -- after a server received, or could not
-  pub receives_request_reached : (s : State Q QH P PH K) → IsReached s → (n : ℕ) (result : Result (Option ℕ) ReceiveError) (new : State Q QH P PH K) → ReceivesRequest s n result new → IsReached new
+  pub receives_request_reached : (s : State Q QH P PH K) → IsReached s
+      → (n : ℕ) (result : Result (Option ℕ) ReceiveError) (new : State Q QH P PH K) → ReceivesRequest s n result new → IsReached new
   receives_request_reached s fits n result new receives =
       let r = receives.1 in
       unskimmed_reached r.1 (skims_reached r.0 s fits n r.1 r.2) n result new r.3
 
   -- a response that is handed to a pending response
-  with_response_reached : (s : State Q QH P PH K) → IsReached s → (key : ResponseKey) (m : ResponseMessage P PH) (mid : State Q QH P PH K) → TakesResponse s key m mid →
+  with_response_reached : (s : State Q QH P PH K) → IsReached s → (key : ResponseKey) (m : ResponseMessage P PH) (mid : State Q QH P PH K)
+      → TakesResponse s key m mid →
       IsReached (record mid { handles = insert mid.handles m.number (Response m) })
   with_response_reached s fits key m mid takes =
       let rest = takes.1.0 in
@@ -93,14 +104,16 @@ module _ {Q QH P PH K : Type 0} where
       let roles = roles_of s.handles in
       let lists = with_at s.responses key rest in
       let mid_fits = fits_with_responses s lists fits
-      (responses_shrink s.limits roles s.next s.responses lists (shrinks_taken response_keys_total response_keys_exact s.responses key m rest takes.1.1) fits.response_lists) in
+      (responses_shrink s.limits roles s.next s.responses lists
+      (shrinks_taken response_keys_total response_keys_exact s.responses key m rest takes.1.1) fits.response_lists) in
       let waiting = fits.handles m.request (SentRequest (answered a)) f.answers in
       let stays = asking_stays_with roles m.number s.next (ReceivedResponse a) (λ p e. absurd (let g : None ≡ Some p = e in cc)) in
       let left : tally (holds_response key) roles < s.limits.max_borrowed_responses_per_pending_response =
       subst (λ k. k < s.limits.max_borrowed_responses_per_pending_response) (borrowed_responses-roles s key) (ltb-true _ _ takes.0) in
       subst (λ (x : State Q QH P PH K). IsReached (record x { handles = insert x.handles m.number (Response m) })) (sym takes.1.2)
       (subst (λ r. Fits s.limits s.clients s.servers r s.requests lists s.next) (sym (roles-insert s.handles m.number _))
-      (fits_with_role s.limits s.clients s.servers roles s.requests lists s.next mid_fits m.number s.next (ReceivedResponse a) (omega arith) stays
+      (fits_with_role s.limits s.clients s.servers roles s.requests lists s.next mid_fits m.number s.next (ReceivedResponse a)
+      (omega arith) stays
       (λ q e. absurd (let g : None ≡ Some q = sym f.no_request ∙ ap (option_and_then asking) e in cc))
       (record {
         below = f.below;
@@ -112,13 +125,15 @@ module _ {Q QH P PH K : Type 0} where
       (counts_with_received_response s.limits s.servers roles fits.counts m.number a key f.server f.client f.channel left)))
 
   -- after a pending response received, or could not
-  pub receives_response_reached : (s : State Q QH P PH K) → IsReached s → (n : ℕ) (result : Result (Option ℕ) ReceiveError) (new : State Q QH P PH K) → ReceivesResponse s n result new → IsReached new
+  pub receives_response_reached : (s : State Q QH P PH K) → IsReached s
+      → (n : ℕ) (result : Result (Option ℕ) ReceiveError) (new : State Q QH P PH K) → ReceivesResponse s n result new → IsReached new
   receives_response_reached s fits n (Ok (Some number)) new receives =
       let o = some_and (pending_at s n) _ receives in
       let r = o.2 in
       let same : number ≡ r.1.number = r.4 in
       subst (λ (x : State Q QH P PH K). IsReached x) (sym r.5)
-      (subst (λ k. IsReached (record r.2 { handles = insert r.2.handles k (Response r.1) })) (sym same) (with_response_reached s fits (response_key o.0 r.0) r.1 r.2 r.3))
+      (subst (λ k. IsReached (record r.2 { handles = insert r.2.handles k (Response r.1) })) (sym same)
+      (with_response_reached s fits (response_key o.0 r.0) r.1 r.2 r.3))
   receives_response_reached s fits n (Ok None) new receives =
       let o = some_and (pending_at s n) _ receives in
       subst (λ (x : State Q QH P PH K). IsReached x) (sym o.2.1) fits

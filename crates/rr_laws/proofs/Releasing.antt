@@ -27,45 +27,57 @@ module _ {Q QH P PH K : Type 0} (limits : Limits) (clients : List (Client K)) (s
     (requests : Lists request_key_cmp (RequestMessage Q QH)) (responses : Lists response_key_cmp (ResponseMessage P PH)) (next : ℕ)
     (fits : Fits limits clients servers roles requests responses next) (n : ℕ) where
   -- one role less, where the lists of responses fit without it
-  fits_without : (rest : Lists response_key_cmp (ResponseMessage P PH)) → ResponsesFit limits (remove roles n) next rest → Fits limits clients servers (remove roles n) requests rest next
+  fits_without : (rest : Lists response_key_cmp (ResponseMessage P PH)) → ResponsesFit limits (remove roles n) next rest
+      → Fits limits clients servers (remove roles n) requests rest next
   fits_without rest rest_fits =
       record {
         makes_hub = fits.makes_hub;
         ports = fits.ports;
-        handles = λ k role e. role_stays roles (remove roles n) next next (omega arith) (asking_stays_without roles n next) limits servers clients k role (fits.handles k role (get-remove_cases roles n k role e).1);
+        handles = λ k role e. role_stays roles (remove roles n) next next (omega arith)
+            (asking_stays_without roles n next) limits servers clients k role (fits.handles k role (get-remove_cases roles n k role e).1);
         counts = counts_without limits servers roles fits.counts n;
-        request_lists = requests_stay roles (remove roles n) next next (omega arith) (asking_stays_without roles n next) limits servers requests fits.request_lists;
+        request_lists = requests_stay roles (remove roles n) next next (omega arith)
+            (asking_stays_without roles n next) limits servers requests fits.request_lists;
         response_lists = rest_fits;
       }
 
   -- one role less, of a request that doesn't wait or of a response
-  pub fits_without_role : ((q : Question) → get roles n ≢ Some (SentRequest q)) → Fits limits clients servers (remove roles n) requests responses next
+  pub fits_without_role : ((q : Question) → get roles n ≢ Some (SentRequest q))
+      → Fits limits clients servers (remove roles n) requests responses next
   fits_without_role apart =
-      fits_without responses (responses_stay roles (remove roles n) next next (omega arith) (asking_stays_without roles n next) limits servers (waiting_stays_without roles n apart) responses fits.response_lists)
+      fits_without responses (responses_stay roles (remove roles n) next next (omega arith)
+      (asking_stays_without roles n next) limits servers (waiting_stays_without roles n apart) responses fits.response_lists)
 
   -- an entry of a list whose channel is another one answers another request
-  entry_stays : (q : Question) → get roles n ≡ Some (SentRequest q) → (key : ResponseKey) → (eqb key.client q.client && eqb key.channel q.channel) ≡ false → (m : ResponseMessage P PH) → ResponseFits roles next key m →
+  entry_stays : (q : Question) → get roles n ≡ Some (SentRequest q) → (key : ResponseKey)
+      → (eqb key.client q.client && eqb key.channel q.channel) ≡ false → (m : ResponseMessage P PH) → ResponseFits roles next key m →
       m.request ≢ n
   entry_stays q is key other m f same =
       let e : Some (SentRequest q) ≡ Some (SentRequest (answered (answer_of m))) = sym is ∙ ap (get roles) (sym same) ∙ f.answers in
       let one : q ≡ answered (answer_of m) = cc in
       let client : key.client ≡ q.client = sym f.client ∙ sym (ap (λ (x : Question). x.client) one) in
       let channel : key.channel ≡ q.channel = sym f.channel ∙ sym (ap (λ (x : Question). x.channel) one) in
-      absurd (let t : true ≡ false = sym (ap (λ b. b && true) (eq-eqb key.client q.client client)) ∙ sym (ap (λ b. eqb key.client q.client && b) (eq-eqb key.channel q.channel channel)) ∙ other in cc)
+      absurd (let t : true ≡ false = sym (ap (λ b. b && true) (eq-eqb key.client q.client client))
+      ∙ sym (ap (λ b. eqb key.client q.client && b) (eq-eqb key.channel q.channel channel)) ∙ other in cc)
 
   -- one waiting request less, and with it all entries of its channel
   pub fits_without_waiting : (q : Question) → get roles n ≡ Some (SentRequest q) →
-      Fits limits clients servers (remove roles n) requests (fin_map.retain_keys responses (λ key. not (eqb key.client q.client && eqb key.channel q.channel))) next
+      Fits limits clients servers (remove roles n) requests (fin_map.retain_keys responses
+      (λ key. not (eqb key.client q.client && eqb key.channel q.channel))) next
   fits_without_waiting q is =
       let kept : ResponseKey → Bool = λ key. not (eqb key.client q.client && eqb key.channel q.channel) in
       let rest = fin_map.retain_keys responses kept in
-      let shrunk = responses_shrink limits roles next responses rest (shrinks_retained response_keys_total response_keys_exact responses kept) fits.response_lists in
+      let shrunk = responses_shrink limits roles next responses rest
+      (shrinks_retained response_keys_total response_keys_exact responses kept) fits.response_lists in
       fits_without rest (record {
-        each = λ key. subst (AllByRecursion (ResponseFits (remove roles n) next key)) (sym (at-retain_keys response_keys_total response_keys_exact responses kept key)) (go key (eqb key.client q.client && eqb key.channel q.channel) refl);
+        each = λ key. subst (AllByRecursion (ResponseFits (remove roles n) next key))
+            (sym (at-retain_keys response_keys_total response_keys_exact responses kept key))
+            (go key (eqb key.client q.client && eqb key.channel q.channel) refl);
         short = shrunk.short;
       })
     where
-      go : (key : ResponseKey) (b : Bool) → (eqb key.client q.client && eqb key.channel q.channel) ≡ b → AllByRecursion (ResponseFits (remove roles n) next key) (cond (not b) (at responses key) [])
+      go : (key : ResponseKey) (b : Bool) → (eqb key.client q.client && eqb key.channel q.channel) ≡ b
+          → AllByRecursion (ResponseFits (remove roles n) next key) (cond (not b) (at responses key) [])
       go key true e = tt
       go key false e = all_each (ResponseFits roles next key) (ResponseFits (remove roles n) next key) (λ m f.
           record {
@@ -73,7 +85,8 @@ module _ {Q QH P PH K : Type 0} (limits : Limits) (clients : List (Client K)) (s
             client = f.client;
             channel = f.channel;
             below = f.below;
-            no_request = no_request_later roles (remove roles n) next next (omega arith) (asking_stays_without roles n next) m.number f.below f.no_request;
+            no_request = no_request_later roles (remove roles n) next next (omega arith)
+                (asking_stays_without roles n next) m.number f.below f.no_request;
             answers = get-remove_other roles n m.request (entry_stays q is key e m f) ∙ f.answers;
           }) (at responses key) (fits.response_lists.each key)
 
@@ -91,24 +104,40 @@ module _ {Q QH P PH K : Type 0} (s : State Q QH P PH K) (fits : IsReached s) (n 
   FitsWithRoles : Roles → Lists response_key_cmp (ResponseMessage P PH) → Type 0
   FitsWithRoles roles responses = Fits s.limits s.clients s.servers roles s.requests responses s.next
 
-  plainly_gone : ((q : Question) → get (roles_of s.handles) n ≢ Some (SentRequest q)) → FitsWithRoles (roles_of (remove s.handles n)) s.responses
+  plainly_gone : ((q : Question) → get (roles_of s.handles) n ≢ Some (SentRequest q))
+      → FitsWithRoles (roles_of (remove s.handles n)) s.responses
   unfolding FitsWithRoles
   plainly_gone apart =
       subst (λ r. Fits s.limits s.clients s.servers r s.requests s.responses s.next) (sym (roles-remove s.handles n))
       (fits_without_role s.limits s.clients s.servers (roles_of s.handles) s.requests s.responses s.next fits n apart)
 
   -- after a handle is gone, and what goes with it
-  pub handle_gone_reached : (h : Handle Q QH P PH) → handle_at s n ≡ Some h → IsReached (after_handle_gone (record s { handles = remove s.handles n }) h)
+  pub handle_gone_reached : (h : Handle Q QH P PH) → handle_at s n ≡ Some h
+      → IsReached (after_handle_gone (record s { handles = remove s.handles n }) h)
   unfolding FitsWithRoles
-  handle_gone_reached (RequestMutUninit m) is = plainly_gone (λ q e. absurd (let f = role_at s.handles n (RequestMutUninit m) is in let g : Some (LoanedRequest (question_of m)) ≡ Some (SentRequest q) = sym f ∙ e in cc))
-  handle_gone_reached (RequestMut m) is = plainly_gone (λ q e. absurd (let f = role_at s.handles n (RequestMut m) is in let g : Some (LoanedRequest (question_of m)) ≡ Some (SentRequest q) = sym f ∙ e in cc))
+  handle_gone_reached (RequestMutUninit m) is = plainly_gone
+      (λ q e. absurd (let f = role_at s.handles n (RequestMutUninit m) is in
+      let g : Some (LoanedRequest (question_of m)) ≡ Some (SentRequest q) = sym f ∙ e in cc))
+  handle_gone_reached (RequestMut m) is = plainly_gone (λ q e. absurd
+      (let f = role_at s.handles n (RequestMut m) is in let g : Some (LoanedRequest (question_of m)) ≡ Some (SentRequest q) = sym f ∙ e in
+      cc))
   handle_gone_reached (PendingResponse p) is =
       let kept : ResponseKey → Bool = λ key. not (eqb key.client p.message.client && eqb key.channel p.message.channel) in
-      subst (λ r. Fits s.limits s.clients s.servers r s.requests (fin_map.retain_keys s.responses kept) s.next) (sym (roles-remove s.handles n))
-      (fits_without_waiting s.limits s.clients s.servers (roles_of s.handles) s.requests s.responses s.next fits n (question_of p.message) (role_at s.handles n (PendingResponse p) is))
+      subst (λ r. Fits s.limits s.clients s.servers r s.requests (fin_map.retain_keys s.responses kept) s.next)
+      (sym (roles-remove s.handles n))
+      (fits_without_waiting s.limits s.clients s.servers (roles_of s.handles) s.requests s.responses s.next fits n (question_of p.message)
+      (role_at s.handles n (PendingResponse p) is))
   handle_gone_reached (ActiveRequest a) is =
-      subst (λ r. Fits s.limits s.clients s.servers r s.requests s.responses s.next) (sym (roles-changed (without_server a.server) (without_server-role a.server) (remove s.handles n) a.message.number))
-      (plainly_gone (λ q e. absurd (let f = role_at s.handles n (ActiveRequest a) is in let g : Some (ReceivedRequest a.server (question_of a.message)) ≡ Some (SentRequest q) = sym f ∙ e in cc)))
-  handle_gone_reached (ResponseMutUninit m) is = plainly_gone (λ q e. absurd (let f = role_at s.handles n (ResponseMutUninit m) is in let g : Some (LoanedResponse (answer_of m)) ≡ Some (SentRequest q) = sym f ∙ e in cc))
-  handle_gone_reached (ResponseMut m) is = plainly_gone (λ q e. absurd (let f = role_at s.handles n (ResponseMut m) is in let g : Some (LoanedResponse (answer_of m)) ≡ Some (SentRequest q) = sym f ∙ e in cc))
-  handle_gone_reached (Response m) is = plainly_gone (λ q e. absurd (let f = role_at s.handles n (Response m) is in let g : Some (ReceivedResponse (answer_of m)) ≡ Some (SentRequest q) = sym f ∙ e in cc))
+      subst (λ r. Fits s.limits s.clients s.servers r s.requests s.responses s.next)
+      (sym (roles-changed (without_server a.server) (without_server-role a.server) (remove s.handles n) a.message.number))
+      (plainly_gone (λ q e. absurd (let f = role_at s.handles n (ActiveRequest a) is in
+      let g : Some (ReceivedRequest a.server (question_of a.message)) ≡ Some (SentRequest q) = sym f ∙ e in cc)))
+  handle_gone_reached (ResponseMutUninit m) is = plainly_gone
+      (λ q e. absurd (let f = role_at s.handles n (ResponseMutUninit m) is in
+      let g : Some (LoanedResponse (answer_of m)) ≡ Some (SentRequest q) = sym f ∙ e in cc))
+  handle_gone_reached (ResponseMut m) is = plainly_gone (λ q e. absurd
+      (let f = role_at s.handles n (ResponseMut m) is in let g : Some (LoanedResponse (answer_of m)) ≡ Some (SentRequest q) = sym f ∙ e in
+      cc))
+  handle_gone_reached (Response m) is = plainly_gone (λ q e. absurd
+      (let f = role_at s.handles n (Response m) is in let g : Some (ReceivedResponse (answer_of m)) ≡ Some (SentRequest q) = sym f ∙ e in
+      cc))

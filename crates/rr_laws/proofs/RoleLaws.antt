@@ -24,48 +24,60 @@ module _ {Q QH P PH : Type 0} where
   get-roles handles n = get-map_values role_of handles n
 
   -- the role of a handle that is there
-  pub role_at : (handles : FinMap nat_cmp (Handle Q QH P PH)) (n : ℕ) (h : Handle Q QH P PH) → get handles n ≡ Some h → get (roles_of handles) n ≡ Some (role_of h)
+  pub role_at : (handles : FinMap nat_cmp (Handle Q QH P PH)) (n : ℕ) (h : Handle Q QH P PH) → get handles n ≡ Some h
+      → get (roles_of handles) n ≡ Some (role_of h)
   role_at handles n h e = get-roles handles n ∙ ap (option_map role_of) e
 
   -- the handle of a role that is there
-  pub handle_of : (handles : FinMap nat_cmp (Handle Q QH P PH)) (n : ℕ) (role : Role) → get (roles_of handles) n ≡ Some role → (h : Handle Q QH P PH) × (get handles n ≡ Some h) × (role_of h ≡ role)
+  pub handle_of : (handles : FinMap nat_cmp (Handle Q QH P PH)) (n : ℕ) (role : Role) → get (roles_of handles) n ≡ Some role
+      → (h : Handle Q QH P PH) × (get handles n ≡ Some h) × (role_of h ≡ role)
   handle_of handles n role e = go (get handles n) refl (sym (get-roles handles n) ∙ e)
     where
-      go : (o : Option (Handle Q QH P PH)) → get handles n ≡ o → option_map role_of o ≡ Some role → (h : Handle Q QH P PH) × (get handles n ≡ Some h) × (role_of h ≡ role)
+      go : (o : Option (Handle Q QH P PH)) → get handles n ≡ o → option_map role_of o ≡ Some role → (h : Handle Q QH P PH)
+          × (get handles n ≡ Some h) × (role_of h ≡ role)
       go None is e = absurd (cc)
       go (Some h) is e = (h, is, (cc))
 
   -- one more handle
-  pub roles-insert : (handles : FinMap nat_cmp (Handle Q QH P PH)) (n : ℕ) (h : Handle Q QH P PH) → roles_of (insert handles n h) ≡ insert (roles_of handles) n (role_of h)
+  pub roles-insert : (handles : FinMap nat_cmp (Handle Q QH P PH)) (n : ℕ) (h : Handle Q QH P PH)
+      → roles_of (insert handles n h) ≡ insert (roles_of handles) n (role_of h)
   roles-insert handles n h = map_values-insert role_of handles n h
 
   -- one handle less
   pub roles-remove : (handles : FinMap nat_cmp (Handle Q QH P PH)) (n : ℕ) → roles_of (remove handles n) ≡ remove (roles_of handles) n
   roles-remove handles n = map_values-remove role_of handles n
 
-  same_roles_at : (f : Handle Q QH P PH → Handle Q QH P PH) → ((h : Handle Q QH P PH) → role_of (f h) ≡ role_of h) → (o : Option (Handle Q QH P PH)) → option_map role_of (option_map f o) ≡ option_map role_of o
+  same_roles_at : (f : Handle Q QH P PH → Handle Q QH P PH) → ((h : Handle Q QH P PH) → role_of (f h) ≡ role_of h)
+      → (o : Option (Handle Q QH P PH)) → option_map role_of (option_map f o) ≡ option_map role_of o
   same_roles_at f same None = refl
   same_roles_at f same (Some h) = ap Some (same h)
 
   -- a change that keeps each role
-  pub roles-map_handles : (f : Handle Q QH P PH → Handle Q QH P PH) → ((h : Handle Q QH P PH) → role_of (f h) ≡ role_of h) → (handles : FinMap nat_cmp (Handle Q QH P PH)) → roles_of (map_handles f handles) ≡ roles_of handles
+  pub roles-map_handles : (f : Handle Q QH P PH → Handle Q QH P PH) → ((h : Handle Q QH P PH) → role_of (f h) ≡ role_of h)
+      → (handles : FinMap nat_cmp (Handle Q QH P PH)) → roles_of (map_handles f handles) ≡ roles_of handles
   roles-map_handles f same handles = same_map nat_cmp_total nat_cmp-IsAntisymmetric _ _ (λ n.
-      get-roles (map_handles f handles) n ∙ ap (option_map role_of) (get-map_handles f handles n) ∙ same_roles_at f same (get handles n) ∙ sym (get-roles handles n))
+      get-roles (map_handles f handles) n ∙ ap (option_map role_of) (get-map_handles f handles n) ∙ same_roles_at f same (get handles n)
+      ∙ sym (get-roles handles n))
 
   -- a change of one handle that keeps its role
-  pub roles-changed : (f : Handle Q QH P PH → Handle Q QH P PH) → ((h : Handle Q QH P PH) → role_of (f h) ≡ role_of h) → (handles : FinMap nat_cmp (Handle Q QH P PH)) (n : ℕ) →
+  pub roles-changed : (f : Handle Q QH P PH → Handle Q QH P PH) → ((h : Handle Q QH P PH) → role_of (f h) ≡ role_of h)
+      → (handles : FinMap nat_cmp (Handle Q QH P PH)) (n : ℕ) →
       roles_of (option_map_or (λ h. insert handles n (f h)) (get handles n) handles) ≡ roles_of handles
   roles-changed f same handles n = go (get handles n) refl
     where
-      go : (o : Option (Handle Q QH P PH)) → get handles n ≡ o → roles_of (option_map_or (λ h. insert handles n (f h)) o handles) ≡ roles_of handles
+      go : (o : Option (Handle Q QH P PH)) → get handles n ≡ o
+          → roles_of (option_map_or (λ h. insert handles n (f h)) o handles) ≡ roles_of handles
       go None is = refl
-      go (Some h) is = roles-insert handles n (f h) ∙ ap (insert (roles_of handles) n) (same h) ∙ insert_itself (roles_of handles) n (role_of h) (role_at handles n h is)
+      go (Some h) is = roles-insert handles n (f h) ∙ ap (insert (roles_of handles) n) (same h)
+          ∙ insert_itself (roles_of handles) n (role_of h) (role_at handles n h is)
 
   -- a count of handles is one of roles, where the test sees the role alone
-  pub count-roles : (p : Handle Q QH P PH → Bool) (q : Role → Bool) → ((h : Handle Q QH P PH) → p h ≡ q (role_of h)) → (handles : FinMap nat_cmp (Handle Q QH P PH)) →
+  pub count-roles : (p : Handle Q QH P PH → Bool) (q : Role → Bool) → ((h : Handle Q QH P PH) → p h ≡ q (role_of h))
+      → (handles : FinMap nat_cmp (Handle Q QH P PH)) →
       count_by p (fin_map.values handles) ≡ tally q (roles_of handles)
   count-roles p q same handles =
-      count-map (λ (e : ℕ × Handle Q QH P PH). e.1) p (entries handles) ∙ same_count (entries handles) ∙ sym (tally-map_values role_of q handles)
+      count-map (λ (e : ℕ × Handle Q QH P PH). e.1) p (entries handles) ∙ same_count (entries handles)
+      ∙ sym (tally-map_values role_of q handles)
     where
       same_count : (es : List (ℕ × Handle Q QH P PH)) → count_by (λ e. p e.1) es ≡ count_by (λ e. q (role_of e.1)) es
       same_count es = ap (λ (t : Handle Q QH P PH → Bool). count_by (λ (e : ℕ × Handle Q QH P PH). t e.1) es) (λ i h. same h i)
@@ -76,65 +88,42 @@ module _ {Q QH P PH K : Type 0} (s : State Q QH P PH K) where
   loaned_requests-roles client = count-roles (is_request_loan client) (loans_request client) same s.handles
     where
       same : (h : Handle Q QH P PH) → is_request_loan client h ≡ loans_request client (role_of h)
-      same (RequestMutUninit m) = refl
       same (RequestMut m) = refl
-      same (PendingResponse p) = refl
-      same (ActiveRequest a) = refl
-      same (ResponseMutUninit m) = refl
-      same (ResponseMut m) = refl
-      same (Response m) = refl
+      same other = refl
 
   -- pending responses, counted by roles
   pub pending_responses-roles : (client : ℕ) → pending_responses s client ≡ tally (waits client) (roles_of s.handles)
   pending_responses-roles client = count-roles (is_pending_of client) (waits client) same s.handles
     where
       same : (h : Handle Q QH P PH) → is_pending_of client h ≡ waits client (role_of h)
-      same (RequestMutUninit m) = refl
       same (RequestMut m) = refl
-      same (PendingResponse p) = refl
-      same (ActiveRequest a) = refl
-      same (ResponseMutUninit m) = refl
-      same (ResponseMut m) = refl
-      same (Response m) = refl
+      same other = refl
 
   -- responses on loan, counted by roles
   pub loaned_responses-roles : (server : ℕ) → loaned_responses s server ≡ tally (loans_response server) (roles_of s.handles)
   loaned_responses-roles server = count-roles (is_response_loan server) (loans_response server) same s.handles
     where
       same : (h : Handle Q QH P PH) → is_response_loan server h ≡ loans_response server (role_of h)
-      same (RequestMutUninit m) = refl
       same (RequestMut m) = refl
-      same (PendingResponse p) = refl
-      same (ActiveRequest a) = refl
-      same (ResponseMutUninit m) = refl
-      same (ResponseMut m) = refl
-      same (Response m) = refl
+      same other = refl
 
   -- requests that a server holds from a list, counted by roles
-  pub borrowed_requests-roles : (key : RequestKey) → count_by (is_borrowed_request key) (all_handles s) ≡ tally (holds_request key) (roles_of s.handles)
+  pub borrowed_requests-roles : (key : RequestKey) → count_by (is_borrowed_request key) (all_handles s) ≡ tally (holds_request key)
+      (roles_of s.handles)
   borrowed_requests-roles key = count-roles (is_borrowed_request key) (holds_request key) same s.handles
     where
       same : (h : Handle Q QH P PH) → is_borrowed_request key h ≡ holds_request key (role_of h)
-      same (RequestMutUninit m) = refl
       same (RequestMut m) = refl
-      same (PendingResponse p) = refl
-      same (ActiveRequest a) = refl
-      same (ResponseMutUninit m) = refl
-      same (ResponseMut m) = refl
-      same (Response m) = refl
+      same other = refl
 
   -- responses that a client holds from a list, counted by roles
-  pub borrowed_responses-roles : (key : ResponseKey) → count_by (is_borrowed_response key) (all_handles s) ≡ tally (holds_response key) (roles_of s.handles)
+  pub borrowed_responses-roles : (key : ResponseKey) → count_by (is_borrowed_response key) (all_handles s) ≡ tally (holds_response key)
+      (roles_of s.handles)
   borrowed_responses-roles key = count-roles (is_borrowed_response key) (holds_response key) same s.handles
     where
       same : (h : Handle Q QH P PH) → is_borrowed_response key h ≡ holds_response key (role_of h)
-      same (RequestMutUninit m) = refl
       same (RequestMut m) = refl
-      same (PendingResponse p) = refl
-      same (ActiveRequest a) = refl
-      same (ResponseMutUninit m) = refl
-      same (ResponseMut m) = refl
-      same (Response m) = refl
+      same other = refl
 
 module _ (p : Role → Bool) (roles : Roles) (n : ℕ) where
   -- one more role, also in place of another

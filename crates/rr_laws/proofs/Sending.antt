@@ -28,16 +28,20 @@ use Rattle.rr_laws.proofs.Expiring.{fits_with_requests, fits_with_responses}
 use Rattle.rr_laws.proofs.Leaving.{after_release_reached}
 
 module _ {Q QH P PH K : Type 0} (s : State Q QH P PH K) (fits : IsReached s) (n : ℕ) where
-  request_put_fits : (m : RequestMessage Q QH) → handle_at s n ≡ Some (RequestMut m) → RequestsFit s.limits s.servers (roles_of s.handles) s.next (with_request_put s m)
+  request_put_fits : (m : RequestMessage Q QH) → handle_at s n ≡ Some (RequestMut m)
+      → RequestsFit s.limits s.servers (roles_of s.handles) s.next (with_request_put s m)
   request_put_fits m is =
       let f = fits.handles n _ (role_at s.handles n (RequestMut m) is) in
-      requests_with_put s.limits s.servers (roles_of s.handles) s.next s.limits.enable_safe_overflow_for_requests m (positive s.limits fits.makes_hub).active (request_reach s m) s.requests
+      requests_with_put s.limits s.servers (roles_of s.handles) s.next s.limits.enable_safe_overflow_for_requests m
+      (positive s.limits fits.makes_hub).active (request_reach s m) s.requests
       (all_map (λ (c : Server K). request_key m.client c.id) _ (λ key. RequestFits s.limits s.servers (roles_of s.handles) s.next key m)
-      (λ c there. record { client = refl; server = there; known = f.known; channel = f.channel }) s.servers (each_found (λ (c : Server K). c.id) s.servers))
+      (λ c there. record { client = refl; server = there; known = f.known; channel = f.channel }) s.servers
+      (each_found (λ (c : Server K). c.id) s.servers))
       fits.request_lists
 
   -- a request that was sent
-  pub with_sent_request_reached : (client : Client K) (m : RequestMessage Q QH) → handle_at s n ≡ Some (RequestMut m) → client.id ≡ m.client →
+  pub with_sent_request_reached : (client : Client K) (m : RequestMessage Q QH) → handle_at s n ≡ Some (RequestMut m) → client.id ≡ m.client
+      →
       pending_responses s client.id < s.limits.max_active_requests_per_client → IsReached (with_sent_request s n m)
   with_sent_request_reached client m is same left =
       let q = question_of m in
@@ -47,9 +51,11 @@ module _ {Q QH P PH K : Type 0} (s : State Q QH P PH K) (fits : IsReached s) (n 
       let lists = with_request_put s m in
       let stays = asking_stays_with roles n s.next (SentRequest q) (λ p e. ap (option_and_then asking) at ∙ e) in
       let below : tally (waits m.client) roles < s.limits.max_active_requests_per_client =
-      subst (λ k. k < s.limits.max_active_requests_per_client) (pending_responses-roles s m.client) (subst (λ k. pending_responses s k < s.limits.max_active_requests_per_client) same left) in
+      subst (λ k. k < s.limits.max_active_requests_per_client) (pending_responses-roles s m.client)
+      (subst (λ k. pending_responses s k < s.limits.max_active_requests_per_client) same left) in
       subst (λ r. Fits s.limits s.clients s.servers r lists s.responses s.next) (sym (roles-insert s.handles n _))
-      (fits_with_role s.limits s.clients s.servers roles lists s.responses s.next (fits_with_requests s lists fits (request_put_fits m is)) n s.next (SentRequest q) (omega arith) stays
+      (fits_with_role s.limits s.clients s.servers roles lists s.responses s.next
+      (fits_with_requests s lists fits (request_put_fits m is)) n s.next (SentRequest q) (omega arith) stays
       (λ p e. absurd (let g : Some (LoanedRequest q) ≡ Some (SentRequest p) = sym at ∙ e in cc))
       (record {
         below = f.below;
@@ -69,12 +75,14 @@ module _ {Q QH P PH K : Type 0} (s : State Q QH P PH K) (fits : IsReached s) (n 
       with_both (request_at s n) _ _ _ (λ m. with_both (client_at s m.client) _ _ _ (λ client d r. (sym d, r.0, r.1))) due sent
 
   -- after a request was sent, or refused
-  pub sends_request_reached : (answer : K → ℕ → ℕ → BackpressureAction) (result : Result ℕ RequestSendError) (new : State Q QH P PH K) → SendsRequest answer s n result new → IsReached new
+  pub sends_request_reached : (answer : K → ℕ → ℕ → BackpressureAction) (result : Result ℕ RequestSendError) (new : State Q QH P PH K)
+      → SendsRequest answer s n result new → IsReached new
   sends_request_reached answer (Ok connections) new sends =
       let o = open_request_mut s n _ sends in
       let same : (o.0).id ≡ o.1.client = eqb-true _ _ (passes_found _ s.clients o.0 o.3) in
       subst (λ (x : State Q QH P PH K). IsReached x) (sym o.4.2)
-      (with_sent_request_reached o.0 o.1 o.2 same (below_of_test s.limits.max_active_requests_per_client (pending_responses s (o.0).id) (not_due _ _ _ o.4.0).0))
+      (with_sent_request_reached o.0 o.1 o.2 same (below_of_test s.limits.max_active_requests_per_client
+      (pending_responses s (o.0).id) (not_due _ _ _ o.4.0).0))
   sends_request_reached answer (Err error) new sends =
       let o = open_request_mut s n _ sends in
       subst (λ (x : State Q QH P PH K). IsReached x) (sym o.4.1) (after_release_reached s n fits)
@@ -87,8 +95,10 @@ module _ {Q QH P PH K : Type 0} (s : State Q QH P PH K) (fits : IsReached s) (n 
       let f = fits.handles n (LoanedResponse (answer_of m)) at in
       let own : m.number ≡ n = f.own_number in
       let p = living (pending_at s m.request) refl alive in
-      let waiting : get (roles_of s.handles) m.request ≡ Some (SentRequest (question_of p.0.message)) = role_at s.handles m.request (PendingResponse p.0) (from_pending (handle_at s m.request) p.0 p.1) in
-      let one : question_of p.0.message ≡ answered (answer_of m) = f.known.same (question_of p.0.message) (ap (option_and_then asking) waiting) in
+      let waiting : get (roles_of s.handles) m.request ≡ Some (SentRequest (question_of p.0.message)) = role_at s.handles m.request
+      (PendingResponse p.0) (from_pending (handle_at s m.request) p.0 p.1) in
+      let one : question_of p.0.message ≡ answered (answer_of m) = f.known.same (question_of p.0.message)
+      (ap (option_and_then asking) waiting) in
       record {
         server = refl;
         client = refl;
@@ -98,28 +108,34 @@ module _ {Q QH P PH K : Type 0} (s : State Q QH P PH K) (fits : IsReached s) (n 
         answers = waiting ∙ ap (λ q. Some (SentRequest q)) one;
       }
     where
-      living : (o : Option (Pending Q QH)) → pending_at s m.request ≡ o → is_some o ≡ true → (p : Pending Q QH) × (pending_at s m.request ≡ Some p)
+      living : (o : Option (Pending Q QH)) → pending_at s m.request ≡ o → is_some o ≡ true → (p : Pending Q QH)
+          × (pending_at s m.request ≡ Some p)
       living None e h = absurd (cc)
       living (Some p) e h = (p, e)
 
-  response_put_fits : (m : ResponseMessage P PH) → handle_at s n ≡ Some (ResponseMut m) → ResponsesFit s.limits (roles_of s.handles) s.next (with_response_put s m)
+  response_put_fits : (m : ResponseMessage P PH) → handle_at s n ≡ Some (ResponseMut m)
+      → ResponsesFit s.limits (roles_of s.handles) s.next (with_response_put s m)
   response_put_fits m is = go (is_some (client_at s m.client)) (is_alive s m.request) refl
     where
       key : ResponseKey
       key = record { server = m.server; client = m.client; channel = m.channel }
 
       go : (connected alive : Bool) → is_alive s m.request ≡ alive → ResponsesFit s.limits (roles_of s.handles) s.next
-          (fold (λ lists k. with_at lists k (put s.limits.enable_safe_overflow_for_responses s.limits.max_response_buffer_size (at lists k) m)) s.responses (cond (connected && alive) (key ∷ []) []))
-      go true true e = responses_with_put s.limits (roles_of s.handles) s.next s.limits.enable_safe_overflow_for_responses m (positive s.limits fits.makes_hub).buffer s.responses key (response_fits m is e) fits.response_lists
+          (fold (λ lists k. with_at lists k (put s.limits.enable_safe_overflow_for_responses s.limits.max_response_buffer_size
+          (at lists k) m)) s.responses (cond (connected && alive) (key ∷ []) []))
+      go true true e = responses_with_put s.limits (roles_of s.handles) s.next s.limits.enable_safe_overflow_for_responses m
+          (positive s.limits fits.makes_hub).buffer s.responses key (response_fits m is e) fits.response_lists
       go true false e = fits.response_lists
       go false alive e = fits.response_lists
 
   -- a response in the list that it reaches, and still in its handle
-  pub response_put_reached : (m : ResponseMessage P PH) → handle_at s n ≡ Some (ResponseMut m) → IsReached (record s { responses = with_response_put s m })
+  pub response_put_reached : (m : ResponseMessage P PH) → handle_at s n ≡ Some (ResponseMut m)
+      → IsReached (record s { responses = with_response_put s m })
   response_put_reached m is = fits_with_responses s (with_response_put s m) fits (response_put_fits m is)
 
   -- after a response was sent, or refused
-  pub sends_response_reached : {U : Type 0} (answer : K → ℕ → ℕ → BackpressureAction) (result : Result U SendError) (new : State Q QH P PH K) → SendsResponse answer s n result new → IsReached new
+  pub sends_response_reached : {U : Type 0} (answer : K → ℕ → ℕ → BackpressureAction) (result : Result U SendError)
+      (new : State Q QH P PH K) → SendsResponse answer s n result new → IsReached new
   sends_response_reached answer (Ok u) new sends =
       let o = open_response_mut s n _ sends in
       let lists = with_response_put s o.1 in

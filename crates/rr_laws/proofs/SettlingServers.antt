@@ -35,31 +35,43 @@ use Rattle.rr_laws.proofs.SettlingSends.{listed_below, skims_fewer}
 
 module _ {Q QH P PH K : Type 0} where
   -- who is found after one more server came was there before, or is that one
-  server_cases : (s : State Q QH P PH K) (one : Server K) (n : ℕ) (c : Server K) → find (λ d. eqb d.id n) (s.servers ++ one ∷ []) ≡ Some c → (server_at s n ≡ Some c) ⊎ ((one.id ≡ n) × (one ≡ c))
-  server_cases s one n c e = go (find (λ d. eqb d.id n) s.servers) (eqb one.id n) refl refl (sym (find-append (λ d. eqb d.id n) s.servers one) ∙ e)
+  server_cases : (s : State Q QH P PH K) (one : Server K) (n : ℕ) (c : Server K) → find (λ d. eqb d.id n) (s.servers ++ one ∷ []) ≡ Some c
+      → (server_at s n ≡ Some c) ⊎ ((one.id ≡ n) × (one ≡ c))
+  server_cases s one n c e = go (find (λ d. eqb d.id n) s.servers) (eqb one.id n) refl refl
+      (sym (find-append (λ d. eqb d.id n) s.servers one) ∙ e)
     where
-      go : (o : Option (Server K)) (b : Bool) → find (λ d. eqb d.id n) s.servers ≡ o → eqb one.id n ≡ b → cond (is_some o) o (cond b (Some one) None) ≡ Some c → (server_at s n ≡ Some c) ⊎ ((one.id ≡ n) × (one ≡ c))
+      go : (o : Option (Server K)) (b : Bool) → find (λ d. eqb d.id n) s.servers ≡ o → eqb one.id n ≡ b
+          → cond (is_some o) o (cond b (Some one) None) ≡ Some c → (server_at s n ≡ Some c) ⊎ ((one.id ≡ n) × (one ≡ c))
       go (Some d) b is same e = inl (is ∙ e)
       go None true is same e = inr (eqb-true one.id n same, (cc))
       go None false is same e = absurd (let f : None ≡ Some c = e in cc)
 
   -- a server with the next number, which nothing waits for yet
-  pub new_server_settles : {Ends : ℕ → Type 0} (s new : State Q QH P PH K) (one : Server K) → IsReached s → s.next ≤ new.next → one.id ≡ s.next → new.handles ≡ s.handles → new.responses ≡ s.responses → new.requests ≡ s.requests →
+  pub new_server_settles : {Ends : ℕ → Type 0} (s new : State Q QH P PH K) (one : Server K) → IsReached s → s.next ≤ new.next
+      → one.id ≡ s.next → new.handles ≡ s.handles → new.responses ≡ s.responses → new.requests ≡ s.requests →
       new.servers ≡ s.servers ++ one ∷ [] → Settles (IsNew s) Ends (λ server p before after. after ≡ before) s new
   new_server_settles s new one fits more is handles responses requests servers = record {
     next = more;
     serving = λ server p serves. ⊎_elim
         (λ was. inl (
           ((serves.0.0, sym (ap (λ h. get (roles_of h) p) handles) ∙ serves.0.1), (serves.1.0, was)),
-          ap (λ h. entries_for (roles_of h) new.responses server p) handles ∙ ap (λ l. entries_for (roles_of s.handles) l server p) responses,
+          ap (λ h. entries_for (roles_of h) new.responses server p) handles
+              ∙ ap (λ l. entries_for (roles_of s.handles) l server p) responses,
         ))
         (λ now. inr (inl (omega (arith, is, now.0))))
         (at_server server serves.1.0 serves.1.1);
     servers = λ n c e. ⊎_elim (λ was. inl (c, was, refl, refl)) (λ now. inr (omega (arith, is, now.0))) (at_server n c e);
-    held = λ n e. inl (ap (list_any (λ (x : Server K). eqb x.id n && x.is_held)) servers ∙ any-append (λ (x : Server K). eqb x.id n && x.is_held) s.servers (one ∷ []) e);
+    held = λ n e. inl (ap (list_any (λ (x : Server K). eqb x.id n && x.is_held)) servers
+        ∙ any-append (λ (x : Server K). eqb x.id n && x.is_held) s.servers (one ∷ []) e);
     loaned = λ n q e. inl (sym (ap (λ h. get (roles_of h) n) handles) ∙ e);
     clash = λ n clashes. ⊎_elim
-        (λ unsent. inl (unsent.0, unsent.1, sym (ap (λ h. get (roles_of h) n) handles) ∙ unsent.2, subst (λ l. 0 < listed l n unsent.1) requests unsent.3))
+        (λ unsent. inl (
+          unsent.0,
+          unsent.1,
+          sym (ap (λ h. get (roles_of h) n) handles)
+              ∙ unsent.2,
+          subst (λ l. 0 < listed l n unsent.1) requests unsent.3,
+        ))
         (λ both.
         let other = ⊎_elim
         (λ asked. inl (asked.0, sym (ap (λ h. asking_at (roles_of h) n) handles) ∙ asked.1))
@@ -82,14 +94,16 @@ module _ {Q QH P PH K : Type 0} where
           go None is e = absurd (let f : None ≡ Some q = e in cc)
           go (Some role) is e = (fits.handles n role is).below
 
-      unused : (n : ℕ) → n ≡ s.next → ((q : Question) × (asking_at (roles_of s.handles) n ≡ Some q)) ⊎ ((key : RequestKey) × (0 < listed s.requests n key)) → ⊥
+      unused : (n : ℕ) → n ≡ s.next → ((q : Question) × (asking_at (roles_of s.handles) n ≡ Some q))
+          ⊎ ((key : RequestKey) × (0 < listed s.requests n key)) → ⊥
       unused n is either = ⊎_elim
           (λ asked. absurd (omega (arith, is, named n asked.0 asked.1)))
           (λ stands. absurd (omega (arith, is, listed_below s fits n stands.0 stands.1)))
           either
 
   -- what a server receives stood in a list
-  pub received_listed : (s : State Q QH P PH K) (n a r : ℕ) (new : State Q QH P PH K) → ReceivesRequest s n (Ok (Some a)) new → IsSomeAnd (active_at new a) (λ active. r ≡ active.message.number) → (key : RequestKey) × (0 < listed s.requests r key)
+  pub received_listed : (s : State Q QH P PH K) (n a r : ℕ) (new : State Q QH P PH K) → ReceivesRequest s n (Ok (Some a)) new
+      → IsSomeAnd (active_at new a) (λ active. r ≡ active.message.number) → (key : RequestKey) × (0 < listed s.requests r key)
   received_listed s n a r new receives told =
       let o = receives.1 in
       let got = (o.3).1 in
@@ -98,11 +112,18 @@ module _ {Q QH P PH K : Type 0} where
       let key = request_key got.0 n in
       let is : a ≡ mid.next = (o.3).0 ∙ sym (ap (λ (x : State Q QH P PH K). x.next) (got.3).1.2) in
       let active : Active Q QH = record { message = m; server = n } in
-      let t = some_and (active_at (with_active_request mid n m) a) _ (subst (λ (x : State Q QH P PH K). IsSomeAnd (active_at x a) (λ active. r ≡ active.message.number)) got.5 told) in
-      let there : Some t.0 ≡ Some active = sym t.1 ∙ ap (option_and_then as_active) (get-insert_same mid.handles mid.next (ActiveRequest active) a is) in
+      let t = some_and (active_at (with_active_request mid n m) a) _
+      (subst (λ (x : State Q QH P PH K). IsSomeAnd (active_at x a) (λ active. r ≡ active.message.number)) got.5 told) in
+      let there : Some t.0 ≡ Some active = sym t.1 ∙ ap (option_and_then as_active)
+      (get-insert_same mid.handles mid.next (ActiveRequest active) a is) in
       let number_is : r ≡ m.number = t.2 ∙ ap (λ (x : Active Q QH). x.message.number) (let f : t.0 ≡ active = cc in f) in
-      let stood : 0 < listed (o.1).requests m.number key = subst (λ xs. 0 < count_by (λ (x : RequestMessage Q QH). eqb x.number m.number) xs) (sym (got.3).1.1)
-      (omega (arith, count-cons (λ (x : RequestMessage Q QH). eqb x.number m.number) m (got.3).1.0, ap mark (eq-eqb m.number m.number refl))) in
+      let stood : 0 < listed (o.1).requests m.number key = subst
+      (λ xs. 0 < count_by (λ (x : RequestMessage Q QH). eqb x.number m.number) xs) (sym (got.3).1.1)
+      (omega (
+        arith,
+        count-cons (λ (x : RequestMessage Q QH). eqb x.number m.number) m (got.3).1.0,
+        ap mark (eq-eqb m.number m.number refl),
+      )) in
       (key, subst (λ j. 0 < listed s.requests j key) (sym number_is) ((skims_fewer o.0 s n o.1 o.2).1 m.number key stood))
 
 -- a strategy that retries
@@ -117,23 +138,39 @@ none_is (Some x) e = absurd (false_is_true e)
 
 module _ {K : Type 0} where
   -- a family reads settings with their strategy and handler
-  family_keeps : (family : Family) (settings : ServerSettings K) → ((server_settings family settings).strategy ≡ settings.strategy) × ((server_settings family settings).handler ≡ settings.handler)
+  family_keeps : (family : Family) (settings : ServerSettings K) → ((server_settings family settings).strategy ≡ settings.strategy)
+      × ((server_settings family settings).handler ≡ settings.handler)
   family_keeps Typed settings = (refl, refl)
   family_keeps Sliced settings = (refl, refl)
 
 module _ {T H K : Type 0} where
   -- a server that an event creates as one that waits for room is one
-  pub created_waits : (family : Family) (s : State T H T H K) → IsReached s → (settings : ServerSettings K) (m : ℕ) (new : State T H T H K) → CreatesServer s (server_settings family settings) (Ok m) new → (n : ℕ) →
-      creates_waiting {T = T} {H = H} {K = K} n (Command.CreateServer settings, Reply.Created m) ≡ true → (s.next ≤ n) × (n < new.next) × ((c : Server K) → server_at new n ≡ Some c → IsWaiting c) × (is_server_held new n ≡ true)
-  created_waits family s fits settings m new made n e = subst (λ (x : State T H T H K). (s.next ≤ n) × (n < x.next) × ((c : Server K) → server_at x n ≡ Some c → IsWaiting c) × (is_server_held x n ≡ true)) (sym made.2) (
-    omega (arith, is),
-    omega (arith, is),
-    (λ c at. ⊎_elim
-        (λ was. absurd (omega (arith, is, has_below (λ (d : Server K). d.id) s.servers n s.next fits.ports.server_numbers (ap is_some was))))
-        (λ now. subst IsWaiting now.1 ((family_keeps family settings).0 ∙ retries_is settings.strategy t.1, (family_keeps family settings).1 ∙ none_is settings.handler t.2))
-        (server_cases s _ n c at)),
-    list_any-append (λ (x : Server K). eqb x.id n && x.is_held) s.servers _ ∙ ap (λ b. list_any (λ (x : Server K). eqb x.id n && x.is_held) s.servers || ((b && true) || false)) (eq-eqb s.next n (sym is)) ∙ last (list_any (λ (x : Server K). eqb x.id n && x.is_held) s.servers),
-  )
+  pub created_waits : (family : Family) (s : State T H T H K) → IsReached s → (settings : ServerSettings K) (m : ℕ) (new : State T H T H K)
+      → CreatesServer s (server_settings family settings) (Ok m) new → (n : ℕ) →
+      creates_waiting {T = T} {H = H} {K = K} n (Command.CreateServer settings, Reply.Created m) ≡ true → (s.next ≤ n) × (n < new.next)
+      × ((c : Server K) → server_at new n ≡ Some c → IsWaiting c) × (is_server_held new n ≡ true)
+  created_waits family s fits settings m new made n e = subst
+      (λ (x : State T H T H K). (s.next ≤ n) × (n < x.next) × ((c : Server K) → server_at x n ≡ Some c → IsWaiting c)
+      × (is_server_held x n ≡ true)) (sym made.2) (
+        omega (arith, is),
+        omega (arith, is),
+        (λ c at. ⊎_elim
+            (λ was. absurd (omega (
+              arith,
+              is,
+              has_below (λ (d : Server K). d.id) s.servers n s.next fits.ports.server_numbers
+                  (ap is_some was),
+            )))
+            (λ now. subst IsWaiting now.1 (
+              (family_keeps family settings).0 ∙ retries_is settings.strategy t.1,
+              (family_keeps family settings).1
+                  ∙ none_is settings.handler t.2,
+            ))
+            (server_cases s _ n c at)),
+        list_any-append (λ (x : Server K). eqb x.id n && x.is_held) s.servers _
+            ∙ ap (λ b. list_any (λ (x : Server K). eqb x.id n && x.is_held) s.servers || ((b && true) || false)) (eq-eqb s.next n (sym is))
+            ∙ last (list_any (λ (x : Server K). eqb x.id n && x.is_held) s.servers),
+      )
     where
       t : (eqb m n ≡ true) × (retries settings.strategy ≡ true) × (is_none settings.handler ≡ true)
       t = three_true (eqb m n) (retries settings.strategy) (is_none settings.handler) e

@@ -29,12 +29,15 @@ module _ (roles : Roles) where
 
   -- a role under a new number
   pub asking_stays_with_new : (next : ℕ) (role : Role) → AskingStays roles (insert roles next role) next
-  asking_stays_with_new next role k p below e = asking_same (insert roles next role) k p (get-insert_other roles next role k (λ is. absurd (omega arith))) e
+  asking_stays_with_new next role k p below e = asking_same (insert roles next role) k p
+      (get-insert_other roles next role k (λ is. absurd (omega arith))) e
 
   -- a role in place of another that asks for the same, or one that asks for nothing
-  pub asking_stays_with : (n next : ℕ) (role : Role) → ((p : Question) → asking role ≡ Some p → asking_at roles n ≡ Some p) → AskingStays roles (insert roles n role) next
+  pub asking_stays_with : (n next : ℕ) (role : Role) → ((p : Question) → asking role ≡ Some p → asking_at roles n ≡ Some p)
+      → AskingStays roles (insert roles n role) next
   asking_stays_with n next role same k p below e = ⊎_elim
-      (λ is. subst (λ j. asking_at roles j ≡ Some p) (sym is) (same p (sym (ap (option_and_then asking) (get-insert_same roles n role k is)) ∙ e)))
+      (λ is. subst (λ j. asking_at roles j ≡ Some p) (sym is)
+      (same p (sym (ap (option_and_then asking) (get-insert_same roles n role k is)) ∙ e)))
       (λ other. asking_same (insert roles n role) k p (get-insert_other roles n role k other) e)
       (cases_eq k n)
 
@@ -47,8 +50,10 @@ module _ (roles : Roles) where
       go (Some role) is e = ap (option_and_then asking) ((get-remove_cases roles n k role is).1) ∙ e
 
   -- a role in a place where no request waits
-  pub waiting_stays_with : (n : ℕ) (role : Role) → ((q : Question) → get roles n ≢ Some (SentRequest q)) → WaitingStays roles (insert roles n role)
-  waiting_stays_with n role not k q e = get-insert_other roles n role k (λ is. not q (subst (λ j. get roles j ≡ Some (SentRequest q)) is e)) ∙ e
+  pub waiting_stays_with : (n : ℕ) (role : Role) → ((q : Question) → get roles n ≢ Some (SentRequest q))
+      → WaitingStays roles (insert roles n role)
+  waiting_stays_with n role not k q e = get-insert_other roles n role k (λ is. not q (subst (λ j. get roles j ≡ Some (SentRequest q)) is e))
+      ∙ e
 
   -- one role less, in a place where no request waits
   pub waiting_stays_without : (n : ℕ) → ((q : Question) → get roles n ≢ Some (SentRequest q)) → WaitingStays roles (remove roles n)
@@ -73,7 +78,8 @@ module _ (roles later : Roles) (next after : ℕ) (more : next ≤ after) (askin
 
   module _ {K : Type 0} (limits : Limits) (servers : List (Server K)) where
     -- a role that fits
-    pub role_stays : (clients : List (Client K)) (n : ℕ) (role : Role) → RoleFits limits clients servers roles next n role → RoleFits limits clients servers later after n role
+    pub role_stays : (clients : List (Client K)) (n : ℕ) (role : Role) → RoleFits limits clients servers roles next n role
+        → RoleFits limits clients servers later after n role
     role_stays clients n role fits =
         record {
           below = omega (arith, fits.below);
@@ -84,16 +90,19 @@ module _ (roles later : Roles) (next after : ℕ) (more : next ≤ after) (askin
         }
 
     -- lists of requests that fit
-    pub requests_stay : {T H : Type 0} (lists : Lists request_key_cmp (RequestMessage T H)) → RequestsFit limits servers roles next lists → RequestsFit limits servers later after lists
+    pub requests_stay : {T H : Type 0} (lists : Lists request_key_cmp (RequestMessage T H)) → RequestsFit limits servers roles next lists
+        → RequestsFit limits servers later after lists
     requests_stay {T} {H} lists fits =
         record {
           each = λ key. all_each (RequestFits limits servers roles next key) (RequestFits limits servers later after key) (λ m f.
-              record { client = f.client; server = f.server; known = known_stays _ f.known; channel = f.channel }) (at lists key) (fits.each key);
+              record { client = f.client; server = f.server; known = known_stays _ f.known; channel = f.channel }) (at lists key)
+              (fits.each key);
           short = fits.short;
         }
 
     -- lists of responses that fit
-    pub responses_stay : {T H : Type 0} → WaitingStays roles later → (lists : Lists response_key_cmp (ResponseMessage T H)) → ResponsesFit limits roles next lists → ResponsesFit limits later after lists
+    pub responses_stay : {T H : Type 0} → WaitingStays roles later → (lists : Lists response_key_cmp (ResponseMessage T H))
+        → ResponsesFit limits roles next lists → ResponsesFit limits later after lists
     responses_stay {T} {H} waiting_stays lists fits =
         record {
           each = λ key. all_each (ResponseFits roles next key) (ResponseFits later after key) (λ m f.
@@ -110,24 +119,29 @@ module _ (roles later : Roles) (next after : ℕ) (more : next ≤ after) (askin
 
 module _ {T H : Type 0} (limits : Limits) (roles : Roles) (next : ℕ) where
   -- lists of requests fit after they lost entries at the front
-  pub requests_shrink : {K : Type 0} (servers : List (Server K)) (lists shorter : Lists request_key_cmp (RequestMessage T H)) → Shrinks lists shorter →
+  pub requests_shrink : {K : Type 0} (servers : List (Server K)) (lists shorter : Lists request_key_cmp (RequestMessage T H))
+      → Shrinks lists shorter →
       RequestsFit limits servers roles next lists → RequestsFit limits servers roles next shorter
   requests_shrink servers lists shorter shrinks fits =
       record {
-        each = λ key. subst (AllByRecursion (RequestFits limits servers roles next key)) (sym (shrinks key).1) (all_drop _ (shrinks key).0 (at lists key) (fits.each key));
+        each = λ key. subst (AllByRecursion (RequestFits limits servers roles next key)) (sym (shrinks key).1)
+            (all_drop _ (shrinks key).0 (at lists key) (fits.each key));
         short = λ key. omega (arith, ap length (shrinks key).1, length-drop (shrinks key).0 (at lists key), fits.short key);
       }
 
   -- lists of responses fit after they lost entries at the front
-  pub responses_shrink : (lists shorter : Lists response_key_cmp (ResponseMessage T H)) → Shrinks lists shorter → ResponsesFit limits roles next lists → ResponsesFit limits roles next shorter
+  pub responses_shrink : (lists shorter : Lists response_key_cmp (ResponseMessage T H)) → Shrinks lists shorter
+      → ResponsesFit limits roles next lists → ResponsesFit limits roles next shorter
   responses_shrink lists shorter shrinks fits =
       record {
-        each = λ key. subst (AllByRecursion (ResponseFits roles next key)) (sym (shrinks key).1) (all_drop _ (shrinks key).0 (at lists key) (fits.each key));
+        each = λ key. subst (AllByRecursion (ResponseFits roles next key)) (sym (shrinks key).1)
+            (all_drop _ (shrinks key).0 (at lists key) (fits.each key));
         short = λ key. omega (arith, ap length (shrinks key).1, length-drop (shrinks key).0 (at lists key), fits.short key);
       }
 
 -- more numbers were given
-pub ports_with_more : {K : Type 0} (limits : Limits) (clients : List (Client K)) (servers : List (Server K)) (next after : ℕ) → next ≤ after →
+pub ports_with_more : {K : Type 0} (limits : Limits) (clients : List (Client K)) (servers : List (Server K)) (next after : ℕ) → next ≤ after
+    →
     PortsFit limits clients servers next → PortsFit limits clients servers after
 ports_with_more limits clients servers next after more fits =
     record {

@@ -37,11 +37,19 @@ module _ {T H K : Type 0} where
     pub responds : (k : ℕ) → is_response k event ≡ false
     pub activates : (server a p : ℕ) → is_active_of server a p event ≡ false
 
+  abbrev is_receive : Command T H K → Bool
+  is_receive (Command.Receive n) = true
+  is_receive command = false
+
+  abbrev is_loan : Command T H K → Bool
+  is_loan (Command.Loan n len) = true
+  is_loan (Command.LoanDefault n len) = true
+  is_loan command = false
+
   -- whether an event may tell something
   abbrev pub speaks : Event T H K → Bool
-  speaks (Command.Receive n, Reply.Active a r) = true
-  speaks (Command.Loan n len, Reply.Loaned k) = true
-  speaks (Command.LoanDefault n len, Reply.Loaned k) = true
+  speaks (command, Reply.Active a r) = is_receive command
+  speaks (command, Reply.Loaned k) = is_loan command
   speaks (command, Reply.Sent k) = true
   speaks (command, Reply.Response k) = true
   speaks event = false
@@ -53,72 +61,61 @@ module _ {T H K : Type 0} where
   silent (Command.LoanDefault n len) (Reply.Loaned k) h = absurd (false_is_true (sym h))
   silent command (Reply.Sent k) h = absurd (false_is_true (sym h))
   silent command (Reply.Response k) h = absurd (false_is_true (sym h))
-  silent command reply h = record { sends = refl; receives = λ p. refl; lends = λ k. refl; responds = λ k. refl; activates = λ server a p. refl }
+  silent command reply h = record {
+    sends = refl;
+    receives = λ p. refl;
+    lends = λ k. refl;
+    responds = λ k. refl;
+    activates = λ server a p. refl;
+  }
 
   -- a refused command is silent
   pub refusing_silent : (command : Command T H K) (reply : Reply T H) → is_refusing reply ≡ true → IsSilent (command, reply)
-  refusing_silent command Reply.Unknown h = silent command Reply.Unknown (go command)
-    where
-      go : (command : Command T H K) → speaks (command, Reply.Unknown) ≡ false
-      go (Command.Receive n) = refl
-      go (Command.Loan n len) = refl
-      go (Command.LoanDefault n len) = refl
-      go command = refl
-  refusing_silent command Reply.WrongKind h = silent command Reply.WrongKind (go command)
-    where
-      go : (command : Command T H K) → speaks (command, Reply.WrongKind) ≡ false
-      go (Command.Receive n) = refl
-      go (Command.Loan n len) = refl
-      go (Command.LoanDefault n len) = refl
-      go command = refl
-  refusing_silent command Reply.NumbersExhausted h = silent command Reply.NumbersExhausted (go command)
-    where
-      go : (command : Command T H K) → speaks (command, Reply.NumbersExhausted) ≡ false
-      go (Command.Receive n) = refl
-      go (Command.Loan n len) = refl
-      go (Command.LoanDefault n len) = refl
-      go command = refl
-  refusing_silent command Reply.Incomplete h = silent command Reply.Incomplete (go command)
-    where
-      go : (command : Command T H K) → speaks (command, Reply.Incomplete) ≡ false
-      go (Command.Receive n) = refl
-      go (Command.Loan n len) = refl
-      go (Command.LoanDefault n len) = refl
-      go command = refl
+  refusing_silent command Reply.Unknown h = silent command Reply.Unknown refl
+  refusing_silent command Reply.WrongKind h = silent command Reply.WrongKind refl
+  refusing_silent command Reply.NumbersExhausted h = silent command Reply.NumbersExhausted refl
+  refusing_silent command Reply.Incomplete h = silent command Reply.Incomplete refl
   refusing_silent command reply h = absurd (false_is_true h)
 
   -- nor does it create a server
-  pub refusing_creates_none : (command : Command T H K) (reply : Reply T H) → is_refusing reply ≡ true → (n : ℕ) → creates_waiting n (command, reply) ≡ false
+  pub refusing_creates_none : (command : Command T H K) (reply : Reply T H) → is_refusing reply ≡ true → (n : ℕ)
+      → creates_waiting n (command, reply) ≡ false
   refusing_creates_none (Command.CreateServer settings) (Reply.Created m) h n = absurd (false_is_true h)
   refusing_creates_none command reply h n = refl
 
   -- a refusal refuses
-  pub refusal_refuses : (family : Family) (s : State T H T H K) (command : Command T H K) (reply : Reply T H) → refusal family s command ≡ Some reply → is_refusing reply ≡ true
+  pub refusal_refuses : (family : Family) (s : State T H T H K) (command : Command T H K) (reply : Reply T H)
+      → refusal family s command ≡ Some reply → is_refusing reply ≡ true
   refusal_refuses family s command reply e = named (number_in command) e
     where
-      first : (a b c : Bool) → cond a (Some Reply.WrongKind) (cond b (Some Reply.NumbersExhausted) (cond c (Some Reply.Incomplete) None)) ≡ Some reply → is_refusing reply ≡ true
+      first : (a b c : Bool) → cond a (Some Reply.WrongKind)
+          (cond b (Some Reply.NumbersExhausted) (cond c (Some Reply.Incomplete) None)) ≡ Some reply → is_refusing reply ≡ true
       first true b c e = subst (λ r. is_refusing r ≡ true) (let f : Reply.WrongKind ≡ reply = cc in f) refl
       first false true c e = subst (λ r. is_refusing r ≡ true) (let f : Reply.NumbersExhausted ≡ reply = cc in f) refl
       first false false true e = subst (λ r. is_refusing r ≡ true) (let f : Reply.Incomplete ≡ reply = cc in f) refl
       first false false false e = absurd (cc)
 
-      known : (o : Option Kind) → option_map_or (refusal_of_kind family s command) o (Some Reply.Unknown) ≡ Some reply → is_refusing reply ≡ true
+      known : (o : Option Kind) → option_map_or (refusal_of_kind family s command) o (Some Reply.Unknown) ≡ Some reply
+          → is_refusing reply ≡ true
       known None e = subst (λ r. is_refusing r ≡ true) (let f : Reply.Unknown ≡ reply = cc in f) refl
       known (Some kind) e = first _ _ _ e
 
-      named : (o : Option ℕ) → option_and_then (λ n. option_map_or (refusal_of_kind family s command) (kind_at s n) (Some Reply.Unknown)) o ≡ Some reply → is_refusing reply ≡ true
+      named : (o : Option ℕ) → option_and_then (λ n. option_map_or (refusal_of_kind family s command) (kind_at s n) (Some Reply.Unknown)) o
+          ≡ Some reply → is_refusing reply ≡ true
       named None e = absurd (let f : None ≡ Some reply = e in cc)
       named (Some n) e = known (kind_at s n) e
 
   -- an active request of a server is one of some server
-  pub active_of_some : (server a p : ℕ) (command : Command T H K) (reply : Reply T H) → is_active_of server a p (command, reply) ≡ true → is_active a p (command, reply) ≡ true
+  pub active_of_some : (server a p : ℕ) (command : Command T H K) (reply : Reply T H) → is_active_of server a p (command, reply) ≡ true
+      → is_active a p (command, reply) ≡ true
   active_of_some server a p (Command.Receive n) (Reply.Active b r) h =
       let t = three_true (eqb n server) (eqb b a) (eqb r p) h in
       ap (λ x. x && eqb r p) t.1 ∙ t.2
   active_of_some server a p command reply h = absurd (false_is_true h)
 
   -- one event makes one active request of a number
-  pub active_once : (a server other p q : ℕ) (command : Command T H K) (reply : Reply T H) → is_active_of server a p (command, reply) ≡ true → is_active_of other a q (command, reply) ≡ true → (server ≡ other) × (p ≡ q)
+  pub active_once : (a server other p q : ℕ) (command : Command T H K) (reply : Reply T H) → is_active_of server a p (command, reply) ≡ true
+      → is_active_of other a q (command, reply) ≡ true → (server ≡ other) × (p ≡ q)
   active_once a server other p q (Command.Receive n) (Reply.Active b r) h g =
       let t = three_true (eqb n server) (eqb b a) (eqb r p) h in
       let u = three_true (eqb n other) (eqb b a) (eqb r q) g in

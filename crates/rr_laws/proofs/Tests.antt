@@ -43,7 +43,8 @@ positive l e =
       loaned = some;
       active = above_zero l.max_active_requests_per_client active.1;
       buffer = above_zero l.max_response_buffer_size buffer.1;
-      worst = sum_above_zero l.max_loaned_requests l.max_active_requests_per_client (l.max_servers * 2 * l.max_active_requests_per_client) some;
+      worst = sum_above_zero l.max_loaned_requests l.max_active_requests_per_client
+          (l.max_servers * 2 * l.max_active_requests_per_client) some;
     }
   where
     sum_above_zero : (a b c : ℕ) → 0 < a → 0 < a + b + c

@@ -11,7 +11,8 @@ use Rattle.rr_steps.specs.Continuing.{LeadsTo, GoesOn}
 use Rattle.rr_steps.proofs.RunLaws.{run_then_run}
 use Rattle.rr_laws.proofs.AnswerRuleHolds.{keeps_answer_rule}
 
-module _ {T H K : Type 0} (answer : K → ℕ → ℕ → BackpressureAction) (IsDefaultElement : T → Type 0) (IsDefaultHeader : H → Type 0) (family : Family) where
+module _ {T H K : Type 0} (answer : K → ℕ → ℕ → BackpressureAction) (IsDefaultElement : T → Type 0) (IsDefaultHeader : H → Type 0)
+    (family : Family) where
   -- a history goes on with a run
   pub goes_on : (old new : State T H T H K) (commands : List (Command T H K)) (before after : List (Reply T H)) →
       RunsAppending answer IsDefaultElement IsDefaultHeader family {U = ℕ} {E = ℕ} old commands before (Ok 0) new after →
@@ -27,12 +28,16 @@ module _ {T H K : Type 0} (answer : K → ℕ → ℕ → BackpressureAction) (I
           subst (λ cs. Run answer IsDefaultElement IsDefaultHeader family old cs (map (λ e. e.1) events) new) (sym commands_are)
           (subst (λ rs. Run answer IsDefaultElement IsDefaultHeader family old commands rs new) same_replies ran.2)
 
-      both : Run answer IsDefaultElement IsDefaultHeader family (empty_hub limits node_id) (map (λ e. e.0) history ++ map (λ e. e.0) events) (map (λ e. e.1) history ++ map (λ e. e.1) events) new
+      both : Run answer IsDefaultElement IsDefaultHeader family (empty_hub limits node_id) (map (λ e. e.0) history ++ map (λ e. e.0) events)
+          (map (λ e. e.1) history ++ map (λ e. e.1) events) new
       both =
-          run_then_run answer IsDefaultElement IsDefaultHeader family (map (λ e. e.0) history) (map (λ e. e.1) history) (map (λ e. e.0) events) (map (λ e. e.1) events)
+          run_then_run answer IsDefaultElement IsDefaultHeader family (map (λ e. e.0) history) (map (λ e. e.1) history)
+          (map (λ e. e.0) events) (map (λ e. e.1) events)
           (empty_hub limits node_id) old new led of_events
 
       all : LeadsTo answer IsDefaultElement IsDefaultHeader family limits node_id (history ++ events) new
       all =
-          subst (λ cs. Run answer IsDefaultElement IsDefaultHeader family (empty_hub limits node_id) cs (map (λ e. e.1) (history ++ events)) new) (sym (map-append (λ e. e.0) history events))
-          (subst (λ rs. Run answer IsDefaultElement IsDefaultHeader family (empty_hub limits node_id) (map (λ e. e.0) history ++ map (λ e. e.0) events) rs new) (sym (map-append (λ e. e.1) history events)) both)
+          subst (λ cs. Run answer IsDefaultElement IsDefaultHeader family (empty_hub limits node_id) cs
+          (map (λ e. e.1) (history ++ events)) new) (sym (map-append (λ e. e.0) history events))
+          (subst (λ rs. Run answer IsDefaultElement IsDefaultHeader family (empty_hub limits node_id)
+          (map (λ e. e.0) history ++ map (λ e. e.0) events) rs new) (sym (map-append (λ e. e.1) history events)) both)

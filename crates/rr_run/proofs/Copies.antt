@@ -6,7 +6,7 @@ use Rattle.std.specs.Option.{option_map_or}
 use Rattle.std.specs.FinMap as fin_map
 use Rattle.rr_table.proofs.MapLaws.{get-insert_same}
 use Rattle.rr_hub.specs.declared.kind.Kind.{Kind}
-use Rattle.rr_hub.specs.Messages.{Content, RequestMessage, ResponseMessage, Handle, RequestMutUninit, RequestMut, ResponseMutUninit, ResponseMut, request_in, response_in}
+use Rattle.rr_hub.specs.Messages.{Content, RequestMessage, ResponseMessage, Handle, RequestMutUninit, ResponseMutUninit, request_in, response_in}
 use Rattle.rr_hub.specs.Ports.{Client}
 use Rattle.rr_hub.specs.Writing.{is_complete, with_element, with_elements, with_request_content, with_response_content, after_init}
 use Rattle.rr_hub.specs.State.{State, client_at, server_at, active_at, handle_at, is_client_held, is_server_held, with_changed}
@@ -17,13 +17,16 @@ use Rattle.rr_steps.specs.Step.{with_content, with_complete}
 use Rattle.rr_laws.proofs.Opening.{some_and}
 
 -- a client's value lives as before, once a loan was counted
-counted_one : {K : Type 0} (n k : ℕ) (c : Client K) → ((with_loan_counted k c).id == n && (with_loan_counted k c).is_held) ≡ (c.id == n && c.is_held)
-counted_one n k c = elim (c.id == k) as (λ b. ((cond b (record c { loans_made = c.loans_made + 1 }) c).id == n && (cond b (record c { loans_made = c.loans_made + 1 }) c).is_held) ≡ (c.id == n && c.is_held)) [
-  | true ↦ refl
-  | false ↦ refl
-]
+counted_one : {K : Type 0} (n k : ℕ) (c : Client K) → ((with_loan_counted k c).id == n && (with_loan_counted k c).is_held) ≡
+    (c.id == n && c.is_held)
+counted_one n k c = elim (c.id == k) as (λ b. ((cond b (record c { loans_made = c.loans_made + 1 }) c).id == n
+    && (cond b (record c { loans_made = c.loans_made + 1 }) c).is_held) ≡ (c.id == n && c.is_held)) [
+      | true ↦ refl
+      | false ↦ refl
+    ]
 
-counted_held : {K : Type 0} (n k : ℕ) (clients : List (Client K)) → list_any (λ c. c.id == n && c.is_held) (map (with_loan_counted k) clients) ≡ list_any (λ c. c.id == n && c.is_held) clients
+counted_held : {K : Type 0} (n k : ℕ) (clients : List (Client K))
+    → list_any (λ c. c.id == n && c.is_held) (map (with_loan_counted k) clients) ≡ list_any (λ c. c.id == n && c.is_held) clients
 counted_held n k [] = refl
 counted_held n k (c ∷ clients) =
     ap (λ b. b || list_any (λ d. d.id == n && d.is_held) (map (with_loan_counted k) clients)) (counted_one n k c)
@@ -43,165 +46,147 @@ module _ {T H K : Type 0} where
       go false false o e = (refl, refl)
 
   -- then it has the kind of its handle
-  handle_kind : (s : State T H T H K) (n : ℕ) (handle : Handle T H T H) → IsNoPort s n → handle_at s n ≡ Some handle → kind_at s n ≡ Some (kind_of handle)
+  handle_kind : (s : State T H T H K) (n : ℕ) (handle : Handle T H T H) → IsNoPort s n → handle_at s n ≡ Some handle
+      → kind_at s n ≡ Some (kind_of handle)
   handle_kind s n handle apart at =
       ap (λ b. cond b (Some Kind.Client) (cond (is_server_held s n) (Some Kind.Server) (option_map kind_of (handle_at s n)))) apart.0
       ∙ ap (λ b. cond b (Some Kind.Server) (option_map kind_of (handle_at s n))) apart.1
       ∙ ap (option_map kind_of) at
 
   -- a handle that is there becomes another
-  changed : (s : State T H T H K) (n : ℕ) (handle : Handle T H T H) (change : Handle T H T H → Handle T H T H) → handle_at s n ≡ Some handle →
+  changed : (s : State T H T H K) (n : ℕ) (handle : Handle T H T H) (change : Handle T H T H → Handle T H T H) → handle_at s n ≡ Some handle
+      →
       with_changed s n change ≡ record s { handles = fin_map.insert s.handles n (change handle) }
   changed s n handle change at = ap (λ o. record s { handles = option_map_or (λ h. fin_map.insert s.handles n (change h)) o s.handles }) at
 
-  changed_handle : (s : State T H T H K) (n : ℕ) (handle : Handle T H T H) (change : Handle T H T H → Handle T H T H) → handle_at s n ≡ Some handle →
+  changed_handle : (s : State T H T H K) (n : ℕ) (handle : Handle T H T H) (change : Handle T H T H → Handle T H T H)
+      → handle_at s n ≡ Some handle →
       handle_at (with_changed s n change) n ≡ Some (change handle)
-  changed_handle s n handle change at = ap (λ t. handle_at t n) (changed s n handle change at) ∙ get-insert_same s.handles n (change handle) n refl
+  changed_handle s n handle change at = ap (λ t. handle_at t n) (changed s n handle change at)
+      ∙ get-insert_same s.handles n (change handle) n refl
 
-  -- a request that was just loaned for one element
-  pub record IsFreshRequest (s : State T H T H K) (n : ℕ) : Type 0 where
+  -- a message that was just loaned for one element, in the handle that a content makes
+  pub record IsFresh (s : State T H T H K) (n : ℕ) (uninit : Content T H → Handle T H T H) : Type 0 where
     pub apart : IsNoPort s n
     pub header : H
-    pub message : RequestMessage T H
-    pub at : handle_at s n ≡ Some (RequestMutUninit message)
-    pub empty : message.content ≡ empty_content header 1
+    pub at : handle_at s n ≡ Some (uninit (empty_content header 1))
 
-  module _ (s : State T H T H K) (n : ℕ) (f : IsFreshRequest s n) where
+  module _ (s : State T H T H K) (n : ℕ) (uninit : Content T H → Handle T H T H) (f : IsFresh s n uninit) where
     -- it is being written
-    pub fresh_request_kind : kind_at s n ≡ Some Kind.RequestMutUninit
-    fresh_request_kind = handle_kind s n (RequestMutUninit f.message) f.apart f.at
+    pub fresh_kind : kind_at s n ≡ Some (kind_of (uninit (empty_content f.header 1)))
+    fresh_kind = handle_kind s n (uninit (empty_content f.header 1)) f.apart f.at
 
-    module _ (v : T) where
-      abbrev request_written : RequestMessage T H
-      request_written = record f.message { content = with_elements (v ∷ []) f.message.content }
+    module _ (v : T) (writes : (change : Content T H → Content T H) (c : Content T H) →
+        with_request_content change (with_response_content change (uninit c)) ≡ uninit (change c)) where
+      -- its element written
+      abbrev full : Handle T H T H
+      full = uninit (with_elements (v ∷ []) (empty_content f.header 1))
 
-      -- after its element was appended it has that element alone
-      request_content : with_element v f.message.content ≡ with_elements (v ∷ []) f.message.content
-      request_content = ap (with_element v) f.empty ∙ sym (ap (with_elements (v ∷ [])) f.empty)
+      filled : with_content s n (with_elements (v ∷ [])) ≡ record s { handles = fin_map.insert s.handles n full }
+      filled =
+          changed s n (uninit (empty_content f.header 1)) (λ handle. with_request_content
+          (with_elements (v ∷ [])) (with_response_content (with_elements (v ∷ [])) handle)) f.at
+          ∙ ap (λ h. record s { handles = fin_map.insert s.handles n h }) (writes (with_elements (v ∷ [])) (empty_content f.header 1))
 
-      request_appended : with_changed s n (with_request_content (with_element v)) ≡ with_content s n (with_elements (v ∷ []))
-      request_appended =
-          changed s n (RequestMutUninit f.message) (with_request_content (with_element v)) f.at
-          ∙ ap (λ (c : Content T H). record s { handles = fin_map.insert s.handles n (RequestMutUninit (record f.message { content = c })) }) request_content
-          ∙ sym (changed s n (RequestMutUninit f.message) (λ handle. with_request_content (with_elements (v ∷ [])) (with_response_content (with_elements (v ∷ [])) handle)) f.at)
+      filled_at : handle_at (with_content s n (with_elements (v ∷ []))) n ≡ Some full
+      filled_at = ap (λ t. handle_at t n) filled ∙ get-insert_same s.handles n full n refl
 
-      request_handle : handle_at (with_content s n (with_elements (v ∷ []))) n ≡ Some (RequestMutUninit request_written)
-      request_handle = changed_handle s n (RequestMutUninit f.message) (λ handle. with_request_content (with_elements (v ∷ [])) (with_response_content (with_elements (v ∷ [])) handle)) f.at
+      -- to append it to nothing is that
+      pub pushed : (change : Handle T H T H → Handle T H T H) → change (uninit (empty_content f.header 1)) ≡ full
+          → (b : Bool) (new : State T H T H K) →
+          b ≡ true → new ≡ (if b then with_changed s n change else s) → new ≡ with_content s n (with_elements (v ∷ []))
+      pushed change is b new told now =
+          now ∙ ap (λ c. if c then with_changed s n change else s) told ∙ changed s n (uninit (empty_content f.header 1)) change f.at
+          ∙ ap (λ h. record s { handles = fin_map.insert s.handles n h }) is ∙ sym filled
 
-      module _ (b : Bool) (new : State T H T H K)
-          (pushes : IsSomeAnd (option_and_then request_in (handle_at s n)) (λ m. (b ≡ not (is_complete m.content)) × (new ≡ (if b then with_changed s n (with_request_content (with_element v)) else s)))) where
-        request_pushed : new ≡ with_content s n (with_elements (v ∷ []))
-        request_pushed =
-            let told = subst (λ o. IsSomeAnd (option_and_then request_in o) (λ m. (b ≡ not (is_complete m.content)) × (new ≡ (if b then with_changed s n (with_request_content (with_element v)) else s)))) f.at pushes in
-            told.1 ∙ ap (λ c. if c then with_changed s n (with_request_content (with_element v)) else s) (told.0 ∙ ap (λ c. not (is_complete c)) f.empty) ∙ request_appended
-
+      module _ (new : State T H T H K) (is : new ≡ with_content s n (with_elements (v ∷ []))) where
         -- it is still being written
-        pub request_uninit : kind_at new n ≡ Some Kind.RequestMutUninit
-        request_uninit = ap (λ t. kind_at t n) request_pushed ∙ handle_kind (with_content s n (with_elements (v ∷ []))) n (RequestMutUninit request_written) f.apart request_handle
+        pub still_uninit : kind_at new n ≡ Some (kind_of full)
+        still_uninit = ap (λ t. kind_at t n) is ∙ handle_kind (with_content s n (with_elements (v ∷ []))) n full f.apart filled_at
 
         -- and complete
-        pub request_ready : IsSomeAnd (handle_at new n) (λ handle. is_ready handle ≡ true)
-        request_ready =
-            subst (λ o. IsSomeAnd o (λ handle. is_ready handle ≡ true)) (sym (ap (λ t. handle_at t n) request_pushed ∙ request_handle))
-            (ap (λ c. is_complete (with_elements (v ∷ []) c)) f.empty)
+        pub ready : is_ready full ≡ true → IsSomeAnd (handle_at new n) (λ handle. is_ready handle ≡ true)
+        ready whole = subst (λ o. IsSomeAnd o (λ handle. is_ready handle ≡ true)) (sym (ap (λ t. handle_at t n) is ∙ filled_at)) whole
 
         -- so it can be sent once it is taken as complete
-        pub request_complete : with_changed new n after_init ≡ with_complete s n (v ∷ [])
-        request_complete = ap (λ t. with_changed t n after_init) request_pushed
+        pub completed : with_changed new n after_init ≡ with_complete s n (v ∷ [])
+        completed = ap (λ t. with_changed t n after_init) is
 
-        pub request_mut : kind_at (with_changed new n after_init) n ≡ Some Kind.RequestMut
-        request_mut =
-            ap (λ t. kind_at t n) request_complete
-            ∙ handle_kind (with_complete s n (v ∷ [])) n (RequestMut request_written) f.apart (changed_handle (with_content s n (with_elements (v ∷ []))) n (RequestMutUninit request_written) after_init request_handle)
+        pub sendable : kind_at (with_changed new n after_init) n ≡ Some (kind_of (after_init full))
+        sendable =
+            ap (λ t. kind_at t n) completed
+            ∙ handle_kind (with_complete s n (v ∷ [])) n (after_init full) f.apart
+            (changed_handle (with_content s n (with_elements (v ∷ []))) n full after_init filled_at)
 
-  -- a response that was just loaned for one element
-  pub record IsFreshResponse (s : State T H T H K) (n : ℕ) : Type 0 where
-    pub apart : IsNoPort s n
-    pub header : H
-    pub message : ResponseMessage T H
-    pub at : handle_at s n ≡ Some (ResponseMutUninit message)
-    pub empty : message.content ≡ empty_content header 1
+  module _ (s : State T H T H K) (n : ℕ) (v : T) (b : Bool) (new : State T H T H K) where
+    -- an element appended to a fresh request
+    pub request_pushed : (m : RequestMessage T H) (f : IsFresh s n (λ c. RequestMutUninit (record m { content = c }))) →
+        IsSomeAnd (option_and_then request_in (handle_at s n))
+        (λ m. (b ≡ not (is_complete m.content)) × (new ≡ (if b then with_changed s n (with_request_content (with_element v)) else s))) →
+        new ≡ with_content s n (with_elements (v ∷ []))
+    request_pushed m f pushes =
+        let told = subst (λ o. IsSomeAnd (option_and_then request_in o)
+        (λ m. (b ≡ not (is_complete m.content)) × (new ≡ (if b then with_changed s n (with_request_content (with_element v)) else s))))
+        f.at pushes in
+        pushed s n (λ c. RequestMutUninit (record m { content = c })) f v (λ change c. refl)
+        (with_request_content (with_element v)) refl b new told.0 told.1
 
-  module _ (s : State T H T H K) (n : ℕ) (f : IsFreshResponse s n) where
-    -- it is being written
-    pub fresh_response_kind : kind_at s n ≡ Some Kind.ResponseMutUninit
-    fresh_response_kind = handle_kind s n (ResponseMutUninit f.message) f.apart f.at
-
-    module _ (v : T) where
-      abbrev response_written : ResponseMessage T H
-      response_written = record f.message { content = with_elements (v ∷ []) f.message.content }
-
-      -- after its element was appended it has that element alone
-      response_content : with_element v f.message.content ≡ with_elements (v ∷ []) f.message.content
-      response_content = ap (with_element v) f.empty ∙ sym (ap (with_elements (v ∷ [])) f.empty)
-
-      response_appended : with_changed s n (with_response_content (with_element v)) ≡ with_content s n (with_elements (v ∷ []))
-      response_appended =
-          changed s n (ResponseMutUninit f.message) (with_response_content (with_element v)) f.at
-          ∙ ap (λ (c : Content T H). record s { handles = fin_map.insert s.handles n (ResponseMutUninit (record f.message { content = c })) }) response_content
-          ∙ sym (changed s n (ResponseMutUninit f.message) (λ handle. with_request_content (with_elements (v ∷ [])) (with_response_content (with_elements (v ∷ [])) handle)) f.at)
-
-      response_handle : handle_at (with_content s n (with_elements (v ∷ []))) n ≡ Some (ResponseMutUninit response_written)
-      response_handle = changed_handle s n (ResponseMutUninit f.message) (λ handle. with_request_content (with_elements (v ∷ [])) (with_response_content (with_elements (v ∷ [])) handle)) f.at
-
-      module _ (b : Bool) (new : State T H T H K)
-          (pushes : IsSomeAnd (option_and_then response_in (handle_at s n)) (λ m. (b ≡ not (is_complete m.content)) × (new ≡ (if b then with_changed s n (with_response_content (with_element v)) else s)))) where
-        response_pushed : new ≡ with_content s n (with_elements (v ∷ []))
-        response_pushed =
-            let told = subst (λ o. IsSomeAnd (option_and_then response_in o) (λ m. (b ≡ not (is_complete m.content)) × (new ≡ (if b then with_changed s n (with_response_content (with_element v)) else s)))) f.at pushes in
-            told.1 ∙ ap (λ c. if c then with_changed s n (with_response_content (with_element v)) else s) (told.0 ∙ ap (λ c. not (is_complete c)) f.empty) ∙ response_appended
-
-        -- it is still being written
-        pub response_uninit : kind_at new n ≡ Some Kind.ResponseMutUninit
-        response_uninit = ap (λ t. kind_at t n) response_pushed ∙ handle_kind (with_content s n (with_elements (v ∷ []))) n (ResponseMutUninit response_written) f.apart response_handle
-
-        -- and complete
-        pub response_ready : IsSomeAnd (handle_at new n) (λ handle. is_ready handle ≡ true)
-        response_ready =
-            subst (λ o. IsSomeAnd o (λ handle. is_ready handle ≡ true)) (sym (ap (λ t. handle_at t n) response_pushed ∙ response_handle))
-            (ap (λ c. is_complete (with_elements (v ∷ []) c)) f.empty)
-
-        -- so it can be sent once it is taken as complete
-        pub response_complete : with_changed new n after_init ≡ with_complete s n (v ∷ [])
-        response_complete = ap (λ t. with_changed t n after_init) response_pushed
-
-        pub response_mut : kind_at (with_changed new n after_init) n ≡ Some Kind.ResponseMut
-        response_mut =
-            ap (λ t. kind_at t n) response_complete
-            ∙ handle_kind (with_complete s n (v ∷ [])) n (ResponseMut response_written) f.apart (changed_handle (with_content s n (with_elements (v ∷ []))) n (ResponseMutUninit response_written) after_init response_handle)
+    -- and to a fresh response
+    pub response_pushed : (m : ResponseMessage T H) (f : IsFresh s n (λ c. ResponseMutUninit (record m { content = c }))) →
+        IsSomeAnd (option_and_then response_in (handle_at s n))
+        (λ m. (b ≡ not (is_complete m.content)) × (new ≡ (if b then with_changed s n (with_response_content (with_element v)) else s)))
+        →
+        new ≡ with_content s n (with_elements (v ∷ []))
+    response_pushed m f pushes =
+        let told = subst (λ o. IsSomeAnd (option_and_then response_in o)
+        (λ m. (b ≡ not (is_complete m.content)) × (new ≡ (if b then with_changed s n (with_response_content (with_element v)) else s))))
+        f.at pushes in
+        pushed s n (λ c. ResponseMutUninit (record m { content = c })) f v (λ change c. refl)
+        (with_response_content (with_element v)) refl b new told.0 told.1
 
   module _ (IsDefault : H → Type 0) (old : State T H T H K) (n k : ℕ) (mid : State T H T H K) (free : kind_at old old.next ≡ None) where
     -- a loan of a request
-    pub fresh_request : LoansRequest IsDefault old n 1 (Ok k) mid → IsFreshRequest mid k
+    pub fresh_request : LoansRequest IsDefault old n 1 (Ok k) mid → (m : RequestMessage T H)
+        × IsFresh mid k (λ c. RequestMutUninit (record m { content = c }))
     fresh_request loans =
         let l = some_and (client_at old n) _ loans in
         let a = no_port old old.next free in
-        let m = l.2.2 in
-        record {
-          apart = (
-            ap (λ t. is_client_held t k) m.4 ∙ counted_held k l.0.id old.clients ∙ ap (is_client_held old) l.2.1 ∙ a.0,
-            ap (λ t. is_server_held t k) m.4 ∙ ap (is_server_held old) l.2.1 ∙ a.1,
-          );
-          header = m.1;
-          message = record { number = old.next; client = l.0.id; request_id = l.0.loans_made; channel = m.0; content = empty_content m.1 1 };
-          at = ap (λ t. handle_at t k) m.4 ∙ get-insert_same old.handles old.next _ k l.2.1;
-          empty = refl;
-        }
+        let m = l.2.2 in (
+          record { number = old.next; client = l.0.id; request_id = l.0.loans_made; channel = m.0; content = empty_content m.1 1 },
+          record {
+            apart = (
+              ap (λ t. is_client_held t k) m.4 ∙ counted_held k l.0.id old.clients ∙ ap (is_client_held old) l.2.1 ∙ a.0,
+              ap (λ t. is_server_held t k) m.4 ∙ ap (is_server_held old) l.2.1 ∙ a.1,
+            );
+            header = m.1;
+            at = ap (λ t. handle_at t k) m.4 ∙ get-insert_same old.handles old.next _ k l.2.1;
+          },
+        )
 
     -- a loan of a response
-    pub fresh_response : LoansResponse IsDefault old n 1 (Ok k) mid → IsFreshResponse mid k
+    pub fresh_response : LoansResponse IsDefault old n 1 (Ok k) mid → (m : ResponseMessage T H)
+        × IsFresh mid k (λ c. ResponseMutUninit (record m { content = c }))
     fresh_response loans =
         let i = some_and (active_at old n) _ loans in
         let l = some_and (server_at old i.0.server) _ i.2 in
         let a = no_port old old.next free in
-        let m = l.2.2 in
-        record {
-          apart = (
-            ap (λ t. is_client_held t k) m.2 ∙ ap (is_client_held old) l.2.1 ∙ a.0,
-            ap (λ t. is_server_held t k) m.2 ∙ ap (is_server_held old) l.2.1 ∙ a.1,
-          );
-          header = m.0;
-          message = record { number = old.next; server = i.0.server; active_request = n; request = i.0.message.number; request_id = i.0.message.request_id; client = i.0.message.client; channel = i.0.message.channel; content = empty_content m.0 1 };
-          at = ap (λ t. handle_at t k) m.2 ∙ get-insert_same old.handles old.next _ k l.2.1;
-          empty = refl;
-        }
+        let m = l.2.2 in (
+          record {
+            number = old.next;
+            server = i.0.server;
+            active_request = n;
+            request = i.0.message.number;
+            request_id = i.0.message.request_id;
+            client = i.0.message.client;
+            channel = i.0.message.channel;
+            content = empty_content m.0 1;
+          },
+          record {
+            apart = (
+              ap (λ t. is_client_held t k) m.2 ∙ ap (is_client_held old) l.2.1 ∙ a.0,
+              ap (λ t. is_server_held t k) m.2 ∙ ap (is_server_held old) l.2.1 ∙ a.1,
+            );
+            header = m.0;
+            at = ap (λ t. handle_at t k) m.2 ∙ get-insert_same old.handles old.next _ k l.2.1;
+          },
+        )

@@ -13,4 +13,5 @@ module _ {T H K : Type 0} (old new : State T H T H K) (server k : ℕ) where
       let taken = u.1 in
       let same : taken.2.next ≡ receives.1.1.next = ap (λ (s : State T H T H K). s.next) taken.3.1.2 in
       ap (λ o. is_some (option_and_then as_active o))
-      (ap (λ t. handle_at t k) taken.5 ∙ get-insert_same taken.2.handles taken.2.next (ActiveRequest (record { message = taken.1; server = server })) k (u.0 ∙ sym same))
+      (ap (λ t. handle_at t k) taken.5 ∙ get-insert_same taken.2.handles taken.2.next
+      (ActiveRequest (record { message = taken.1; server = server })) k (u.0 ∙ sym same))

@@ -15,7 +15,8 @@ nothing_left : {X : Type 0} (xs : List X) → length xs ≡ 0 → xs ≡ []
 nothing_left [] none = refl
 nothing_left (x ∷ xs) none = absurd (omega (arith, none))
 
-module _ {T H K : Type 0} (answer : K → ℕ → ℕ → BackpressureAction) (IsDefaultElement : T → Type 0) (IsDefaultHeader : H → Type 0) (family : Family) where
+module _ {T H K : Type 0} (answer : K → ℕ → ℕ → BackpressureAction) (IsDefaultElement : T → Type 0) (IsDefaultHeader : H → Type 0)
+    (family : Family) where
   -- the first commands were carried out, and the others can be
   pub record IsRunning (old new : State T H T H K) (commands rest : List (Command T H K)) (before after : List (Reply T H)) : Type 0 where
     pub done : List (Command T H K)
@@ -26,7 +27,8 @@ module _ {T H K : Type 0} (answer : K → ℕ → ℕ → BackpressureAction) (I
     pub offered : AreOffered answer IsDefaultElement IsDefaultHeader family new rest
 
   -- none was at first
-  pub run_starts : (old : State T H T H K) (commands : List (Command T H K)) (before : List (Reply T H)) → AreOffered answer IsDefaultElement IsDefaultHeader family old commands →
+  pub run_starts : (old : State T H T H K) (commands : List (Command T H K)) (before : List (Reply T H))
+      → AreOffered answer IsDefaultElement IsDefaultHeader family old commands →
       IsRunning old old commands commands before before
   run_starts old commands before offered = record {
     done = [];
@@ -37,13 +39,16 @@ module _ {T H K : Type 0} (answer : K → ℕ → ℕ → BackpressureAction) (I
     offered = offered;
   }
 
-  module _ (old mid : State T H T H K) (commands : List (Command T H K)) (command : Command T H K) (rest : List (Command T H K)) (before after : List (Reply T H)) (r : IsRunning old mid commands (command ∷ rest) before after) where
+  module _ (old mid : State T H T H K) (commands : List (Command T H K)) (command : Command T H K) (rest : List (Command T H K))
+      (before after : List (Reply T H)) (r : IsRunning old mid commands (command ∷ rest) before after) where
     -- the next one can be
     pub next_offered : IsOffered mid command
     next_offered = r.offered.0
 
     -- and then it was
-    pub run_goes_on : (reply : Reply T H) (new : State T H T H K) → Step answer IsDefaultElement IsDefaultHeader family mid command reply new → IsRunning old new commands rest before (after ++ reply ∷ [])
+    pub run_goes_on : (reply : Reply T H) (new : State T H T H K)
+        → Step answer IsDefaultElement IsDefaultHeader family mid command reply new
+        → IsRunning old new commands rest before (after ++ reply ∷ [])
     run_goes_on reply new step = record {
       done = r.done ++ command ∷ [];
       given = r.given ++ reply ∷ [];
@@ -54,8 +59,10 @@ module _ {T H K : Type 0} (answer : K → ℕ → ℕ → BackpressureAction) (I
     }
 
   -- at last all were
-  pub run_ends : (old new : State T H T H K) (commands rest : List (Command T H K)) (before after : List (Reply T H)) → IsRunning old new commands rest before after → length rest ≡ 0 →
-      (replies : List (Reply T H)) × (after ≡ before ++ replies) × Run answer IsDefaultElement IsDefaultHeader family old commands replies new
+  pub run_ends : (old new : State T H T H K) (commands rest : List (Command T H K)) (before after : List (Reply T H))
+      → IsRunning old new commands rest before after → length rest ≡ 0 →
+      (replies : List (Reply T H)) × (after ≡ before ++ replies)
+      × Run answer IsDefaultElement IsDefaultHeader family old commands replies new
   run_ends old new commands rest before after r none =
       let all : commands ≡ r.done = r.commands_are ∙ ap (λ cs. r.done ++ cs) (nothing_left rest none) ∙ append-nil r.done in
       (r.given, r.replies_are, subst (λ cs. Run answer IsDefaultElement IsDefaultHeader family old cs r.given new) (sym all) r.run)

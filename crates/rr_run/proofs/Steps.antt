@@ -12,16 +12,19 @@ use Rattle.rr_steps.specs.declared.reply.Reply.{Reply}
 use Rattle.rr_steps.specs.Refusals.{number_in, refusal, refusal_of_kind}
 use Rattle.rr_steps.specs.Step.{Acts, Step}
 
-module _ {T H K : Type 0} (answer : K → ℕ → ℕ → BackpressureAction) (IsDefaultElement : T → Type 0) (IsDefaultHeader : H → Type 0) (family : Family) where
+module _ {T H K : Type 0} (answer : K → ℕ → ℕ → BackpressureAction) (IsDefaultElement : T → Type 0) (IsDefaultHeader : H → Type 0)
+    (family : Family) where
   module _ (old : State T H T H K) (command : Command T H K) (n : ℕ) (k : Kind) (reply : Reply T H) (new : State T H T H K) where
     -- where nothing refuses it, a command acts
     pub step_acts : number_in command ≡ Some n → kind_at old n ≡ Some k → refusal_of_kind family old command k ≡ None →
-        Acts answer IsDefaultElement IsDefaultHeader family old command reply new → Step answer IsDefaultElement IsDefaultHeader family old command reply new
+        Acts answer IsDefaultElement IsDefaultHeader family old command reply new
+        → Step answer IsDefaultElement IsDefaultHeader family old command reply new
     step_acts names is due acts =
         let none : refusal family old command ≡ None =
         ap (option_and_then (λ m. option_map_or (refusal_of_kind family old command) (kind_at old m) (Some Reply.Unknown))) names
         ∙ ap (λ o. option_map_or (refusal_of_kind family old command) o (Some Reply.Unknown)) is ∙ due in
-        subst (λ o. MatchOption o (Acts answer IsDefaultElement IsDefaultHeader family old command reply new) (λ refused. (reply ≡ refused) × (new ≡ old))) (sym none) acts
+        subst (λ o. MatchOption o (Acts answer IsDefaultElement IsDefaultHeader family old command reply new)
+        (λ refused. (reply ≡ refused) × (new ≡ old))) (sym none) acts
 
 module _ {T H K : Type 0} (family : Family) (old : State T H T H K) (n : ℕ) (left : (numbers_left old == 0) ≡ false) where
   -- no command for one element is refused where a number is left

@@ -14,14 +14,20 @@ use Rattle.rr_slots.proofs.ThreadLaws.{first_zero, first_within, leads_after_tak
 module _ (slots : List Slot) where
   -- what stands at a slot, as numbers
   pub holders_at : (i d : ℕ) (s : Slot) → slice_get slots i ≡ Some s → get_or (map holders_of slots) i d ≡ holders_of s
-  holders_at i d s e = get_or_from_slice_get (map holders_of slots) i (holders_of s) d (slice_get-map holders_of slots i ∙ ap (λ o. option_map holders_of o) e)
+  holders_at i d s e = get_or_from_slice_get (map holders_of slots) i (holders_of s) d
+      (slice_get-map holders_of slots i ∙ ap (λ o. option_map holders_of o) e)
 
   pub next_at : (i d : ℕ) (s : Slot) → slice_get slots i ≡ Some s → get_or (map next_of slots) i d ≡ next_of s
-  next_at i d s e = get_or_from_slice_get (map next_of slots) i (next_of s) d (slice_get-map next_of slots i ∙ ap (λ o. option_map next_of o) e)
+  next_at i d s e = get_or_from_slice_get (map next_of slots) i (next_of s) d
+      (slice_get-map next_of slots i ∙ ap (λ o. option_map next_of o) e)
 
   -- the holders of a slot that is held
   pub is_within : (i : ℕ) → 0 < get_or (map holders_of slots) i 0 → i < length slots
-  is_within i held = ⊎_elim (λ h. h) (λ h. absurd (omega (arith, held, get_or_past (map holders_of slots) i 0 (omega (arith, h, length-map slots holders_of))))) (cases_lt i (length slots))
+  is_within i held = ⊎_elim (λ h. h) (λ h. absurd (omega (
+    arith,
+    held,
+    get_or_past (map holders_of slots) i 0 (omega (arith, h, length-map slots holders_of)),
+  ))) (cases_lt i (length slots))
 
   module _ (first : ℕ) where
     -- where a slot is free, the first one is within, and free
@@ -36,20 +42,25 @@ module _ (slots : List Slot) where
     first_is_free zero t some = absurd (some refl)
     first_is_free (suc n) t some = first_zero t
 
-    pub taken : (free next : ℕ) → slice_get slots first ≡ Some (Free next) → IsThreaded slots first free → (free ≡ 0 → ⊥) → IsThreaded (slice_set slots first (Held 0)) next (free - 1)
+    pub taken : (free next : ℕ) → slice_get slots first ≡ Some (Free next) → IsThreaded slots first free → (free ≡ 0 → ⊥)
+        → IsThreaded (slice_set slots first (Held 0)) next (free - 1)
     taken zero next e t some = absurd (some refl)
     taken (suc n) next e t some =
         rw (map-set holders_of slots first (Held 0)) (rw (map-set next_of slots first (Held 0))
-        (let P : ℕ → ℕ → Type 0 = λ x m. LeadsThroughFree (slice_set (map holders_of slots) first 1) (slice_set (map next_of slots) first 0) x m in
+        (let P : ℕ → ℕ → Type 0 = λ x m. LeadsThroughFree (slice_set (map holders_of slots) first 1)
+        (slice_set (map next_of slots) first 0) x m in
         subst (λ m. P next m) (sym (omega arith)) (subst (λ x. P x n) (next_at first 0 (Free next) e) (leads_after_take t))))
 
     module _ (free : ℕ) where
-      pub freed : (slot more : ℕ) → slice_get slots slot ≡ Some (Held more) → more ≡ 0 → IsThreaded slots first free → IsThreaded (slice_set slots slot (Free first)) slot (free + 1)
+      pub freed : (slot more : ℕ) → slice_get slots slot ≡ Some (Held more) → more ≡ 0 → IsThreaded slots first free
+          → IsThreaded (slice_set slots slot (Free first)) slot (free + 1)
       freed slot more e last t =
           rw (map-set holders_of slots slot (Free first)) (rw (map-set next_of slots slot (Free first))
-          (leads_after_free slot (omega (arith, slice_get_within slots slot (Held more) e, length-map slots next_of)) (holders_at slot 0 (Held more) e ∙ omega arith) t))
+          (leads_after_free slot (omega (arith, slice_get_within slots slot (Held more) e, length-map slots next_of))
+          (holders_at slot 0 (Held more) e ∙ omega arith) t))
 
-      pub kept : (slot a b : ℕ) → slice_get slots slot ≡ Some (Held a) → IsThreaded slots first free → IsThreaded (slice_set slots slot (Held b)) first free
+      pub kept : (slot a b : ℕ) → slice_get slots slot ≡ Some (Held a) → IsThreaded slots first free
+          → IsThreaded (slice_set slots slot (Held b)) first free
       kept slot a b e t =
           rw (map-set holders_of slots slot (Held b)) (rw (map-set next_of slots slot (Held b))
           (leads_as_before slot (b + 1) 0 (omega (arith, holders_at slot 0 (Held a) e)) (omega arith) t))
@@ -58,7 +69,8 @@ module _ (slots : List Slot) where
 pub all_counted : (holders : List ℕ) → count_by (λ h. h == 0) holders + count_by (λ h. not (h == 0)) holders ≡ length holders
 all_counted [] = refl
 all_counted (h ∷ hs) =
-    let split : cond (h == 0) 1 0 + cond (not (h == 0)) 1 0 ≡ 1 = elim (h == 0) as (λ b. cond b 1 0 + cond (not b) 1 0 ≡ 1) [ true ↦ refl | false ↦ refl ] in
+    let split : cond (h == 0) 1 0 + cond (not (h == 0)) 1 0 ≡ 1 = elim
+    (h == 0) as (λ b. cond b 1 0 + cond (not b) 1 0 ≡ 1) [ true ↦ refl | false ↦ refl ] in
     omega (arith, all_counted hs, split, sum_by-cons (λ n. cond (n == 0) 1 0) h hs, sum_by-cons (λ n. cond (not (n == 0)) 1 0) h hs)
 
 -- free slots, each followed by the next one
@@ -80,14 +92,22 @@ next-all_free (suc n) i h =
     ⊎_elim
     (λ l. get_or-append {A = ℕ} (map next_of (all_free n)) ((n + 1) ∷ []) 0 i (omega (arith, len)) ∙ next-all_free n i l)
     (λ l. let last : i - n ≡ 0 = omega arith in
-    get_or-append_right {X = ℕ} (map next_of (all_free n)) ((n + 1) ∷ []) n i 0 len l ∙ ap {B = ℕ} (λ k. get_or ((n + 1) ∷ []) k 0) last ∙ omega arith)
+    get_or-append_right {X = ℕ} (map next_of (all_free n)) ((n + 1) ∷ []) n i 0 len l ∙ ap {B = ℕ} (λ k. get_or ((n + 1) ∷ []) k 0) last
+    ∙ omega arith)
     (cases_lt i n))
 
 pub all_threaded : (n : ℕ) → IsThreaded (all_free n) 0 n
 all_threaded n = rw (holders-all_free n) (leads_at_first n (map next_of (all_free n)) (next-all_free n))
 
 -- no more slots are free than there are, and a write adds none
-pub free_within : (slots : List Slot) (slot first free : ℕ) (state : Slot) → IsThreaded (slice_set slots slot state) first free → free ≤ length slots
+pub free_within : (slots : List Slot) (slot first free : ℕ) (state : Slot) → IsThreaded (slice_set slots slot state) first free
+    → free ≤ length slots
 free_within slots slot first free state t =
     let changed : List Slot = slice_set slots slot state in
-    omega (arith, t.stored, count_by-le-length (λ h. h == 0) (map holders_of changed), length-map changed holders_of, length-set slots slot state)
+    omega (
+      arith,
+      t.stored,
+      count_by-le-length (λ h. h == 0) (map holders_of changed),
+      length-map changed holders_of,
+      length-set slots slot state,
+    )

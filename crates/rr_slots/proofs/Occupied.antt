@@ -24,14 +24,22 @@ none_occupied queues h k d inside = empty_of (get_or queues k d) (omega (arith, 
 pub occupied-all_empty : (queues : List (List ℕ)) → All (λ queue. queue ≡ []) queues → sum_by occupancy queues ≡ 0
 occupied-all_empty [] h = refl
 occupied-all_empty (queue ∷ queues) h =
-    omega (arith, sum_by-cons occupancy queue queues, ap occupancy (All-head (λ q. q ≡ []) queue queues h), occupied-all_empty queues (All-tail (λ q. q ≡ []) queue queues h))
+    omega (
+      arith,
+      sum_by-cons occupancy queue queues,
+      ap occupancy (All-head (λ q. q ≡ []) queue queues h),
+      occupied-all_empty queues (All-tail (λ q. q ≡ []) queue queues h),
+    )
 
 -- what a buffer keeps of a push is what the queue keeps
-kept : (capacity : ℕ) (queue : List ℕ) (entry : ℕ) → length queue ≤ capacity → keep_last capacity (queue ++ entry ∷ []) ≡ pushed capacity queue entry
+kept : (capacity : ℕ) (queue : List ℕ) (entry : ℕ) → length queue ≤ capacity
+    → keep_last capacity (queue ++ entry ∷ []) ≡ pushed capacity queue entry
 kept capacity queue entry short = ⊎_elim
-    (λ e. ap (λ n. drop n (queue ++ entry ∷ [])) (let z : length (queue ++ entry ∷ []) - capacity ≡ 1 = omega (arith, length_push queue entry) in z)
+    (λ e. ap (λ n. drop n (queue ++ entry ∷ [])) (let z : length (queue ++ entry ∷ []) - capacity ≡ 1 = omega
+    (arith, length_push queue entry) in z)
     ∙ sym (ap (λ b. cond b (drop 1 (queue ++ entry ∷ [])) (queue ++ entry ∷ [])) (eq-eqb (length queue) capacity e)))
-    (λ n. ap (λ k. drop k (queue ++ entry ∷ [])) (let z : length (queue ++ entry ∷ []) - capacity ≡ 0 = omega (arith, length_push queue entry) in z)
+    (λ n. ap (λ k. drop k (queue ++ entry ∷ [])) (let z : length (queue ++ entry ∷ []) - capacity ≡ 0 = omega
+    (arith, length_push queue entry) in z)
     ∙ sym (ap (λ b. cond b (drop 1 (queue ++ entry ∷ [])) (queue ++ entry ∷ [])) (ne_eqb (length queue) capacity n)))
     (cases_eq (length queue) capacity)
 
@@ -51,7 +59,9 @@ queues-empty zero capacity = refl
 queues-empty (suc channels) capacity = ap (λ queues. [] ∷ queues) (queues-empty channels capacity)
 
 -- what a call finds at a channel, and what it leaves in its place
-module _ (buffers : List (Buffer ℕ)) (capacity n i : ℕ) (state : Entries) (sound : IsSound buffers capacity n) (view : entries (queues_of buffers) capacity ≡ state) (inside : i < length state.queues) (old : Buffer ℕ) (is : old ≡ get_or buffers i old) where
+module _ (buffers : List (Buffer ℕ)) (capacity n i : ℕ) (state : Entries) (sound : IsSound buffers capacity n)
+    (view : entries (queues_of buffers) capacity ≡ state) (inside : i < length state.queues) (old : Buffer ℕ)
+    (is : old ≡ get_or buffers i old) where
   at_queues : i < length (queues_of buffers)
   at_queues = omega (arith, inside, ap (λ s. length s.queues) view)
 
@@ -90,7 +100,8 @@ module _ (buffers : List (Buffer ℕ)) (capacity n i : ℕ) (state : Entries) (s
       length-set buffers i new,
     )
 
-    sound-set : new.capacity ≡ capacity → length new.items ≤ capacity → IsSound (slice_set buffers i new) capacity (n - occupancy old.items + occupancy new.items)
+    sound-set : new.capacity ≡ capacity → length new.items ≤ capacity
+        → IsSound (slice_set buffers i new) capacity (n - occupancy old.items + occupancy new.items)
     sound-set same short = record {
       uniform = All-set (λ (b : Buffer ℕ). b.capacity ≡ capacity) buffers i new same sound.uniform;
       within = All-set (λ (b : Buffer ℕ). length b.items ≤ capacity) buffers i new short sound.within;
@@ -125,8 +136,10 @@ module _ (buffers : List (Buffer ℕ)) (capacity n i : ℕ) (state : Entries) (s
           (ap (λ b. b.capacity) is_pushed ∙ capacity_at)
           (omega (arith, ap length items_pushed, length-drop (length (old.items ++ entry ∷ []) - capacity) (old.items ++ entry ∷ [])))
 
-      pub state-pushed : entries (queues_of (slice_set buffers i new)) capacity ≡ with_queue state i (pushed state.capacity (queue_of state i) entry)
+      pub state-pushed : entries (queues_of (slice_set buffers i new)) capacity ≡ with_queue state i
+          (pushed state.capacity (queue_of state i) entry)
       state-pushed =
           state-set
-          ∙ ap (with_queue state i) (items_pushed ∙ kept capacity old.items entry length_at ∙ ap (λ queue. pushed capacity queue entry) queue_of_state)
+          ∙ ap (with_queue state i) (items_pushed ∙ kept capacity old.items entry length_at
+          ∙ ap (λ queue. pushed capacity queue entry) queue_of_state)
           ∙ ap (λ s. with_queue state i (pushed s.capacity (queue_of state i) entry)) view

@@ -19,10 +19,13 @@ is_zero-pos : (n : ℕ) → 0 < n → is_zero n ≡ 0
 is_zero-pos n h = ap {B = ℕ} (λ b. cond b 1 0) (ne_eqb n 0 (λ e. omega arith))
 
 -- a link of a slot that isn't led through changes nothing
-thread-set : (nexts : List ℕ) (first n slot x : ℕ) → times slot (thread nexts first n) ≡ 0 → thread (slice_set nexts slot x) first n ≡ thread nexts first n
+thread-set : (nexts : List ℕ) (first n slot x : ℕ) → times slot (thread nexts first n) ≡ 0
+    → thread (slice_set nexts slot x) first n ≡ thread nexts first n
 thread-set nexts first zero slot x none = refl
 thread-set nexts first (suc n) slot x none =
-    ⊎_elim (λ e. absurd (let h : times slot (slot ∷ thread nexts (get_or nexts first 0) n) ≡ 0 = let P : ℕ → Type 0 = λ k. times slot (k ∷ thread nexts (get_or nexts first 0) n) ≡ 0 in subst P e none in omega (arith, times-head slot (thread nexts (get_or nexts first 0) n))))
+    ⊎_elim (λ e. absurd (let h : times slot (slot ∷ thread nexts (get_or nexts first 0) n) ≡ 0 = let P : ℕ
+    → Type 0 = λ k. times slot (k ∷ thread nexts (get_or nexts first 0) n) ≡ 0 in subst P e none in
+    omega (arith, times-head slot (thread nexts (get_or nexts first 0) n))))
     (λ e. let here : get_or (slice_set nexts slot x) first 0 ≡ get_or nexts first 0 = get_or-set_other nexts slot first x 0 e in
     ap (λ h. first ∷ thread (slice_set nexts slot x) h n) here
     ∙ ap (λ t. first ∷ t) (thread-set nexts (get_or nexts first 0) n slot x (sym (times-other slot first _ e) ∙ none)))
@@ -36,7 +39,8 @@ module _ {hs ls : List ℕ} where
   first_within {head} t = ⊎_elim (λ h. h) (λ h. absurd (omega (arith, first_zero t, get_or_past hs head 1 h))) (cases_lt head (length hs))
 
   -- the first free slot is held once, and the list begins with the one after it
-  pub leads_after_take : {head n : ℕ} → LeadsThroughFree hs ls head (suc n) → LeadsThroughFree (slice_set hs head 1) (slice_set ls head 0) (get_or ls head 0) n
+  pub leads_after_take : {head n : ℕ} → LeadsThroughFree hs ls head (suc n)
+      → LeadsThroughFree (slice_set hs head 1) (slice_set ls head 0) (get_or ls head 0) n
   leads_after_take {head} {n} t =
       let inside = first_within t in
       let rest : List ℕ = thread ls (get_or ls head 0) n in
@@ -44,7 +48,8 @@ module _ {hs ls : List ℕ} where
       let same : thread (slice_set ls head 0) (get_or ls head 0) n ≡ rest = thread-set ls (get_or ls head 0) n head 0 none in
       record {
         stored =
-            let e : count_by (λ h. eqb h 0) (slice_set hs head 1) + is_zero (get_or hs head 1) ≡ count_by (λ h. eqb h 0) hs + 0 = sum_by-set is_zero hs head 1 1 inside in
+            let e : count_by (λ h. eqb h 0) (slice_set hs head 1) + is_zero (get_or hs head 1) ≡ count_by (λ h. eqb h 0) hs + 0 =
+            sum_by-set is_zero hs head 1 1 inside in
             let z : is_zero (get_or hs head 1) ≡ 1 = ap is_zero (first_zero t) in
             omega (arith, t.stored);
         each_once = λ i. rw same (⊎_elim
@@ -55,7 +60,8 @@ module _ {hs ls : List ℕ} where
       }
 
   -- the only holder of a slot gave it back: it is the first free one
-  pub leads_after_free : {head n : ℕ} (slot : ℕ) → slot < length ls → get_or hs slot 0 ≡ 1 → LeadsThroughFree hs ls head n → LeadsThroughFree (slice_set hs slot 0) (slice_set ls slot head) slot (n + 1)
+  pub leads_after_free : {head n : ℕ} (slot : ℕ) → slot < length ls → get_or hs slot 0 ≡ 1 → LeadsThroughFree hs ls head n
+      → LeadsThroughFree (slice_set hs slot 0) (slice_set ls slot head) slot (n + 1)
   leads_after_free {head} {n} slot link one t =
       let inside : slot < length hs = ⊎_elim (λ h. h) (λ h. absurd (omega (arith, get_or_past hs slot 0 h))) (cases_lt slot (length hs)) in
       let one' : get_or hs slot 1 ≡ 1 = get_or_default hs slot 1 0 inside ∙ one in
@@ -65,7 +71,8 @@ module _ {hs ls : List ℕ} where
       rw add-one (ap (λ h. slot ∷ thread (slice_set ls slot head) h n) next ∙ ap (λ l. slot ∷ l) (thread-set ls head n slot head none)) in
       record {
         stored =
-            let e : count_by (λ h. eqb h 0) (slice_set hs slot 0) + is_zero (get_or hs slot 1) ≡ count_by (λ h. eqb h 0) hs + 1 = sum_by-set is_zero hs slot 0 1 inside in
+            let e : count_by (λ h. eqb h 0) (slice_set hs slot 0) + is_zero (get_or hs slot 1) ≡ count_by (λ h. eqb h 0) hs + 1 =
+            sum_by-set is_zero hs slot 0 1 inside in
             let z : is_zero (get_or hs slot 1) ≡ 0 = ap is_zero one' in
             omega (arith, t.stored);
         each_once = λ i. rw whole (⊎_elim
@@ -76,14 +83,16 @@ module _ {hs ls : List ℕ} where
       }
 
   -- a slot that was held stays held, by more or by less
-  pub leads_as_before : {head n : ℕ} (slot m x : ℕ) → 0 < get_or hs slot 0 → 0 < m → LeadsThroughFree hs ls head n → LeadsThroughFree (slice_set hs slot m) (slice_set ls slot x) head n
+  pub leads_as_before : {head n : ℕ} (slot m x : ℕ) → 0 < get_or hs slot 0 → 0 < m → LeadsThroughFree hs ls head n
+      → LeadsThroughFree (slice_set hs slot m) (slice_set ls slot x) head n
   leads_as_before {head} {n} slot m x held more t =
       let inside : slot < length hs = ⊎_elim (λ h. h) (λ h. absurd (omega (arith, get_or_past hs slot 0 h))) (cases_lt slot (length hs)) in
       let before : is_zero (get_or hs slot 1) ≡ 0 = is_zero-pos _ (subst (λ k. 0 < k) (get_or_default hs slot 0 1 inside) held) in
       let none : times slot (thread ls head n) ≡ 0 = t.each_once slot ∙ before in
       record {
         stored =
-            let e : count_by (λ h. eqb h 0) (slice_set hs slot m) + is_zero (get_or hs slot 1) ≡ count_by (λ h. eqb h 0) hs + is_zero m = sum_by-set is_zero hs slot m 1 inside in
+            let e : count_by (λ h. eqb h 0) (slice_set hs slot m) + is_zero (get_or hs slot 1) ≡ count_by (λ h. eqb h 0) hs + is_zero m =
+            sum_by-set is_zero hs slot m 1 inside in
             omega (arith, t.stored, is_zero-pos m more);
         each_once = λ i. rw (thread-set ls head n slot x none) (⊎_elim
             (λ e. let P : ℕ → Type 0 = λ k. times k (thread ls head n) ≡ is_zero (get_or (slice_set hs slot m) k 1) in
@@ -93,20 +102,27 @@ module _ {hs ls : List ℕ} where
       }
 
 -- links that lead to the next slot
-thread_rising-out : (ls : List ℕ) (h n i : ℕ) → ((k : ℕ) → k < h + n → get_or ls k 0 ≡ k + 1) → (i < h) ⊎ (h + n ≤ i) → times i (thread ls h n) ≡ 0
+thread_rising-out : (ls : List ℕ) (h n i : ℕ) → ((k : ℕ) → k < h + n → get_or ls k 0 ≡ k + 1) → (i < h) ⊎ (h + n ≤ i)
+    → times i (thread ls h n) ≡ 0
 thread_rising-out ls h zero i each out = refl
 thread_rising-out ls h (suc n) i each out =
     times-other i h _ (λ e. ⊎_elim (λ l. omega arith) (λ l. omega arith) out)
     ∙ ap (λ x. times i (thread ls x n)) (each h (omega arith))
     ∙ thread_rising-out ls (h + 1) n i (λ k l. each k (omega arith)) (⊎_elim (λ l. inl (omega arith)) (λ l. inr (omega arith)) out)
 
-thread_rising-in : (ls : List ℕ) (h n i : ℕ) → ((k : ℕ) → k < h + n → get_or ls k 0 ≡ k + 1) → h ≤ i → i < h + n → times i (thread ls h n) ≡ 1
+thread_rising-in : (ls : List ℕ) (h n i : ℕ) → ((k : ℕ) → k < h + n → get_or ls k 0 ≡ k + 1) → h ≤ i → i < h + n
+    → times i (thread ls h n) ≡ 1
 thread_rising-in ls h zero i each low high = absurd (omega arith)
 thread_rising-in ls h (suc n) i each low high =
-    let next : times i (thread ls (get_or ls h 0) n) ≡ times i (thread ls (h + 1) n) = ap (λ x. times i (thread ls x n)) (each h (omega arith)) in
+    let next : times i (thread ls (get_or ls h 0) n) ≡ times i (thread ls (h + 1) n) = ap (λ x. times i (thread ls x n))
+    (each h (omega arith)) in
     ⊎_elim
     (λ e. let P : ℕ → Type 0 = λ k. times i (k ∷ thread ls (get_or ls h 0) n) ≡ 1 in
-    subst P (sym e) (omega (arith, times-head i (thread ls (get_or ls h 0) n), thread_rising-out ls (h + 1) n i (λ k l. each k (omega arith)) (inl (omega arith)))))
+    subst P (sym e) (omega (
+      arith,
+      times-head i (thread ls (get_or ls h 0) n),
+      thread_rising-out ls (h + 1) n i (λ k l. each k (omega arith)) (inl (omega arith)),
+    )))
     (λ e. times-other i h _ e ∙ next ∙ thread_rising-in ls (h + 1) n i (λ k l. each k (omega arith)) (omega arith) (omega arith))
     (cases_eq h i)
 
@@ -119,7 +135,9 @@ pub leads_at_first : (n : ℕ) (ls : List ℕ) → ((k : ℕ) → k < n → get_
 leads_at_first n ls each = record {
   stored = sym (all_zero n);
   each_once = λ i. ⊎_elim
-      (λ h. thread_rising-in ls 0 n i (λ k p. each k (omega arith)) (omega arith) (omega arith) ∙ sym (ap is_zero (get_or-replicate n i 0 1 h)))
-      (λ h. thread_rising-out ls 0 n i (λ k p. each k (omega arith)) (inr (omega arith)) ∙ sym (ap is_zero (get_or_past (replicate n 0) i 1 (omega (arith, length-replicate {A = ℕ} n 0)))))
+      (λ h. thread_rising-in ls 0 n i (λ k p. each k (omega arith)) (omega arith) (omega arith)
+      ∙ sym (ap is_zero (get_or-replicate n i 0 1 h)))
+      (λ h. thread_rising-out ls 0 n i (λ k p. each k (omega arith)) (inr (omega arith))
+      ∙ sym (ap is_zero (get_or_past (replicate n 0) i 1 (omega (arith, length-replicate {A = ℕ} n 0)))))
       (cases_lt i n);
 }

@@ -25,43 +25,57 @@ match_other P (Some x) f holds = holds
 module _ {T H K : Type 0} where
   -- what a loan of one element is refused for
   loan_alike : (old : State T H T H K) (n len : ℕ) (kind : Option Kind) → (len == 1) ≡ true →
-      option_map_or (refusal_of_kind Typed old (Command.Loan n len)) kind (Some Reply.Unknown) ≡ option_map_or (refusal_of_kind Sliced old (Command.Loan n len)) kind (Some Reply.Unknown)
+      option_map_or (refusal_of_kind Typed old (Command.Loan n len)) kind (Some Reply.Unknown) ≡ option_map_or
+      (refusal_of_kind Sliced old (Command.Loan n len)) kind (Some Reply.Unknown)
   loan_alike old n len None e = refl
   loan_alike old n len (Some kind) e = rw e refl
 
   default_alike : (old : State T H T H K) (n len : ℕ) (kind : Option Kind) → (len == 1) ≡ true →
-      option_map_or (refusal_of_kind Typed old (Command.LoanDefault n len)) kind (Some Reply.Unknown) ≡ option_map_or (refusal_of_kind Sliced old (Command.LoanDefault n len)) kind (Some Reply.Unknown)
+      option_map_or (refusal_of_kind Typed old (Command.LoanDefault n len)) kind (Some Reply.Unknown) ≡ option_map_or
+      (refusal_of_kind Sliced old (Command.LoanDefault n len)) kind (Some Reply.Unknown)
   default_alike old n len None e = refl
   default_alike old n len (Some kind) e = rw e refl
 
-  pub refusal-with_typed_settings : (old : State T H T H K) (command : Command T H K) → has_length Typed command ≡ true → refusal Typed old command ≡ refusal Sliced old (with_typed_settings command)
+  pub refusal-with_typed_settings : (old : State T H T H K) (command : Command T H K) → has_length Typed command ≡ true
+      → refusal Typed old command ≡ refusal Sliced old (with_typed_settings command)
   refusal-with_typed_settings old (Command.Loan n len) e = loan_alike old n len (kind_at old n) e
   refusal-with_typed_settings old (Command.LoanDefault n len) e = default_alike old n len (kind_at old n) e
   refusal-with_typed_settings old command e = refl
 
 module _ {T H K : Type 0} (answer : K → ℕ → ℕ → BackpressureAction) (IsDefaultElement : T → Type 0) (IsDefaultHeader : H → Type 0) where
   pub typed_acts_as_sliced : (old : State T H T H K) (command : Command T H K) (reply : Reply T H) (new : State T H T H K) →
-      Acts answer IsDefaultElement IsDefaultHeader Typed old command reply new → Acts answer IsDefaultElement IsDefaultHeader Sliced old (with_typed_settings command) reply new
+      Acts answer IsDefaultElement IsDefaultHeader Typed old command reply new
+      → Acts answer IsDefaultElement IsDefaultHeader Sliced old (with_typed_settings command) reply new
   typed_acts_as_sliced old (Command.CreateClient settings) reply new acts = acts
   typed_acts_as_sliced old (Command.CreateServer settings) reply new acts = acts
   typed_acts_as_sliced old command reply new acts = acts
 
   pub sliced_acts_as_typed : (old : State T H T H K) (command : Command T H K) (reply : Reply T H) (new : State T H T H K) →
-      Acts answer IsDefaultElement IsDefaultHeader Sliced old (with_typed_settings command) reply new → Acts answer IsDefaultElement IsDefaultHeader Typed old command reply new
+      Acts answer IsDefaultElement IsDefaultHeader Sliced old (with_typed_settings command) reply new
+      → Acts answer IsDefaultElement IsDefaultHeader Typed old command reply new
   sliced_acts_as_typed old (Command.CreateClient settings) reply new acts = acts
   sliced_acts_as_typed old (Command.CreateServer settings) reply new acts = acts
   sliced_acts_as_typed old command reply new acts = acts
 
   -- a typed step of a length that the family takes is a sliced step
-  pub typed_steps_as_sliced : (old : State T H T H K) (command : Command T H K) (reply : Reply T H) (new : State T H T H K) → has_length Typed command ≡ true →
-      Step answer IsDefaultElement IsDefaultHeader Typed old command reply new → Step answer IsDefaultElement IsDefaultHeader Sliced old (with_typed_settings command) reply new
+  pub typed_steps_as_sliced : (old : State T H T H K) (command : Command T H K) (reply : Reply T H) (new : State T H T H K)
+      → has_length Typed command ≡ true →
+      Step answer IsDefaultElement IsDefaultHeader Typed old command reply new
+      → Step answer IsDefaultElement IsDefaultHeader Sliced old (with_typed_settings command) reply new
   typed_steps_as_sliced old command reply new e step =
-      let Chosen : Option (Reply T H) → Type 0 = λ o. MatchOption o (Acts answer IsDefaultElement IsDefaultHeader Sliced old (with_typed_settings command) reply new) (λ refused. (reply ≡ refused) × (new ≡ old)) in
-      subst Chosen (refusal-with_typed_settings old command e) (match_other _ (refusal Typed old command) (typed_acts_as_sliced old command reply new) step)
+      let Chosen : Option (Reply T H) → Type 0 = λ o. MatchOption o
+      (Acts answer IsDefaultElement IsDefaultHeader Sliced old (with_typed_settings command) reply new)
+      (λ refused. (reply ≡ refused) × (new ≡ old)) in
+      subst Chosen (refusal-with_typed_settings old command e)
+      (match_other _ (refusal Typed old command) (typed_acts_as_sliced old command reply new) step)
 
   -- and the other way round
-  pub sliced_steps_as_typed : (old : State T H T H K) (command : Command T H K) (reply : Reply T H) (new : State T H T H K) → has_length Typed command ≡ true →
-      Step answer IsDefaultElement IsDefaultHeader Sliced old (with_typed_settings command) reply new → Step answer IsDefaultElement IsDefaultHeader Typed old command reply new
+  pub sliced_steps_as_typed : (old : State T H T H K) (command : Command T H K) (reply : Reply T H) (new : State T H T H K)
+      → has_length Typed command ≡ true →
+      Step answer IsDefaultElement IsDefaultHeader Sliced old (with_typed_settings command) reply new
+      → Step answer IsDefaultElement IsDefaultHeader Typed old command reply new
   sliced_steps_as_typed old command reply new e step =
-      let Chosen : Option (Reply T H) → Type 0 = λ o. MatchOption o (Acts answer IsDefaultElement IsDefaultHeader Typed old command reply new) (λ refused. (reply ≡ refused) × (new ≡ old)) in
-      subst Chosen (sym (refusal-with_typed_settings old command e)) (match_other _ (refusal Sliced old (with_typed_settings command)) (sliced_acts_as_typed old command reply new) step)
+      let Chosen : Option (Reply T H) → Type 0 = λ o. MatchOption o
+      (Acts answer IsDefaultElement IsDefaultHeader Typed old command reply new) (λ refused. (reply ≡ refused) × (new ≡ old)) in
+      subst Chosen (sym (refusal-with_typed_settings old command e))
+      (match_other _ (refusal Sliced old (with_typed_settings command)) (sliced_acts_as_typed old command reply new) step)

@@ -9,7 +9,8 @@ use Rattle.rr_steps.specs.Step.{Step}
 use Rattle.rr_steps.specs.Run.{Run}
 
 module _ {T H K : Type 0} (answer : K → ℕ → ℕ → BackpressureAction) (IsDefaultElement : T → Type 0) (IsDefaultHeader : H → Type 0) where
-  pub run_then_step : (family : Family) (commands : List (Command T H K)) (replies : List (Reply T H)) (old mid new : State T H T H K) (command : Command T H K) (reply : Reply T H) →
+  pub run_then_step : (family : Family) (commands : List (Command T H K)) (replies : List (Reply T H)) (old mid new : State T H T H K)
+      (command : Command T H K) (reply : Reply T H) →
       Run answer IsDefaultElement IsDefaultHeader family old commands replies mid →
       Step answer IsDefaultElement IsDefaultHeader family mid command reply new →
       Run answer IsDefaultElement IsDefaultHeader family old (commands ++ command ∷ []) (replies ++ reply ∷ []) new
@@ -21,7 +22,8 @@ module _ {T H K : Type 0} (answer : K → ℕ → ℕ → BackpressureAction) (I
       (run.0, run.1, run_then_step family commands replies run.0 mid new command reply run.2 step)
 
   -- and by a whole run
-  pub run_then_run : (family : Family) (commands : List (Command T H K)) (replies : List (Reply T H)) (others : List (Command T H K)) (other_replies : List (Reply T H)) (old mid new : State T H T H K) →
+  pub run_then_run : (family : Family) (commands : List (Command T H K)) (replies : List (Reply T H)) (others : List (Command T H K))
+      (other_replies : List (Reply T H)) (old mid new : State T H T H K) →
       Run answer IsDefaultElement IsDefaultHeader family old commands replies mid →
       Run answer IsDefaultElement IsDefaultHeader family mid others other_replies new →
       Run answer IsDefaultElement IsDefaultHeader family old (commands ++ others) (replies ++ other_replies) new

@@ -45,7 +45,8 @@ module _ {X : Type 0} where
   count-none p (x ∷ xs) h = omega (arith, count-cons p x xs, ap mark h.0, count-none p xs h.1)
 
   -- who passes a test passes one of two others
-  pub count-parts : (p q r : X → Bool) → ((x : X) → p x ≡ true → (q x || r x) ≡ true) → (xs : List X) → count_by p xs ≤ count_by q xs + count_by r xs
+  pub count-parts : (p q r : X → Bool) → ((x : X) → p x ≡ true → (q x || r x) ≡ true) → (xs : List X)
+      → count_by p xs ≤ count_by q xs + count_by r xs
   count-parts p q r h [] = omega arith
   count-parts p q r h (x ∷ xs) =
       omega (arith, count-cons p x xs, count-cons q x xs, count-cons r x xs, mark_parts (p x) (q x) (r x) (h x), count-parts p q r h xs)
@@ -61,7 +62,8 @@ module _ {X : Type 0} where
       more_bins (length bins) (count_by (inside k) xs) most (count_by p xs) (count_by (λ x. p x && not (inside k x)) xs)
       (count-parts p (inside k) (λ x. p x && not (inside k x)) (λ x. or_not (p x) (inside k x)) xs)
       few.0
-      (count-bins inside most (λ x. p x && not (inside k x)) bins xs (all_each _ _ (λ x. left_over (p x) (inside k x) (list_any (λ j. inside j x) bins)) xs some) few.1)
+      (count-bins inside most (λ x. p x && not (inside k x)) bins xs
+      (all_each _ _ (λ x. left_over (p x) (inside k x) (list_any (λ j. inside j x) bins)) xs some) few.1)
 
   -- a count of two lists
   pub count-append : (p : X → Bool) (xs ys : List X) → count_by p (xs ++ ys) ≡ count_by p xs + count_by p ys
@@ -79,10 +81,12 @@ module _ {X Y : Type 0} where
   count-map f p (x ∷ xs) = omega (arith, count-cons p (f x) (map f xs), count-cons (λ y. p (f y)) x xs, count-map f p xs)
 
   -- a count of what a list gives
-  pub count-filter_map : (f : X → Option Y) (p : Y → Bool) (xs : List X) → count_by p (filter_map f xs) ≡ count_by (λ x. option_map_or p (f x) false) xs
+  pub count-filter_map : (f : X → Option Y) (p : Y → Bool) (xs : List X)
+      → count_by p (filter_map f xs) ≡ count_by (λ x. option_map_or p (f x) false) xs
   count-filter_map f p [] = refl
   count-filter_map f p (x ∷ xs) =
-      split p (f x) (filter_map f xs) ∙ ap (λ n. mark (option_map_or p (f x) false) + n) (count-filter_map f p xs) ∙ sym (count-cons (λ y. option_map_or p (f y) false) x xs)
+      split p (f x) (filter_map f xs) ∙ ap (λ n. mark (option_map_or p (f x) false) + n) (count-filter_map f p xs)
+      ∙ sym (count-cons (λ y. option_map_or p (f y) false) x xs)
 
   -- what lists hold that pass a test, where those lists that have any pass a test of their own and have at most so many
   pub count-flat_map : (f : X → List Y) (p : Y → Bool) (q : X → Bool) (most : ℕ) (xs : List X)
@@ -90,7 +94,8 @@ module _ {X Y : Type 0} where
       → count_by p (flat_map f xs) ≤ count_by q xs * most
   count-flat_map f p q most [] h = omega arith
   count-flat_map f p q most (x ∷ xs) h =
-      more_lists (mark (q x)) (count_by q xs) most (count_by p (f x)) (count_by p (flat_map f xs)) (count_by p (f x ++ flat_map f xs)) (count_by q (x ∷ xs))
+      more_lists (mark (q x)) (count_by q xs) most (count_by p (f x)) (count_by p (flat_map f xs)) (count_by p (f x ++ flat_map f xs))
+      (count_by q (x ∷ xs))
       (count-append p (f x) (flat_map f xs)) (count-cons q x xs) (here (q x) refl) (count-flat_map f p q most xs h.1)
     where
       here : (b : Bool) → q x ≡ b → count_by p (f x) ≤ mark b * most

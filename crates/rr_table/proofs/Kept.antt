@@ -14,16 +14,19 @@ module _ {E : Type 0} where
   -- a seat in its own place keeps its value
   pub kept_in_own : (p : Place) (v : E) → kept_in p (seat p v) ≡ Some v
   kept_in_own p v =
-      ap (λ b. cond (b && eqb p.index p.index) (Some v) None) (eq-eqb p.row p.row refl) ∙ ap (λ b. cond b (Some v) None) (eq-eqb p.index p.index refl)
+      ap (λ b. cond (b && eqb p.index p.index) (Some v) None) (eq-eqb p.row p.row refl)
+      ∙ ap (λ b. cond b (Some v) None) (eq-eqb p.index p.index refl)
 
   -- what is kept of a seat in a place is the value of a seat that stands there
   pub kept_in_place : (p : Place) (s : Seat E) (v : E) → kept_in p s ≡ Some v → (s.place ≡ p) × (s.value ≡ v)
   kept_in_place p s v h =
-      elim (eqb s.place.row p.row) as (λ a. eqb s.place.row p.row ≡ a → cond (a && eqb s.place.index p.index) (Some s.value) None ≡ Some v → (s.place ≡ p) × (s.value ≡ v)) [
-        | true ↦ λ r. elim (eqb s.place.index p.index) as (λ b. eqb s.place.index p.index ≡ b → cond b (Some s.value) None ≡ Some v → (s.place ≡ p) × (s.value ≡ v)) [
-          | true ↦ λ i. λ e. (λ t. place (eqb-true _ _ r t) (eqb-true _ _ i t), (let g : Some s.value ≡ Some v = e in cc))
-          | false ↦ λ i. λ e. absurd (let g : None ≡ Some v = e in cc)
-        ] refl
+      elim (eqb s.place.row p.row) as (λ a. eqb s.place.row p.row ≡ a → cond (a && eqb s.place.index p.index) (Some s.value) None ≡ Some v
+      → (s.place ≡ p) × (s.value ≡ v)) [
+        | true ↦ λ r. elim (eqb s.place.index p.index) as (λ b. eqb s.place.index p.index ≡ b → cond b (Some s.value) None ≡ Some v
+            → (s.place ≡ p) × (s.value ≡ v)) [
+              | true ↦ λ i. λ e. (λ t. place (eqb-true _ _ r t) (eqb-true _ _ i t), (let g : Some s.value ≡ Some v = e in cc))
+              | false ↦ λ i. λ e. absurd (let g : None ≡ Some v = e in cc)
+            ] refl
         | false ↦ λ r. λ e. absurd (let g : None ≡ Some v = e in cc)
       ] refl h
 
@@ -31,7 +34,8 @@ module _ {E : Type 0} where
   pub kept_in_other : (p : Place) (s : Seat E) → s.place ≢ p → kept_in p s ≡ None
   kept_in_other p s other = ⊎_elim (λ e. e) (λ f. absurd (other (kept_in_place p s f.0 f.1).0)) (none_or_some (kept_in p s))
 
-  kept_nowhere : (m : FinMap nat_cmp (Seat E)) (n : ℕ) (p : Place) → ((s : Seat E) → get m n ≡ Some s → s.place ≢ p) → None ≡ option_and_then (kept_in p) (get m n)
+  kept_nowhere : (m : FinMap nat_cmp (Seat E)) (n : ℕ) (p : Place) → ((s : Seat E) → get m n ≡ Some s → s.place ≢ p)
+      → None ≡ option_and_then (kept_in p) (get m n)
   kept_nowhere m n p other =
       ⊎_elim
       (λ e. sym (ap (option_and_then (kept_in p)) e))
@@ -42,7 +46,8 @@ module _ {E : Type 0} where
     -- the number stands in the place
     pub kept_here : (e : Entry E) → IsDistinct rows → standing rows p ≡ Some e → e.number ≡ n → Some e.value ≡ value_in (seats_of rows) n p
     kept_here e d at is =
-        sym (ap (λ k. value_in (seats_of rows) k p) (sym is) ∙ ap (option_and_then (kept_in p)) (seat_of rows p e d at) ∙ kept_in_own p e.value)
+        sym (ap (λ k. value_in (seats_of rows) k p) (sym is) ∙ ap (option_and_then (kept_in p)) (seat_of rows p e d at)
+        ∙ kept_in_own p e.value)
 
     -- another number stands there
     pub kept_not : (e : Entry E) → standing rows p ≡ Some e → e.number ≢ n → None ≡ value_in (seats_of rows) n p

@@ -26,7 +26,8 @@ module _ {X : Type 0} where
   pub all_filter : (P : X → Type 0) (p : X → Bool) (xs : List X) → AllByRecursion P xs → AllByRecursion P (filter p xs)
   all_filter P p [] h = tt
   all_filter P p (x ∷ xs) h =
-      elim (p x) as (λ b. AllByRecursion P (cond b (x ∷ filter p xs) (filter p xs))) [ true ↦ (h.0, all_filter P p xs h.1) | false ↦ all_filter P p xs h.1 ]
+      elim (p x) as (λ b. AllByRecursion P (cond b (x ∷ filter p xs) (filter p xs)))
+      [ true ↦ (h.0, all_filter P p xs h.1) | false ↦ all_filter P p xs h.1 ]
 
   -- and of the one that is found
   pub all_found : (P : X → Type 0) (p : X → Bool) (xs : List X) (x : X) → AllByRecursion P xs → find p xs ≡ Some x → P x
@@ -56,55 +57,67 @@ module _ {X : Type 0} where
   -- who passes a test is one of those found by it
   pub any_found : (p : X → Bool) (xs : List X) → is_some (find p xs) ≡ list_any p xs
   any_found p [] = refl
-  any_found p (x ∷ xs) = elim (p x) as (λ b. is_some (cond b (Some x) (find p xs)) ≡ (b || list_any p xs)) [ true ↦ refl | false ↦ any_found p xs ]
+  any_found p (x ∷ xs) = elim (p x) as (λ b. is_some (cond b (Some x) (find p xs)) ≡ (b || list_any p xs))
+      [ true ↦ refl | false ↦ any_found p xs ]
 
   -- what is found after one more came
-  pub find-append : (p : X → Bool) (xs : List X) (y : X) → find p (xs ++ y ∷ []) ≡ cond (is_some (find p xs)) (find p xs) (cond (p y) (Some y) None)
+  pub find-append : (p : X → Bool) (xs : List X) (y : X) → find p (xs ++ y ∷ []) ≡ cond (is_some (find p xs)) (find p xs)
+      (cond (p y) (Some y) None)
   find-append p [] y = refl
-  find-append p (x ∷ xs) y = elim (p x) as (λ b. cond b (Some x) (find p (xs ++ y ∷ [])) ≡ cond (is_some (cond b (Some x) (find p xs))) (cond b (Some x) (find p xs)) (cond (p y) (Some y) None)) [
-    | true ↦ refl
-    | false ↦ find-append p xs y
-  ]
+  find-append p (x ∷ xs) y = elim (p x) as (λ b. cond b (Some x) (find p (xs ++ y ∷ [])) ≡ cond (is_some (cond b (Some x) (find p xs)))
+      (cond b (Some x) (find p xs)) (cond (p y) (Some y) None)) [
+        | true ↦ refl
+        | false ↦ find-append p xs y
+      ]
 
 module _ {X : Type 0} (id : X → ℕ) where
   -- what is found when those with one number are gone
-  pub find-gone : (gone n : ℕ) (xs : List X) → find (λ x. eqb (id x) n) (filter (λ x. not (eqb (id x) gone)) xs) ≡ cond (eqb n gone) None (find (λ x. eqb (id x) n) xs)
+  pub find-gone : (gone n : ℕ) (xs : List X) → find (λ x. eqb (id x) n) (filter (λ x. not (eqb (id x) gone)) xs) ≡ cond (eqb n gone) None
+      (find (λ x. eqb (id x) n) xs)
   find-gone gone n [] = elim (eqb n gone) as (λ b. ◌≡◌ {A = Option X} None (cond b None None)) [ true ↦ refl | false ↦ refl ]
   find-gone gone n (x ∷ xs) = go (find-gone gone n xs) (eqb (id x) gone) refl
     where
-      other : eqb (id x) gone ≡ true → (b : Bool) → eqb (id x) n ≡ b → cond (eqb n gone) None (find (λ x. eqb (id x) n) xs) ≡ cond (eqb n gone) None (cond b (Some x) (find (λ x. eqb (id x) n) xs))
+      other : eqb (id x) gone ≡ true → (b : Bool) → eqb (id x) n ≡ b
+          → cond (eqb n gone) None (find (λ x. eqb (id x) n) xs) ≡ cond (eqb n gone) None (cond b (Some x) (find (λ x. eqb (id x) n) xs))
       other e true f = rw (eq-eqb n gone (sym (eqb-true _ _ f) ∙ eqb-true _ _ e)) refl
       other e false f = refl
 
-      here : (find (λ x. eqb (id x) n) (filter (λ x. not (eqb (id x) gone)) xs) ≡ cond (eqb n gone) None (find (λ x. eqb (id x) n) xs)) → eqb (id x) gone ≡ false → (b : Bool) → eqb (id x) n ≡ b →
-          cond b (Some x) (find (λ x. eqb (id x) n) (filter (λ x. not (eqb (id x) gone)) xs)) ≡ cond (eqb n gone) None (cond b (Some x) (find (λ x. eqb (id x) n) xs))
+      here : (find (λ x. eqb (id x) n) (filter (λ x. not (eqb (id x) gone)) xs) ≡ cond (eqb n gone) None (find (λ x. eqb (id x) n) xs))
+          → eqb (id x) gone ≡ false → (b : Bool) → eqb (id x) n ≡ b →
+          cond b (Some x) (find (λ x. eqb (id x) n) (filter (λ x. not (eqb (id x) gone)) xs)) ≡ cond (eqb n gone) None
+          (cond b (Some x) (find (λ x. eqb (id x) n) xs))
       here rest e true f = rw (sym (ap (λ k. eqb k gone) (eqb-true _ _ f)) ∙ e) refl
       here rest e false f = rest
 
-      go : (find (λ x. eqb (id x) n) (filter (λ x. not (eqb (id x) gone)) xs) ≡ cond (eqb n gone) None (find (λ x. eqb (id x) n) xs)) → (b : Bool) → eqb (id x) gone ≡ b →
+      go : (find (λ x. eqb (id x) n) (filter (λ x. not (eqb (id x) gone)) xs) ≡ cond (eqb n gone) None (find (λ x. eqb (id x) n) xs))
+          → (b : Bool) → eqb (id x) gone ≡ b →
           find (λ x. eqb (id x) n) (cond (not b) (x ∷ filter (λ x. not (eqb (id x) gone)) xs) (filter (λ x. not (eqb (id x) gone)) xs))
           ≡ cond (eqb n gone) None (cond (eqb (id x) n) (Some x) (find (λ x. eqb (id x) n) xs))
       go rest true e = rest ∙ other e (eqb (id x) n) refl
       go rest false e = here rest e (eqb (id x) n) refl
 
   -- what is found when each was changed, but for its number
-  pub find-changed : (f : X → X) → ((x : X) → id (f x) ≡ id x) → (n : ℕ) (xs : List X) → find (λ x. eqb (id x) n) (map f xs) ≡ option_map f (find (λ x. eqb (id x) n) xs)
+  pub find-changed : (f : X → X) → ((x : X) → id (f x) ≡ id x) → (n : ℕ) (xs : List X)
+      → find (λ x. eqb (id x) n) (map f xs) ≡ option_map f (find (λ x. eqb (id x) n) xs)
   find-changed f same n [] = refl
   find-changed f same n (x ∷ xs) =
       ap (λ k. cond (eqb k n) (Some (f x)) (find (λ x. eqb (id x) n) (map f xs))) (same x)
-      ∙ elim (eqb (id x) n) as (λ b. cond b (Some (f x)) (find (λ x. eqb (id x) n) (map f xs)) ≡ option_map f (cond b (Some x) (find (λ x. eqb (id x) n) xs))) [ true ↦ refl | false ↦ find-changed f same n xs ]
+      ∙ elim (eqb (id x) n) as (λ b. cond b (Some (f x)) (find (λ x. eqb (id x) n) (map f xs)) ≡ option_map f
+      (cond b (Some x) (find (λ x. eqb (id x) n) xs))) [ true ↦ refl | false ↦ find-changed f same n xs ]
 
   -- each element is found by its number
   pub each_found : (xs : List X) → AllByRecursion (λ x. is_some (find (λ y. eqb (id y) (id x)) xs) ≡ true) xs
   each_found [] = tt
   each_found (x ∷ xs) = (
     rw (eq-eqb (id x) (id x) refl) refl,
-    all_each _ _ (λ y h. elim (eqb (id x) (id y)) as (λ b. is_some (cond b (Some x) (find (λ z. eqb (id z) (id y)) xs)) ≡ true) [ true ↦ refl | false ↦ h ]) xs (each_found xs),
+    all_each _ _ (λ y h. elim (eqb (id x) (id y)) as (λ b. is_some (cond b (Some x) (find (λ z. eqb (id z) (id y)) xs)) ≡ true)
+        [ true ↦ refl | false ↦ h ]) xs (each_found xs),
   )
 
 module _ {X Y : Type 0} (f : X → Y) where
   -- a fact of each element after each changed
-  pub all_map : (P : X → Type 0) (R : Y → Type 0) → ((x : X) → P x → R (f x)) → (xs : List X) → AllByRecursion P xs → AllByRecursion R (map f xs)
+  pub all_map : (P : X → Type 0) (R : Y → Type 0) → ((x : X) → P x → R (f x)) → (xs : List X) → AllByRecursion P xs
+      → AllByRecursion R (map f xs)
   all_map P R g [] h = tt
   all_map P R g (x ∷ xs) h = (g x h.0, all_map P R g xs h.1)
 
@@ -119,7 +132,8 @@ module _ {X : Type 0} where
   any-append t [] ys e = absurd (cc)
   any-append t (x ∷ xs) ys e = go (any-append t xs ys) (t x) e
     where
-      go : (list_any t xs ≡ true → list_any t (xs ++ ys) ≡ true) → (b : Bool) → (b || list_any t xs) ≡ true → (b || list_any t (xs ++ ys)) ≡ true
+      go : (list_any t xs ≡ true → list_any t (xs ++ ys) ≡ true) → (b : Bool) → (b || list_any t xs) ≡ true
+          → (b || list_any t (xs ++ ys)) ≡ true
       go rest true e = e
       go rest false e = rest e
 
@@ -128,7 +142,8 @@ module _ {X : Type 0} where
   any-filter t p [] e = e
   any-filter t p (x ∷ xs) e = go (any-filter t p xs) (p x) e
     where
-      go : (list_any (λ y. p y && t y) xs ≡ true → list_any t (filter p xs) ≡ true) → (b : Bool) → ((b && t x) || list_any (λ y. p y && t y) xs) ≡ true → list_any t (cond b (x ∷ filter p xs) (filter p xs)) ≡ true
+      go : (list_any (λ y. p y && t y) xs ≡ true → list_any t (filter p xs) ≡ true) → (b : Bool)
+          → ((b && t x) || list_any (λ y. p y && t y) xs) ≡ true → list_any t (cond b (x ∷ filter p xs) (filter p xs)) ≡ true
       go rest true e = here (t x) e
         where
           here : (b : Bool) → (b || list_any (λ y. p y && t y) xs) ≡ true → (b || list_any t (filter p xs)) ≡ true
@@ -143,7 +158,8 @@ module _ {X Y : Type 0} where
   any-map f t (x ∷ xs) = ap (λ b. t (f x) || b) (any-map f t xs)
 
   -- a test of what a list gives
-  pub any-filter_map : (f : X → Option Y) (t : Y → Bool) (xs : List X) → list_any t (filter_map f xs) ≡ list_any (λ x. option_map_or t (f x) false) xs
+  pub any-filter_map : (f : X → Option Y) (t : Y → Bool) (xs : List X)
+      → list_any t (filter_map f xs) ≡ list_any (λ x. option_map_or t (f x) false) xs
   any-filter_map f t [] = refl
   any-filter_map f t (x ∷ xs) = one (f x) ∙ ap (λ b. option_map_or t (f x) false || b) (any-filter_map f t xs)
     where
@@ -157,6 +173,7 @@ module _ {X : Type 0} where
   any_weaker p q h [] e = e
   any_weaker p q h (x ∷ xs) e = go (any_weaker p q h xs) (p x) refl e
     where
-      go : (list_any p xs ≡ true → list_any q xs ≡ true) → (b : Bool) → p x ≡ b → (b || list_any p xs) ≡ true → (q x || list_any q xs) ≡ true
+      go : (list_any p xs ≡ true → list_any q xs ≡ true) → (b : Bool) → p x ≡ b → (b || list_any p xs) ≡ true
+          → (q x || list_any q xs) ≡ true
       go rest true is e = ap (λ c. c || list_any q xs) (h x is)
       go rest false is e = or_true (q x) (list_any q xs) (rest e)

@@ -20,7 +20,8 @@ module _ {X : Type 0} (t : X → Bool) where
   any_gives [] h = absurd (cc)
   any_gives (x ∷ xs) h = go (any_gives xs) (t x) refl h
     where
-      go : (list_any t xs ≡ true → (j : ℕ) × (y : X) × (slice_get xs j ≡ Some y) × (t y ≡ true)) → (b : Bool) → t x ≡ b → (b || list_any t xs) ≡ true → (j : ℕ) × (y : X) × (slice_get (x ∷ xs) j ≡ Some y) × (t y ≡ true)
+      go : (list_any t xs ≡ true → (j : ℕ) × (y : X) × (slice_get xs j ≡ Some y) × (t y ≡ true)) → (b : Bool) → t x ≡ b
+          → (b || list_any t xs) ≡ true → (j : ℕ) × (y : X) × (slice_get (x ∷ xs) j ≡ Some y) × (t y ≡ true)
       go rest true e h = (0, x, refl, e)
       go rest false e h = let r = rest h in (suc r.0, r.1, r.2, r.3)
 
@@ -33,7 +34,8 @@ module _ {X : Type 0} (t : X → Bool) where
   any_of_all [] a h = absurd (cc)
   any_of_all {R} (x ∷ xs) a h = go (any_of_all xs a.1) (t x) refl h
     where
-      go : (list_any t xs ≡ true → (y : X) × R y × (t y ≡ true)) → (b : Bool) → t x ≡ b → (b || list_any t xs) ≡ true → (y : X) × R y × (t y ≡ true)
+      go : (list_any t xs ≡ true → (y : X) × R y × (t y ≡ true)) → (b : Bool) → t x ≡ b → (b || list_any t xs) ≡ true → (y : X) × R y
+          × (t y ≡ true)
       go rest true e h = (x, a.0, e)
       go rest false e h = rest h
 
@@ -42,7 +44,8 @@ module _ {X : Type 0} (t : X → Bool) where
   any-filtered p [] = refl
   any-filtered p (x ∷ xs) = go (any-filtered p xs) (p x)
     where
-      go : list_any t (filter p xs) ≡ list_any (λ x. p x && t x) xs → (b : Bool) → list_any t (cond b (x ∷ filter p xs) (filter p xs)) ≡ ((b && t x) || list_any (λ x. p x && t x) xs)
+      go : list_any t (filter p xs) ≡ list_any (λ x. p x && t x) xs → (b : Bool)
+          → list_any t (cond b (x ∷ filter p xs) (filter p xs)) ≡ ((b && t x) || list_any (λ x. p x && t x) xs)
       go rest true = ap (λ b. t x || b) rest
       go rest false = rest
 
@@ -56,7 +59,8 @@ module _ {X : Type 0} (t : X → Bool) where
       go rest false e = rest (omega (arith, h, sum_by-cons (λ y. mark (t y)) x xs, ap mark e))
 
 -- a test of what each element gives
-pub any-flat : {X Y : Type 0} (t : Y → Bool) (g : X → List Y) (xs : List X) → list_any t (flat_map g xs) ≡ list_any (λ x. list_any t (g x)) xs
+pub any-flat : {X Y : Type 0} (t : Y → Bool) (g : X → List Y) (xs : List X)
+    → list_any t (flat_map g xs) ≡ list_any (λ x. list_any t (g x)) xs
 any-flat t g [] = refl
 any-flat t g (x ∷ xs) = list_any-append t (g x) (flat_map g xs) ∙ ap (λ b. list_any t (g x) || b) (any-flat t g xs)
 
@@ -71,7 +75,8 @@ module _ {A X : Type 0} {cmp : A → A → Ordering} (o : IsTotalOrder cmp) (t :
   found_in k [] x e h = absurd (cc)
   found_in k (f ∷ es) x e h = go (found_in k es x) (eq_by_cmp cmp k f.0) e
     where
-      go : (find cmp k es ≡ Some x → t x ≡ true → list_any (λ e. t e.1) es ≡ true) → (b : Bool) → cond b (Some f.1) (find cmp k es) ≡ Some x → (t f.1 || list_any (λ e. t e.1) es) ≡ true
+      go : (find cmp k es ≡ Some x → t x ≡ true → list_any (λ e. t e.1) es ≡ true) → (b : Bool) → cond b (Some f.1) (find cmp k es) ≡ Some x
+          → (t f.1 || list_any (λ e. t e.1) es) ≡ true
       go rest true e = let same : Some f.1 ≡ Some x = e in let is : f.1 ≡ x = cc in ap (λ b. b || list_any (λ e. t e.1) es) (ap t is ∙ h)
       go rest false e = or_true (t f.1) (list_any (λ e. t e.1) es) (rest e h)
 

@@ -19,13 +19,15 @@ module _ {E : Type 0} where
   pub none_distinct : IsDistinct {E = E} []
   none_distinct p q a b h k e = absurd (let g : None ≡ Some a = h in cc)
 
-  standing_at-pushed : (rows : List (List (Option (Entry E)))) (n r i : ℕ) → standing (rows ++ replicate n None ∷ []) (place r i) ≡ standing rows (place r i)
+  standing_at-pushed : (rows : List (List (Option (Entry E)))) (n r i : ℕ)
+      → standing (rows ++ replicate n None ∷ []) (place r i) ≡ standing rows (place r i)
   standing_at-pushed [] n zero i = none_in_vacant n i
   standing_at-pushed [] n (suc r) i = refl
   standing_at-pushed (row ∷ rows) n zero i = refl
   standing_at-pushed (row ∷ rows) n (suc r) i = standing_at-pushed rows n r i
 
-  standing-pushed : (rows : List (List (Option (Entry E)))) (n : ℕ) (p : Place) → standing (rows ++ replicate n None ∷ []) p ≡ standing rows p
+  standing-pushed : (rows : List (List (Option (Entry E)))) (n : ℕ) (p : Place)
+      → standing (rows ++ replicate n None ∷ []) p ≡ standing rows p
   standing-pushed rows n p = standing_at-pushed rows n p.row p.index
 
   -- a last row of vacant places
@@ -39,7 +41,8 @@ module _ {E : Type 0} where
         (λ q s h. standing-pushed rows n s.place ∙ stands_at rows q s h)
 
     pushed_lengths : map length (rows ++ replicate n None ∷ []) ≡ map length rows ++ n ∷ []
-    pushed_lengths = map-append length rows (replicate n None ∷ []) ∙ ap (λ l. map length rows ++ l ∷ []) (length-replicate {A = Option (Entry E)} n None)
+    pushed_lengths = map-append length rows (replicate n None ∷ [])
+        ∙ ap (λ l. map length rows ++ l ∷ []) (length-replicate {A = Option (Entry E)} n None)
 
     pub pushed_is : seats_of (rows ++ replicate n None ∷ []) ≡ with_row (seats_of rows) n
     pushed_is = λ t. record { seats = pushed_map t; rows = pushed_lengths t }
@@ -70,7 +73,8 @@ module _ {E : Type 0} where
     standing-renewed_out : (p : Place) → p.row ≢ r → standing (slice_set rows r (replicate n None)) p ≡ standing rows p
     standing-renewed_out p e = ap (λ row. get_or row p.index None) (get_or-set_other rows r p.row (replicate n None) [] e)
 
-    renewed_some : (p : Place) (e : Entry E) → standing (slice_set rows r (replicate n None)) p ≡ Some e → (p.row ≢ r) × (standing rows p ≡ Some e)
+    renewed_some : (p : Place) (e : Entry E) → standing (slice_set rows r (replicate n None)) p ≡ Some e → (p.row ≢ r)
+        × (standing rows p ≡ Some e)
     renewed_some p e h = ⊎_elim
         (λ i. absurd (let g : None ≡ Some e = sym (standing-renewed_in p i) ∙ h in cc))
         (λ o. (o, sym (standing-renewed_out p o) ∙ h))
@@ -87,4 +91,8 @@ module _ {E : Type 0} where
         seat_of _ s.place (entry k s.value) renewed_distinct (standing-renewed_out s.place f.1 ∙ stands_at rows k s f.0))
 
     pub renewed_is : IsRenewed r n (seats_of rows) (seats_of (slice_set rows r (replicate n None)))
-    renewed_is = (map-set length rows r (replicate n None) ∙ ap (slice_set (map length rows) r) (length-replicate {A = Option (Entry E)} n None), renewed_get)
+    renewed_is = (
+      map-set length rows r (replicate n None) ∙ ap (slice_set (map length rows) r)
+          (length-replicate {A = Option (Entry E)} n None),
+      renewed_get,
+    )

@@ -25,7 +25,8 @@ module _ {E : Type 0} where
   vacant-unseated t n p free k s h = free k s (get-remove_cases t.seats n k s h).1
 
   -- the place of a number that is taken away is vacant, where no other number had it
-  pub vacated : (t : Seats E) (n : ℕ) (p : Place) → ((k : ℕ) (s : Seat E) → get t.seats k ≡ Some s → k ≢ n → s.place ≢ p) → IsVacant (unseated t n) p
+  pub vacated : (t : Seats E) (n : ℕ) (p : Place) → ((k : ℕ) (s : Seat E) → get t.seats k ≡ Some s → k ≢ n → s.place ≢ p)
+      → IsVacant (unseated t n) p
   vacated t n p others k s h = let r = get-remove_cases t.seats n k s h in others k s r.1 r.0
 
   -- each place of a renewed row is vacant

@@ -42,17 +42,19 @@ module _ {E : Type 0} where
 
   find-left : (q : ℕ) (xs ys : List (ℕ × Seat E)) (s : Seat E) → find nat_cmp q xs ≡ Some s → find nat_cmp q (xs ++ ys) ≡ Some s
   find-left q [] ys s h = absurd (let g : None ≡ Some s = h in cc)
-  find-left q (x ∷ xs) ys s h = elim (eq_by_cmp nat_cmp q x.0) as (λ b. cond b (Some x.1) (find nat_cmp q xs) ≡ Some s → cond b (Some x.1) (find nat_cmp q (xs ++ ys)) ≡ Some s) [
-    | true ↦ λ k. k
-    | false ↦ λ k. find-left q xs ys s k
-  ] h
+  find-left q (x ∷ xs) ys s h = elim (eq_by_cmp nat_cmp q x.0)
+      as (λ b. cond b (Some x.1) (find nat_cmp q xs) ≡ Some s → cond b (Some x.1) (find nat_cmp q (xs ++ ys)) ≡ Some s) [
+        | true ↦ λ k. k
+        | false ↦ λ k. find-left q xs ys s k
+      ] h
 
   find-right : (q : ℕ) (xs ys : List (ℕ × Seat E)) → find nat_cmp q xs ≡ None → find nat_cmp q (xs ++ ys) ≡ find nat_cmp q ys
   find-right q [] ys h = refl
-  find-right q (x ∷ xs) ys h = elim (eq_by_cmp nat_cmp q x.0) as (λ b. cond b (Some x.1) (find nat_cmp q xs) ≡ None → cond b (Some x.1) (find nat_cmp q (xs ++ ys)) ≡ find nat_cmp q ys) [
-    | true ↦ λ k. absurd (let g : None ≡ Some x.1 = sym k in cc)
-    | false ↦ λ k. find-right q xs ys k
-  ] h
+  find-right q (x ∷ xs) ys h = elim (eq_by_cmp nat_cmp q x.0)
+      as (λ b. cond b (Some x.1) (find nat_cmp q xs) ≡ None → cond b (Some x.1) (find nat_cmp q (xs ++ ys)) ≡ find nat_cmp q ys) [
+        | true ↦ λ k. absurd (let g : None ≡ Some x.1 = sym k in cc)
+        | false ↦ λ k. find-right q xs ys k
+      ] h
 
   -- no number stands twice in a row
   abbrev IsDistinctRow : List (Option (Entry E)) → Type 0
@@ -69,7 +71,8 @@ module _ {E : Type 0} where
       found_in_row xs r (i + 1) k e (tail_distinct None xs d) h ∙ ap (λ n. Some (seat (place r n) e.value)) (omega arith)
   found_in_row (Some a ∷ xs) r i zero e d h =
       let same : a ≡ e = cc in
-      find_here e.number a.number _ _ (ap (λ x. x.number) (sym same)) ∙ λ j. Some (seat (place r ((let z : i ≡ i + 0 = omega arith in z) j)) ((same j).value))
+      find_here e.number a.number _ _ (ap (λ x. x.number) (sym same))
+      ∙ λ j. Some (seat (place r ((let z : i ≡ i + 0 = omega arith in z) j)) ((same j).value))
   found_in_row (Some a ∷ xs) r i (suc k) e d h =
       find_there e.number a.number _ _ (λ p. absurd (omega (arith, d 0 (suc k) a e refl h (sym p))))
       ∙ found_in_row xs r (i + 1) k e (tail_distinct (Some a) xs d) h ∙ ap (λ n. Some (seat (place r n) e.value)) (omega arith)
@@ -84,7 +87,8 @@ module _ {E : Type 0} where
       (λ e. let same : Some (seat (place r i) a.value) ≡ Some s = sym (find_here q a.number _ (in_row r (i + 1) xs) e) ∙ h in
       let same' : (seat (place r i) a.value) ≡ s = cc in
       (0, sym (ap (λ x. x.place) same') ∙ ap (place r) (omega arith), λ j. Some (entry ((sym e) j) ((same' j).value))))
-      (λ n. let f = in_row_of_found xs r (i + 1) q s (sym (find_there q a.number _ (in_row r (i + 1) xs) n) ∙ h) in (suc f.0, f.1 ∙ ap (place r) (omega arith), f.2))
+      (λ n. let f = in_row_of_found xs r (i + 1) q s (sym (find_there q a.number _ (in_row r (i + 1) xs) n) ∙ h) in
+      (suc f.0, f.1 ∙ ap (place r) (omega arith), f.2))
       (cases_eq q a.number)
 
   first_distinct : (row : List (Option (Entry E))) (rows : List (List (Option (Entry E)))) → IsDistinct (row ∷ rows) → IsDistinctRow row
@@ -96,7 +100,8 @@ module _ {E : Type 0} where
       let r : p.row ≡ q.row = omega (arith, ap (λ z. z.row) same) in
       λ t. place (r t) ((same t).index)
 
-  found_of_standing : (rows : List (List (Option (Entry E)))) (r k i : ℕ) (e : Entry E) → IsDistinct rows → standing rows (place k i) ≡ Some e
+  found_of_standing : (rows : List (List (Option (Entry E)))) (r k i : ℕ) (e : Entry E) → IsDistinct rows
+      → standing rows (place k i) ≡ Some e
       → find nat_cmp e.number (in_rows r rows) ≡ Some (seat (place (r + k) i) e.value)
   found_of_standing [] r k i e d h = absurd (let g : None ≡ Some e = h in cc)
   found_of_standing (row ∷ rows) r zero i e d h =
@@ -124,12 +129,14 @@ module _ {E : Type 0} where
       (none_or_some (find nat_cmp q (in_row r 0 row)))
 
   -- the table has what stands in the places, and nothing else
-  pub stands_at : (rows : List (List (Option (Entry E)))) (q : ℕ) (s : Seat E) → get (seats_of rows).seats q ≡ Some s → standing rows s.place ≡ Some (entry q s.value)
+  pub stands_at : (rows : List (List (Option (Entry E)))) (q : ℕ) (s : Seat E) → get (seats_of rows).seats q ≡ Some s
+      → standing rows s.place ≡ Some (entry q s.value)
   stands_at rows q s h =
       let f = standing_of_found rows 0 q s (sym (get-from_entries nat_cmp_total (in_rows 0 rows) q) ∙ h) in
       ap (standing rows) (f.1 ∙ ap (λ z. place z f.0.index) (omega arith)) ∙ f.2
 
-  pub seat_of : (rows : List (List (Option (Entry E)))) (p : Place) (e : Entry E) → IsDistinct rows → standing rows p ≡ Some e → get (seats_of rows).seats e.number ≡ Some (seat p e.value)
+  pub seat_of : (rows : List (List (Option (Entry E)))) (p : Place) (e : Entry E) → IsDistinct rows → standing rows p ≡ Some e
+      → get (seats_of rows).seats e.number ≡ Some (seat p e.value)
   seat_of rows p e d h =
       get-from_entries nat_cmp_total (in_rows 0 rows) e.number ∙ found_of_standing rows 0 p.row p.index e d h
       ∙ ap (λ n. Some (seat (place n p.index) e.value)) (omega arith)
@@ -140,7 +147,8 @@ module _ {E : Type 0} where
       → ((q : ℕ) (s : Seat E) → get m q ≡ Some s → standing rows s.place ≡ Some (entry q s.value))
       → (seats_of rows).seats ≡ m
   same_seats rows m d to from =
-      same_map nat_cmp_total nat_cmp-IsAntisymmetric _ _ (λ q. option_same _ _ (λ s h. to q s (stands_at rows q s h)) (λ s h. seat_of rows s.place (entry q s.value) d (from q s h)))
+      same_map nat_cmp_total nat_cmp-IsAntisymmetric _ _ (λ q. option_same _ _ (λ s h. to q s (stands_at rows q s h))
+      (λ s h. seat_of rows s.place (entry q s.value) d (from q s h)))
 
   -- the rows with an entry, or none, in a place
   abbrev pub written : List (List (Option (Entry E))) → Place → Option (Entry E) → List (List (Option (Entry E)))
@@ -150,8 +158,10 @@ module _ {E : Type 0} where
   abbrev pub IsWithin : List (List (Option (Entry E))) → Place → Type 0
   IsWithin rows p = (p.row < length rows) × (p.index < length (get_or rows p.row []))
 
-  lengths-written : (rows : List (List (Option (Entry E)))) (p : Place) (x : Option (Entry E)) → map length (written rows p x) ≡ map length rows
-  lengths-written rows p x = map-set_same length rows p.row (slice_set (get_or rows p.row []) p.index x) [] (length-set (get_or rows p.row []) p.index x)
+  lengths-written : (rows : List (List (Option (Entry E)))) (p : Place) (x : Option (Entry E))
+      → map length (written rows p x) ≡ map length rows
+  lengths-written rows p x = map-set_same length rows p.row (slice_set (get_or rows p.row []) p.index x)
+      [] (length-set (get_or rows p.row []) p.index x)
 
   pub standing_within : (rows : List (List (Option (Entry E)))) (p : Place) (e : Entry E) → standing rows p ≡ Some e → IsWithin rows p
   standing_within rows p e h =
@@ -183,7 +193,8 @@ module _ {E : Type 0} where
         (cases_eq q.row p.row)
 
     -- what a place has after a write
-    standing-written_cases : (q : Place) (e : Entry E) → standing (written rows p x) q ≡ Some e → ((q ≡ p) × (x ≡ Some e)) ⊎ ((q ≢ p) × (standing rows q ≡ Some e))
+    standing-written_cases : (q : Place) (e : Entry E) → standing (written rows p x) q ≡ Some e → ((q ≡ p) × (x ≡ Some e))
+        ⊎ ((q ≢ p) × (standing rows q ≡ Some e))
     standing-written_cases q e h =
         ⊎_elim
         (λ s. inl (s, sym (standing-written_same q s) ∙ h))
@@ -203,7 +214,8 @@ module _ {E : Type 0} where
         (λ x. ⊎_elim (λ y. x.0 ∙ sym y.0)
         (λ y. absurd (y.0 (place_of j b y.1 (sym e ∙ ap (λ z. z.number) (sym (let s : (entry n v) ≡ a = (let t = x.1 in cc) in s))))))
         (standing-written_cases rows p _ inside j b k))
-        (λ x. ⊎_elim (λ y. absurd (x.0 (place_of i a x.1 (e ∙ ap (λ z. z.number) (sym (let s : (entry n v) ≡ b = (let t = y.1 in cc) in s))))))
+        (λ x. ⊎_elim (λ y. absurd (x.0 (place_of i a x.1 (e ∙ ap (λ z. z.number)
+        (sym (let s : (entry n v) ≡ b = (let t = y.1 in cc) in s))))))
         (λ y. d i j a b x.1 y.1 e)
         (standing-written_cases rows p _ inside j b k))
         (standing-written_cases rows p _ inside i a h)
@@ -233,7 +245,8 @@ module _ {E : Type 0} where
     pub unseated_distinct : IsDistinct (written rows p None)
     unseated_distinct i j a b h k e =
         ⊎_elim (λ x. absurd (let n : None ≡ Some a = x.1 in cc))
-        (λ x. ⊎_elim (λ y. absurd (let n : None ≡ Some b = y.1 in cc)) (λ y. d i j a b x.1 y.1 e) (standing-written_cases rows p _ cleared_within j b k))
+        (λ x. ⊎_elim (λ y. absurd (let n : None ≡ Some b = y.1 in cc)) (λ y. d i j a b x.1 y.1 e)
+        (standing-written_cases rows p _ cleared_within j b k))
         (standing-written_cases rows p _ cleared_within i a h)
 
     unseated_map : (seats_of (written rows p None)).seats ≡ remove (seats_of rows).seats old.number
@@ -245,7 +258,8 @@ module _ {E : Type 0} where
         (λ q s k. ⊎_elim
         (λ e. absurd (let g : None ≡ Some s = sym (get-remove_same _ old.number q e) ∙ k in cc))
         (λ e. let was = sym (get-remove_other _ old.number q e) ∙ k in
-        standing-written_other rows p _ cleared_within s.place (λ same. e (let g : Some (entry q s.value) ≡ Some old = sym (stands_at rows q s was) ∙ ap (standing rows) same ∙ h in
+        standing-written_other rows p _ cleared_within s.place
+        (λ same. e (let g : Some (entry q s.value) ≡ Some old = sym (stands_at rows q s was) ∙ ap (standing rows) same ∙ h in
         let both : (entry q s.value) ≡ old = cc in ap (λ z. z.number) both)) ∙ stands_at rows q s was)
         (cases_eq q old.number))
 
@@ -257,13 +271,15 @@ module _ {E : Type 0} where
   inserted_its m n p fresh s h = absurd (let g : None ≡ Some s = sym fresh ∙ h in cc)
 
   -- the value at a place that was found
-  pub value_found : (rows : List (List (Option (Entry E)))) (n : ℕ) (p : Place) (e : Entry E) → IsDistinct rows → IsPlaceOf rows n (Some p) → standing rows p ≡ Some e → Some e.value ≡ value_at (seats_of rows) n
+  pub value_found : (rows : List (List (Option (Entry E)))) (n : ℕ) (p : Place) (e : Entry E) → IsDistinct rows → IsPlaceOf rows n (Some p)
+      → standing rows p ≡ Some e → Some e.value ≡ value_at (seats_of rows) n
   value_found rows n p e d h at =
       let same : h.0 ≡ e = (let g : Some h.0 ≡ Some e = sym h.1 ∙ at in cc) in
       sym (ap (value_at (seats_of rows)) (sym h.2 ∙ ap (λ z. z.number) same) ∙ ap (option_map (λ s. s.value)) (seat_of rows p e d at))
 
   pub nowhere : (rows : List (List (Option (Entry E)))) (n : ℕ) → IsPlaceOf rows n None → get (seats_of rows).seats n ≡ None
-  nowhere rows n h = option_same _ None (λ s f. absurd (h s.place _ (stands_at rows n s f) refl)) (λ s f. absurd (let g : None ≡ Some s = f in cc))
+  nowhere rows n h = option_same _ None (λ s f. absurd (h s.place _ (stands_at rows n s f) refl))
+      (λ s f. absurd (let g : None ≡ Some s = f in cc))
 
   pub value_none : (rows : List (List (Option (Entry E)))) (n : ℕ) → IsPlaceOf rows n None → None ≡ value_at (seats_of rows) n
   value_none rows n h = sym (ap (option_map (λ s. s.value)) (nowhere rows n h))
@@ -285,9 +301,11 @@ module _ {E : Type 0} where
     pub set_distinct : (v : E) → IsDistinct (written rows p (Some (entry n v)))
     set_distinct v = seated_distinct rows p n v placed_within d others_apart its_seat
 
-    pub set_is : (v : E) → IfSome (get (seats_of rows).seats n) (λ s. seats_of (written rows p (Some (entry n v))) ≡ seated (seats_of rows) n s.place v)
+    pub set_is : (v : E) → IfSome (get (seats_of rows).seats n)
+        (λ s. seats_of (written rows p (Some (entry n v))) ≡ seated (seats_of rows) n s.place v)
     set_is v =
-        let there : get (seats_of rows).seats n ≡ Some (seat p h.0.value) = ap (get (seats_of rows).seats) (sym h.2) ∙ seat_of rows p h.0 d h.1 in
+        let there : get (seats_of rows).seats n ≡ Some (seat p h.0.value) = ap (get (seats_of rows).seats) (sym h.2)
+        ∙ seat_of rows p h.0 d h.1 in
         subst (λ o. IfSome o (λ s. seats_of (written rows p (Some (entry n v))) ≡ seated (seats_of rows) n s.place v)) (sym there)
         (seated_is rows p n v placed_within d others_apart its_seat)
 
@@ -299,6 +317,8 @@ module _ {E : Type 0} where
 
     pub vacated_is : IfSome (get (seats_of rows).seats n) (λ s. IsVacant (seats_of (written rows p None)) s.place)
     vacated_is =
-        let there : get (seats_of rows).seats n ≡ Some (seat p h.0.value) = ap (get (seats_of rows).seats) (sym h.2) ∙ seat_of rows p h.0 d h.1 in
+        let there : get (seats_of rows).seats n ≡ Some (seat p h.0.value) = ap (get (seats_of rows).seats) (sym h.2)
+        ∙ seat_of rows p h.0 d h.1 in
         subst (λ o. IfSome o (λ s. IsVacant (seats_of (written rows p None)) s.place)) (sym there)
-        (λ k s f e. let none : None ≡ Some (entry k s.value) = sym (standing-written_same rows p None placed_within s.place e) ∙ stands_at (written rows p None) k s f in cc)
+        (λ k s f e. let none : None ≡ Some (entry k s.value) = sym (standing-written_same rows p None placed_within s.place e)
+        ∙ stands_at (written rows p None) k s f in cc)

@@ -11,7 +11,8 @@ use Rattle.rr_table.specs.declared.table.Entry.{Entry}
 
 module _ {E : Type 0} where
   -- what a read shows
-  pub entry_read : (row : List (Option (Entry E))) (i : ℕ) (x : Option (Entry E)) (e : Entry E) → x ≡ get_or row i x → x ≡ Some e → i < length row → get_or row i None ≡ Some e
+  pub entry_read : (row : List (Option (Entry E))) (i : ℕ) (x : Option (Entry E)) (e : Entry E) → x ≡ get_or row i x → x ≡ Some e
+      → i < length row → get_or row i None ≡ Some e
   entry_read row i x e is some inside = get_or_default row i None x inside ∙ sym is ∙ some
 
   pub within_inside : (rows : List (List (Option (Entry E)))) (p : Place) → IsInside (seats_of rows) p → IsWithin rows p
@@ -23,25 +24,29 @@ module _ {E : Type 0} where
   row_inside rows r h = omega (arith, h, length-map rows length)
 
   module _ (vs : List (Vec (Option (Entry E)) Global)) where
-    pub row_at : (r : ℕ) (v : Vec (Option (Entry E)) Global) → r < length vs → v ≡ get_or vs r v → get_or (map (λ row. row.items) vs) r [] ≡ v.items
+    pub row_at : (r : ℕ) (v : Vec (Option (Entry E)) Global) → r < length vs → v ≡ get_or vs r v
+        → get_or (map (λ row. row.items) vs) r [] ≡ v.items
     row_at r v inside is = get_or-map (λ row. row.items) vs r v [] inside ∙ ap (λ w. w.items) (sym is)
 
     within_vectors : (p : Place) → IsWithin (map (λ row. row.items) vs) p → p.row < length vs
     within_vectors p w = omega (arith, w.0, length-map vs (λ row. row.items))
 
     -- a place of the rows is one of the vector's
-    pub index_within : (p : Place) (v : Vec (Option (Entry E)) Global) → IsWithin (map (λ row. row.items) vs) p → v ≡ get_or vs p.row v → p.index < v.len
+    pub index_within : (p : Place) (v : Vec (Option (Entry E)) Global) → IsWithin (map (λ row. row.items) vs) p → v ≡ get_or vs p.row v
+        → p.index < v.len
     index_within p v w is = omega (arith, w.1, ap length (row_at p.row v (within_vectors p w) is), v.ok.0)
 
     -- a write to an element of an element
-    pub written_at : (p : Place) (v : Vec (Option (Entry E)) Global) (x : Option (Entry E)) → IsWithin (map (λ row. row.items) vs) p → v ≡ get_or vs p.row v
+    pub written_at : (p : Place) (v : Vec (Option (Entry E)) Global) (x : Option (Entry E)) → IsWithin (map (λ row. row.items) vs) p
+        → v ≡ get_or vs p.row v
         → map (λ row. row.items) (slice_set vs p.row (with_item v p.index x)) ≡ written (map (λ row. row.items) vs) p x
     written_at p v x w is =
         map-set (λ row. row.items) vs p.row (with_item v p.index x)
         ∙ ap (λ l. slice_set (map (λ row. row.items) vs) p.row (slice_set l p.index x)) (sym (row_at p.row v (within_vectors p w) is))
 
     -- a last vector
-    pub pushed_at : (ws : List (Vec (Option (Entry E)) Global)) (v : Vec (Option (Entry E)) Global) (n : ℕ) → ws ≡ vs ++ v ∷ [] → v.items ≡ replicate n None
+    pub pushed_at : (ws : List (Vec (Option (Entry E)) Global)) (v : Vec (Option (Entry E)) Global) (n : ℕ) → ws ≡ vs ++ v ∷ []
+        → v.items ≡ replicate n None
         → map (λ row. row.items) ws ≡ map (λ row. row.items) vs ++ replicate n None ∷ []
     pushed_at ws v n is vacant =
         ap (map (λ row. row.items)) is ∙ map-append (λ row. row.items) vs (v ∷ [])

@@ -18,7 +18,8 @@ waiting_server = record server { strategy = BackpressureStrategy.RetryUntilDeliv
 -- up to the answer
 abbrev answered : Events
 answered =
-    (Command.CreateClient (client BackpressureStrategy.DiscardData), Reply.Created 0) ∷ (Command.CreateServer waiting_server, Reply.Created 1)
+    (Command.CreateClient (client BackpressureStrategy.DiscardData), Reply.Created 0) ∷
+    (Command.CreateServer waiting_server, Reply.Created 1)
     ∷ (Command.SendCopy 0 123, Reply.Pending 2 1) ∷ (Command.Receive 1, Reply.Active 3 2) ∷ (Command.SendCopy 3 456, Reply.Sent 4) ∷ []
 
 -- the answer is read, and then there is none
@@ -86,7 +87,8 @@ only_one test (y ∷ ys) lasts it none rest (z ∷ zs) after x passes e =
 
 pub answers : AnswersTheRequest read_once
 answers before after p k e =
-    let found = only_one is_received answered ((Command.Receive 2, Reply.Nothing) ∷ []) (Command.Receive 2, Reply.Response 4) refl refl before after (Command.Receive p, Reply.Response k) refl e in
+    let found = only_one is_received answered ((Command.Receive 2, Reply.Nothing) ∷ []) (Command.Receive 2, Reply.Response 4) refl refl
+    before after (Command.Receive p, Reply.Response k) refl e in
     rw (found.0, ← ap receiver_in found.1, ← ap response_of found.1) (3, inr refl)
 
 pub once : ReceivesOnce read_once
@@ -126,17 +128,26 @@ without_gap server p waits = by_request (2 == p) refl
 
 pub all : ReceivesAll read_once
 all before after server p e waits held =
-    let found = only_one is_nothing (answered ++ (Command.Receive 2, Reply.Response 4) ∷ []) [] (Command.Receive 2, Reply.Nothing) refl refl before after (Command.Receive p, Reply.Nothing) refl e in
+    let found = only_one is_nothing (answered ++ (Command.Receive 2, Reply.Response 4) ∷ []) [] (Command.Receive 2, Reply.Nothing) refl refl
+    before after (Command.Receive p, Reply.Nothing) refl e in
     rw (found.0, ← ap receiver_in found.1) refl
 
 pub answer_rule : KeepsAnswerRule (limits 2 1 false) read_once
-answer_rule = record { answers = answers; once = once; in_order = in_order; without_gap = λ no_overflow. without_gap; all = λ no_overflow. all }
+answer_rule = record {
+  answers = answers;
+  once = once;
+  in_order = in_order;
+  without_gap = λ no_overflow. without_gap;
+  all = λ no_overflow. all;
+}
 
 abbrev read_twice : Events
-read_twice = (Command.Receive 1, Reply.Active 3 2) ∷ (Command.SendCopy 3 456, Reply.Sent 4) ∷ (Command.Receive 2, Reply.Response 4) ∷ (Command.Receive 2, Reply.Response 4) ∷ []
+read_twice = (Command.Receive 1, Reply.Active 3 2) ∷ (Command.SendCopy 3 456, Reply.Sent 4) ∷ (Command.Receive 2, Reply.Response 4) ∷
+    (Command.Receive 2, Reply.Response 4) ∷ []
 
 abbrev read_by_another : Events
-read_by_another = (Command.Receive 1, Reply.Active 3 2) ∷ (Command.SendCopy 3 456, Reply.Sent 4) ∷ (Command.Receive 5, Reply.Response 4) ∷ []
+read_by_another = (Command.Receive 1, Reply.Active 3 2) ∷ (Command.SendCopy 3 456, Reply.Sent 4) ∷
+    (Command.Receive 5, Reply.Response 4) ∷ []
 
 pub not_twice : ReceivesOnce read_twice → ⊥
 not_twice once = omega (arith, once 4)
@@ -156,7 +167,8 @@ not_by_another answers =
 -- a server that waits for room sent two responses, and the second was received without the first
 abbrev read_with_gap : Events
 read_with_gap =
-    (Command.CreateServer waiting_server, Reply.Created 1) ∷ (Command.Receive 1, Reply.Active 3 2) ∷ (Command.SendCopy 3 10, Reply.Sent 4) ∷ (Command.SendCopy 3 11, Reply.Sent 5)
+    (Command.CreateServer waiting_server, Reply.Created 1) ∷ (Command.Receive 1, Reply.Active 3 2) ∷ (Command.SendCopy 3 10, Reply.Sent 4) ∷
+    (Command.SendCopy 3 11, Reply.Sent 5)
     ∷ (Command.Receive 2, Reply.Response 5) ∷ []
 
 pub not_with_gap : ReceivesWithoutGap read_with_gap → ⊥
@@ -173,7 +185,8 @@ read_none =
 
 pub not_none : ReceivesAll read_none → ⊥
 not_none all =
-    let found = all ((Command.CreateServer waiting_server, Reply.Created 1) ∷ (Command.Receive 1, Reply.Active 3 2) ∷ (Command.SendCopy 3 10, Reply.Sent 4) ∷ []) [] 1 2 refl refl refl in
+    let found = all ((Command.CreateServer waiting_server, Reply.Created 1) ∷ (Command.Receive 1, Reply.Active 3 2) ∷
+    (Command.SendCopy 3 10, Reply.Sent 4) ∷ []) [] 1 2 refl refl refl in
     let known : ◌≡◌ {A = List ℕ} [] (4 ∷ []) = found in
     cc
 

@@ -53,7 +53,25 @@ copy = (
 
 pub receive : StepOf after_copy (Command.Receive 1) (Reply.Active 3 2) after_receive
 receive = (
-  (refl, ([], after_copy, refl, (refl, (0, sent, with_ports 1 (waiting ∷ []) [] [] 3, (simp literals, ([], simp literals, simp literals)), simp literals, simp literals)))),
+  (
+    refl,
+    (
+      [],
+      after_copy,
+      refl,
+      (
+        refl,
+        (
+          0,
+          sent,
+          with_ports 1 (waiting ∷ []) [] [] 3,
+          (simp literals, ([], simp literals, simp literals)),
+          simp literals,
+          simp literals,
+        ),
+      ),
+    ),
+  ),
   simp literals refl,
 )
 
@@ -62,10 +80,21 @@ read_request = simp literals (refl, refl)
 
 pub answer : StepOf after_receive (Command.SendCopy 3 456) (Reply.Sent 4) after_answer
 answer =
-    simp literals (with_loaned_response after_receive 3 (record { message = sent; server = 1 }) 1 0, simp literals (refl, refl, (0, refl, refl)), simp literals (refl, refl))
+    simp literals (
+      with_loaned_response after_receive 3 (record { message = sent; server = 1 }) 1 0,
+      simp literals (refl, refl, (0, refl, refl)),
+      simp literals (refl, refl),
+    )
 
 pub receive_answer : StepOf after_answer (Command.Receive 2) (Reply.Response 4) after_all
-receive_answer = simp literals (1, answered, with_ports 1 (waiting ∷ received ∷ []) [] [] 5, (refl, ([], refl, simp literals)), refl, simp literals)
+receive_answer = simp literals (
+  1,
+  answered,
+  with_ports 1 (waiting ∷ received ∷ []) [] [] 5,
+  (refl, ([], refl, simp literals)),
+  refl,
+  simp literals,
+)
 
 pub read_answer : StepOf after_all (Command.Payload 4) (Reply.Payload (456 ∷ [])) after_all
 read_answer = simp literals (refl, refl)
@@ -74,7 +103,8 @@ pub receive_nothing : StepOf after_all (Command.Receive 2) Reply.Nothing after_a
 receive_nothing = simp literals (inr ((λ server. refl), refl))
 
 pub base_path : RunOf (empty_hub (limits 2 1 false) 0)
-    (Command.CreateClient (client BackpressureStrategy.DiscardData) ∷ Command.CreateServer server ∷ Command.SendCopy 0 123 ∷ Command.Receive 1 ∷ Command.Payload 3
+    (Command.CreateClient (client BackpressureStrategy.DiscardData) ∷ Command.CreateServer server ∷ Command.SendCopy 0 123
+    ∷ Command.Receive 1 ∷ Command.Payload 3
     ∷ Command.SendCopy 3 456 ∷ Command.Receive 2 ∷ Command.Payload 4 ∷ Command.Receive 2 ∷ [])
     (Reply.Created 0 ∷ Reply.Created 1 ∷ Reply.Pending 2 1 ∷ Reply.Active 3 2 ∷ Reply.Payload (123 ∷ [])
     ∷ Reply.Sent 4 ∷ Reply.Response 4 ∷ Reply.Payload (456 ∷ []) ∷ Reply.Nothing ∷ [])

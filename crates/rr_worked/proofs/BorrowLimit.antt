@@ -57,11 +57,19 @@ asking = record { message = sent; hint = false; connections = 1; servers = 1 ∷
 
 pub answer_first : StepOf start (Command.SendCopy 3 10) (Reply.Sent 4) after_first
 answer_first =
-    simp literals (with_loaned_response start 3 (record { message = sent; server = 1 }) 1 0, simp literals (refl, refl, (0, refl, refl)), simp literals (refl, refl))
+    simp literals (
+      with_loaned_response start 3 (record { message = sent; server = 1 }) 1 0,
+      simp literals (refl, refl, (0, refl, refl)),
+      simp literals (refl, refl),
+    )
 
 pub answer_second : StepOf after_first (Command.SendCopy 3 11) (Reply.Sent 5) after_second
 answer_second =
-    simp literals (with_loaned_response after_first 3 (record { message = sent; server = 1 }) 1 0, simp literals (refl, refl, (0, refl, refl)), simp literals (refl, refl))
+    simp literals (
+      with_loaned_response after_first 3 (record { message = sent; server = 1 }) 1 0,
+      simp literals (refl, refl, (0, refl, refl)),
+      simp literals (refl, refl),
+    )
 
 pub receive_first : StepOf after_second (Command.Receive 2) (Reply.Response 4) borrowed
 receive_first = simp literals (1, first, released, (refl, (second ∷ [], refl, simp literals)), refl, simp literals)
@@ -70,9 +78,11 @@ pub no_room : has_response_room borrowed (response_key asking 1) ≡ true → �
 no_room room = let never = simp literals at room in cc
 
 -- the other lists of the channel are empty
-pub only_first : (server : ℕ) (r : Ordering) → nat_cmp server 1 ≡ r → has_response_room borrowed (response_key asking server) ≡ true → at borrowed.responses (response_key asking server) ≡ []
+pub only_first : (server : ℕ) (r : Ordering) → nat_cmp server 1 ≡ r → has_response_room borrowed (response_key asking server) ≡ true
+    → at borrowed.responses (response_key asking server) ≡ []
 only_first server Less e room = simp (literals, e)
-only_first server Equal e room = absurd (no_room (subst (λ s. has_response_room borrowed (response_key asking s) ≡ true) (nat_cmp-IsAntisymmetric server 1 e) room))
+only_first server Equal e room = absurd (no_room (subst (λ s. has_response_room borrowed (response_key asking s) ≡ true)
+    (nat_cmp-IsAntisymmetric server 1 e) room))
 only_first server Greater e room = simp (literals, e)
 
 first_waits : at borrowed.responses (response_key asking 1) ≡ [] → ⊥
@@ -101,8 +111,25 @@ pub read_second : StepOf after_all (Command.Payload 5) (Reply.Payload (11 ∷ []
 read_second = simp literals (refl, refl)
 
 pub borrow_limit : RunOf start
-    (Command.SendCopy 3 10 ∷ Command.SendCopy 3 11 ∷ Command.Receive 2 ∷ Command.Receive 2 ∷ Command.HasEntries 2 ∷ Command.Release 4 ∷ Command.Receive 2 ∷ Command.Payload 5 ∷ [])
-    (Reply.Sent 4 ∷ Reply.Sent 5 ∷ Reply.Response 4 ∷ Reply.ReceiveError ReceiveError.ExceedsMaxBorrows ∷ Reply.Flag true ∷ Reply.Done ∷ Reply.Response 5 ∷ Reply.Payload (11 ∷ []) ∷ [])
+    (Command.SendCopy 3 10 ∷ Command.SendCopy 3 11 ∷ Command.Receive 2 ∷ Command.Receive 2 ∷ Command.HasEntries 2 ∷ Command.Release 4
+    ∷ Command.Receive 2 ∷ Command.Payload 5 ∷ [])
+    (Reply.Sent 4 ∷ Reply.Sent 5 ∷ Reply.Response 4 ∷ Reply.ReceiveError ReceiveError.ExceedsMaxBorrows ∷ Reply.Flag true ∷ Reply.Done
+    ∷ Reply.Response 5 ∷ Reply.Payload (11 ∷ []) ∷ [])
     after_all
-borrow_limit =
-    (_, answer_first, (_, answer_second, (_, receive_first, (_, exceeds_max_borrows, (_, has_second, (_, release, (_, receive_second, (_, read_second, refl))))))))
+borrow_limit = (
+  _,
+  answer_first,
+  (
+    _,
+    answer_second,
+    (
+      _,
+      receive_first,
+      (
+        _,
+        exceeds_max_borrows,
+        (_, has_second, (_, release, (_, receive_second, (_, read_second, refl)))),
+      ),
+    ),
+  ),
+)

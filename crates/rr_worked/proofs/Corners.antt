@@ -25,7 +25,8 @@ pub out_of_memory : StepOf full_pool (Command.Loan 0 1) (Reply.LoanError LoanErr
 out_of_memory = inl (simp literals (refl, refl))
 
 -- a request in a pending response, a list and an active request is one message
-pub counted_once : live_requests (with_ports (client_0 8 1) (server_1 28 ∷ []) (pending sent (1 ∷ []) ∷ active 3 sent 1 ∷ []) (requests_at 0 1 sent ∷ []) 4) 0 ≡ 1
+pub counted_once : live_requests (with_ports (client_0 8 1) (server_1 28 ∷ []) (pending sent
+    (1 ∷ []) ∷ active 3 sent 1 ∷ []) (requests_at 0 1 sent ∷ []) 4) 0 ≡ 1
 counted_once = simp literals
 
 abbrev hinting : Handles → HubState
@@ -54,13 +55,15 @@ handled loans = client_port (record (port 0 BackpressureStrategy.RetryUntilDeliv
 -- the list of server 1 is full
 abbrev handling : ℕ → Handles → ℕ → HubState
 handling loans handles next =
-    with_ports (handled loans) (server_1 28 ∷ []) handles ((record { client = 0; server = 1 }, (request 2 0 0 0 1, request 3 0 1 0 2 ∷ [])) ∷ []) next
+    with_ports (handled loans) (server_1 28 ∷ []) handles ((record { client = 0; server = 1 }, (request 2 0 0 0 1, request 3 0 1 0 2 ∷ []))
+    ∷ []) next
 
 abbrev third : Pending ℕ ℕ
 third = record { message = request 4 0 2 0 3; hint = false; connections = 0; servers = 1 ∷ [] }
 
 -- the handler passes server 1 over, though the strategy would wait
-pub passed_over : StepOf (handling 2 [] 4) (Command.SendCopy 0 3) (Reply.Pending 4 0) (handling 3 ((4, Handle.PendingResponse third) ∷ []) 5)
+pub passed_over : StepOf (handling 2 [] 4) (Command.SendCopy 0 3) (Reply.Pending 4 0)
+    (handling 3 ((4, Handle.PendingResponse third) ∷ []) 5)
 passed_over = (
   with_loaned_request (handling 2 [] 4) (handled 2) 1 0 0,
   (simp literals, refl, (0, 0, (lit< tt, simp literals), refl, refl)),

@@ -21,20 +21,24 @@ abbrev received : ℕ × Handle ℕ ℕ ℕ ℕ
 received = active 3 sent 1
 
 module _ (f : Bool) where
-  pub copy : StepOf (with_ports f 0 [] [] 2) (Command.SendCopy 0 7) (Reply.Pending 2 1) (with_ports f 1 (waiting ∷ []) (requests_at 0 1 sent ∷ []) 3)
+  pub copy : StepOf (with_ports f 0 [] [] 2) (Command.SendCopy 0 7) (Reply.Pending 2 1)
+      (with_ports f 1 (waiting ∷ []) (requests_at 0 1 sent ∷ []) 3)
   copy = (
     with_loaned_request (with_ports f 0 [] [] 2) (client_0 8 0) 1 0 0,
     (simp literals, refl, (0, 0, (lit< tt, simp literals), refl, refl)),
     simp literals (refl, refl, refl),
   )
 
-  pub release : StepOf (with_ports f 1 (waiting ∷ []) (requests_at 0 1 sent ∷ []) 3) (Command.Release 2) Reply.Done (with_ports f 1 [] (requests_at 0 1 sent ∷ []) 3)
+  pub release : StepOf (with_ports f 1 (waiting ∷ []) (requests_at 0 1 sent ∷ []) 3) (Command.Release 2) Reply.Done
+      (with_ports f 1 [] (requests_at 0 1 sent ∷ []) 3)
   release = simp literals refl
 
-  pub has_one : StepOf (with_ports f 1 [] (requests_at 0 1 sent ∷ []) 3) (Command.HasEntries 1) (Reply.Flag true) (with_ports f 1 [] (requests_at 0 1 sent ∷ []) 3)
+  pub has_one : StepOf (with_ports f 1 [] (requests_at 0 1 sent ∷ []) 3) (Command.HasEntries 1) (Reply.Flag true)
+      (with_ports f 1 [] (requests_at 0 1 sent ∷ []) 3)
   has_one = simp literals (((λ is. (0, λ e. cc)), (λ has. refl)), refl)
 
-pub receive_none : StepOf (with_ports false 1 [] (requests_at 0 1 sent ∷ []) 3) (Command.Receive 1) Reply.Nothing (with_ports false 1 [] [] 3)
+pub receive_none : StepOf (with_ports false 1 [] (requests_at 0 1 sent ∷ []) 3) (Command.Receive 1) Reply.Nothing
+    (with_ports false 1 [] [] 3)
 receive_none =
     inl (
       refl,
@@ -49,7 +53,8 @@ receive_none =
 pub has_none : StepOf (with_ports false 1 [] [] 3) (Command.HasEntries 1) (Reply.Flag false) (with_ports false 1 [] [] 3)
 has_none = simp literals (((λ is. absurd (not_true is)), (λ has. absurd (has.1 refl))), refl)
 
-pub receive_dead : StepOf (with_ports true 1 [] (requests_at 0 1 sent ∷ []) 3) (Command.Receive 1) (Reply.Active 3 2) (with_ports true 1 (received ∷ []) [] 4)
+pub receive_dead : StepOf (with_ports true 1 [] (requests_at 0 1 sent ∷ []) 3) (Command.Receive 1) (Reply.Active 3 2)
+    (with_ports true 1 (received ∷ []) [] 4)
 receive_dead = (
   (
     refl,
@@ -63,10 +68,12 @@ receive_dead = (
   simp literals refl,
 )
 
-pub is_not_connected : StepOf (with_ports true 1 (received ∷ []) [] 4) (Command.IsConnected 3) (Reply.Flag false) (with_ports true 1 (received ∷ []) [] 4)
+pub is_not_connected : StepOf (with_ports true 1 (received ∷ []) [] 4) (Command.IsConnected 3) (Reply.Flag false)
+    (with_ports true 1 (received ∷ []) [] 4)
 is_not_connected = simp literals (refl, refl)
 
-pub read : StepOf (with_ports true 1 (received ∷ []) [] 4) (Command.Payload 3) (Reply.Payload (7 ∷ [])) (with_ports true 1 (received ∷ []) [] 4)
+pub read : StepOf (with_ports true 1 (received ∷ []) [] 4) (Command.Payload 3)
+    (Reply.Payload (7 ∷ [])) (with_ports true 1 (received ∷ []) [] 4)
 read = simp literals (refl, refl)
 
 pub dead_request : RunOf (with_ports false 0 [] [] 2)
@@ -76,5 +83,6 @@ dead_request = (_, copy false, (_, release false, (_, has_one false, (_, receive
 
 pub fire_and_forget : RunOf (with_ports true 0 [] [] 2)
     (Command.SendCopy 0 7 ∷ Command.Release 2 ∷ Command.Receive 1 ∷ Command.IsConnected 3 ∷ Command.Payload 3 ∷ [])
-    (Reply.Pending 2 1 ∷ Reply.Done ∷ Reply.Active 3 2 ∷ Reply.Flag false ∷ Reply.Payload (7 ∷ []) ∷ []) (with_ports true 1 (received ∷ []) [] 4)
+    (Reply.Pending 2 1 ∷ Reply.Done ∷ Reply.Active 3 2 ∷ Reply.Flag false ∷ Reply.Payload (7 ∷ []) ∷ []) (with_ports true 1
+    (received ∷ []) [] 4)
 fire_and_forget = (_, copy true, (_, release true, (_, receive_dead, (_, is_not_connected, (_, read, refl)))))

@@ -59,13 +59,35 @@ copy = (
 
 pub receive : StepOf after_copy (Command.Receive 1) (Reply.Active 3 2) after_receive
 receive = (
-  (refl, ([], after_copy, refl, (refl, (0, sent, with_ports 1 held (pending sent (1 ∷ []) ∷ []) [] [] [] 3, (simp literals, ([], simp literals, simp literals)), simp literals, simp literals)))),
+  (
+    refl,
+    (
+      [],
+      after_copy,
+      refl,
+      (
+        refl,
+        (
+          0,
+          sent,
+          with_ports 1 held (pending sent (1 ∷ []) ∷ []) [] [] [] 3,
+          (simp literals, ([], simp literals, simp literals)),
+          simp literals,
+          simp literals,
+        ),
+      ),
+    ),
+  ),
   simp literals refl,
 )
 
 pub answer : StepOf after_receive (Command.SendCopy 3 9) (Reply.Sent 4) after_answer
 answer =
-    simp literals (with_loaned_response after_receive 3 (record { message = sent; server = 1 }) 1 0, simp literals (refl, refl, (0, refl, refl)), simp literals (refl, refl))
+    simp literals (
+      with_loaned_response after_receive 3 (record { message = sent; server = 1 }) 1 0,
+      simp literals (refl, refl, (0, refl, refl)),
+      simp literals (refl, refl),
+    )
 
 pub release_active : StepOf after_answer (Command.Release 3) Reply.Done after_release
 release_active = simp literals refl
@@ -90,8 +112,29 @@ pub receive_nothing : StepOf last (Command.Receive 5) Reply.Nothing last
 receive_nothing = simp literals (inr ((λ server. refl), refl))
 
 pub emptied_channel : RunOf start
-    (Command.SendCopy 0 1 ∷ Command.Receive 1 ∷ Command.SendCopy 3 9 ∷ Command.Release 3 ∷ Command.Release 1 ∷ Command.Release 2 ∷ Command.SendCopy 0 5 ∷ Command.HasEntries 5 ∷ Command.Receive 5 ∷ [])
-    (Reply.Pending 2 1 ∷ Reply.Active 3 2 ∷ Reply.Sent 4 ∷ Reply.Done ∷ Reply.Done ∷ Reply.Done ∷ Reply.Pending 5 0 ∷ Reply.Flag false ∷ Reply.Nothing ∷ [])
+    (Command.SendCopy 0 1 ∷ Command.Receive 1 ∷ Command.SendCopy 3 9 ∷ Command.Release 3 ∷ Command.Release 1 ∷ Command.Release 2
+    ∷ Command.SendCopy 0 5 ∷ Command.HasEntries 5 ∷ Command.Receive 5 ∷ [])
+    (Reply.Pending 2 1 ∷ Reply.Active 3 2 ∷ Reply.Sent 4 ∷ Reply.Done ∷ Reply.Done ∷ Reply.Done ∷ Reply.Pending 5 0 ∷ Reply.Flag false
+    ∷ Reply.Nothing ∷ [])
     last
-emptied_channel =
-    (_, copy, (_, receive, (_, answer, (_, release_active, (_, release_server, (_, release_pending, (_, copy_again, (_, has_none, (_, receive_nothing, refl)))))))))
+emptied_channel = (
+  _,
+  copy,
+  (
+    _,
+    receive,
+    (
+      _,
+      answer,
+      (
+        _,
+        release_active,
+        (
+          _,
+          release_server,
+          (_, release_pending, (_, copy_again, (_, has_none, (_, receive_nothing, refl)))),
+        ),
+      ),
+    ),
+  ),
+)

@@ -83,8 +83,25 @@ pub receive_nothing : StepOf read (Command.Receive 3) Reply.Nothing read
 receive_nothing = simp literals (inr ((λ server. refl), refl))
 
 pub oldest_gives_way : RunOf both_sent
-    (Command.Release 4 ∷ Command.Release 1 ∷ Command.Release 5 ∷ Command.Release 2 ∷ Command.IsConnected 3 ∷ Command.Receive 3 ∷ Command.Payload 7 ∷ Command.Release 7 ∷ Command.Receive 3 ∷ [])
-    (Reply.Done ∷ Reply.Done ∷ Reply.Done ∷ Reply.Done ∷ Reply.Flag false ∷ Reply.Response 7 ∷ Reply.Payload (20 ∷ []) ∷ Reply.Done ∷ Reply.Nothing ∷ [])
+    (Command.Release 4 ∷ Command.Release 1 ∷ Command.Release 5 ∷ Command.Release 2 ∷ Command.IsConnected 3 ∷ Command.Receive 3
+    ∷ Command.Payload 7 ∷ Command.Release 7 ∷ Command.Receive 3 ∷ [])
+    (Reply.Done ∷ Reply.Done ∷ Reply.Done ∷ Reply.Done ∷ Reply.Flag false ∷ Reply.Response 7 ∷ Reply.Payload
+    (20 ∷ []) ∷ Reply.Done ∷ Reply.Nothing ∷ [])
     read
-oldest_gives_way =
-    (_, release_first, (_, leave_first, (_, release_second, (_, leave_second, (_, is_not_connected, (_, receive, (_, read_response, (_, release_response, (_, receive_nothing, refl)))))))))
+oldest_gives_way = (
+  _,
+  release_first,
+  (
+    _,
+    leave_first,
+    (
+      _,
+      release_second,
+      (
+        _,
+        leave_second,
+        (_, is_not_connected, (_, receive, (_, read_response, (_, release_response, (_, receive_nothing, refl))))),
+      ),
+    ),
+  ),
+)

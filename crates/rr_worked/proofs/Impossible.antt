@@ -41,9 +41,11 @@ no_refused_loan new step =
 -- the third request was loaned, on some channel and with some user header
 abbrev loaned_third : ℕ → ℕ → HubState
 loaned_third channel header =
-    with_loaned_request (refused_send.released_both 2 7) (client_port (port 0 BackpressureStrategy.RetryUntilDelivered 12 true) 2) 1 channel header
+    with_loaned_request (refused_send.released_both 2 7) (client_port (port 0 BackpressureStrategy.RetryUntilDelivered 12 true) 2) 1 channel
+    header
 
-never_sent : (connections channel header : ℕ) (new : HubState) → SendsRequest answer (with_complete (loaned_third channel header) 7 (3 ∷ [])) 7 (Ok connections) new → ⊥
+never_sent : (connections channel header : ℕ) (new : HubState)
+    → SendsRequest answer (with_complete (loaned_third channel header) 7 (3 ∷ [])) 7 (Ok connections) new → ⊥
 never_sent connections channel header new sends = let known = simp literals at sends in not_none known.0
   where
     not_none : {X : Type 0} {x : X} → Some x ≡ None → ⊥
@@ -57,7 +59,8 @@ first_of client message rest Equal e stands = let known : base_path.sent ∷ [] 
 first_of client message rest Greater e stands = absurd (not_filled message rest (simp (literals, e) at stands))
 
 -- it is alive, so nothing is skimmed
-no_skim : (client : ℕ) (message : RequestMessage ℕ ℕ) (mid : HubState) → is_dead base_path.after_copy message ≡ true → TakesRequest base_path.after_copy (request_key client 1) message mid → ⊥
+no_skim : (client : ℕ) (message : RequestMessage ℕ ℕ) (mid : HubState) → is_dead base_path.after_copy message ≡ true
+    → TakesRequest base_path.after_copy (request_key client 1) message mid → ⊥
 no_skim client message mid dead takes =
     let same = first_of client message takes.1.0 (nat_cmp client 0) refl takes.1.1 in
     not_true (sym lives ∙ ap (is_dead base_path.after_copy) same ∙ dead)
@@ -65,7 +68,8 @@ no_skim client message mid dead takes =
     lives : is_dead base_path.after_copy base_path.sent ≡ false
     lives = simp literals
 
-lost : (skimmed : List ℕ) (mid : HubState) → Skims base_path.after_copy 1 skimmed mid → ((client : ℕ) → at mid.requests (request_key client 1) ≡ []) → ⊥
+lost : (skimmed : List ℕ) (mid : HubState) → Skims base_path.after_copy 1 skimmed mid
+    → ((client : ℕ) → at mid.requests (request_key client 1) ≡ []) → ⊥
 lost [] mid skims none = waits (subst IsEmptyAt skims (none 0))
   where
     IsEmptyAt : HubState → Type 0
@@ -84,15 +88,19 @@ no_lost_request new step =
     ]
 
 -- a send that one full list refuses is not sent to another that has room
-pub no_partial_send : (k connections : ℕ) (new : HubState) → StepOf (refused_send.released_both 2 7) (Command.SendCopy 0 3) (Reply.Pending k connections) new → ⊥
+pub no_partial_send : (k connections : ℕ) (new : HubState) → StepOf (refused_send.released_both 2 7) (Command.SendCopy 0 3)
+    (Reply.Pending k connections) new → ⊥
 no_partial_send k connections new step =
     let loaned = step.1 in
     let Sends : HubState → ℕ → Type 0 = λ mid number. SendsRequest answer (with_complete mid number (3 ∷ [])) number (Ok connections) new in
-    never_sent connections loaned.2.0 loaned.2.1 new (subst (Sends (loaned_third loaned.2.0 loaned.2.1)) loaned.1 (subst (λ mid. Sends mid k) loaned.2.4 step.2))
+    never_sent connections loaned.2.0 loaned.2.1 new (subst (Sends (loaned_third loaned.2.0 loaned.2.1)) loaned.1
+    (subst (λ mid. Sends mid k) loaned.2.4 step.2))
 
 -- no list of the channel gives one while the first response is held
-never_taken : (server : ℕ) (message : ResponseMessage ℕ ℕ) (mid : HubState) → TakesResponse borrow_limit.borrowed (response_key borrow_limit.asking server) message mid → ⊥
-never_taken server message mid takes = not_filled message takes.1.0 (sym (borrow_limit.only_first server (nat_cmp server 1) refl takes.0) ∙ takes.1.1)
+never_taken : (server : ℕ) (message : ResponseMessage ℕ ℕ) (mid : HubState)
+    → TakesResponse borrow_limit.borrowed (response_key borrow_limit.asking server) message mid → ⊥
+never_taken server message mid takes = not_filled message takes.1.0
+    (sym (borrow_limit.only_first server (nat_cmp server 1) refl takes.0) ∙ takes.1.1)
 
 -- a response is not received past the borrow limit
 pub no_borrow_past_the_limit : (k : ℕ) (new : HubState) → StepOf borrow_limit.borrowed (Command.Receive 2) (Reply.Response k) new → ⊥

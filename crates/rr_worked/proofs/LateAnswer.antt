@@ -45,10 +45,12 @@ asked_again = with_ports 2 ((4, ready) ∷ pending second (1 ∷ []) ∷ []) (re
 abbrev after_all : HubState
 after_all = with_ports 2 (pending second (1 ∷ []) ∷ []) (requests_at 0 1 second ∷ []) 6
 
-pub loan : StepOf (with_ports 1 (pending first (1 ∷ []) ∷ active 3 first 1 ∷ []) [] 4) (Command.Loan 3 1) (Reply.Loaned 4) (answering (Handle.ResponseMutUninit (late [])))
+pub loan : StepOf (with_ports 1 (pending first (1 ∷ []) ∷ active 3 first 1 ∷ []) [] 4) (Command.Loan 3 1) (Reply.Loaned 4)
+    (answering (Handle.ResponseMutUninit (late [])))
 loan = simp literals (inr (refl, refl, (0, refl, refl)))
 
-pub push : StepOf (answering (Handle.ResponseMutUninit (late []))) (Command.Push 4 77) (Reply.Flag true) (answering (Handle.ResponseMutUninit (late (77 ∷ []))))
+pub push : StepOf (answering (Handle.ResponseMutUninit (late []))) (Command.Push 4 77) (Reply.Flag true)
+    (answering (Handle.ResponseMutUninit (late (77 ∷ []))))
 push = simp literals (refl, refl)
 
 pub initialise : StepOf (answering (Handle.ResponseMutUninit (late (77 ∷ [])))) (Command.AssumeInit 4) Reply.Done (answering ready)
@@ -57,7 +59,8 @@ initialise = simp literals refl
 pub release_pending : StepOf (answering ready) (Command.Release 2) Reply.Done (with_ports 1 (active 3 first 1 ∷ (4, ready) ∷ []) [] 5)
 release_pending = simp literals refl
 
-pub release_active : StepOf (with_ports 1 (active 3 first 1 ∷ (4, ready) ∷ []) [] 5) (Command.Release 3) Reply.Done (with_ports 1 ((4, ready) ∷ []) [] 5)
+pub release_active : StepOf (with_ports 1 (active 3 first 1 ∷ (4, ready) ∷ []) [] 5) (Command.Release 3) Reply.Done
+    (with_ports 1 ((4, ready) ∷ []) [] 5)
 release_active = simp literals refl
 
 pub copy_again : StepOf (with_ports 1 ((4, ready) ∷ []) [] 5) (Command.SendCopy 0 11) (Reply.Pending 5 1) asked_again
@@ -77,8 +80,25 @@ pub receive_nothing : StepOf after_all (Command.Receive 5) Reply.Nothing after_a
 receive_nothing = simp literals (inr ((λ server. refl), refl))
 
 pub late_answer : RunOf (with_ports 1 (pending first (1 ∷ []) ∷ active 3 first 1 ∷ []) [] 4)
-    (Command.Loan 3 1 ∷ Command.Push 4 77 ∷ Command.AssumeInit 4 ∷ Command.Release 2 ∷ Command.Release 3 ∷ Command.SendCopy 0 11 ∷ Command.Send 4 ∷ Command.HasEntries 5 ∷ Command.Receive 5 ∷ Command.HasEntries 5 ∷ [])
-    (Reply.Loaned 4 ∷ Reply.Flag true ∷ Reply.Done ∷ Reply.Done ∷ Reply.Done ∷ Reply.Pending 5 1 ∷ Reply.Sent 4 ∷ Reply.Flag false ∷ Reply.Nothing ∷ Reply.Flag false ∷ [])
+    (Command.Loan 3 1 ∷ Command.Push 4 77 ∷ Command.AssumeInit 4 ∷ Command.Release 2 ∷ Command.Release 3 ∷ Command.SendCopy 0 11
+    ∷ Command.Send 4 ∷ Command.HasEntries 5 ∷ Command.Receive 5 ∷ Command.HasEntries 5 ∷ [])
+    (Reply.Loaned 4 ∷ Reply.Flag true ∷ Reply.Done ∷ Reply.Done ∷ Reply.Done ∷ Reply.Pending 5 1 ∷ Reply.Sent 4 ∷ Reply.Flag false
+    ∷ Reply.Nothing ∷ Reply.Flag false ∷ [])
     after_all
-late_answer =
-    (_, loan, (_, push, (_, initialise, (_, release_pending, (_, release_active, (_, copy_again, (_, reach_nobody, (_, has_none, (_, receive_nothing, (_, has_none, refl))))))))))
+late_answer = (
+  _,
+  loan,
+  (
+    _,
+    push,
+    (
+      _,
+      initialise,
+      (
+        _,
+        release_pending,
+        (_, release_active, (_, copy_again, (_, reach_nobody, (_, has_none, (_, receive_nothing, (_, has_none, refl)))))),
+      ),
+    ),
+  ),
+)

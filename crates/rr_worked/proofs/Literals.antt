@@ -33,17 +33,21 @@ module _ {A X : Type 0} (cmp : A → A → Ordering) where
     pub insert_lit : (es : List (A × X)) (key : A) (x : X) → is_sorted cmp es ≡ true → is_sorted cmp (put cmp key x es) ≡ true
         → insert (from_sorted {R = cmp} es) key x ≡ from_sorted (put cmp key x es)
     insert_lit es key x s t =
-        same_entries_map _ _ (entries-insert o (from_sorted es) key x ∙ ap (put cmp key x) (entries_lit es s) ∙ sym (entries_lit (put cmp key x es) t))
+        same_entries_map _ _ (entries-insert o (from_sorted es) key x ∙ ap (put cmp key x) (entries_lit es s)
+        ∙ sym (entries_lit (put cmp key x es) t))
 
     pub retain_lit : (es : List (A × X)) (p : A → Bool) → is_sorted cmp es ≡ true → is_sorted cmp (where_key cmp p es) ≡ true
         → retain_keys (from_sorted {R = cmp} es) p ≡ from_sorted (where_key cmp p es)
     retain_lit es p s t =
-        same_entries_map _ _ (entries-retain_keys o exact (from_sorted es) p ∙ ap (where_key cmp p) (entries_lit es s) ∙ sym (entries_lit (where_key cmp p es) t))
+        same_entries_map _ _ (entries-retain_keys o exact (from_sorted es) p ∙ ap (where_key cmp p) (entries_lit es s)
+        ∙ sym (entries_lit (where_key cmp p es) t))
 
-    pub remove_lit : (es : List (A × X)) (key : A) → is_sorted cmp es ≡ true → is_sorted cmp (where_key cmp (λ x. not (eq_by_cmp cmp key x)) es) ≡ true
+    pub remove_lit : (es : List (A × X)) (key : A) → is_sorted cmp es ≡ true
+        → is_sorted cmp (where_key cmp (λ x. not (eq_by_cmp cmp key x)) es) ≡ true
         → remove (from_sorted {R = cmp} es) key ≡ from_sorted (where_key cmp (λ x. not (eq_by_cmp cmp key x)) es)
     remove_lit es key s t =
-        same_entries_map _ _ (entries-remove o exact (from_sorted es) key ∙ ap (where_key cmp (λ x. not (eq_by_cmp cmp key x))) (entries_lit es s)
+        same_entries_map _ _ (entries-remove o exact (from_sorted es) key
+        ∙ ap (where_key cmp (λ x. not (eq_by_cmp cmp key x))) (entries_lit es s)
         ∙ sym (entries_lit (where_key cmp (λ x. not (eq_by_cmp cmp key x)) es) t))
 
 module _ {X : Type 0} where
@@ -58,7 +62,8 @@ module _ {X : Type 0} where
       → retain_keys (from_sorted {R = nat_cmp} es) p ≡ from_sorted (where_key nat_cmp p es)
   retain_numbers = retain_lit nat_cmp nat_cmp_total nat_cmp-IsAntisymmetric
 
-  pub remove_numbers : (es : List (ℕ × X)) (key : ℕ) → is_sorted nat_cmp es ≡ true → is_sorted nat_cmp (where_key nat_cmp (λ x. not (eq_by_cmp nat_cmp key x)) es) ≡ true
+  pub remove_numbers : (es : List (ℕ × X)) (key : ℕ) → is_sorted nat_cmp es ≡ true
+      → is_sorted nat_cmp (where_key nat_cmp (λ x. not (eq_by_cmp nat_cmp key x)) es) ≡ true
       → remove (from_sorted {R = nat_cmp} es) key ≡ from_sorted (where_key nat_cmp (λ x. not (eq_by_cmp nat_cmp key x)) es)
   remove_numbers = remove_lit nat_cmp nat_cmp_total nat_cmp-IsAntisymmetric
 
@@ -66,33 +71,56 @@ module _ {X : Type 0} where
   pub empty_request_keys : empty {X = X} {R = request_key_cmp} ≡ from_sorted []
   empty_request_keys = empty_lit request_key_cmp
 
-  pub insert_request_keys : (es : List (RequestKey × X)) (key : RequestKey) (x : X) → is_sorted request_key_cmp es ≡ true → is_sorted request_key_cmp (put request_key_cmp key x es) ≡ true
+  pub insert_request_keys : (es : List (RequestKey × X)) (key : RequestKey) (x : X) → is_sorted request_key_cmp es ≡ true
+      → is_sorted request_key_cmp (put request_key_cmp key x es) ≡ true
       → insert (from_sorted {R = request_key_cmp} es) key x ≡ from_sorted (put request_key_cmp key x es)
   insert_request_keys = insert_lit request_key_cmp request_keys_total request_keys_exact
 
-  pub retain_request_keys : (es : List (RequestKey × X)) (p : RequestKey → Bool) → is_sorted request_key_cmp es ≡ true → is_sorted request_key_cmp (where_key request_key_cmp p es) ≡ true
+  pub retain_request_keys : (es : List (RequestKey × X)) (p : RequestKey → Bool) → is_sorted request_key_cmp es ≡ true
+      → is_sorted request_key_cmp (where_key request_key_cmp p es) ≡ true
       → retain_keys (from_sorted {R = request_key_cmp} es) p ≡ from_sorted (where_key request_key_cmp p es)
   retain_request_keys = retain_lit request_key_cmp request_keys_total request_keys_exact
 
-  pub remove_request_keys : (es : List (RequestKey × X)) (key : RequestKey) → is_sorted request_key_cmp es ≡ true → is_sorted request_key_cmp (where_key request_key_cmp (λ x. not (eq_by_cmp request_key_cmp key x)) es) ≡ true
-      → remove (from_sorted {R = request_key_cmp} es) key ≡ from_sorted (where_key request_key_cmp (λ x. not (eq_by_cmp request_key_cmp key x)) es)
+  pub remove_request_keys : (es : List (RequestKey × X)) (key : RequestKey) → is_sorted request_key_cmp es ≡ true
+      → is_sorted request_key_cmp (where_key request_key_cmp (λ x. not (eq_by_cmp request_key_cmp key x)) es) ≡ true
+      → remove (from_sorted {R = request_key_cmp} es) key ≡ from_sorted
+      (where_key request_key_cmp (λ x. not (eq_by_cmp request_key_cmp key x)) es)
   remove_request_keys = remove_lit request_key_cmp request_keys_total request_keys_exact
 
 module _ {X : Type 0} where
   pub empty_response_keys : empty {X = X} {R = response_key_cmp} ≡ from_sorted []
   empty_response_keys = empty_lit response_key_cmp
 
-  pub insert_response_keys : (es : List (ResponseKey × X)) (key : ResponseKey) (x : X) → is_sorted response_key_cmp es ≡ true → is_sorted response_key_cmp (put response_key_cmp key x es) ≡ true
+  pub insert_response_keys : (es : List (ResponseKey × X)) (key : ResponseKey) (x : X) → is_sorted response_key_cmp es ≡ true
+      → is_sorted response_key_cmp (put response_key_cmp key x es) ≡ true
       → insert (from_sorted {R = response_key_cmp} es) key x ≡ from_sorted (put response_key_cmp key x es)
   insert_response_keys = insert_lit response_key_cmp response_keys_total response_keys_exact
 
-  pub retain_response_keys : (es : List (ResponseKey × X)) (p : ResponseKey → Bool) → is_sorted response_key_cmp es ≡ true → is_sorted response_key_cmp (where_key response_key_cmp p es) ≡ true
+  pub retain_response_keys : (es : List (ResponseKey × X)) (p : ResponseKey → Bool) → is_sorted response_key_cmp es ≡ true
+      → is_sorted response_key_cmp (where_key response_key_cmp p es) ≡ true
       → retain_keys (from_sorted {R = response_key_cmp} es) p ≡ from_sorted (where_key response_key_cmp p es)
   retain_response_keys = retain_lit response_key_cmp response_keys_total response_keys_exact
 
-  pub remove_response_keys : (es : List (ResponseKey × X)) (key : ResponseKey) → is_sorted response_key_cmp es ≡ true → is_sorted response_key_cmp (where_key response_key_cmp (λ x. not (eq_by_cmp response_key_cmp key x)) es) ≡ true
-      → remove (from_sorted {R = response_key_cmp} es) key ≡ from_sorted (where_key response_key_cmp (λ x. not (eq_by_cmp response_key_cmp key x)) es)
+  pub remove_response_keys : (es : List (ResponseKey × X)) (key : ResponseKey) → is_sorted response_key_cmp es ≡ true
+      → is_sorted response_key_cmp (where_key response_key_cmp (λ x. not (eq_by_cmp response_key_cmp key x)) es) ≡ true
+      → remove (from_sorted {R = response_key_cmp} es) key ≡ from_sorted
+      (where_key response_key_cmp (λ x. not (eq_by_cmp response_key_cmp key x)) es)
   remove_response_keys = remove_lit response_key_cmp response_keys_total response_keys_exact
 
 -- the rules for the three kinds of key
-pub ruleset literals = (entries_lit, get_lit, empty_numbers, insert_numbers, retain_numbers, remove_numbers, empty_request_keys, insert_request_keys, retain_request_keys, remove_request_keys, empty_response_keys, insert_response_keys, retain_response_keys, remove_response_keys)
+pub ruleset literals = (
+  entries_lit,
+  get_lit,
+  empty_numbers,
+  insert_numbers,
+  retain_numbers,
+  remove_numbers,
+  empty_request_keys,
+  insert_request_keys,
+  retain_request_keys,
+  remove_request_keys,
+  empty_response_keys,
+  insert_response_keys,
+  retain_response_keys,
+  remove_response_keys,
+)

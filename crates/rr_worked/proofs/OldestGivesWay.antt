@@ -29,37 +29,44 @@ second = request 3 0 1 0 2
 abbrev third : RequestMessage ℕ ℕ
 third = request 4 0 2 0 3
 
-pub copy_first : StepOf (with_ports 0 [] [] 2) (Command.SendCopy 0 1) (Reply.Pending 2 1) (with_ports 1 (pending first (1 ∷ []) ∷ []) (first ∷ []) 3)
+pub copy_first : StepOf (with_ports 0 [] [] 2) (Command.SendCopy 0 1) (Reply.Pending 2 1)
+    (with_ports 1 (pending first (1 ∷ []) ∷ []) (first ∷ []) 3)
 copy_first = (
   with_loaned_request (with_ports 0 [] [] 2) (client_0 8 0) 1 0 0,
   (simp literals, refl, (0, 0, (lit< tt, simp literals), refl, refl)),
   simp literals (refl, refl, refl),
 )
 
-pub release_first : StepOf (with_ports 1 (pending first (1 ∷ []) ∷ []) (first ∷ []) 3) (Command.Release 2) Reply.Done (with_ports 1 [] (first ∷ []) 3)
+pub release_first : StepOf (with_ports 1 (pending first (1 ∷ []) ∷ []) (first ∷ []) 3) (Command.Release 2) Reply.Done
+    (with_ports 1 [] (first ∷ []) 3)
 release_first = simp literals refl
 
-pub copy_second : StepOf (with_ports 1 [] (first ∷ []) 3) (Command.SendCopy 0 2) (Reply.Pending 3 1) (with_ports 2 (pending second (1 ∷ []) ∷ []) (first ∷ second ∷ []) 4)
+pub copy_second : StepOf (with_ports 1 [] (first ∷ []) 3) (Command.SendCopy 0 2) (Reply.Pending 3 1)
+    (with_ports 2 (pending second (1 ∷ []) ∷ []) (first ∷ second ∷ []) 4)
 copy_second = (
   with_loaned_request (with_ports 1 [] (first ∷ []) 3) (client_0 8 1) 1 0 0,
   (simp literals, refl, (0, 0, (lit< tt, simp literals), refl, refl)),
   simp literals (refl, refl, refl),
 )
 
-pub release_second : StepOf (with_ports 2 (pending second (1 ∷ []) ∷ []) (first ∷ second ∷ []) 4) (Command.Release 3) Reply.Done (with_ports 2 [] (first ∷ second ∷ []) 4)
+pub release_second : StepOf (with_ports 2 (pending second (1 ∷ []) ∷ []) (first ∷ second ∷ []) 4) (Command.Release 3) Reply.Done
+    (with_ports 2 [] (first ∷ second ∷ []) 4)
 release_second = simp literals refl
 
-pub copy_third : StepOf (with_ports 2 [] (first ∷ second ∷ []) 4) (Command.SendCopy 0 3) (Reply.Pending 4 1) (with_ports 3 (pending third (1 ∷ []) ∷ []) (second ∷ third ∷ []) 5)
+pub copy_third : StepOf (with_ports 2 [] (first ∷ second ∷ []) 4) (Command.SendCopy 0 3) (Reply.Pending 4 1)
+    (with_ports 3 (pending third (1 ∷ []) ∷ []) (second ∷ third ∷ []) 5)
 copy_third = (
   with_loaned_request (with_ports 2 [] (first ∷ second ∷ []) 4) (client_0 8 2) 1 0 0,
   (simp literals, refl, (0, 0, (lit< tt, simp literals), refl, refl)),
   simp literals (refl, refl, refl),
 )
 
-pub release_third : StepOf (with_ports 3 (pending third (1 ∷ []) ∷ []) (second ∷ third ∷ []) 5) (Command.Release 4) Reply.Done (with_ports 3 [] (second ∷ third ∷ []) 5)
+pub release_third : StepOf (with_ports 3 (pending third (1 ∷ []) ∷ []) (second ∷ third ∷ []) 5) (Command.Release 4) Reply.Done
+    (with_ports 3 [] (second ∷ third ∷ []) 5)
 release_third = simp literals refl
 
-pub receive_second : StepOf (with_ports 3 [] (second ∷ third ∷ []) 5) (Command.Receive 1) (Reply.Active 5 3) (with_ports 3 (active 5 second 1 ∷ []) (third ∷ []) 6)
+pub receive_second : StepOf (with_ports 3 [] (second ∷ third ∷ []) 5) (Command.Receive 1) (Reply.Active 5 3)
+    (with_ports 3 (active 5 second 1 ∷ []) (third ∷ []) 6)
 receive_second = (
   (
     refl,
@@ -67,13 +74,24 @@ receive_second = (
       [],
       with_ports 3 [] (second ∷ third ∷ []) 5,
       refl,
-      (refl, (0, second, with_ports 3 [] (third ∷ []) 5, (simp literals, (third ∷ [], simp literals, simp literals)), simp literals, simp literals)),
+      (
+        refl,
+        (
+          0,
+          second,
+          with_ports 3 [] (third ∷ []) 5,
+          (simp literals, (third ∷ [], simp literals, simp literals)),
+          simp literals,
+          simp literals,
+        ),
+      ),
     ),
   ),
   simp literals refl,
 )
 
-pub read_second : StepOf (with_ports 3 (active 5 second 1 ∷ []) (third ∷ []) 6) (Command.Payload 5) (Reply.Payload (2 ∷ [])) (with_ports 3 (active 5 second 1 ∷ []) (third ∷ []) 6)
+pub read_second : StepOf (with_ports 3 (active 5 second 1 ∷ []) (third ∷ []) 6) (Command.Payload 5)
+    (Reply.Payload (2 ∷ [])) (with_ports 3 (active 5 second 1 ∷ []) (third ∷ []) 6)
 read_second = simp literals (refl, refl)
 
 abbrev after_all : HubState
@@ -87,7 +105,17 @@ receive_third = (
       [],
       with_ports 3 (active 5 second 1 ∷ []) (third ∷ []) 6,
       refl,
-      (refl, (0, third, with_ports 3 (active 5 second 1 ∷ []) [] 6, (simp literals, ([], simp literals, simp literals)), simp literals, simp literals)),
+      (
+        refl,
+        (
+          0,
+          third,
+          with_ports 3 (active 5 second 1 ∷ []) [] 6,
+          (simp literals, ([], simp literals, simp literals)),
+          simp literals,
+          simp literals,
+        ),
+      ),
     ),
   ),
   simp literals refl,

@@ -23,7 +23,8 @@ other_server kept Greater = refl
 
 abbrev with_ports : ℕ → Handles → Requests → ℕ → HubState
 with_ports loans handles requests next =
-    hub (limits 2 2 false) (client_port (port 0 BackpressureStrategy.RetryUntilDelivered 12 true) loans ∷ []) (server_1 36 ∷ server_port (port 2 BackpressureStrategy.DiscardData 36 true) ∷ []) handles requests [] [] next
+    hub (limits 2 2 false) (client_port (port 0 BackpressureStrategy.RetryUntilDelivered 12 true) loans ∷ []) (server_1 36 ∷ server_port
+    (port 2 BackpressureStrategy.DiscardData 36 true) ∷ []) handles requests [] [] next
 
 abbrev first : RequestMessage ℕ ℕ
 first = request 3 0 0 0 1
@@ -83,7 +84,17 @@ receive_first = (
       [],
       after_second,
       refl,
-      (refl, (0, first, with_ports 2 (wait_first ∷ wait_second ∷ []) (requests_at 0 1 second ∷ both 2 ∷ []) 5, (simp literals, (second ∷ [], simp literals, simp literals)), simp literals, simp literals)),
+      (
+        refl,
+        (
+          0,
+          first,
+          with_ports 2 (wait_first ∷ wait_second ∷ []) (requests_at 0 1 second ∷ both 2 ∷ []) 5,
+          (simp literals, (second ∷ [], simp literals, simp literals)),
+          simp literals,
+          simp literals,
+        ),
+      ),
     ),
   ),
   simp literals refl,
@@ -97,7 +108,17 @@ receive_second = (
       [],
       after_one,
       refl,
-      (refl, (0, second, with_ports 2 (wait_first ∷ wait_second ∷ active 5 first 1 ∷ []) (both 2 ∷ []) 6, (simp literals, ([], simp literals, simp literals)), simp literals, simp literals)),
+      (
+        refl,
+        (
+          0,
+          second,
+          with_ports 2 (wait_first ∷ wait_second ∷ active 5 first 1 ∷ []) (both 2 ∷ []) 6,
+          (simp literals, ([], simp literals, simp literals)),
+          simp literals,
+          simp literals,
+        ),
+      ),
     ),
   ),
   simp literals refl,
@@ -109,7 +130,8 @@ release_first = simp literals refl
 pub release_second : StepOf released_first (Command.Release 4) Reply.Done (released_both 2 7)
 release_second = simp literals refl
 
-pub refused : StepOf (released_both 2 7) (Command.SendCopy 0 3) (Reply.RequestError (RequestSendError.SendError SendError.UnableToDeliver)) (released_both 3 8)
+pub refused : StepOf (released_both 2 7) (Command.SendCopy 0 3) (Reply.RequestError (RequestSendError.SendError SendError.UnableToDeliver))
+    (released_both 3 8)
 refused =
     inr (
       with_loaned_request (released_both 2 7) (client_port (port 0 BackpressureStrategy.RetryUntilDelivered 12 true) 2) 1 0 0,
@@ -119,14 +141,34 @@ refused =
     )
 
 pub has_none : StepOf (released_both 3 8) (Command.HasEntries 1) (Reply.Flag false) (released_both 3 8)
-has_none = simp literals (((λ is. absurd (not_true is)), (λ has. absurd (has.1 (other_server (first, second ∷ []) (nat_cmp has.0 0))))), refl)
+has_none = simp literals (
+  ((λ is. absurd (not_true is)), (λ has. absurd (has.1 (other_server (first, second ∷ []) (nat_cmp has.0 0))))),
+  refl,
+)
 
 pub has_some : StepOf (released_both 3 8) (Command.HasEntries 2) (Reply.Flag true) (released_both 3 8)
 has_some = simp literals (((λ is. (0, λ e. cc)), (λ has. refl)), refl)
 
 pub refused_before_delivery : RunOf start
-    (Command.SendCopy 0 1 ∷ Command.SendCopy 0 2 ∷ Command.Receive 1 ∷ Command.Receive 1 ∷ Command.Release 3 ∷ Command.Release 4 ∷ Command.SendCopy 0 3 ∷ Command.HasEntries 1 ∷ Command.HasEntries 2 ∷ [])
-    (Reply.Pending 3 2 ∷ Reply.Pending 4 2 ∷ Reply.Active 5 3 ∷ Reply.Active 6 4 ∷ Reply.Done ∷ Reply.Done ∷ Reply.RequestError (RequestSendError.SendError SendError.UnableToDeliver) ∷ Reply.Flag false ∷ Reply.Flag true ∷ [])
+    (Command.SendCopy 0 1 ∷ Command.SendCopy 0 2 ∷ Command.Receive 1 ∷ Command.Receive 1 ∷ Command.Release 3 ∷ Command.Release 4
+    ∷ Command.SendCopy 0 3 ∷ Command.HasEntries 1 ∷ Command.HasEntries 2 ∷ [])
+    (Reply.Pending 3 2 ∷ Reply.Pending 4 2 ∷ Reply.Active 5 3 ∷ Reply.Active 6 4 ∷ Reply.Done ∷ Reply.Done ∷ Reply.RequestError
+    (RequestSendError.SendError SendError.UnableToDeliver) ∷ Reply.Flag false ∷ Reply.Flag true ∷ [])
     (released_both 3 8)
-refused_before_delivery =
-    (_, copy_first, (_, copy_second, (_, receive_first, (_, receive_second, (_, release_first, (_, release_second, (_, refused, (_, has_none, (_, has_some, refl)))))))))
+refused_before_delivery = (
+  _,
+  copy_first,
+  (
+    _,
+    copy_second,
+    (
+      _,
+      receive_first,
+      (
+        _,
+        receive_second,
+        (_, release_first, (_, release_second, (_, refused, (_, has_none, (_, has_some, refl))))),
+      ),
+    ),
+  ),
+)

@@ -45,7 +45,11 @@ after_loan = with_handles (active 3 sent 1 ∷ (5, Handle.ResponseMutUninit loan
 
 pub answer : StepOf start (Command.SendCopy 3 9) (Reply.Sent 4) after_answer
 answer =
-    simp literals (with_loaned_response start 3 (record { message = sent; server = 1 }) 1 0, simp literals (refl, refl, (0, refl, refl)), simp literals (refl, refl))
+    simp literals (
+      with_loaned_response start 3 (record { message = sent; server = 1 }) 1 0,
+      simp literals (refl, refl, (0, refl, refl)),
+      simp literals (refl, refl),
+    )
 
 pub out_of_memory : StepOf after_answer (Command.Loan 3 1) (Reply.LoanError LoanError.OutOfMemory) after_answer
 out_of_memory = simp literals (inr (refl, refl))

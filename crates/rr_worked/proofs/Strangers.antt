@@ -11,7 +11,13 @@ with_handles loans handles next = hub (limits 2 1 false) (client_0 8 loans ∷ [
 
 -- the first loan, with these elements
 abbrev loaned : List ℕ → RequestMessage ℕ ℕ
-loaned elements = record { number = 1; client = 0; request_id = 0; channel = 0; content = record { user_header = 0; asked_len = 1; elements = elements } }
+loaned elements = record {
+  number = 1;
+  client = 0;
+  request_id = 0;
+  channel = 0;
+  content = record { user_header = 0; asked_len = 1; elements = elements };
+}
 
 abbrev start : HubState
 start = with_handles 0 [] 1
@@ -53,8 +59,25 @@ pub not_one_element : StepOf sendable (Command.Loan 0 2) Reply.WrongKind sendabl
 not_one_element = (refl, refl)
 
 pub strangers : RunOf start
-    (Command.Send 7 ∷ Command.Loan 0 1 ∷ Command.Send 1 ∷ Command.AssumeInit 1 ∷ Command.Push 1 4 ∷ Command.Push 1 5 ∷ Command.AssumeInit 1 ∷ Command.Receive 1 ∷ Command.Loan 0 2 ∷ [])
-    (Reply.Unknown ∷ Reply.Loaned 1 ∷ Reply.WrongKind ∷ Reply.Incomplete ∷ Reply.Flag true ∷ Reply.Flag false ∷ Reply.Done ∷ Reply.WrongKind ∷ Reply.WrongKind ∷ [])
+    (Command.Send 7 ∷ Command.Loan 0 1 ∷ Command.Send 1 ∷ Command.AssumeInit 1 ∷ Command.Push 1 4 ∷ Command.Push 1 5 ∷ Command.AssumeInit 1
+    ∷ Command.Receive 1 ∷ Command.Loan 0 2 ∷ [])
+    (Reply.Unknown ∷ Reply.Loaned 1 ∷ Reply.WrongKind ∷ Reply.Incomplete ∷ Reply.Flag true ∷ Reply.Flag false ∷ Reply.Done ∷ Reply.WrongKind
+    ∷ Reply.WrongKind ∷ [])
     sendable
-strangers =
-    (_, unknown, (_, loan, (_, not_initialised, (_, not_complete, (_, push, (_, push_full, (_, initialise, (_, not_a_receiver, (_, not_one_element, refl)))))))))
+strangers = (
+  _,
+  unknown,
+  (
+    _,
+    loan,
+    (
+      _,
+      not_initialised,
+      (
+        _,
+        not_complete,
+        (_, push, (_, push_full, (_, initialise, (_, not_a_receiver, (_, not_one_element, refl))))),
+      ),
+    ),
+  ),
+)

@@ -66,15 +66,36 @@ limits clients servers fire_and_forget =
     }
 
 abbrev pub client : BackpressureStrategy → ClientSettings NoHandler
-client strategy = record { strategy = strategy; initial_max_slice_len = 1; allocation_strategy = AllocationStrategy.Static; pool = None; handler = None }
+client strategy = record {
+  strategy = strategy;
+  initial_max_slice_len = 1;
+  allocation_strategy = AllocationStrategy.Static;
+  pool = None;
+  handler = None;
+}
 
 abbrev pub server : ServerSettings NoHandler
-server = record { strategy = BackpressureStrategy.DiscardData; initial_max_slice_len = 1; allocation_strategy = AllocationStrategy.Static; pool = None; handler = None; loans = 1 }
+server = record {
+  strategy = BackpressureStrategy.DiscardData;
+  initial_max_slice_len = 1;
+  allocation_strategy = AllocationStrategy.Static;
+  pool = None;
+  handler = None;
+  loans = 1;
+}
 
 -- a port with this number, strategy and pool size, and whether its value lives
 abbrev pub port : ℕ → BackpressureStrategy → ℕ → Bool → Port NoHandler
 port n strategy size held =
-    record { id = n; strategy = strategy; handler = None; allocation_strategy = AllocationStrategy.Static; initial_max_slice_len = 1; pool_size = size; is_held = held }
+    record {
+      id = n;
+      strategy = strategy;
+      handler = None;
+      allocation_strategy = AllocationStrategy.Static;
+      initial_max_slice_len = 1;
+      pool_size = size;
+      is_held = held;
+    }
 
 abbrev pub client_port : Port NoHandler → ℕ → Client NoHandler
 client_port port loans = record { port = port; loans_made = loans }
@@ -90,7 +111,8 @@ abbrev pub server_1 : ℕ → Server NoHandler
 server_1 size = server_port (port 1 BackpressureStrategy.DiscardData size true)
 
 -- limits, clients, servers, handles, requests, responses, expired pairs and the next number
-abbrev pub hub : Limits → List (Client NoHandler) → List (Server NoHandler) → Handles → Requests → Responses → List (ℕ × (ℕ × List ℕ)) → ℕ → HubState
+abbrev pub hub : Limits → List (Client NoHandler) → List (Server NoHandler) → Handles → Requests → Responses → List (ℕ × (ℕ × List ℕ)) → ℕ
+    → HubState
 hub limits clients servers handles requests responses expired next =
     record {
       limits = limits;
@@ -107,11 +129,21 @@ hub limits clients servers handles requests responses expired next =
 -- the number, client, request id, channel and one element of a request
 abbrev pub request : ℕ → ℕ → ℕ → ℕ → ℕ → RequestMessage ℕ ℕ
 request number client id channel element =
-    record { number = number; client = client; request_id = id; channel = channel; content = record { user_header = 0; asked_len = 1; elements = element ∷ [] } }
+    record {
+      number = number;
+      client = client;
+      request_id = id;
+      channel = channel;
+      content = record { user_header = 0; asked_len = 1; elements = element ∷ [] };
+    }
 
 -- a pending response with the servers that its request was sent to
 abbrev pub pending : RequestMessage ℕ ℕ → List ℕ → ℕ × Handle ℕ ℕ ℕ ℕ
-pending message servers = (message.number, Handle.PendingResponse (record { message = message; hint = false; connections = length servers; servers = servers }))
+pending message servers = (
+  message.number,
+  Handle.PendingResponse
+      (record { message = message; hint = false; connections = length servers; servers = servers }),
+)
 
 abbrev pub active : ℕ → RequestMessage ℕ ℕ → ℕ → ℕ × Handle ℕ ℕ ℕ ℕ
 active number message server = (number, Handle.ActiveRequest (record { message = message; server = server }))

@@ -5,11 +5,11 @@ ghost use Rattle.rr_hub.specs.Creation.{CreatesServer, server_refusal, with_serv
 ghost use Rattle.rr_hub.specs.Limits.{hub_refusal, is_too_large, worst_case_responses};
 ghost use Rattle.rr_parts.specs.Ports.{connected_of};
 
-use crate::create::{free_place, pool_size, worst_case_requests};
+use crate::create::{free_place, insert_port, pool_size, worst_case_requests};
 use crate::state::Core;
 use rr_hub::{BackpressureFn, Limits, ServerCreateError, ServerSettings};
 use rr_lanes::{Lane, LaneSize};
-use rr_parts::{OwnedLane, Port, ResponseNote, ServerPort};
+use rr_parts::{Port, ResponseNote, ServerPort};
 use rr_slots::Body;
 use std::alloc::AllocError;
 
@@ -85,20 +85,21 @@ impl<QB: Body, QH: Default + Drop, PB: Body, PH: Default + Drop, K: Backpressure
             capacity: self.limits.max_response_buffer_size,
         };
         let messages = Lane::new(self.alloc, size, NO_RESPONSE)?;
-        self.servers.reserve(1)?;
-        self.server_lanes.reserve(1)?;
-        let row = self.table.add_row(self.alloc, slots)?;
         let number = self.next;
-        let port = server_port(number, settings, slots, self.server_lanes.len(), place);
-        self.servers.push_reserved(ServerPort {
-            port,
+        let server = ServerPort {
+            port: server_port(number, settings, slots, self.server_lanes.len(), place),
             max_loaned_responses_per_request: loans,
-        });
-        self.server_lanes.push_reserved(OwnedLane {
-            owner: number,
-            row,
+        };
+        insert_port(
+            self.alloc,
+            &mut self.servers,
+            &mut self.server_lanes,
+            &mut self.table,
+            server,
+            number,
             messages,
-        });
+            slots,
+        )?;
         self.next += 1;
         Ok(number)
     }

@@ -6,7 +6,9 @@ use Rattle.rr_laws.proofs.unreduced.unreduced_pool.Goals as goal
 
 pub returns-clause-memory : goal.returns-clause-memory
 returns-clause-memory g c =
-    of_runs g.T.Default.is_default g.H.Default.is_default (λ limits s. FindsMemory g.T.Default.is_default g.H.Default.is_default limits s) (λ s fits. finds_memory g.T.Default.is_default g.H.Default.is_default s fits)
+    of_runs g.T.Default.is_default g.H.Default.is_default (λ limits s. FindsMemory g.T.Default.is_default g.H.Default.is_default limits s)
+    (λ s fits. finds_memory g.T.Default.is_default g.H.Default.is_default s fits)
 
 pub returns-clause-channel : goal.returns-clause-channel
-returns-clause-channel g c = of_runs g.T.Default.is_default g.H.Default.is_default (λ limits s. FindsChannel s) (λ s fits. finds_channel s fits)
+returns-clause-channel g c = of_runs g.T.Default.is_default g.H.Default.is_default (λ limits s. FindsChannel s)
+    (λ s fits. finds_channel s fits)

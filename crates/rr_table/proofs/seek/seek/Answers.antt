@@ -18,6 +18,7 @@ loop-row-preserved g c = λ r i e l h same.
     let rows = rows_of c.args.rows.now in
     let row = row_at c.args.rows.now.items c.loop-row.row _ (omega arith) c.index.ensures in
     ⊎_elim
-    (λ here. c.in_default-seek_in_row.ensures i e (ap (λ k. get_or k i None) (sym row) ∙ ap (λ k. get_or (get_or rows k []) i None) (sym here) ∙ h) same)
+    (λ here. c.in_default-seek_in_row.ensures i e (ap (λ k. get_or k i None) (sym row)
+    ∙ ap (λ k. get_or (get_or rows k []) i None) (sym here) ∙ h) same)
     (λ other. c.loop-row.invariant r i e (omega arith) h same)
     (cases_eq r c.loop-row.row)

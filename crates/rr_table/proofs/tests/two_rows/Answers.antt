@@ -25,7 +25,8 @@ pub insert-requires-2-clause-vacant : goal.insert-requires-2-clause-vacant
 insert-requires-2-clause-vacant c =
     let is = two _ _ _ c.new-table.ensures c.in_ok-add_row.ensures.ok c.in_ok-add_row-2.ensures.ok in
     subst (λ t. IsVacant t (place 1 0)) (sym c.insert.ensures)
-    (vacant-seated c.add_row-2.new.self 7 (place 0 1) 70 (place 1 0) (subst (λ t. IsVacant t (place 1 0)) (sym is) (vacant-no_seats (place 1 0)))
+    (vacant-seated c.add_row-2.new.self 7 (place 0 1) 70 (place 1 0)
+    (subst (λ t. IsVacant t (place 1 0)) (sym is) (vacant-no_seats (place 1 0)))
     (λ e. absurd (omega (arith, ap (λ z. z.row) e))))
 
 pub insert-requires-2-clause-fresh : goal.insert-requires-2-clause-fresh

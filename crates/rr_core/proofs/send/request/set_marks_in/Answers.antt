@@ -1,4 +1,4 @@
-use Rattle.std.proofs.Common.{◌≡◌, ◌<◌, ◌+◌, ◌*◌, ℕ, Some, length, map, refl, sym, ap, ◌∙◌}
+use Rattle.std.proofs.Common.{◌≡◌, ◌<◌, ◌+◌, ◌*◌, ℕ, Some, length, map, refl, sym, ap, ◌∙◌, arith}
 use Rattle.std.specs.Prelude.{slice_get, slice_set}
 use Rattle.rr_parts.specs.declared.port.ServerPort.{ServerPort}
 use Rattle.rr_parts.specs.Ports.{marks_of}
@@ -8,6 +8,14 @@ use Rattle.rr_core_laws.proofs.Places.{map-set_one}
 use Rattle.rr_core_laws.proofs.ReadAt.{asked_of}
 use Rattle.rr_core_laws.proofs.Senders.{asked_within}
 use Rattle.rr_core.proofs.send.request.set_marks_in.Goals as goal
+
+pub index_mut-requires : goal.index_mut-requires
+index_mut-requires g c =
+    omega (
+      arith,
+      asked_within c.args.waiting.now.items c.args.lane (λ marks. (i : ℕ) (s : ServerPort _) → slice_get c.args.servers.now i ≡ Some s → c.args.slot * c.args.places + s.port.place < length marks.items) c.requires,
+      c.args.waiting.now.ok.0,
+    )
 
 pub set_marks-requires : goal.set_marks-requires
 set_marks-requires g c =

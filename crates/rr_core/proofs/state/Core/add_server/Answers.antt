@@ -1,4 +1,4 @@
-use Rattle.std.proofs.Common.{◌≡◌, ◌≢◌, ◌<◌, ◌+◌, ◌^◌, ℕ, [], ◌∷◌, ◌++◌, length, map, replicate, refl, sym, ap, ◌∙◌, subst, arith}
+use Rattle.std.proofs.Common.{◌≡◌, ◌≢◌, ◌<◌, ◌+◌, ℕ, [], ◌∷◌, ◌++◌, length, map, replicate, refl, sym, ap, ◌∙◌, subst, arith}
 use Rattle.std.specs.Prelude.{Some, slice_get}
 use Rattle.std.proofs.lemmas.List.{map-append, length-map, length-replicate}
 use Rattle.std.proofs.Math.Nat.{max_comm}
@@ -18,6 +18,8 @@ use Rattle.rr_core_laws.proofs.ServerSound.{server_sound}
 use Rattle.rr_core_laws.proofs.ServerView.{server_view}
 use Rattle.rr_laws.specs.Reached.{IsReached}
 use Rattle.rr_laws.proofs.Creating.{with_server_reached}
+use Rattle.rr_core.specs.Reaching.{IsCore}
+use Rattle.rr_core.proofs.state.Core.add_server.Goals.{In_err-insert_port}
 use Rattle.rr_core.proofs.state.Core.add_server.Goals as goal
 
 pub free_place-place-requires : goal.free_place-place-requires
@@ -26,25 +28,23 @@ free_place-place-requires g c =
     let few : length p.servers < c.self.inside.limits.max_servers = fewer_servers p c.args.settings (rw (← c.self.view_is) at c.requires.due) in
     omega (arith, ap length c.as_slice.ensures.value, few, length-map c.self.inside.servers.items server_part)
 
-pub returns-in_err-reserve-clause-err : goal.returns-in_err-reserve-clause-err
-returns-in_err-reserve-clause-err g c =
-    let p = parts_of c.self.inside in
-    on_err_any _ (ap state_of (same_servers p p _ p.server_lanes p.table p.next (ap (map server_part) c.reserve.ensures.items) refl refl refl refl) ∙ c.self.view_is)
-
-pub returns-in_err-reserve-2-clause-err : goal.returns-in_err-reserve-2-clause-err
-returns-in_err-reserve-2-clause-err g c =
-    let p = parts_of c.self.inside in
-    on_err_any _ (ap state_of (same_servers p p _ _ p.table p.next (ap (map server_part) c.reserve.ensures.items) (ap (map lane_part) c.reserve-2.ensures.items) refl refl refl) ∙ c.self.view_is)
-
-pub returns-in_err-row-clause-err : goal.returns-in_err-row-clause-err
-returns-in_err-row-clause-err g c =
-    let p = parts_of c.self.inside in
-    on_err_any _ (ap state_of (same_servers p p _ _ _ p.next (ap (map server_part) c.reserve.ensures.items) (ap (map lane_part) c.reserve-2.ensures.items) c.in_err-row.ensures.err refl refl) ∙ c.self.view_is)
-
 pub worst_case_responses-requires-clause-counts : goal.worst_case_responses-requires-clause-counts
 worst_case_responses-requires-clause-counts g c =
     ap (λ n. is_too_large (worst_case_responses c.self.inside.limits n)) (c.max-loans.ensures ∙ max_comm c.args.settings.loans 1)
     ∙ (server_not_refused (state_of (parts_of c.self.inside)) c.args.settings (rw (← c.self.view_is) at c.requires.due)).2
+
+-- where memory was refused the parts are as before
+unchanged : (g : _) (c : In_err-insert_port g)
+    → with_servers (parts_of c.self.inside) (map server_part c.insert_port.new.ports.items) (map lane_part c.insert_port.new.lanes.items) c.insert_port.new.table c.self.inside.next
+    ≡ parts_of c.self.inside
+unchanged g c =
+    let p = parts_of c.self.inside in
+    let kept = c.in_err-insert_port.ensures in
+    same_servers p p _ _ _ p.next (ap (map server_part) kept.ports) (ap (map lane_part) kept.lanes) kept.table refl refl
+
+pub returns-in_err-insert_port-clause-err : goal.returns-in_err-insert_port-clause-err
+returns-in_err-insert_port-clause-err g c =
+    on_err_any _ (ap state_of (unchanged g (goal.at.returns-in_err-insert_port-clause-err g c).In_err-insert_port) ∙ c.self.view_is)
 
 -- the loans that the settings say
 loans : (g : _) (c : goal.After-self-1 g) → c.max-loans.result ≡ loans_of c.args.settings
@@ -53,45 +53,53 @@ loans g c = c.max-loans.ensures ∙ max_comm c.args.settings.loans 1
 -- as many slots as the settings say
 pool : (g : _) (c : goal.After-self-1 g) → c.pool_size-slots.result ≡ (server_port (parts_of c.self.inside) c.args.settings).pool_size
 pool g c =
-    c.pool_size-slots.ensures ∙ ap (λ w. pool_size_of w c.args.settings.pool) (c.worst_case_responses.ensures ∙ ap (λ n. worst_case_responses c.self.inside.limits n) (loans g c))
+    c.pool_size-slots.ensures
+    ∙ ap (λ w. pool_size_of w c.args.settings.pool) (c.worst_case_responses.ensures ∙ ap (λ n. worst_case_responses c.self.inside.limits n) (loans g c))
 
 -- the new lane is new
-new_lane : (g : _) (c : goal.After-self-1 g) → IsNew (server_port (parts_of c.self.inside) c.args.settings).pool_size c.args.settings.initial_max_slice_len c.self.inside.limits.max_clients (worst_case_requests c.self.inside.limits) c.self.inside.limits.max_response_buffer_size no_response c.in_ok-messages.messages
-new_lane g c = record {
-  contents = ap length c.in_ok-messages.ensures.contents ∙ length-replicate _ _ ∙ pool g c;
-  notes = c.in_ok-messages.ensures.notes ∙ ap (λ n. replicate n no_response) (pool g c);
-  user_headers = c.in_ok-messages.ensures.user_headers ∙ pool g c;
-  held = c.in_ok-messages.ensures.held ∙ ap (λ n. replicate n 0) (pool g c);
-  queues = c.in_ok-messages.ensures.queues ∙ ap (λ n. replicate c.self.inside.limits.max_clients (replicate n [])) c.worst_case_requests.ensures;
-  borrowed = c.in_ok-messages.ensures.borrowed ∙ ap (λ n. replicate c.self.inside.limits.max_clients (replicate n 0)) c.worst_case_requests.ensures;
-  capacity_is = c.in_ok-messages.ensures.capacity;
-  room_is = c.in_ok-messages.ensures.room;
-}
+new_lane : (g : _) (c : goal.After-self-1 g)
+    → IsNew (server_port (parts_of c.self.inside) c.args.settings).pool_size c.args.settings.initial_max_slice_len c.self.inside.limits.max_clients
+    (worst_case_requests c.self.inside.limits) c.self.inside.limits.max_response_buffer_size no_response c.in_ok-messages.messages
+new_lane g c =
+    let made = c.in_ok-messages.ensures in
+    let clients = c.self.inside.limits.max_clients in
+    record {
+      contents = ap length made.contents ∙ length-replicate _ _ ∙ pool g c;
+      notes = made.notes ∙ ap (λ n. replicate n no_response) (pool g c);
+      user_headers = made.user_headers ∙ pool g c;
+      held = made.held ∙ ap (λ n. replicate n 0) (pool g c);
+      queues = made.queues ∙ ap (λ n. replicate clients (replicate n [])) c.worst_case_requests.ensures;
+      borrowed = made.borrowed ∙ ap (λ n. replicate clients (replicate n 0)) c.worst_case_requests.ensures;
+      capacity_is = made.capacity;
+      room_is = made.room;
+    }
 
 -- the new port is the one that the settings say
-port : (g : _) (c : goal.After-self-1 g) → connected_of c.server_port-port.result ≡ record { port = server_port (parts_of c.self.inside) c.args.settings; lane = length (parts_of c.self.inside).server_lanes; place = c.free_place-place.result; loans = 0 }
+port : (g : _) (c : goal.After-self-1 g)
+    → connected_of c.server_port.result
+    ≡ record { port = server_port (parts_of c.self.inside) c.args.settings; lane = length (parts_of c.self.inside).server_lanes; place = c.free_place-place.result; loans = 0 }
 port g c =
     let p = parts_of c.self.inside in
-    let lane : c.len.result ≡ length p.server_lanes = c.len.ensures ∙ c.reserve-2.new.self.ok.0 ∙ ap length c.reserve-2.ensures.items ∙ sym (length-map c.self.inside.server_lanes.items lane_part) in
-    c.server_port-port.ensures
+    let lane : c.len.result ≡ length p.server_lanes = c.len.ensures ∙ c.self.inside.server_lanes.ok.0 ∙ sym (length-map c.self.inside.server_lanes.items lane_part) in
+    c.server_port.ensures
     ∙ ap (λ n. record { port = record (server_port p c.args.settings) { pool_size = n }; lane = c.len.result; place = c.free_place-place.result; loans = 0 }) (pool g c)
     ∙ ap (λ l. record { port = server_port p c.args.settings; lane = l; place = c.free_place-place.result; loans = 0 }) lane
 
 -- the parts after it
 parts : (g : _) (c : goal.After-self-1 g)
-    → with_servers (parts_of c.self.inside) (map server_part c.push_reserved.new.self.items) (map lane_part c.push_reserved-2.new.self.items) c.add_row.new.self (c.self.inside.next + 1)
+    → with_servers (parts_of c.self.inside) (map server_part c.insert_port.new.ports.items) (map lane_part c.insert_port.new.lanes.items) c.insert_port.new.table (c.self.inside.next + 1)
     ≡ with_server_part (parts_of c.self.inside) c.args.settings c.free_place-place.result c.in_ok-messages.messages
 parts g c =
     let p = parts_of c.self.inside in
-    let server : ServerPort _ = record { port = c.server_port-port.result; max_loaned_responses_per_request = c.max-loans.result } in
-    let lane : OwnedLane _ _ _ _ = record { owner = c.self.inside.next; row = c.in_ok-row.row; messages = c.in_ok-messages.messages } in
+    let added = c.in_ok-insert_port.ensures in
+    let server : ServerPort _ = record { port = c.server_port.result; max_loaned_responses_per_request = c.max-loans.result } in
+    let lane : OwnedLane _ _ _ _ = record { owner = c.self.inside.next; row = length p.table.rows; messages = c.in_ok-messages.messages } in
     same_servers p (with_server_part p c.args.settings c.free_place-place.result c.in_ok-messages.messages) _ _ _ _
-    (ap (map server_part) (c.push_reserved.ensures.items ∙ ap (λ xs. xs ++ server ∷ []) c.reserve.ensures.items) ∙ map-append server_part c.self.inside.servers.items (server ∷ [])
+    (ap (map server_part) added.ports ∙ map-append server_part c.self.inside.servers.items (server ∷ [])
     ∙ ap (λ x. p.servers ++ record { connected = x; max_loaned_responses_per_request = c.max-loans.result } ∷ []) (port g c)
     ∙ ap (λ n. p.servers ++ record { connected = record { port = server_port p c.args.settings; lane = length p.server_lanes; place = c.free_place-place.result; loans = 0 }; max_loaned_responses_per_request = n } ∷ []) (loans g c))
-    (ap (map lane_part) (c.push_reserved-2.ensures.items ∙ ap (λ xs. xs ++ lane ∷ []) c.reserve-2.ensures.items) ∙ map-append lane_part c.self.inside.server_lanes.items (lane ∷ [])
-    ∙ ap (λ r. p.server_lanes ++ record { owner = p.next; row = r; messages = c.in_ok-messages.messages } ∷ []) c.in_ok-row.ensures.row)
-    (c.in_ok-row.ensures.ok ∙ ap (with_row p.table) (pool g c))
+    (ap (map lane_part) added.lanes ∙ map-append lane_part c.self.inside.server_lanes.items (lane ∷ []))
+    (added.table ∙ ap (with_row p.table) (pool g c))
     refl refl
 
 -- no server has the place
@@ -102,10 +110,6 @@ vacant g c i d at same =
     (ap (λ xs. slice_get xs i) c.as_slice.ensures.value ∙ found.1)
     (ap (λ (x : ServerPart _). x.place) found.2 ∙ same)
 
--- a number is left, and there is room for a server
-room : (g : _) (c : goal.After-self-1 g) → (c.self.inside.next < 2 ^ 62) × (length (parts_of c.self.inside).servers < c.self.inside.limits.max_servers)
-room g c = let due = rw (← c.self.view_is) at c.requires.due in ((server_not_refused (state_of (parts_of c.self.inside)) c.args.settings due).0, fewer_servers (parts_of c.self.inside) c.args.settings due)
-
 pub returns-clause-ok : goal.returns-clause-ok
 returns-clause-ok g c =
     ap state_of (parts g c)
@@ -114,8 +118,15 @@ returns-clause-ok g c =
 
 pub invariant_of-self-2 : goal.invariant_of-self-2
 invariant_of-self-2 g c =
+    let p = parts_of c.self.inside in
+    let due = rw (← c.self.view_is) at c.requires.due in
     record {
       sound = subst (λ p. IsSound p empty_hand) (sym (parts g c))
-          (server_sound (parts_of c.self.inside) c.args.settings c.free_place-place.result c.in_ok-messages.messages c.self.invariant.sound (new_lane g c) c.free_place-place.ensures.inside (vacant g c) (room g c).1 (room g c).0);
+          (server_sound p c.args.settings c.free_place-place.result c.in_ok-messages.messages c.self.invariant.sound (new_lane g c) c.free_place-place.ensures.inside (vacant g c)
+          (fewer_servers p c.args.settings due) (server_not_refused (state_of p) c.args.settings due).0);
       reached = subst (λ s. IsReached s) (sym (returns-clause-ok g c)) (with_server_reached c.args.self.now (subst (λ s. IsReached s) c.self.view_is c.self.invariant.reached) c.args.settings c.requires.due);
     }
+
+pub invariant_of-self : goal.invariant_of-self
+invariant_of-self g c =
+    subst (λ p. IsCore p) (sym (unchanged g (goal.at.invariant_of-self g c).In_err-insert_port)) c.self.invariant

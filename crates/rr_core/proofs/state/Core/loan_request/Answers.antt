@@ -1,4 +1,4 @@
-use Rattle.std.proofs.Common.{◌≡◌, ◌<◌, ◌+◌, ◌^◌, ℕ, true, false, None, Some, Err, length, get_or, map, refl, sym, ap, ◌∙◌, subst, arith, Ok}
+use Rattle.std.proofs.Common.{◌≡◌, ◌<◌, ◌≤◌, ◌+◌, ◌^◌, ℕ, true, false, None, Some, Err, length, get_or, map, refl, sym, ap, ◌∙◌, subst, arith, Ok}
 use Rattle.std.specs.List.{position}
 use Rattle.std.specs.Prelude.{◌==◌, ◌↔◌, IsErrOf, slice_get, slice_index, slice_index_or, slice_set}
 use Rattle.std.proofs.lemmas.Bool.{eqb-true}
@@ -35,6 +35,7 @@ use Rattle.rr_laws.specs.Reached.{IsReached}
 use Rattle.rr_laws.proofs.Loaning.{loans_request_reached}
 use Rattle.rr_laws.proofs.Memory.{request_finds_memory}
 use Rattle.rr_core.specs.Reaching.{IsCore}
+use Rattle.rr_core.proofs.state.Core.loan_request.Goals.{After-index, After-index_mut, After-insert-arg-1}
 use Rattle.rr_core.proofs.state.Core.loan_request.Goals as goal
 
 pub unreachable-requires : goal.unreachable-requires
@@ -49,225 +50,192 @@ index-requires g c =
     let it = standing_at (λ (x : ClientPort _). x.port.id == c.args.client) c.in-Some.index c.as_slice.result.now items c.index_of.result c.index_of.ensures c.as_slice.ensures.value c.in-Some.is in
     omega (arith, slice_get_within items c.in-Some.index it.it it.at, c.self.inside.clients.ok.0)
 
+-- the client that was read is the one there, and the one that contracts see
+found : (g : _) (c : After-index g) → (slice_get c.self.inside.clients.items c.in-Some.index ≡ Some c.index.result.now)
+    × (slice_get (parts_of c.self.inside).clients c.in-Some.index ≡ Some (client_part c.index.result.now))
+    × (client_at (state_of (parts_of c.self.inside)) c.args.client ≡ Some (client_of (client_part c.index.result.now)))
+    × (c.index.result.now.port.id ≡ c.args.client)
+found g c =
+    let items = c.self.inside.clients.items in
+    let i = c.in-Some.index in
+    let it = standing_at (λ (x : ClientPort _). x.port.id == c.args.client) i c.as_slice.result.now items c.index_of.result c.index_of.ensures
+    c.as_slice.ensures.value c.in-Some.is in
+    let same : it.it ≡ c.index.result.now = sym (read_at items i it.it c.index.result.now it.at c.index.ensures) in
+    let at : slice_get items i ≡ Some c.index.result.now = it.at ∙ ap Some same in (
+      at,
+      listed client_part items i c.index.result.now at,
+      client_seen c.args.client items i it ∙ ap (λ (x : ClientPort _). Some (client_of (client_part x))) same,
+      sym (ap (λ (x : ClientPort _). x.port.id) same) ∙ eqb-true it.it.port.id c.args.client it.passes,
+    )
+
+-- it is among the clients, also when it is read again
+inside : (g : _) (c : After-index g) → c.in-Some.index < c.self.inside.clients.len
+inside g c = omega (arith, slice_get_within c.self.inside.clients.items c.in-Some.index c.index.result.now (found g c).0, c.self.inside.clients.ok.0)
+
+-- the lane from which it sends is its own, and its pool has so many slots
+own : (g : _) (c : After-index g) → (c.index.result.now.port.lane < length (parts_of c.self.inside).client_lanes)
+    × (length (lane_of c.index.result.now.port.lane (parts_of c.self.inside).client_lanes).messages.held ≡ c.index.result.now.port.pool_size)
+own g c =
+    let p = parts_of c.self.inside in
+    let client = client_part c.index.result.now in
+    let has = c.self.invariant.sound.client_ports.own c.in-Some.index client.connected
+    (listed (λ (c : ClientPart _). c.connected) p.clients c.in-Some.index client (found g c).1) in
+    (has.0, has.2)
+
+-- that lane is there
+there : (g : _) (c : After-index g) → c.index.result.now.port.lane < length c.self.inside.client_lanes.items
+there g c = lanes_many c.self.inside.client_lanes.items c.index.result.now.port.lane (own g c).0
+
+-- and is the one from which was loaned
+old : (g : _) (c : After-index_mut g) → c.index.result.now.port.lane < length c.self.inside.client_lanes.items
+    → lane_of c.index.result.now.port.lane (parts_of c.self.inside).client_lanes ≡ lane_part c.index_mut.result.now
+old g c h = lane_is c.self.inside.client_lanes.items c.index.result.now.port.lane c.index_mut.result.now h c.index_mut.ensures.value
+
 pub returns-then-is_too_long-clause-loans : goal.returns-then-is_too_long-clause-loans
 returns-then-is_too_long-clause-loans g c =
     let p = parts_of c.self.inside in
-    let items = c.self.inside.clients.items in
-    let i = c.in-Some.index in
-    let it = standing_at (λ (x : ClientPort _). x.port.id == c.args.client) i c.as_slice.result.now items c.index_of.result c.index_of.ensures c.as_slice.ensures.value c.in-Some.is in
-    let at = listed client_part items i it.it it.at in
-    let same : c.index.result.now ≡ it.it = read_at items i it.it c.index.result.now it.at c.index.ensures in
-    let client = client_part it.it in
-    let long : is_too_long client.port c.args.len ≡ true = ap (λ (x : ClientPort _). is_too_long (client_part x).port c.args.len) (sym same) ∙ sym c.is_too_long.ensures ∙ c.if-is_too_long.true in
-    refuses p c.self.invariant.sound i client at c.args.client c.args.len LoanError.ExceedsMaxLoanSize (client_seen c.args.client items i it)
-    (due_refusal _ client.port c.args.len LoanError.ExceedsMaxLoanSize (first_due p c.self.invariant.sound i client at c.args.len long))
+    let f = found g (goal.at.returns-then-is_too_long-clause-loans g c).After-index in
+    let client = client_part c.index.result.now in
+    refuses p c.self.invariant.sound c.in-Some.index client f.1 c.args.client c.args.len LoanError.ExceedsMaxLoanSize f.2
+    (due_refusal _ client.port c.args.len LoanError.ExceedsMaxLoanSize
+    (first_due p c.self.invariant.sound c.in-Some.index client f.1 c.args.len (sym c.is_too_long.ensures ∙ c.if-is_too_long.true)))
     c.args.self.now c.args.self.now c.self.view_is refl
 
 pub returns-then-self-port-clause-loans : goal.returns-then-self-port-clause-loans
 returns-then-self-port-clause-loans g c =
     let p = parts_of c.self.inside in
-    let items = c.self.inside.clients.items in
-    let i = c.in-Some.index in
-    let it = standing_at (λ (x : ClientPort _). x.port.id == c.args.client) i c.as_slice.result.now items c.index_of.result c.index_of.ensures c.as_slice.ensures.value c.in-Some.is in
-    let at = listed client_part items i it.it it.at in
-    let same : c.index.result.now ≡ it.it = read_at items i it.it c.index.result.now it.at c.index.ensures in
-    let client = client_part it.it in
-    let long : is_too_long client.port c.args.len ≡ false = ap (λ (x : ClientPort _). is_too_long (client_part x).port c.args.len) (sym same) ∙ sym c.is_too_long.ensures ∙ c.if-is_too_long.false in
-    refuses p c.self.invariant.sound i client at c.args.client c.args.len LoanError.ExceedsMaxLoans (client_seen c.args.client items i it)
-    (due_refusal _ client.port c.args.len LoanError.ExceedsMaxLoans (second_due p c.self.invariant.sound i client at c.args.len long (omega (arith, c.if-self-port.true, ap (λ (x : ClientPort _). x.port.loans) same))))
+    let f = found g (goal.at.returns-then-self-port-clause-loans g c).After-index in
+    let client = client_part c.index.result.now in
+    let many : p.limits.max_loaned_requests ≤ client.loans = omega (arith, c.if-self-port.true) in
+    refuses p c.self.invariant.sound c.in-Some.index client f.1 c.args.client c.args.len LoanError.ExceedsMaxLoans f.2
+    (due_refusal _ client.port c.args.len LoanError.ExceedsMaxLoans
+    (second_due p c.self.invariant.sound c.in-Some.index client f.1 c.args.len (sym c.is_too_long.ensures ∙ c.if-is_too_long.false) many))
     c.args.self.now c.args.self.now c.self.view_is refl
 
 pub index-requires-2 : goal.index-requires-2
-index-requires-2 g c =
-    let items = c.self.inside.clients.items in
-    let it = standing_at (λ (x : ClientPort _). x.port.id == c.args.client) c.in-Some.index c.as_slice.result.now items c.index_of.result c.index_of.ensures c.as_slice.ensures.value c.in-Some.is in
-    omega (arith, slice_get_within items c.in-Some.index it.it it.at, c.self.inside.clients.ok.0)
+index-requires-2 g c = inside g (goal.at.index-requires-2 g c).After-index
 
 pub index_mut-requires : goal.index_mut-requires
-index_mut-requires g c =
-    let p = parts_of c.self.inside in
-    let items = c.self.inside.clients.items in
-    let i = c.in-Some.index in
-    let it = standing_at (λ (x : ClientPort _). x.port.id == c.args.client) i c.as_slice.result.now items c.index_of.result c.index_of.ensures c.as_slice.ensures.value c.in-Some.is in
-    let at = listed client_part items i it.it it.at in
-    let same : c.index.result.now ≡ it.it = read_at items i it.it c.index.result.now it.at c.index.ensures in
-    let client = client_part it.it in
-    let own = c.self.invariant.sound.client_ports.own i client.connected (listed (λ (c : ClientPart _). c.connected) p.clients i client at) in
-    let lanes = c.self.inside.client_lanes.items in
-    let lane : c.index.result.now.port.lane ≡ client.lane = ap (λ (x : ClientPort _). x.port.lane) same in
-    let there : client.lane < length lanes = lanes_many lanes client.lane own.0 in
-    omega (arith, there, lane, c.self.inside.client_lanes.ok.0)
+index_mut-requires g c = omega (arith, there g (goal.at.index_mut-requires g c).After-index, c.self.inside.client_lanes.ok.0)
 
 pub index-requires-in-Ok : goal.index-requires-in-Ok
-index-requires-in-Ok g c =
-    let p = parts_of c.self.inside in
-    let items = c.self.inside.clients.items in
-    let i = c.in-Some.index in
-    let it = standing_at (λ (x : ClientPort _). x.port.id == c.args.client) i c.as_slice.result.now items c.index_of.result c.index_of.ensures c.as_slice.ensures.value c.in-Some.is in
-    let at = listed client_part items i it.it it.at in
-    let same : c.index.result.now ≡ it.it = read_at items i it.it c.index.result.now it.at c.index.ensures in
-    let client = client_part it.it in
-    let own = c.self.invariant.sound.client_ports.own i client.connected (listed (λ (c : ClientPart _). c.connected) p.clients i client at) in
-    let lanes = c.self.inside.client_lanes.items in
-    let lane : c.index.result.now.port.lane ≡ client.lane = ap (λ (x : ClientPort _). x.port.lane) same in
-    let there : client.lane < length lanes = lanes_many lanes client.lane own.0 in
-    omega (arith, there, lane, c.self.inside.client_lanes.ok.0)
+index-requires-in-Ok g c = omega (arith, there g (goal.at.index-requires-in-Ok g c).After-index, c.self.inside.client_lanes.ok.0)
 
--- the row of the lane from which was loaned
-row : (g : _) (c : goal.After-insert-arg-1 g) → c.index-in-Ok.result.now.row ≡ c.index_mut.result.now.row
-row g c =
-    let p = parts_of c.self.inside in
-    let items = c.self.inside.clients.items in
-    let i = c.in-Some.index in
-    let it = standing_at (λ (x : ClientPort _). x.port.id == c.args.client) i c.as_slice.result.now items c.index_of.result c.index_of.ensures c.as_slice.ensures.value c.in-Some.is in
-    let at = listed client_part items i it.it it.at in
-    let same : c.index.result.now ≡ it.it = read_at items i it.it c.index.result.now it.at c.index.ensures in
-    let client = client_part it.it in
-    let own = c.self.invariant.sound.client_ports.own i client.connected (listed (λ (c : ClientPart _). c.connected) p.clients i client at) in
+-- what is known of the slot that was loaned, in a lane that is there
+row : (g : _) (c : After-insert-arg-1 g) → c.index.result.now.port.lane < length c.self.inside.client_lanes.items
+    → c.index-in-Ok.result.now.row ≡ (lane_of c.index.result.now.port.lane (parts_of c.self.inside).client_lanes).row
+row g c h =
     let lanes = c.self.inside.client_lanes.items in
-    let lane : c.index.result.now.port.lane ≡ client.lane = ap (λ (x : ClientPort _). x.port.lane) same in
-    let there : client.lane < length lanes = lanes_many lanes client.lane own.0 in
-    ap (λ (x : OwnedLane _ _ _ _). x.row) (c.index-in-Ok.ensures ∙ get_or-set_same lanes c.index.result.now.port.lane _ _ (omega (arith, there, lane)))
+    let lane = c.index.result.now.port.lane in
+    ap (λ (x : OwnedLane _ _ _ _). x.row) (c.index-in-Ok.ensures ∙ get_or-set_same lanes lane _ _ h)
+    ∙ sym (ap (λ (l : Lane _ _ _). l.row) (lane_is lanes lane c.index_mut.result.now h c.index_mut.ensures.value))
 
 pub insert-requires-clause-place : goal.insert-requires-clause-place
 insert-requires-clause-place g c =
-    let p = parts_of c.self.inside in
-    let items = c.self.inside.clients.items in
-    let i = c.in-Some.index in
-    let it = standing_at (λ (x : ClientPort _). x.port.id == c.args.client) i c.as_slice.result.now items c.index_of.result c.index_of.ensures c.as_slice.ensures.value c.in-Some.is in
-    let at = listed client_part items i it.it it.at in
-    let same : c.index.result.now ≡ it.it = read_at items i it.it c.index.result.now it.at c.index.ensures in
-    let client = client_part it.it in
-    let own = c.self.invariant.sound.client_ports.own i client.connected (listed (λ (c : ClientPart _). c.connected) p.clients i client at) in
-    let lanes = c.self.inside.client_lanes.items in
-    let lane : c.index.result.now.port.lane ≡ client.lane = ap (λ (x : ClientPort _). x.port.lane) same in
-    let there : client.lane < length lanes = lanes_many lanes client.lane own.0 in
-    let old : lane_of client.lane p.client_lanes ≡ lane_part c.index_mut.result.now =
-    lane_is lanes client.lane c.index_mut.result.now there (c.index_mut.ensures.value ∙ ap (λ l. get_or lanes l c.index_mut.result.now) lane) in
-    let rows = c.self.invariant.sound.seated.client_rows client.lane own.0 in
-    let row_is : c.index-in-Ok.result.now.row ≡ (lane_of client.lane p.client_lanes).row = row g c ∙ sym (ap (λ (l : Lane _ _ _). l.row) old) in
-    let slots : length (lane_of client.lane p.client_lanes).messages.held ≡ length c.index_mut.result.now.messages.held = ap (λ (l : Lane _ _ _). length l.messages.held) old in
-    let within : c.in-Ok.slot < length c.index_mut.result.now.messages.held = slice_get_within _ c.in-Ok.slot 0 c.in-Ok.ensures.free in
-    (omega (arith, rows.0, row_is), in_row _ _ _ _ (omega (arith, within, slots)) (ap (λ r. slice_index_or c.self.inside.table.rows r 0) row_is ∙ rows.1))
+    let first = (goal.at.insert-requires-clause-place g c).After-index in
+    let is = old g (goal.at.insert-requires-clause-place g c).After-index_mut (there g first) in
+    let rows = c.self.invariant.sound.seated.client_rows c.index.result.now.port.lane (own g first).0 in
+    let row_is = row g (goal.at.insert-requires-clause-place g c).After-insert-arg-1 (there g first) in
+    let slots = ap (λ (l : Lane _ _ _). length l.messages.held) is in
+    let free : c.in-Ok.slot < length c.index_mut.result.now.messages.held = slice_get_within _ c.in-Ok.slot 0 c.in-Ok.ensures.free in
+    (omega (arith, rows.0, row_is), in_row _ _ _ _ (omega (arith, free, slots)) (ap (λ r. slice_index_or c.self.inside.table.rows r 0) row_is ∙ rows.1))
 
 pub insert-requires-clause-vacant : goal.insert-requires-clause-vacant
-insert-requires-clause-vacant g c k s e is =
+insert-requires-clause-vacant g c k s e at =
     let p = parts_of c.self.inside in
-    let items = c.self.inside.clients.items in
-    let i = c.in-Some.index in
-    let it = standing_at (λ (x : ClientPort _). x.port.id == c.args.client) i c.as_slice.result.now items c.index_of.result c.index_of.ensures c.as_slice.ensures.value c.in-Some.is in
-    let at = listed client_part items i it.it it.at in
-    let same : c.index.result.now ≡ it.it = read_at items i it.it c.index.result.now it.at c.index.ensures in
-    let client = client_part it.it in
-    let own = c.self.invariant.sound.client_ports.own i client.connected (listed (λ (c : ClientPart _). c.connected) p.clients i client at) in
-    let lanes = c.self.inside.client_lanes.items in
-    let lane : c.index.result.now.port.lane ≡ client.lane = ap (λ (x : ClientPort _). x.port.lane) same in
-    let there : client.lane < length lanes = lanes_many lanes client.lane own.0 in
-    let old : lane_of client.lane p.client_lanes ≡ lane_part c.index_mut.result.now =
-    lane_is lanes client.lane c.index_mut.result.now there (c.index_mut.ensures.value ∙ ap (λ l. get_or lanes l c.index_mut.result.now) lane) in
-    let row_is : c.index-in-Ok.result.now.row ≡ (lane_of client.lane p.client_lanes).row = row g c ∙ sym (ap (λ (l : Lane _ _ _). l.row) old) in
-    let slots : length (lane_of client.lane p.client_lanes).messages.held ≡ length c.index_mut.result.now.messages.held = ap (λ (l : Lane _ _ _). length l.messages.held) old in
-    let none : slice_index (lane_of client.lane p.client_lanes).messages.held c.in-Ok.slot ≡ 0 =
-    ap (λ (l : Lane _ _ _). slice_index l.messages.held c.in-Ok.slot) old ∙ get_or_from_slice_get _ c.in-Ok.slot 0 0 c.in-Ok.ensures.free in
-    own_vacant p c.self.invariant.sound client.lane c.in-Ok.slot own.0 (omega (arith, slots, slice_get_within _ c.in-Ok.slot 0 c.in-Ok.ensures.free)) none k s e
-    (is ∙ ap (λ r. record { row = r; index = c.in-Ok.slot }) row_is)
+    let first = (goal.at.insert-requires-clause-vacant g c).After-index in
+    let is = old g (goal.at.insert-requires-clause-vacant g c).After-index_mut (there g first) in
+    let lane = c.index.result.now.port.lane in
+    let slots = ap (λ (l : Lane _ _ _). length l.messages.held) is in
+    let none : slice_index (lane_of lane p.client_lanes).messages.held c.in-Ok.slot ≡ 0 =
+    ap (λ (l : Lane _ _ _). slice_index l.messages.held c.in-Ok.slot) is ∙ get_or_from_slice_get _ c.in-Ok.slot 0 0 c.in-Ok.ensures.free in
+    own_vacant p c.self.invariant.sound lane c.in-Ok.slot (own g first).0 (omega (arith, slots, slice_get_within _ c.in-Ok.slot 0 c.in-Ok.ensures.free))
+    none k s e (at ∙ ap (λ r. record { row = r; index = c.in-Ok.slot }) (row g (goal.at.insert-requires-clause-vacant g c).After-insert-arg-1 (there g first)))
 
 pub insert-requires-clause-fresh : goal.insert-requires-clause-fresh
 insert-requires-clause-fresh g c = c.self.invariant.sound.numbered.fresh c.self.inside.next (omega arith)
 
 pub index_mut-port-requires : goal.index_mut-port-requires
-index_mut-port-requires g c =
-    let items = c.self.inside.clients.items in
-    let it = standing_at (λ (x : ClientPort _). x.port.id == c.args.client) c.in-Some.index c.as_slice.result.now items c.index_of.result c.index_of.ensures c.as_slice.ensures.value c.in-Some.is in
-    omega (arith, slice_get_within items c.in-Some.index it.it it.at, c.self.inside.clients.ok.0)
+index_mut-port-requires g c = inside g (goal.at.index_mut-port-requires g c).After-index
 
 pub overflow_add-port : goal.overflow_add-port
 overflow_add-port g c =
     let p = parts_of c.self.inside in
-    let items = c.self.inside.clients.items in
-    let i = c.in-Some.index in
-    let it = standing_at (λ (x : ClientPort _). x.port.id == c.args.client) i c.as_slice.result.now items c.index_of.result c.index_of.ensures c.as_slice.ensures.value c.in-Some.is in
-    let at = listed client_part items i it.it it.at in
-    let same : c.index.result.now ≡ it.it = read_at items i it.it c.index.result.now it.at c.index.ensures in
-    let client = client_part it.it in
-    let again : c.index_mut-port.result.now ≡ it.it = read_at items i it.it c.index_mut-port.result.now it.at c.index_mut-port.ensures.value in
-    omega (arith, loans_fit p.limits c.self.invariant.sound.sized.limits_fit c.index_mut-port.result.now.port.loans (omega (arith, c.if-self-port.false, ap (λ (x : ClientPort _). x.port.loans) same, ap (λ (x : ClientPort _). x.port.loans) again)))
+    let f = found g (goal.at.overflow_add-port g c).After-index in
+    let again = read_at c.self.inside.clients.items c.in-Some.index c.index.result.now c.index_mut-port.result.now f.0 c.index_mut-port.ensures.value in
+    omega (
+      arith,
+      loans_fit p.limits c.self.invariant.sound.sized.limits_fit c.index_mut-port.result.now.port.loans
+          (omega (arith, c.if-self-port.false, ap (λ (x : ClientPort _). x.port.loans) again)),
+    )
 
 pub overflow_add-port-in-Ok : goal.overflow_add-port-in-Ok
 overflow_add-port-in-Ok g c =
+    let f = found g (goal.at.overflow_add-port-in-Ok g c).After-index in
+    let again = read_at c.self.inside.clients.items c.in-Some.index c.index.result.now c.index_mut-port.result.now f.0 c.index_mut-port.ensures.value in
+    let sized = c.self.invariant.sound.sized in
+    omega (arith, sized.loans_made c.in-Some.index (client_part c.index.result.now) f.1, sized.next_fits, ap (λ (x : ClientPort _). x.loans_made) again)
+
+-- what is known of the slot that was loaned: nothing held it, and the client's pool and loans had room
+lent : (g : _) (c : goal.After-new g)
+    → (slice_get (lane_of c.index.result.now.port.lane (parts_of c.self.inside).client_lanes).messages.held c.in-Ok.slot ≡ Some 0)
+    × (times c.in-Ok.slot (all_entries (lane_of c.index.result.now.port.lane (parts_of c.self.inside).client_lanes).messages.queues) ≡ 0)
+    × (request_loan_refusal (state_of (parts_of c.self.inside)) (client_of (client_part c.index.result.now)) c.args.len ≡ None)
+lent g c =
     let p = parts_of c.self.inside in
-    let items = c.self.inside.clients.items in
-    let i = c.in-Some.index in
-    let it = standing_at (λ (x : ClientPort _). x.port.id == c.args.client) i c.as_slice.result.now items c.index_of.result c.index_of.ensures c.as_slice.ensures.value c.in-Some.is in
-    let at = listed client_part items i it.it it.at in
-    let same : c.index.result.now ≡ it.it = read_at items i it.it c.index.result.now it.at c.index.ensures in
-    let client = client_part it.it in
-    let again : c.index_mut-port.result.now ≡ it.it = read_at items i it.it c.index_mut-port.result.now it.at c.index_mut-port.ensures.value in
-    omega (arith, c.self.invariant.sound.sized.loans_made i client at, c.self.invariant.sound.sized.next_fits, ap (λ (x : ClientPort _). x.loans_made) again)
+    let at = goal.at.returns-in-Ok-clause-loans g c in
+    let f = found g at.After-index in
+    let sound = c.self.invariant.sound in
+    let is = old g at.After-index_mut (there g at.After-index) in
+    let m = (lane_of c.index.result.now.port.lane p.client_lanes).messages in
+    let used : used_count m < c.index.result.now.port.pool_size = not_full (own g at.After-index).1 (used_le m _)
+    (λ full. no_error (c.in-Ok.ensures.full.1
+    (sym (ap (λ (l : Lane _ _ _). used_count l.messages) is) ∙ full ∙ ap (λ (l : Lane _ _ _). length l.messages.held) is))) in (
+      ap (λ (l : Lane _ _ _). slice_get l.messages.held c.in-Ok.slot) is ∙ c.in-Ok.ensures.free,
+      ap (λ (l : Lane _ _ _). times c.in-Ok.slot (all_entries l.messages.queues)) is ∙ c.in-Ok.ensures.unused,
+      refusal_stored p sound c.in-Some.index (client_part c.index.result.now) f.1 c.args.len
+          ∙ none_due p sound c.in-Some.index (client_part c.index.result.now) f.1 c.args.len (sym c.is_too_long.ensures ∙ c.if-is_too_long.false)
+          (omega (arith, c.if-self-port.false)) used,
+    )
 
 -- the parts after it
 parts : (g : _) (c : goal.After-new g)
-    → (index : ℕ) × (client : ClientPart _) × (at : slice_get (parts_of c.self.inside).clients index ≡ Some client)
-    × (slice_get (lane_of client.lane (parts_of c.self.inside).client_lanes).messages.held c.in-Ok.slot ≡ Some 0)
-    × (times c.in-Ok.slot (all_entries (lane_of client.lane (parts_of c.self.inside).client_lanes).messages.queues) ≡ 0)
-    × (client_at (state_of (parts_of c.self.inside)) c.args.client ≡ Some (client_of client))
-    × (request_loan_refusal (state_of (parts_of c.self.inside)) (client_of client) c.args.len ≡ None)
-    × (with_vectors (parts_of c.self.inside)
+    → with_vectors (parts_of c.self.inside)
     (map client_part (slice_set c.self.inside.clients.items c.in-Some.index (record { port = record c.index_mut-port.result.now.port { loans = c.index_mut-port.result.now.port.loans + 1 }; loans_made = c.index_mut-port.result.now.loans_made + 1; pendings = c.index_mut-port.result.now.pendings })))
     (map lane_part (slice_set c.self.inside.client_lanes.items c.index.result.now.port.lane (record { owner = c.index_mut.result.now.owner; row = c.index_mut.result.now.row; messages = c.loan.new.self })))
     (parts_of c.self.inside).waiting c.insert.new.self (c.self.inside.next + 1)
-    ≡ with_request_loan (parts_of c.self.inside) index client c.in-Ok.slot c.args.len c.default.result)
+    ≡ with_request_loan (parts_of c.self.inside) c.in-Some.index (client_part c.index.result.now) c.in-Ok.slot c.args.len c.default.result
 parts g c =
     let p = parts_of c.self.inside in
     let items = c.self.inside.clients.items in
-    let i = c.in-Some.index in
-    let it = standing_at (λ (x : ClientPort _). x.port.id == c.args.client) i c.as_slice.result.now items c.index_of.result c.index_of.ensures c.as_slice.ensures.value c.in-Some.is in
-    let at = listed client_part items i it.it it.at in
-    let same : c.index.result.now ≡ it.it = read_at items i it.it c.index.result.now it.at c.index.ensures in
-    let client = client_part it.it in
-    let own = c.self.invariant.sound.client_ports.own i client.connected (listed (λ (c : ClientPart _). c.connected) p.clients i client at) in
     let lanes = c.self.inside.client_lanes.items in
-    let lane : c.index.result.now.port.lane ≡ client.lane = ap (λ (x : ClientPort _). x.port.lane) same in
-    let there : client.lane < length lanes = lanes_many lanes client.lane own.0 in
-    let old : lane_of client.lane p.client_lanes ≡ lane_part c.index_mut.result.now =
-    lane_is lanes client.lane c.index_mut.result.now there (c.index_mut.ensures.value ∙ ap (λ l. get_or lanes l c.index_mut.result.now) lane) in
-    let free : slice_get (lane_of client.lane p.client_lanes).messages.held c.in-Ok.slot ≡ Some 0 = ap (λ (l : Lane _ _ _). slice_get l.messages.held c.in-Ok.slot) old ∙ c.in-Ok.ensures.free in
-    let unused : times c.in-Ok.slot (all_entries (lane_of client.lane p.client_lanes).messages.queues) ≡ 0 = ap (λ (l : Lane _ _ _). times c.in-Ok.slot (all_entries l.messages.queues)) old ∙ c.in-Ok.ensures.unused in
-    let again : c.index_mut-port.result.now ≡ it.it = read_at items i it.it c.index_mut-port.result.now it.at c.index_mut-port.ensures.value in
-    let second : c.index-2.result.now ≡ it.it = read_at items i it.it c.index-2.result.now it.at c.index-2.ensures in
+    let i = c.in-Some.index in
+    let at = goal.at.returns-in-Ok-clause-loans g c in
+    let f = found g at.After-index in
+    let here = there g at.After-index in
+    let is = old g at.After-index_mut here in
+    let port = c.index.result.now in
+    let client = client_part port in
+    let again = read_at items i port c.index_mut-port.result.now f.0 c.index_mut-port.ensures.value in
+    let second = read_at items i port c.index-2.result.now f.0 c.index-2.ensures in
     let note : RequestNote = record { number = p.next; client = c.args.client; request_id = c.index-2.result.now.loans_made } in
     let noted : note ≡ loan_note p client =
-    ap (λ n. record { number = p.next; client = n; request_id = c.index-2.result.now.loans_made }) (sym (eqb-true it.it.port.id c.args.client it.passes))
-    ∙ ap (λ (x : ClientPort _). record { number = p.next; client = it.it.port.id; request_id = x.loans_made }) second in
+    ap (λ n. record { number = p.next; client = n; request_id = c.index-2.result.now.loans_made }) (sym f.3)
+    ∙ ap (λ (x : ClientPort _). record { number = p.next; client = port.port.id; request_id = x.loans_made }) second in
     let changed : c.loan.new.self ≡ loaned (lane_of client.lane p.client_lanes).messages c.in-Ok.slot c.args.len (loan_note p client) c.default.result =
     c.in-Ok.ensures.ok
-    ∙ ap (λ (l : Lane _ _ _). loaned l.messages c.in-Ok.slot c.args.len note c.default.result) (sym old)
+    ∙ ap (λ (l : Lane _ _ _). loaned l.messages c.in-Ok.slot c.args.len note c.default.result) (sym is)
     ∙ ap (λ n. loaned (lane_of client.lane p.client_lanes).messages c.in-Ok.slot c.args.len n c.default.result) noted in
-    let row_is : c.index-in-Ok.result.now.row ≡ (lane_of client.lane p.client_lanes).row =
-    ap (λ (x : OwnedLane _ _ _ _). x.row) (c.index-in-Ok.ensures ∙ get_or-set_same lanes c.index.result.now.port.lane _ _ (omega (arith, there, lane))) ∙ sym (ap (λ (l : Lane _ _ _). l.row) old) in
-    let long : is_too_long client.port c.args.len ≡ false = ap (λ (x : ClientPort _). is_too_long (client_part x).port c.args.len) (sym same) ∙ sym c.is_too_long.ensures ∙ c.if-is_too_long.false in
-    let used : used_count (lane_of client.lane p.client_lanes).messages < client.port.pool_size = not_full own.2 (used_le (lane_of client.lane p.client_lanes).messages _)
-    (λ full. no_error (c.in-Ok.ensures.full.1 (sym (ap (λ (l : Lane _ _ _). used_count l.messages) old) ∙ full ∙ ap (λ (l : Lane _ _ _). length l.messages.held) old))) in
-    let due = none_due p c.self.invariant.sound i client at c.args.len long (omega (arith, c.if-self-port.false, ap (λ (x : ClientPort _). x.port.loans) same)) used in (
-      i,
-      client,
-      at,
-      free,
-      unused,
-      client_seen c.args.client items i it,
-      refusal_stored p c.self.invariant.sound i client at c.args.len ∙ due,
-      same_vectors p (with_request_loan p i client c.in-Ok.slot c.args.len c.default.result) _ _ p.waiting c.insert.new.self (p.next + 1)
-          (map-set_one client_part items i _ ∙ ap (λ (x : ClientPort _). slice_set p.clients i (client_part (record { port = record x.port { loans = x.port.loans + 1 }; loans_made = x.loans_made + 1; pendings = x.pendings }))) again)
-          (map-set_one lane_part lanes c.index.result.now.port.lane _
-          ∙ ap (λ l. slice_set p.client_lanes l (with_messages (lane_part c.index_mut.result.now) c.loan.new.self)) lane
-          ∙ ap (λ m. slice_set p.client_lanes client.lane (with_messages (lane_part c.index_mut.result.now) m)) changed
-          ∙ ap (λ x. slice_set p.client_lanes client.lane (with_messages x (loaned (lane_of client.lane p.client_lanes).messages c.in-Ok.slot c.args.len (loan_note p client) c.default.result))) (sym old))
-          refl
-          (c.insert.ensures
-          ∙ ap (λ r. seated p.table p.next (record { row = r; index = c.in-Ok.slot }) (record { stage = stage.RequestMutUninit; lane = c.index.result.now.port.lane; slot = c.in-Ok.slot })) row_is
-          ∙ ap (λ l. seated p.table p.next (loan_place p client c.in-Ok.slot) (record { stage = stage.RequestMutUninit; lane = l; slot = c.in-Ok.slot })) lane)
-          refl refl,
-    )
+    same_vectors p (with_request_loan p i client c.in-Ok.slot c.args.len c.default.result) _ _ p.waiting c.insert.new.self (p.next + 1)
+    (map-set_one client_part items i _
+    ∙ ap (λ (x : ClientPort _). slice_set p.clients i (client_part (record { port = record x.port { loans = x.port.loans + 1 }; loans_made = x.loans_made + 1; pendings = x.pendings }))) again)
+    (map-set_one lane_part lanes client.lane _
+    ∙ ap (λ m. slice_set p.client_lanes client.lane (with_messages (lane_part c.index_mut.result.now) m)) changed
+    ∙ ap (λ x. slice_set p.client_lanes client.lane (with_messages x (loaned (lane_of client.lane p.client_lanes).messages c.in-Ok.slot c.args.len (loan_note p client) c.default.result))) (sym is))
+    refl
+    (c.insert.ensures
+    ∙ ap (λ r. seated p.table p.next (record { row = r; index = c.in-Ok.slot }) (record { stage = stage.RequestMutUninit; lane = client.lane; slot = c.in-Ok.slot })) (row g at.After-insert-arg-1 here))
+    refl refl
 
 -- a number is left
 left : (g : _) (c : goal.After-new g) → c.self.inside.next < 2 ^ 62
@@ -290,37 +258,35 @@ unchanged g c =
 
 pub returns-in-Ok-clause-loans : goal.returns-in-Ok-clause-loans
 returns-in-Ok-clause-loans g c =
-    let r = parts g c in
-    lends (parts_of c.self.inside) c.self.invariant.sound r.0 r.1 r.2 _ c.args.client c.args.len c.in-Ok.slot _ c.default.result r.5 r.6 c.default.ensures r.3 r.4 c.args.self.now _ c.self.view_is c.new.ensures (ap state_of r.7)
+    let p = parts_of c.self.inside in
+    let f = found g (goal.at.returns-in-Ok-clause-loans g c).After-index in
+    let l = lent g c in
+    lends p c.self.invariant.sound c.in-Some.index (client_part c.index.result.now) f.1 _ c.args.client c.args.len c.in-Ok.slot _ c.default.result
+    f.2 l.2 c.default.ensures l.0 l.1 c.args.self.now _ c.self.view_is c.new.ensures (ap state_of (parts g c))
 
 pub returns-in-Err-clause-loans : goal.returns-in-Err-clause-loans
 returns-in-Err-clause-loans g c =
     let p = parts_of c.self.inside in
-    let items = c.self.inside.clients.items in
-    let i = c.in-Some.index in
-    let it = standing_at (λ (x : ClientPort _). x.port.id == c.args.client) i c.as_slice.result.now items c.index_of.result c.index_of.ensures c.as_slice.ensures.value c.in-Some.is in
-    let at = listed client_part items i it.it it.at in
-    let same : c.index.result.now ≡ it.it = read_at items i it.it c.index.result.now it.at c.index.ensures in
-    let client = client_part it.it in
-    let own = c.self.invariant.sound.client_ports.own i client.connected (listed (λ (c : ClientPart _). c.connected) p.clients i client at) in
-    let lanes = c.self.inside.client_lanes.items in
-    let lane : c.index.result.now.port.lane ≡ client.lane = ap (λ (x : ClientPort _). x.port.lane) same in
-    let there : client.lane < length lanes = lanes_many lanes client.lane own.0 in
-    let old : lane_of client.lane p.client_lanes ≡ lane_part c.index_mut.result.now =
-    lane_is lanes client.lane c.index_mut.result.now there (c.index_mut.ensures.value ∙ ap (λ l. get_or lanes l c.index_mut.result.now) lane) in
-    let long : is_too_long client.port c.args.len ≡ false = ap (λ (x : ClientPort _). is_too_long (client_part x).port c.args.len) (sym same) ∙ sym c.is_too_long.ensures ∙ c.if-is_too_long.false in
-    let few : client.loans < p.limits.max_loaned_requests = omega (arith, c.if-self-port.false, ap (λ (x : ClientPort _). x.port.loans) same) in
-    refuses p c.self.invariant.sound i client at c.args.client c.args.len LoanError.OutOfMemory (client_seen c.args.client items i it)
-    (pool_refusal p c.self.invariant.sound i client at c.args.len c.in-Err.field-0 long few
-    (let R : Lane _ _ _ → Type 0 = λ l. IsErrOf {T = ℕ} (Err c.in-Err.field-0) AcquireError.Full ↔ (used_count l.messages ≡ length l.messages.held) in subst R (sym old) c.in-Err.ensures.full)
-    (let R : Lane _ _ _ → Type 0 = λ l. IsErrOf {T = ℕ} (Err c.in-Err.field-0) AcquireError.NoRoom → l.messages.room < c.args.len in subst R (sym old) c.in-Err.ensures.no_room))
+    let at = goal.at.returns-in-Err-clause-loans g c in
+    let f = found g at.After-index in
+    let is = old g at.After-index_mut (there g at.After-index) in
+    let client = client_part c.index.result.now in
+    let long = sym c.is_too_long.ensures ∙ c.if-is_too_long.false in
+    let few : client.loans < p.limits.max_loaned_requests = omega (arith, c.if-self-port.false) in
+    refuses p c.self.invariant.sound c.in-Some.index client f.1 c.args.client c.args.len LoanError.OutOfMemory f.2
+    (pool_refusal p c.self.invariant.sound c.in-Some.index client f.1 c.args.len c.in-Err.field-0 long few
+    (let R : Lane _ _ _ → Type 0 = λ l. IsErrOf {T = ℕ} (Err c.in-Err.field-0) AcquireError.Full ↔ (used_count l.messages ≡ length l.messages.held) in subst R (sym is) c.in-Err.ensures.full)
+    (let R : Lane _ _ _ → Type 0 = λ l. IsErrOf {T = ℕ} (Err c.in-Err.field-0) AcquireError.NoRoom → l.messages.room < c.args.len in subst R (sym is) c.in-Err.ensures.no_room))
     c.args.self.now _ c.self.view_is (ap state_of (unchanged g c) ∙ c.self.view_is)
 
 pub invariant_of-self : goal.invariant_of-self
 invariant_of-self g c =
-    let r = parts g c in
+    let p = parts_of c.self.inside in
+    let f = found g (goal.at.invariant_of-self g c).After-index in
+    let l = lent g c in
     record {
-      sound = subst (λ p. IsSound p empty_hand) (sym r.7) (loan_sound (parts_of c.self.inside) c.self.invariant.sound r.0 r.1 r.2 c.in-Ok.slot c.args.len c.default.result r.3 r.4 (left g c));
+      sound = subst (λ p. IsSound p empty_hand) (sym (parts g c))
+          (loan_sound p c.self.invariant.sound c.in-Some.index (client_part c.index.result.now) f.1 c.in-Ok.slot c.args.len c.default.result l.0 l.1 (left g c));
       reached = loans_request_reached c.args.self.now (subst (λ s. IsReached s) c.self.view_is c.self.invariant.reached) g.QH.Default.is_default c.args.client c.args.len (Ok c.new.result) _ (returns-in-Ok-clause-loans g c);
     }
 

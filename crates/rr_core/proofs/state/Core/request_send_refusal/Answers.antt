@@ -1,14 +1,21 @@
-use Rattle.std.proofs.Common.{◌≡◌, true, false, None, Some, refl, sym, ap, ◌∙◌, arith}
+use Rattle.std.proofs.Common.{◌≡◌, ◌<◌, Bool, true, false, cond, None, Some, length, refl, sym, ap, ◌∙◌, subst, arith}
 use Rattle.std.specs.List.{position}
 use Rattle.std.specs.Prelude.{◌==◌}
 use Rattle.std.proofs.lemmas.Option.{slice_get_within}
+use Rattle.rr_hub.specs.declared.error.RequestSendError.{RequestSendError}
+use Rattle.rr_hub.specs.declared.error.SendError.{SendError}
 use Rattle.rr_hub.specs.declared.kind.Kind.{Kind}
+use Rattle.rr_hub.specs.Sends.{request_send_refusal}
+use Rattle.rr_hub.specs.State.{IsRequestMutAnd}
 use Rattle.rr_parts.specs.declared.port.ClientPort.{ClientPort}
 use Rattle.rr_core.specs.Inside.{parts_of}
 use Rattle.rr_parts.specs.Parts.{Lane}
+use Rattle.rr_parts.specs.Ports.{lane_part}
+use Rattle.rr_parts.specs.Views.{lane_of}
 use Rattle.rr_core_laws.proofs.Asking.{standing_at, lane_is, lanes_many}
 use Rattle.rr_core_laws.proofs.Connected.{of_kind_there}
 use Rattle.rr_core_laws.proofs.RequestFields.{spot, client, read_client, queues_of, too_many, not_too_many}
+use Rattle.rr_core.proofs.state.Core.request_send_refusal.Goals.{In-Some, After-index, After-index-2, After-is_refused}
 use Rattle.rr_core.proofs.state.Core.request_send_refusal.Goals as goal
 
 pub unreachable-requires : goal.unreachable-requires
@@ -28,39 +35,59 @@ unreachable-requires-in-None-index_of_lane g c =
     let sender = client p c.self.invariant.sound c.args.self.now c.id.inside.number c.args.id.now c.self.view_is c.id.view_is c.requires c.self.inside.clients.items refl c.self.inside.servers.items refl c.in-Some.held (sym c.get.ensures ∙ c.in-Some.is) in
     let none : None ≡ Some sender.index = sym c.in-None-index_of_lane.is ∙ c.index_of_lane.ensures ∙ ap (position _) c.as_slice.ensures.value ∙ sender.found in cc
 
+-- the lane of the request is there
+there : (g : _) (c : In-Some g) → c.in-Some.held.lane < length c.self.inside.client_lanes.items
+there g c =
+    let p = parts_of c.self.inside in
+    lanes_many c.self.inside.client_lanes.items c.in-Some.held.lane (spot p c.self.invariant.sound c.args.self.now c.id.inside.number c.args.id.now c.self.view_is c.id.view_is c.requires c.self.inside.clients.items refl c.self.inside.servers.items refl c.in-Some.held (sym c.get.ensures ∙ c.in-Some.is)).0
+
+-- and is the one that was read
+lane_read : (g : _) (c : After-index-2 g) → c.in-Some.held.lane < length c.self.inside.client_lanes.items
+    → lane_of c.in-Some.held.lane (parts_of c.self.inside).client_lanes ≡ lane_part c.index-2.result.now
+lane_read g c within = lane_is c.self.inside.client_lanes.items c.in-Some.held.lane c.index-2.result.now within c.index-2.ensures
+
+-- the client that was read sends the request
+sender : (g : _) (c : After-index g)
+    → c.index.result.now ≡ (client (parts_of c.self.inside) c.self.invariant.sound c.args.self.now c.id.inside.number c.args.id.now c.self.view_is c.id.view_is c.requires c.self.inside.clients.items refl c.self.inside.servers.items refl c.in-Some.held (sym c.get.ensures ∙ c.in-Some.is)).it
+sender g c =
+    let p = parts_of c.self.inside in
+    read_client p c.self.invariant.sound c.args.self.now c.id.inside.number c.args.id.now c.self.view_is c.id.view_is c.requires c.self.inside.clients.items refl c.self.inside.servers.items refl c.in-Some.held (sym c.get.ensures ∙ c.in-Some.is) c.in-Some-index_of_lane.index c.as_slice.result.now c.index_of_lane.result c.index_of_lane.ensures c.as_slice.ensures.value c.in-Some-index_of_lane.is c.index.result.now c.index.ensures
+
 pub returns-then-self-client : goal.returns-then-self-client
 returns-then-self-client g c =
     let p = parts_of c.self.inside in
     too_many p c.self.invariant.sound c.args.self.now c.id.inside.number c.args.id.now c.self.view_is c.id.view_is c.requires c.self.inside.clients.items refl c.self.inside.servers.items refl c.in-Some.held (sym c.get.ensures ∙ c.in-Some.is) g.K.BackpressureFn.answer c.index.result.now
-    (read_client p c.self.invariant.sound c.args.self.now c.id.inside.number c.args.id.now c.self.view_is c.id.view_is c.requires c.self.inside.clients.items refl c.self.inside.servers.items refl c.in-Some.held (sym c.get.ensures ∙ c.in-Some.is) c.in-Some-index_of_lane.index c.as_slice.result.now c.index_of_lane.result c.index_of_lane.ensures c.as_slice.ensures.value c.in-Some-index_of_lane.is c.index.result.now c.index.ensures)
-    c.if-self-client.true
+    (sender g (goal.at.returns-then-self-client g c).After-index) c.if-self-client.true
 
 pub index-requires-2 : goal.index-requires-2
-index-requires-2 g c =
-    let p = parts_of c.self.inside in
-    omega (arith, lanes_many c.self.inside.client_lanes.items c.in-Some.held.lane (spot p c.self.invariant.sound c.args.self.now c.id.inside.number c.args.id.now c.self.view_is c.id.view_is c.requires c.self.inside.clients.items refl c.self.inside.servers.items refl c.in-Some.held (sym c.get.ensures ∙ c.in-Some.is)).0, c.self.inside.client_lanes.ok.0)
+index-requires-2 g c = omega (arith, there g (goal.at.index-requires-2 g c).In-Some, c.self.inside.client_lanes.ok.0)
 
 pub is_refused-requires : goal.is_refused-requires
 is_refused-requires g c =
     let p = parts_of c.self.inside in
-    let lanes = c.self.inside.client_lanes.items in
-    let is = lane_is lanes c.in-Some.held.lane c.index-2.result.now (lanes_many lanes c.in-Some.held.lane (spot p c.self.invariant.sound c.args.self.now c.id.inside.number c.args.id.now c.self.view_is c.id.view_is c.requires c.self.inside.clients.items refl c.self.inside.servers.items refl c.in-Some.held (sym c.get.ensures ∙ c.in-Some.is)).0) c.index-2.ensures in
+    let at = goal.at.is_refused-requires g c in
+    let is = lane_read g at.After-index-2 (there g at.In-Some) in
     queues_of p c.self.invariant.sound c.args.self.now c.id.inside.number c.args.id.now c.self.view_is c.id.view_is c.requires c.self.inside.clients.items refl c.self.inside.servers.items refl c.in-Some.held (sym c.get.ensures ∙ c.in-Some.is) c.index-2.result.now.messages c.as_slice-2.result.now (ap (λ (l : Lane _ _ _). l.messages) is) c.as_slice-2.ensures.value
+
+-- whether a queue refuses it decides
+decided : (g : _) (c : After-is_refused g) → c.in-Some.held.lane < length c.self.inside.client_lanes.items
+    → lane_of c.in-Some.held.lane (parts_of c.self.inside).client_lanes ≡ lane_part c.index-2.result.now
+    → c.index.result.now ≡ (client (parts_of c.self.inside) c.self.invariant.sound c.args.self.now c.id.inside.number c.args.id.now c.self.view_is c.id.view_is c.requires c.self.inside.clients.items refl c.self.inside.servers.items refl c.in-Some.held (sym c.get.ensures ∙ c.in-Some.is)).it
+    → (b : Bool) → c.is_refused.result ≡ b
+    → IsRequestMutAnd c.args.self.now c.args.id.now (λ client message. cond b (Some (RequestSendError.SendError SendError.UnableToDeliver)) None ≡ request_send_refusal g.K.BackpressureFn.answer c.args.self.now client message)
+decided g c within is sends b told =
+    let p = parts_of c.self.inside in
+    not_too_many p c.self.invariant.sound c.args.self.now c.id.inside.number c.args.id.now c.self.view_is c.id.view_is c.requires c.self.inside.clients.items refl c.self.inside.servers.items refl c.in-Some.held (sym c.get.ensures ∙ c.in-Some.is) g.K.BackpressureFn.answer c.index.result.now sends c.if-self-client.false c.index-2.result.now.messages (ap (λ (l : Lane _ _ _). l.messages) is) c.as_slice-2.result.now c.as_slice-2.ensures.value
+    b (sym told ∙ c.is_refused.ensures)
 
 pub returns-then-is_refused : goal.returns-then-is_refused
 returns-then-is_refused g c =
-    let p = parts_of c.self.inside in
-    let lanes = c.self.inside.client_lanes.items in
-    let is = lane_is lanes c.in-Some.held.lane c.index-2.result.now (lanes_many lanes c.in-Some.held.lane (spot p c.self.invariant.sound c.args.self.now c.id.inside.number c.args.id.now c.self.view_is c.id.view_is c.requires c.self.inside.clients.items refl c.self.inside.servers.items refl c.in-Some.held (sym c.get.ensures ∙ c.in-Some.is)).0) c.index-2.ensures in
-    not_too_many p c.self.invariant.sound c.args.self.now c.id.inside.number c.args.id.now c.self.view_is c.id.view_is c.requires c.self.inside.clients.items refl c.self.inside.servers.items refl c.in-Some.held (sym c.get.ensures ∙ c.in-Some.is) g.K.BackpressureFn.answer c.index.result.now
-    (read_client p c.self.invariant.sound c.args.self.now c.id.inside.number c.args.id.now c.self.view_is c.id.view_is c.requires c.self.inside.clients.items refl c.self.inside.servers.items refl c.in-Some.held (sym c.get.ensures ∙ c.in-Some.is) c.in-Some-index_of_lane.index c.as_slice.result.now c.index_of_lane.result c.index_of_lane.ensures c.as_slice.ensures.value c.in-Some-index_of_lane.is c.index.result.now c.index.ensures)
-    c.if-self-client.false c.index-2.result.now.messages (ap (λ (l : Lane _ _ _). l.messages) is) c.as_slice-2.result.now c.as_slice-2.ensures.value true (sym c.if-is_refused.true ∙ c.is_refused.ensures)
+    let at = goal.at.returns-then-is_refused g c in
+    let within = there g at.In-Some in
+    decided g at.After-is_refused within (lane_read g at.After-index-2 within) (sender g at.After-index) true c.if-is_refused.true
 
 pub returns : goal.returns
 returns g c =
-    let p = parts_of c.self.inside in
-    let lanes = c.self.inside.client_lanes.items in
-    let is = lane_is lanes c.in-Some.held.lane c.index-2.result.now (lanes_many lanes c.in-Some.held.lane (spot p c.self.invariant.sound c.args.self.now c.id.inside.number c.args.id.now c.self.view_is c.id.view_is c.requires c.self.inside.clients.items refl c.self.inside.servers.items refl c.in-Some.held (sym c.get.ensures ∙ c.in-Some.is)).0) c.index-2.ensures in
-    not_too_many p c.self.invariant.sound c.args.self.now c.id.inside.number c.args.id.now c.self.view_is c.id.view_is c.requires c.self.inside.clients.items refl c.self.inside.servers.items refl c.in-Some.held (sym c.get.ensures ∙ c.in-Some.is) g.K.BackpressureFn.answer c.index.result.now
-    (read_client p c.self.invariant.sound c.args.self.now c.id.inside.number c.args.id.now c.self.view_is c.id.view_is c.requires c.self.inside.clients.items refl c.self.inside.servers.items refl c.in-Some.held (sym c.get.ensures ∙ c.in-Some.is) c.in-Some-index_of_lane.index c.as_slice.result.now c.index_of_lane.result c.index_of_lane.ensures c.as_slice.ensures.value c.in-Some-index_of_lane.is c.index.result.now c.index.ensures)
-    c.if-self-client.false c.index-2.result.now.messages (ap (λ (l : Lane _ _ _). l.messages) is) c.as_slice-2.result.now c.as_slice-2.ensures.value false (sym c.if-is_refused.false ∙ c.is_refused.ensures)
+    let at = goal.at.returns g c in
+    let within = there g at.In-Some in
+    decided g at.After-is_refused within (lane_read g at.After-index-2 within) (sender g at.After-index) false c.if-is_refused.false

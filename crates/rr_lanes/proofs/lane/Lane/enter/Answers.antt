@@ -12,9 +12,11 @@ hold-requires-clause-fits g c = omega (arith, held_is _ _ _ c.self.invariant c.a
 pub invariant_of-self : goal.invariant_of-self
 invariant_of-self g c =
     rw (c.hold.ensures, c.push.ensures)
-    (sound-enter _ _ _ c.self.invariant _ _ (rw (← c.self.view_is) at c.requires.receiver) (rw (← c.self.view_is) at c.requires.channel) _ (has_holder _ _ _ c.self.invariant _ (rw (← c.self.view_is) at c.requires.held)))
+    (sound-enter _ _ _ c.self.invariant _ _ (rw (← c.self.view_is) at c.requires.receiver) (rw (← c.self.view_is) at c.requires.channel) _
+    (has_holder _ _ _ c.self.invariant _ (rw (← c.self.view_is) at c.requires.held)))
 
 pub returns : goal.returns
 returns g c =
     rw (← c.self.view_is, c.hold.ensures, c.push.ensures)
-    (state-enter _ _ _ c.self.invariant _ _ (rw (← c.self.view_is) at c.requires.receiver) (rw (← c.self.view_is) at c.requires.channel) _ (has_holder _ _ _ c.self.invariant _ (rw (← c.self.view_is) at c.requires.held)))
+    (state-enter _ _ _ c.self.invariant _ _ (rw (← c.self.view_is) at c.requires.receiver) (rw (← c.self.view_is) at c.requires.channel) _
+    (has_holder _ _ _ c.self.invariant _ (rw (← c.self.view_is) at c.requires.held)))

@@ -14,12 +14,32 @@ returns-in-Ok-clause-ok g c = rw (← c.self.view_is, c.in-Ok.ensures.ok) (state
 
 pub returns-in-Ok-clause-full : goal.returns-in-Ok-clause-full
 returns-in-Ok-clause-full g c = rw (← c.self.view_is) (
-  λ e. omega (arith, c.in-Ok.ensures.full.0 e, used-and-free _ _ _ c.self.invariant, length-held_of c.self.inside.pool.holders c.self.inside.links.queues),
-  λ h. c.in-Ok.ensures.full.1 (omega (arith, h, used-and-free _ _ _ c.self.invariant, length-held_of c.self.inside.pool.holders c.self.inside.links.queues)),
+  λ e. omega (
+    arith,
+    c.in-Ok.ensures.full.0 e,
+    used-and-free _ _ _ c.self.invariant,
+    length-held_of c.self.inside.pool.holders c.self.inside.links.queues,
+  ),
+  λ h. c.in-Ok.ensures.full.1 (omega (
+    arith,
+    h,
+    used-and-free _ _ _ c.self.invariant,
+    length-held_of c.self.inside.pool.holders c.self.inside.links.queues,
+  )),
 )
 
 pub returns-in-Err-clause-full : goal.returns-in-Err-clause-full
 returns-in-Err-clause-full g c = rw (← c.self.view_is) (
-  λ e. omega (arith, c.in-Err.ensures.full.0 e, used-and-free _ _ _ c.self.invariant, length-held_of c.self.inside.pool.holders c.self.inside.links.queues),
-  λ h. c.in-Err.ensures.full.1 (omega (arith, h, used-and-free _ _ _ c.self.invariant, length-held_of c.self.inside.pool.holders c.self.inside.links.queues)),
+  λ e. omega (
+    arith,
+    c.in-Err.ensures.full.0 e,
+    used-and-free _ _ _ c.self.invariant,
+    length-held_of c.self.inside.pool.holders c.self.inside.links.queues,
+  ),
+  λ h. c.in-Err.ensures.full.1 (omega (
+    arith,
+    h,
+    used-and-free _ _ _ c.self.invariant,
+    length-held_of c.self.inside.pool.holders c.self.inside.links.queues,
+  )),
 )

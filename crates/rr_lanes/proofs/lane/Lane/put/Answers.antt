@@ -3,7 +3,8 @@ use Rattle.rr_lanes.proofs.StateLaws.{uses_less, put-full}
 use Rattle.rr_lanes.proofs.lane.Lane.put.Goals as goal
 
 pub enter-requires-then-overflow-clause-fits : goal.enter-requires-then-overflow-clause-fits
-enter-requires-then-overflow-clause-fits g c = rw c.drop_first.ensures (omega (arith, c.requires.fits, uses_less c.args.self.now _ _ c.requires.receiver c.requires.channel c.args.slot 1))
+enter-requires-then-overflow-clause-fits g c = rw c.drop_first.ensures
+    (omega (arith, c.requires.fits, uses_less c.args.self.now _ _ c.requires.receiver c.requires.channel c.args.slot 1))
 
 pub returns-then-overflow : goal.returns-then-overflow
 returns-then-overflow g c =

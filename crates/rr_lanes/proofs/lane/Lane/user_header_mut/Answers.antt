@@ -4,7 +4,11 @@ use Rattle.rr_lanes.proofs.HeadLaws.{has_head, state-header, header_is}
 use Rattle.rr_lanes.proofs.lane.Lane.user_header_mut.Goals as goal
 
 pub index_mut-head-requires : goal.index_mut-head-requires
-index_mut-head-requires g c = omega (arith, has_head _ _ _ c.self.invariant _ (rw (← c.self.view_is) at c.requires), c.self.inside.heads.ok.0)
+index_mut-head-requires g c = omega (
+  arith,
+  has_head _ _ _ c.self.invariant _ (rw (← c.self.view_is) at c.requires),
+  c.self.inside.heads.ok.0,
+)
 
 pub returns : goal.returns
 returns g c =

@@ -9,4 +9,5 @@ returns c =
     (let inside = is_inside c.self.inside.links.items c.args.receiver (rw (← c.self.view_is) at c.requires.receiver) in
     queue-set c.self.inside.links.items _ _ inside c.index_mut-link.ensures.value _ _ _ _
     (ap (λ e. e.queues) c.push.ensures.state ∙ ap (λ queue. slice_set c.index_mut-link.result.now.connection.queues c.args.channel queue)
-    (pushed_at c.self.inside.links.items _ _ inside c.index_mut-link.ensures.value _ c.self.invariant _ _ (rw (← c.self.view_is) at c.requires.room))) refl)
+    (pushed_at c.self.inside.links.items _ _ inside c.index_mut-link.ensures.value _ c.self.invariant _ _
+    (rw (← c.self.view_is) at c.requires.room))) refl)

@@ -11,17 +11,29 @@ use Rattle.rr_run.proofs.Received.{active_there}
 use Rattle.rr_run.proofs.runner.receives.receive_request.Goals as goal
 
 pub request_number-requires : goal.request_number-requires
-request_number-requires g c = active_there c.args.core.now c.receive_request.new.self c.args.server c.in-Ok-Some.id (subst (λ o. ReceivesRequest c.args.core.now c.args.server (Ok o) c.receive_request.new.self) c.in-Ok-Some.field-0-is c.in-Ok-Some.ensures)
+request_number-requires g c = active_there c.args.core.now c.receive_request.new.self c.args.server c.in-Ok-Some.id
+    (subst (λ o. ReceivesRequest c.args.core.now c.args.server (Ok o) c.receive_request.new.self) c.in-Ok-Some.field-0-is
+    c.in-Ok-Some.ensures)
 
 pub returns-in-Ok-Some : goal.returns-in-Ok-Some
 returns-in-Ok-Some g c =
-    subst (λ k. Step g.K.BackpressureFn.answer g.T.Default.is_default g.H.Default.is_default g.B.Body.family c.args.core.now (Command.Receive c.args.server) (Reply.Active k c.request_number.result) c.receive_request.new.self) (sym c.number.ensures)
-    (step_acts g.K.BackpressureFn.answer g.T.Default.is_default g.H.Default.is_default g.B.Body.family c.args.core.now (Command.Receive c.args.server) c.args.server kind.Server (Reply.Active c.in-Ok-Some.id c.request_number.result) c.receive_request.new.self refl c.requires
-    (receive_due g.B.Body.family c.args.core.now c.args.server (ap (λ n. n == 0) (sym c.numbers_left.ensures) ∙ ne_eqb c.numbers_left.result 0 c.if-numbers_left-eq0.false))
-    ((subst (λ o. ReceivesRequest c.args.core.now c.args.server (Ok o) c.receive_request.new.self) c.in-Ok-Some.field-0-is c.in-Ok-Some.ensures), c.request_number.ensures))
+    subst (λ k. Step g.K.BackpressureFn.answer g.T.Default.is_default g.H.Default.is_default g.B.Body.family c.args.core.now
+    (Command.Receive c.args.server) (Reply.Active k c.request_number.result) c.receive_request.new.self) (sym c.number.ensures)
+    (step_acts g.K.BackpressureFn.answer g.T.Default.is_default g.H.Default.is_default g.B.Body.family c.args.core.now
+    (Command.Receive c.args.server) c.args.server kind.Server
+    (Reply.Active c.in-Ok-Some.id c.request_number.result) c.receive_request.new.self refl c.requires
+    (receive_due g.B.Body.family c.args.core.now c.args.server
+    (ap (λ n. n == 0) (sym c.numbers_left.ensures) ∙ ne_eqb c.numbers_left.result 0 c.if-numbers_left-eq0.false)) (
+      (subst (λ o. ReceivesRequest c.args.core.now c.args.server (Ok o) c.receive_request.new.self) c.in-Ok-Some.field-0-is
+          c.in-Ok-Some.ensures),
+      c.request_number.ensures,
+    ))
 
 pub returns-in-Ok-None : goal.returns-in-Ok-None
 returns-in-Ok-None g c =
-    step_acts g.K.BackpressureFn.answer g.T.Default.is_default g.H.Default.is_default g.B.Body.family c.args.core.now (Command.Receive c.args.server) c.args.server kind.Server Reply.Nothing c.receive_request.new.self refl c.requires
-    (receive_due g.B.Body.family c.args.core.now c.args.server (ap (λ n. n == 0) (sym c.numbers_left.ensures) ∙ ne_eqb c.numbers_left.result 0 c.if-numbers_left-eq0.false))
-    (inl (subst (λ o. ReceivesRequest c.args.core.now c.args.server (Ok o) c.receive_request.new.self) c.in-Ok-None.field-0-is c.in-Ok-None.ensures))
+    step_acts g.K.BackpressureFn.answer g.T.Default.is_default g.H.Default.is_default g.B.Body.family c.args.core.now
+    (Command.Receive c.args.server) c.args.server kind.Server Reply.Nothing c.receive_request.new.self refl c.requires
+    (receive_due g.B.Body.family c.args.core.now c.args.server
+    (ap (λ n. n == 0) (sym c.numbers_left.ensures) ∙ ne_eqb c.numbers_left.result 0 c.if-numbers_left-eq0.false))
+    (inl (subst (λ o. ReceivesRequest c.args.core.now c.args.server (Ok o) c.receive_request.new.self) c.in-Ok-None.field-0-is
+    c.in-Ok-None.ensures))

@@ -12,14 +12,31 @@ use Rattle.rr_run.proofs.runner.sends.send_response_copy.Goals as goal
 pub returns-in-Ok-send_response : goal.returns-in-Ok-send_response
 returns-in-Ok-send_response g c =
     let w = c.in-Ok.ensures in
-    subst (λ k. Step g.K.BackpressureFn.answer g.T.Default.is_default g.H.Default.is_default g.B.Body.family c.args.core.now (Command.SendCopy c.args.active.now c.args.item) (Reply.Sent k) c.send_response.new.self) (sym c.number.ensures)
-    (step_acts g.K.BackpressureFn.answer g.T.Default.is_default g.H.Default.is_default g.B.Body.family c.args.core.now (Command.SendCopy c.args.active.now c.args.item) c.args.active.now kind.ActiveRequest (Reply.Sent c.in-Ok.id) c.send_response.new.self refl c.requires
-    (response_copy_due g.B.Body.family c.args.core.now c.args.active.now (ap (λ n. n == 0) (sym c.numbers_left.ensures) ∙ ne_eqb c.numbers_left.result 0 c.if-numbers_left-eq0.false) c.args.item)
-    (w.0, w.1, subst (λ s. SendsResponse {U = ℕ} g.K.BackpressureFn.answer s c.in-Ok.id (Ok c.in-Ok.id) c.send_response.new.self) w.2 c.in-Ok-send_response.ensures))
+    subst (λ k. Step g.K.BackpressureFn.answer g.T.Default.is_default g.H.Default.is_default g.B.Body.family c.args.core.now
+    (Command.SendCopy c.args.active.now c.args.item) (Reply.Sent k) c.send_response.new.self) (sym c.number.ensures)
+    (step_acts g.K.BackpressureFn.answer g.T.Default.is_default g.H.Default.is_default g.B.Body.family c.args.core.now
+    (Command.SendCopy c.args.active.now c.args.item) c.args.active.now kind.ActiveRequest
+    (Reply.Sent c.in-Ok.id) c.send_response.new.self refl c.requires
+    (response_copy_due g.B.Body.family c.args.core.now c.args.active.now
+    (ap (λ n. n == 0) (sym c.numbers_left.ensures) ∙ ne_eqb c.numbers_left.result 0 c.if-numbers_left-eq0.false) c.args.item) (
+      w.0,
+      w.1,
+      subst (λ s. SendsResponse {U = ℕ} g.K.BackpressureFn.answer s c.in-Ok.id (Ok c.in-Ok.id) c.send_response.new.self) w.2
+          c.in-Ok-send_response.ensures,
+    ))
 
 pub returns-in-Err-send_response : goal.returns-in-Err-send_response
 returns-in-Err-send_response g c =
     let w = c.in-Ok.ensures in
-    step_acts g.K.BackpressureFn.answer g.T.Default.is_default g.H.Default.is_default g.B.Body.family c.args.core.now (Command.SendCopy c.args.active.now c.args.item) c.args.active.now kind.ActiveRequest (Reply.SendError c.in-Err-send_response.error) c.send_response.new.self refl c.requires
-    (response_copy_due g.B.Body.family c.args.core.now c.args.active.now (ap (λ n. n == 0) (sym c.numbers_left.ensures) ∙ ne_eqb c.numbers_left.result 0 c.if-numbers_left-eq0.false) c.args.item)
-    (inr (w.0, c.in-Ok.id, w.1, subst (λ s. SendsResponse {U = ℕ} g.K.BackpressureFn.answer s c.in-Ok.id (Err c.in-Err-send_response.error) c.send_response.new.self) w.2 c.in-Err-send_response.ensures))
+    step_acts g.K.BackpressureFn.answer g.T.Default.is_default g.H.Default.is_default g.B.Body.family c.args.core.now
+    (Command.SendCopy c.args.active.now c.args.item) c.args.active.now kind.ActiveRequest
+    (Reply.SendError c.in-Err-send_response.error) c.send_response.new.self refl c.requires
+    (response_copy_due g.B.Body.family c.args.core.now c.args.active.now
+    (ap (λ n. n == 0) (sym c.numbers_left.ensures) ∙ ne_eqb c.numbers_left.result 0 c.if-numbers_left-eq0.false) c.args.item)
+    (inr (
+      w.0,
+      c.in-Ok.id,
+      w.1,
+      subst (λ s. SendsResponse {U = ℕ} g.K.BackpressureFn.answer s c.in-Ok.id
+          (Err c.in-Err-send_response.error) c.send_response.new.self) w.2 c.in-Err-send_response.ensures,
+    ))

@@ -1,29 +1,61 @@
-use Rattle.std.proofs.Common.{sym, ap, ◌∙◌}
+use Rattle.std.proofs.Common.{◌≡◌, sym, ap, refl, ◌∙◌, [], ◌∷◌}
 use Rattle.std.proofs.Common.{inl}
+use Rattle.rr_hub.specs.Messages.{RequestMessage, RequestMutUninit}
 use Rattle.rr_hub.specs.Queries.{kind_at}
-use Rattle.rr_run.proofs.Copies.{fresh_request, fresh_request_kind, request_uninit, request_ready, request_complete, request_mut}
+use Rattle.rr_hub.specs.Writing.{with_elements}
+use Rattle.rr_steps.specs.Step.{with_content}
+use Rattle.rr_run.proofs.Copies.{IsFresh, fresh_request, fresh_kind, request_pushed, still_uninit, ready, completed, sendable}
+use Rattle.rr_run.proofs.runner.sends.written_request.Goals.{In_ok-id, After-push_request}
 use Rattle.rr_run.proofs.runner.sends.written_request.Goals as goal
+
+-- the request that was loaned
+fresh : (g : _) (c : In_ok-id g) → (m : RequestMessage _ _) × IsFresh c.loan_request.new.self c.in_ok-id.id
+    (λ content. RequestMutUninit (record m { content = content }))
+fresh g c =
+    fresh_request g.H.Default.is_default c.args.core.now c.args.client c.in_ok-id.id c.loan_request.new.self
+    (ap (kind_at c.args.core.now) (sym c.next_number.ensures.number) ∙ c.next_number.ensures.free) c.in_ok-id.ensures.loans
+
+-- and the element in it
+pushed : (g : _) (c : After-push_request g) → (m : RequestMessage _ _)
+    × IsFresh c.loan_request.new.self c.in_ok-id.id (λ content. RequestMutUninit (record m { content = content }))
+    → c.push_request.new.self ≡ with_content c.loan_request.new.self c.in_ok-id.id (with_elements (c.args.item ∷ []))
+pushed g c f = request_pushed c.loan_request.new.self c.in_ok-id.id c.args.item c.push_request.result c.push_request.new.self f.0 f.1
+    c.push_request.ensures
 
 pub push_request-requires : goal.push_request-requires
 push_request-requires g c =
-    let f = fresh_request g.H.Default.is_default c.args.core.now c.args.client c.in_ok-id.id c.loan_request.new.self (ap (kind_at c.args.core.now) (sym c.next_number.ensures.number) ∙ c.next_number.ensures.free) c.in_ok-id.ensures.loans in
-    fresh_request_kind c.loan_request.new.self c.in_ok-id.id f
+    let f = fresh g (goal.at.push_request-requires g c).In_ok-id in
+    fresh_kind c.loan_request.new.self c.in_ok-id.id (λ content. RequestMutUninit (record f.0 { content = content })) f.1
 
 pub assume_init-requires-clause-uninit : goal.assume_init-requires-clause-uninit
 assume_init-requires-clause-uninit g c =
-    let f = fresh_request g.H.Default.is_default c.args.core.now c.args.client c.in_ok-id.id c.loan_request.new.self (ap (kind_at c.args.core.now) (sym c.next_number.ensures.number) ∙ c.next_number.ensures.free) c.in_ok-id.ensures.loans in
-    inl (request_uninit c.loan_request.new.self c.in_ok-id.id f c.args.item c.push_request.result c.push_request.new.self c.push_request.ensures)
+    let at = goal.at.assume_init-requires-clause-uninit g c in
+    let f = fresh g at.In_ok-id in
+    inl (still_uninit c.loan_request.new.self c.in_ok-id.id (λ content. RequestMutUninit (record f.0 { content = content })) f.1 c.args.item
+    (λ change content. refl)
+    c.push_request.new.self (pushed g at.After-push_request f))
 
 pub assume_init-requires-clause-complete : goal.assume_init-requires-clause-complete
 assume_init-requires-clause-complete g c =
-    let f = fresh_request g.H.Default.is_default c.args.core.now c.args.client c.in_ok-id.id c.loan_request.new.self (ap (kind_at c.args.core.now) (sym c.next_number.ensures.number) ∙ c.next_number.ensures.free) c.in_ok-id.ensures.loans in
-    request_ready c.loan_request.new.self c.in_ok-id.id f c.args.item c.push_request.result c.push_request.new.self c.push_request.ensures
+    let at = goal.at.assume_init-requires-clause-complete g c in
+    let f = fresh g at.In_ok-id in
+    ready c.loan_request.new.self c.in_ok-id.id (λ content. RequestMutUninit (record f.0 { content = content })) f.1 c.args.item
+    (λ change content. refl)
+    c.push_request.new.self (pushed g at.After-push_request f) refl
 
 pub returns : goal.returns
 returns g c =
-    let f = fresh_request g.H.Default.is_default c.args.core.now c.args.client c.in_ok-id.id c.loan_request.new.self (ap (kind_at c.args.core.now) (sym c.next_number.ensures.number) ∙ c.next_number.ensures.free) c.in_ok-id.ensures.loans in (
+    let at = goal.at.returns g c in
+    let f = fresh g at.In_ok-id in
+    let is = pushed g at.After-push_request f in (
       c.loan_request.new.self,
       c.in_ok-id.ensures.loans,
-      c.assume_init.ensures ∙ request_complete c.loan_request.new.self c.in_ok-id.id f c.args.item c.push_request.result c.push_request.new.self c.push_request.ensures,
-      ap (λ t. kind_at t c.in_ok-id.id) c.assume_init.ensures ∙ request_mut c.loan_request.new.self c.in_ok-id.id f c.args.item c.push_request.result c.push_request.new.self c.push_request.ensures,
+      c.assume_init.ensures
+          ∙ completed c.loan_request.new.self c.in_ok-id.id (λ content. RequestMutUninit (record f.0 { content = content })) f.1 c.args.item
+          (λ change content. refl)
+          c.push_request.new.self is,
+      ap (λ t. kind_at t c.in_ok-id.id) c.assume_init.ensures
+          ∙ sendable c.loan_request.new.self c.in_ok-id.id (λ content. RequestMutUninit (record f.0 { content = content })) f.1 c.args.item
+          (λ change content. refl)
+          c.push_request.new.self is,
     )

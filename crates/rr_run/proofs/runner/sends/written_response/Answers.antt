@@ -1,29 +1,61 @@
-use Rattle.std.proofs.Common.{sym, ap, ◌∙◌}
+use Rattle.std.proofs.Common.{◌≡◌, sym, ap, refl, ◌∙◌, [], ◌∷◌}
 use Rattle.std.proofs.Common.{inr}
+use Rattle.rr_hub.specs.Messages.{ResponseMessage, ResponseMutUninit}
 use Rattle.rr_hub.specs.Queries.{kind_at}
-use Rattle.rr_run.proofs.Copies.{fresh_response, fresh_response_kind, response_uninit, response_ready, response_complete, response_mut}
+use Rattle.rr_hub.specs.Writing.{with_elements}
+use Rattle.rr_steps.specs.Step.{with_content}
+use Rattle.rr_run.proofs.Copies.{IsFresh, fresh_response, fresh_kind, response_pushed, still_uninit, ready, completed, sendable}
+use Rattle.rr_run.proofs.runner.sends.written_response.Goals.{In_ok-id, After-push_response}
 use Rattle.rr_run.proofs.runner.sends.written_response.Goals as goal
+
+-- the response that was loaned
+fresh : (g : _) (c : In_ok-id g) → (m : ResponseMessage _ _)
+    × IsFresh c.loan_response.new.self c.in_ok-id.id (λ content. ResponseMutUninit (record m { content = content }))
+fresh g c =
+    fresh_response g.H.Default.is_default c.args.core.now c.args.active.now c.in_ok-id.id c.loan_response.new.self
+    (ap (kind_at c.args.core.now) (sym c.next_number.ensures.number) ∙ c.next_number.ensures.free) c.in_ok-id.ensures.loans
+
+-- and the element in it
+pushed : (g : _) (c : After-push_response g) → (m : ResponseMessage _ _)
+    × IsFresh c.loan_response.new.self c.in_ok-id.id (λ content. ResponseMutUninit (record m { content = content }))
+    → c.push_response.new.self ≡ with_content c.loan_response.new.self c.in_ok-id.id (with_elements (c.args.item ∷ []))
+pushed g c f = response_pushed c.loan_response.new.self c.in_ok-id.id c.args.item c.push_response.result c.push_response.new.self f.0 f.1
+    c.push_response.ensures
 
 pub push_response-requires : goal.push_response-requires
 push_response-requires g c =
-    let f = fresh_response g.H.Default.is_default c.args.core.now c.args.active.now c.in_ok-id.id c.loan_response.new.self (ap (kind_at c.args.core.now) (sym c.next_number.ensures.number) ∙ c.next_number.ensures.free) c.in_ok-id.ensures.loans in
-    fresh_response_kind c.loan_response.new.self c.in_ok-id.id f
+    let f = fresh g (goal.at.push_response-requires g c).In_ok-id in
+    fresh_kind c.loan_response.new.self c.in_ok-id.id (λ content. ResponseMutUninit (record f.0 { content = content })) f.1
 
 pub assume_init-requires-clause-uninit : goal.assume_init-requires-clause-uninit
 assume_init-requires-clause-uninit g c =
-    let f = fresh_response g.H.Default.is_default c.args.core.now c.args.active.now c.in_ok-id.id c.loan_response.new.self (ap (kind_at c.args.core.now) (sym c.next_number.ensures.number) ∙ c.next_number.ensures.free) c.in_ok-id.ensures.loans in
-    inr (response_uninit c.loan_response.new.self c.in_ok-id.id f c.args.item c.push_response.result c.push_response.new.self c.push_response.ensures)
+    let at = goal.at.assume_init-requires-clause-uninit g c in
+    let f = fresh g at.In_ok-id in
+    inr (still_uninit c.loan_response.new.self c.in_ok-id.id
+    (λ content. ResponseMutUninit (record f.0 { content = content })) f.1 c.args.item (λ change content. refl)
+    c.push_response.new.self (pushed g at.After-push_response f))
 
 pub assume_init-requires-clause-complete : goal.assume_init-requires-clause-complete
 assume_init-requires-clause-complete g c =
-    let f = fresh_response g.H.Default.is_default c.args.core.now c.args.active.now c.in_ok-id.id c.loan_response.new.self (ap (kind_at c.args.core.now) (sym c.next_number.ensures.number) ∙ c.next_number.ensures.free) c.in_ok-id.ensures.loans in
-    response_ready c.loan_response.new.self c.in_ok-id.id f c.args.item c.push_response.result c.push_response.new.self c.push_response.ensures
+    let at = goal.at.assume_init-requires-clause-complete g c in
+    let f = fresh g at.In_ok-id in
+    ready c.loan_response.new.self c.in_ok-id.id (λ content. ResponseMutUninit (record f.0 { content = content })) f.1 c.args.item
+    (λ change content. refl)
+    c.push_response.new.self (pushed g at.After-push_response f) refl
 
 pub returns : goal.returns
 returns g c =
-    let f = fresh_response g.H.Default.is_default c.args.core.now c.args.active.now c.in_ok-id.id c.loan_response.new.self (ap (kind_at c.args.core.now) (sym c.next_number.ensures.number) ∙ c.next_number.ensures.free) c.in_ok-id.ensures.loans in (
+    let at = goal.at.returns g c in
+    let f = fresh g at.In_ok-id in
+    let is = pushed g at.After-push_response f in (
       c.loan_response.new.self,
       c.in_ok-id.ensures.loans,
-      c.assume_init.ensures ∙ response_complete c.loan_response.new.self c.in_ok-id.id f c.args.item c.push_response.result c.push_response.new.self c.push_response.ensures,
-      ap (λ t. kind_at t c.in_ok-id.id) c.assume_init.ensures ∙ response_mut c.loan_response.new.self c.in_ok-id.id f c.args.item c.push_response.result c.push_response.new.self c.push_response.ensures,
+      c.assume_init.ensures
+          ∙ completed c.loan_response.new.self c.in_ok-id.id
+          (λ content. ResponseMutUninit (record f.0 { content = content })) f.1 c.args.item (λ change content. refl)
+          c.push_response.new.self is,
+      ap (λ t. kind_at t c.in_ok-id.id) c.assume_init.ensures
+          ∙ sendable c.loan_response.new.self c.in_ok-id.id (λ content. ResponseMutUninit (record f.0 { content = content })) f.1
+          c.args.item (λ change content. refl)
+          c.push_response.new.self is,
     )

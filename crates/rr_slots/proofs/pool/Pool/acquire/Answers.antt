@@ -9,10 +9,17 @@ pub returns-in-Ok-clause-ok : goal.returns-in-Ok-clause-ok
 returns-in-Ok-clause-ok g c =
     let inside : c.in-Some.slot < length c.self.inside.bodies.items = within_bodies _ _ _ _ c.in-Some.ensures.free c.self.invariant.0 in
     let same : c.take.result ≡ c.in-Some.slot = c.take.ensures.first ∙ sym c.in-Some.ensures.some in
-    let bodies = became g.B.Body.asked_len g.B.Body.elements _ _ _ inside c.index_mut.ensures.value _ (nothing_written c.args.len) c.in-Ok.ensures.asked c.in-Ok.ensures.empty in
-    let holders : c.take.new.self.holders ≡ slice_set c.self.inside.holders.holders c.in-Some.slot 1 = c.take.ensures.holders ∙ ap (λ k. slice_set c.self.inside.holders.holders k 1) same in
+    let bodies = became g.B.Body.asked_len g.B.Body.elements _ _ _ inside c.index_mut.ensures.value _
+    (nothing_written c.args.len) c.in-Ok.ensures.asked c.in-Ok.ensures.empty in
+    let holders : c.take.new.self.holders ≡ slice_set c.self.inside.holders.holders c.in-Some.slot 1 = c.take.ensures.holders
+    ∙ ap (λ k. slice_set c.self.inside.holders.holders k 1) same in
     rw (← c.self.view_is)
-    (ap (λ contents. record { contents = contents; holders = c.take.new.self.holders; room = c.self.inside.room; looks = c.take.new.self.looks }) bodies
+    (ap (λ contents. record {
+      contents = contents;
+      holders = c.take.new.self.holders;
+      room = c.self.inside.room;
+      looks = c.take.new.self.looks;
+    }) bodies
     ∙ rw holders (rw c.take.ensures.looks refl))
 
 pub returns-in-Err-clause-no_room : goal.returns-in-Err-clause-no_room

@@ -10,7 +10,12 @@ returns g c =
     let here = content_is g.B.Body.asked_len g.B.Body.elements _ _ _ inside c.index_mut-body.ensures.value in (
       (
         refl,
-        λ w. ap (λ contents. record { contents = contents; holders = c.self.inside.holders.holders; room = c.self.inside.room; looks = c.self.inside.holders.looks })
+        λ w. ap (λ contents. record {
+          contents = contents;
+          holders = c.self.inside.holders.holders;
+          room = c.self.inside.room;
+          looks = c.self.inside.holders.looks;
+        })
             (changed g.B.Body.asked_len g.B.Body.elements _ _ _ inside c.index_mut-body.ensures.value _ (with_element_at c.args.index w)
             (g.met.B.Body.keeps_asked_len _ _ _) (g.met.B.Body.sets_one_element _ _ _)),
       ),

@@ -5,7 +5,8 @@ use Rattle.rr_table.proofs.table.Table.get_at.Goals as goal
 
 pub returns-then-entry-number : goal.returns-then-entry-number
 returns-then-entry-number g c =
-    rw (← c.self.view_is) (kept_here (rows_of c.self.inside.rows) _ _ _ c.self.invariant (sym c.entry_at.ensures ∙ c.in-Some.is) c.if-entry-number.true)
+    rw (← c.self.view_is) (kept_here (rows_of c.self.inside.rows) _ _ _ c.self.invariant
+    (sym c.entry_at.ensures ∙ c.in-Some.is) c.if-entry-number.true)
 
 pub returns-else-entry-number : goal.returns-else-entry-number
 returns-else-entry-number g c =

@@ -7,7 +7,8 @@ use Rattle.rr_table.proofs.table.Table.insert.Goals as goal
 pub index_mut-requires-2 : goal.index_mut-requires-2
 index_mut-requires-2 g c =
     let r = rw (← c.self.view_is) at c.requires in
-    index_within c.self.inside.rows.items c.args.place c.index_mut.result.now (within_inside (rows_of c.self.inside.rows) c.args.place r.place) c.index_mut.ensures.value
+    index_within c.self.inside.rows.items c.args.place c.index_mut.result.now
+    (within_inside (rows_of c.self.inside.rows) c.args.place r.place) c.index_mut.ensures.value
 
 pub invariant_of-self : goal.invariant_of-self
 invariant_of-self g c =
@@ -15,7 +16,8 @@ invariant_of-self g c =
     let r = rw (← c.self.view_is) at c.requires in
     let within = within_inside rows c.args.place r.place in
     let is = written_at c.self.inside.rows.items c.args.place c.index_mut.result.now _ within c.index_mut.ensures.value in
-    subst IsDistinct (sym is) (seated_distinct rows c.args.place _ _ within c.self.invariant (λ k s h _. r.vacant k s h) (inserted_its _ _ _ r.fresh))
+    subst IsDistinct (sym is) (seated_distinct rows c.args.place _ _ within c.self.invariant (λ k s h _. r.vacant k s h)
+    (inserted_its _ _ _ r.fresh))
 
 pub returns : goal.returns
 returns g c =
@@ -23,4 +25,5 @@ returns g c =
     let r = rw (← c.self.view_is) at c.requires in
     let within = within_inside rows c.args.place r.place in
     let is = written_at c.self.inside.rows.items c.args.place c.index_mut.result.now _ within c.index_mut.ensures.value in
-    rw (← c.self.view_is) (ap seats_of is ∙ seated_is rows c.args.place _ _ within c.self.invariant (λ k s h _. r.vacant k s h) (inserted_its _ _ _ r.fresh))
+    rw (← c.self.view_is) (ap seats_of is ∙ seated_is rows c.args.place _ _ within c.self.invariant (λ k s h _. r.vacant k s h)
+    (inserted_its _ _ _ r.fresh))

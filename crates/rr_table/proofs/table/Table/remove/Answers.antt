@@ -10,23 +10,29 @@ use Rattle.rr_table.proofs.table.Table.remove.Goals as goal
 pub invariant_of-self : goal.invariant_of-self
 invariant_of-self g c =
     let rows = rows_of c.self.inside.rows in
-    let is = written_at c.self.inside.rows.items c.in-Some.place c.index_mut.result.now _ (placed_within rows _ _ c.self.invariant c.in-Some.ensures) c.index_mut.ensures.value in
+    let is = written_at c.self.inside.rows.items c.in-Some.place c.index_mut.result.now _
+    (placed_within rows _ _ c.self.invariant c.in-Some.ensures) c.index_mut.ensures.value in
     subst IsDistinct (sym is) (removed_distinct rows _ _ c.self.invariant c.in-Some.ensures)
 
 pub returns-in-Some-clause-gone : goal.returns-in-Some-clause-gone
 returns-in-Some-clause-gone g c =
     let rows = rows_of c.self.inside.rows in
-    let is = written_at c.self.inside.rows.items c.in-Some.place c.index_mut.result.now _ (placed_within rows _ _ c.self.invariant c.in-Some.ensures) c.index_mut.ensures.value in
+    let is = written_at c.self.inside.rows.items c.in-Some.place c.index_mut.result.now _
+    (placed_within rows _ _ c.self.invariant c.in-Some.ensures) c.index_mut.ensures.value in
     rw (← c.self.view_is) (ap seats_of is ∙ removed_is rows _ _ c.self.invariant c.in-Some.ensures)
 
 pub returns-in-Some-clause-vacated : goal.returns-in-Some-clause-vacated
 returns-in-Some-clause-vacated g c =
     let rows = rows_of c.self.inside.rows in
-    let is = written_at c.self.inside.rows.items c.in-Some.place c.index_mut.result.now _ (placed_within rows _ _ c.self.invariant c.in-Some.ensures) c.index_mut.ensures.value in
-    rw (← c.self.view_is) (subst (λ l. IfSome (get (seats_of rows).seats c.args.number) (λ s. IsVacant (seats_of l) s.place)) (sym is) (vacated_is rows _ _ c.self.invariant c.in-Some.ensures))
+    let is = written_at c.self.inside.rows.items c.in-Some.place c.index_mut.result.now _
+    (placed_within rows _ _ c.self.invariant c.in-Some.ensures) c.index_mut.ensures.value in
+    rw (← c.self.view_is) (subst (λ l. IfSome (get (seats_of rows).seats c.args.number) (λ s. IsVacant (seats_of l) s.place)) (sym is)
+    (vacated_is rows _ _ c.self.invariant c.in-Some.ensures))
 
 pub returns-in_default-clause-gone : goal.returns-in_default-clause-gone
-returns-in_default-clause-gone g c = absurd ((rw (← c.self.view_is) at c.requires) (nowhere (rows_of c.self.inside.rows) _ c.in_default.ensures))
+returns-in_default-clause-gone g c = absurd ((rw (← c.self.view_is) at c.requires)
+    (nowhere (rows_of c.self.inside.rows) _ c.in_default.ensures))
 
 pub returns-in_default-clause-vacated : goal.returns-in_default-clause-vacated
-returns-in_default-clause-vacated g c = absurd ((rw (← c.self.view_is) at c.requires) (nowhere (rows_of c.self.inside.rows) _ c.in_default.ensures))
+returns-in_default-clause-vacated g c = absurd ((rw (← c.self.view_is) at c.requires)
+    (nowhere (rows_of c.self.inside.rows) _ c.in_default.ensures))

@@ -17,4 +17,5 @@ returns-clause-ok g c =
     let rows = rows_of c.self.inside.rows in
     let inside = row_inside rows c.args.row (rw (← c.self.view_is) at c.requires) in
     let is = renewed_at c.self.inside.rows.items c.args.row _ c.args.len c.in_ok-places.ensures in
-    rw (← c.self.view_is) (subst (λ l. IsRenewed c.args.row c.args.len (seats_of rows) (seats_of l)) (sym is) (renewed_is rows c.args.row c.args.len inside c.self.invariant))
+    rw (← c.self.view_is) (subst (λ l. IsRenewed c.args.row c.args.len (seats_of rows) (seats_of l)) (sym is)
+    (renewed_is rows c.args.row c.args.len inside c.self.invariant))

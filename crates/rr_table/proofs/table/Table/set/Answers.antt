@@ -10,14 +10,18 @@ use Rattle.rr_table.proofs.table.Table.set.Goals as goal
 pub invariant_of-self : goal.invariant_of-self
 invariant_of-self g c =
     let rows = rows_of c.self.inside.rows in
-    let is = written_at c.self.inside.rows.items c.in-Some.place c.index_mut.result.now _ (placed_within rows _ _ c.self.invariant c.in-Some.ensures) c.index_mut.ensures.value in
+    let is = written_at c.self.inside.rows.items c.in-Some.place c.index_mut.result.now _
+    (placed_within rows _ _ c.self.invariant c.in-Some.ensures) c.index_mut.ensures.value in
     subst IsDistinct (sym is) (set_distinct rows _ _ c.self.invariant c.in-Some.ensures _)
 
 pub returns-in-Some : goal.returns-in-Some
 returns-in-Some g c =
     let rows = rows_of c.self.inside.rows in
-    let is = written_at c.self.inside.rows.items c.in-Some.place c.index_mut.result.now _ (placed_within rows _ _ c.self.invariant c.in-Some.ensures) c.index_mut.ensures.value in
-    rw (← c.self.view_is) (subst (λ l. IfSome (get (seats_of rows).seats c.args.number) (λ s. seats_of l ≡ seated (seats_of rows) c.args.number s.place c.args.value)) (sym is) (set_is rows _ _ c.self.invariant c.in-Some.ensures _))
+    let is = written_at c.self.inside.rows.items c.in-Some.place c.index_mut.result.now _
+    (placed_within rows _ _ c.self.invariant c.in-Some.ensures) c.index_mut.ensures.value in
+    rw (← c.self.view_is) (subst (λ l. IfSome (get (seats_of rows).seats c.args.number)
+    (λ s. seats_of l ≡ seated (seats_of rows) c.args.number s.place c.args.value)) (sym is)
+    (set_is rows _ _ c.self.invariant c.in-Some.ensures _))
 
 pub returns-in_default : goal.returns-in_default
 returns-in_default g c = absurd ((rw (← c.self.view_is) at c.requires) (nowhere (rows_of c.self.inside.rows) _ c.in_default.ensures))

@@ -11,7 +11,12 @@ returns g c =
     let here = content_is (λ _. 1) option_elements _ _ _ inside c.index_mut.ensures.value in (
       (
         refl,
-        λ w. ap (λ contents. record { contents = contents; holders = c.self.inside.holders.holders; room = c.self.inside.room; looks = c.self.inside.holders.looks })
+        λ w. ap (λ contents. record {
+          contents = contents;
+          holders = c.self.inside.holders.holders;
+          room = c.self.inside.room;
+          looks = c.self.inside.holders.looks;
+        })
             (changed (λ _. 1) option_elements _ _ _ inside c.index_mut.ensures.value _ (with_elements (option_elements w)) refl refl),
       ),
       record { lends = tt; value = rw here refl },

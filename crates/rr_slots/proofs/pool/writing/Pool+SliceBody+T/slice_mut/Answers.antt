@@ -10,7 +10,12 @@ returns g c =
     let here = content_is (λ b. b.asked) (λ b. b.elements) _ _ _ inside c.index_mut-body.ensures.value in (
       (
         refl,
-        λ w. ap (λ contents. record { contents = contents; holders = c.self.inside.holders.holders; room = c.self.inside.room; looks = c.self.inside.holders.looks })
+        λ w. ap (λ contents. record {
+          contents = contents;
+          holders = c.self.inside.holders.holders;
+          room = c.self.inside.room;
+          looks = c.self.inside.holders.looks;
+        })
             (changed (λ b. b.asked) (λ b. b.elements) _ _ _ inside c.index_mut-body.ensures.value _ (refilled w) refl refl),
       ),
       record { lends = tt; value = rw here (sym c.slice_mut.ensures.value) },
