@@ -17,7 +17,7 @@ use Rattle.rr_parts.specs.Hands.{IsSeatable}
 use Rattle.rr_parts.specs.Answering.{active_held, answer_held, answer_note, answer_place, with_answer_in_hand, with_response_loan}
 use Rattle.rr_core_laws.proofs.Hands.{count-cons, one_in_hand, unseated_sound, seated_sound}
 use Rattle.rr_core_laws.proofs.Kept.{same_placing}
-use Rattle.rr_core_laws.proofs.LoanSound.{slot_cases, both_true}
+use Rattle.rr_core_laws.proofs.LoanedLane.{slot_cases, both_true}
 use Rattle.rr_core_laws.proofs.Recounted.{recounted_sound}
 use Rattle.rr_core_laws.proofs.AnswerSound as answer
 

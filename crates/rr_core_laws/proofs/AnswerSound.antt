@@ -1,8 +1,8 @@
 -- What is true of a core stays true as a response is loaned.
 use Rattle.std.proofs.Common.{◌≡◌, ◌≢◌, ◌<◌, ◌+◌, ◌^◌, ℕ, Bool, true, false, [], ◌∷◌, None, Some, length, get_or, refl, sym, ap, ◌∙◌, subst, ⊎_elim, arith}
-use Rattle.std.specs.Prelude.{◌==◌, ◌&&◌, slice_get, slice_index, slice_set, count_by}
+use Rattle.std.specs.Prelude.{◌==◌, ◌&&◌, slice_get, slice_index, count_by}
 use Rattle.std.specs.FinMap as fin_map
-use Rattle.std.proofs.lemmas.Bool.{cases_eq, cases_lt, eq-eqb, ne_eqb}
+use Rattle.std.proofs.lemmas.Bool.{cases_lt, eq-eqb, ne_eqb}
 use Rattle.std.proofs.lemmas.List.{get_or-set_same, get_or-set_other, length-set}
 use Rattle.std.proofs.lemmas.Option.{slice_get_within, get_or_from_slice_get}
 use Rattle.rr_table.specs.Maps.{tally, mark}
@@ -24,7 +24,7 @@ use Rattle.rr_core_laws.proofs.Kept.{framed_seated}
 use Rattle.rr_core_laws.proofs.Hands.{count-cons, one_in_hand, none_in_hand, lanes_same}
 use Rattle.rr_core_laws.proofs.Agreeing.{lane_within}
 use Rattle.rr_core_laws.proofs.HandleCounts.{listed}
-use Rattle.rr_core_laws.proofs.LoanSound.{other_slot, other_lanes, slot_cases, both_true}
+use Rattle.rr_core_laws.proofs.LoanedLane.{slot_cases, both_true, held_once_more, noted_elsewhere}
 use Rattle.rr_core_laws.proofs.Queues.{times_queue}
 use Rattle.rr_core_laws.proofs.Tallies.{tally-same}
 
@@ -135,32 +135,7 @@ module _ {Q QH P PH K : Type 0} (p : Parts Q QH P PH K) (index : ℕ) (c : Serve
   -- one slot is held once more
   held_is : (k j : ℕ) → slice_index (lane_of k after.server_lanes).messages.held j ≡ slice_index
       (lane_of k p.server_lanes).messages.held j + mark (c.lane == k && slot == j)
-  held_is k j =
-      ⊎_elim
-      (λ e. let lane : lane_of k after.server_lanes ≡ fresh = sym (ap (λ k. lane_of k after.server_lanes) e) ∙ here_is in
-      let old : slice_index (lane_of k p.server_lanes).messages.held j ≡ slice_index m.held j = sym
-      (ap (λ k. slice_index (lane_of k p.server_lanes).messages.held j) e) in
-      let new : slice_index (lane_of k after.server_lanes).messages.held j ≡ slice_index (slice_set m.held slot 1) j = ap
-      (λ (x : Lane P ResponseNote PH). slice_index x.messages.held j) lane in
-      ⊎_elim
-      (λ f. omega (
-        arith,
-        new,
-        old,
-        ap (λ b. slice_index (slice_set m.held slot 1) b) (sym f),
-        get_or-set_same m.held slot 1 0 within,
-        ap (λ b. slice_index m.held b) f,
-        not_held,
-        ap mark (both_true c.lane slot k j e f),
-      ))
-      (λ n. omega (arith, new, old, get_or-set_other m.held slot j 1 0 (λ f. n (sym f)), ap mark (other_slot c.lane slot k j e n)))
-      (cases_eq slot j))
-      (λ n. omega (
-        arith,
-        ap (λ (x : Lane P ResponseNote PH). slice_index x.messages.held j) (there_is k n),
-        ap mark (other_lanes c.lane slot k j n),
-      ))
-      (cases_eq c.lane k)
+  held_is = held_once_more p.server_lanes c.lane slot fresh own.0 refl within not_held
 
   -- and used once more
   pub used_is : (k j : ℕ) → response_uses after k j ≡ response_uses p k j + mark (c.lane == k && slot == j)
@@ -168,14 +143,7 @@ module _ {Q QH P PH K : Type 0} (p : Parts Q QH P PH K) (index : ℕ) (c : Serve
 
   -- what is noted of another slot
   note_there : (k j : ℕ) → ((c.lane ≡ k) → (slot ≡ j) → ⊥) → response_note after k j ≡ response_note p k j
-  note_there k j n =
-      ⊎_elim
-      (λ e. ap (λ (x : Lane P ResponseNote PH). get_or x.messages.notes j no_response)
-      (sym (ap (λ k. lane_of k after.server_lanes) e) ∙ here_is)
-      ∙ get_or-set_other m.notes slot j note no_response (λ f. n e (sym f))
-      ∙ ap (λ k. get_or (lane_of k p.server_lanes).messages.notes j no_response) e)
-      (λ far. ap (λ (x : Lane P ResponseNote PH). get_or x.messages.notes j no_response) (there_is k far))
-      (cases_eq c.lane k)
+  note_there = noted_elsewhere p.server_lanes c.lane slot fresh own.0 note no_response refl
 
   -- and what is noted of this one
   pub note_here : response_note after c.lane slot ≡ note

@@ -1,31 +1,30 @@
 -- What is true of a core stays true as a client is created.
-use Rattle.std.proofs.Common.{◌≡◌, ◌≢◌, ◌<◌, ◌+◌, ◌*◌, ◌^◌, ℕ, Bool, true, false, List, [], ◌∷◌, Option, None, Some, option_map, length, get_or, map, replicate, refl, sym, ap, ◌∙◌, subst, ⊎_elim, arith}
+use Rattle.std.proofs.Common.{◌≡◌, ◌≢◌, ◌<◌, ◌+◌, ◌*◌, ◌^◌, ℕ, Bool, true, false, List, [], ◌∷◌, Some, length, get_or, refl, sym, ap, ◌∙◌, subst, arith}
 use Rattle.std.specs.Prelude.{◌==◌, ◌&&◌, slice_get, slice_index}
 use Rattle.std.specs.FinMap as fin_map
-use Rattle.std.proofs.lemmas.Bool.{cases_lt, false_from_ne_true, eqb-true, and_parts}
-use Rattle.std.proofs.lemmas.List.{length-append, length-replicate, length-map, map-append, get_or-replicate}
-use Rattle.std.proofs.lemmas.Option.{slice_get-map}
+use Rattle.std.proofs.lemmas.Bool.{false_from_ne_true, eqb-true, and_parts}
+use Rattle.std.proofs.lemmas.List.{length-append, length-replicate}
 use Rattle.std.proofs.Math.ListN.{get_or-append}
 use Rattle.std.proofs.Math.Seq.{get_or-append_seam}
 use Rattle.rr_table.specs.Maps.{tally}
 use Rattle.rr_table.specs.Seats.{Seat}
-use Rattle.rr_lanes.specs.Lanes.{Messages, times, all_entries, queue_at, borrowed_at}
-use Rattle.rr_lanes.proofs.EntryLaws.{times-empty}
+use Rattle.rr_lanes.specs.Lanes.{Messages, times, queue_at, borrowed_at}
 use Rattle.rr_hub.specs.declared.settings.ClientSettings.{ClientSettings}
 use Rattle.rr_parts.specs.declared.held.Held.{Held}
 use Rattle.rr_parts.specs.declared.held.Stage.{Stage}
 use Rattle.rr_parts.specs.declared.held.Stage.TheVariants as stage
 use Rattle.rr_parts.specs.declared.note.RequestNote.{RequestNote}
-use Rattle.rr_parts.specs.Parts.{Parts, Connected, ClientPart, Lane}
+use Rattle.rr_parts.specs.Parts.{Parts, ClientPart, Lane}
 use Rattle.rr_parts.specs.Views.{no_request, lane_of}
-use Rattle.rr_parts.specs.Sound.{IsSound, IsCounted, IsNumbered, IsAddressed, IsSeated, IsStored, IsSized, IsVacated, HasLanes, IsShaped, empty_hand, is_of_request, is_request_loan, is_pending, is_active_of, is_received, is_received_at, request_note, response_note, request_uses, server_place, place_at}
+use Rattle.rr_parts.specs.Sound.{IsSound, IsCounted, IsNumbered, IsAddressed, IsSeated, IsStored, IsSized, IsVacated, IsShaped, empty_hand, is_of_request, is_request_loan, is_pending, is_active_of, is_received, is_received_at, request_note, response_note, request_uses, server_place, place_at}
 use Rattle.rr_parts.specs.Creating.{IsNew, client_port, with_client_part}
-use Rattle.rr_core_laws.proofs.NewLanes.{LooksLike, looks_like, lane_before, lane_last, lane_cases, new_queue, mark_of_more}
-use Rattle.rr_core_laws.proofs.Adding.{given_before, pool_fits, makes_channels}
+use Rattle.rr_core_laws.proofs.NewLanes.{LooksLike, looks_like, lane_before, lane_cases, mark_of_more}
+use Rattle.rr_core_laws.proofs.Adding.{pool_fits, makes_channels}
+use Rattle.rr_core_laws.proofs.NewPort.{port_added, later_next, new_shaped}
 use Rattle.rr_hub.specs.Limits.{worst_case_requests}
 use Rattle.rr_core_laws.proofs.Agreeing.{request_lane}
 use Rattle.rr_core_laws.proofs.Stages.{loan_is_request, pending_is_request, active_is_request, received_is_response, handle_uses_request, handle_uses_response}
-use Rattle.rr_core_laws.proofs.Tallies.{and_none, tally-none, last_at, snoc_cases, snoc_keeps}
+use Rattle.rr_core_laws.proofs.Tallies.{and_none, tally-none, snoc_cases, snoc_keeps}
 
 module _ {Q QH P PH K : Type 0} (p : Parts Q QH P PH K) (settings : ClientSettings K) (place : ℕ) (m : Messages Q RequestNote QH)
     (sound : IsSound p empty_hand)
@@ -242,25 +241,7 @@ module _ {Q QH P PH K : Type 0} (p : Parts Q QH P PH K) (settings : ClientSettin
 
   -- the new lane has its size
   shaped : IsShaped p.limits.max_servers 1 p.limits.max_active_requests_per_client m
-  shaped = record {
-    contents = new.contents ∙ sym slots_are;
-    notes = ap length new.notes ∙ length-replicate (client_port p settings).pool_size no_request ∙ sym slots_are;
-    user_headers = new.user_headers ∙ sym slots_are;
-    queues = ap length new.queues ∙ length-replicate p.limits.max_servers (replicate 1 []);
-    borrowed = ap length new.borrowed ∙ length-replicate p.limits.max_servers (replicate 1 0);
-    queue_channels = λ r h. ap (λ (q : List (List (List ℕ))). length (get_or q r [])) new.queues
-        ∙ ap length (get_or-replicate p.limits.max_servers r (replicate 1 []) [] h);
-    borrowed_channels = λ r h. ap (λ (q : List (List ℕ)). length (get_or q r [])) new.borrowed
-        ∙ ap length (get_or-replicate p.limits.max_servers r (replicate 1 0) [] h);
-    capacity_is = new.capacity_is;
-    within = λ r c. omega (arith, ap length (new_queue m new r c));
-    inside = λ slot some. absurd (omega (
-      arith,
-      some,
-      ap (λ (q : List (List (List ℕ))). times slot (all_entries q)) new.queues,
-      times-empty slot p.limits.max_servers 1,
-    ));
-  }
+  shaped = new_shaped new
 
   sized : IsSized after
   sized =
@@ -321,134 +302,6 @@ module _ {Q QH P PH K : Type 0} (p : Parts Q QH P PH K) (settings : ClientSettin
         (i * p.limits.max_servers + there) false ∙ sound.vacated.awaits_none l i there none inside;
   }
 
-  -- a port of the longer list is one of the list's, or the new one
-  connected_cases : {Z : Type 0} (i : ℕ) (c : Connected K) → slice_get (map (λ c. c.connected) after.clients) i ≡ Some c
-      → (slice_get (map (λ c. c.connected) p.clients) i ≡ Some c → i < length p.clients → Z)
-      → (i ≡ length p.clients → record { port = client_port p settings; lane = length p.client_lanes; place = place; loans = 0 } ≡ c
-      → Z) → Z
-  connected_cases i c at before fresh =
-      snoc_cases (map (λ (c : ClientPart K). c.connected) p.clients) _ i c
-      (sym (ap (λ (cs : List (Connected K)). slice_get cs i) (map-append (λ (c : ClientPart K). c.connected) p.clients _)) ∙ at)
-      (λ e h. before e (omega (arith, h, length-map p.clients (λ (c : ClientPart K). c.connected))))
-      (λ e is. fresh (omega (arith, e, length-map p.clients (λ (c : ClientPart K). c.connected))) is)
-
-  -- no client has the place of the new one
-  another : (i : ℕ) (c : Connected K) → slice_get (map (λ c. c.connected) p.clients) i ≡ Some c → c.place ≡ place → ⊥
-  another i c at same = go (slice_get p.clients i) refl (sym (slice_get-map (λ (c : ClientPart K). c.connected) p.clients i) ∙ at)
-    where
-      go : (o : Option (ClientPart K)) → slice_get p.clients i ≡ o → option_map (λ c. c.connected) o ≡ Some c → ⊥
-      go None e f = let no : None ≡ Some c = f in cc
-      go (Some x) e f = let is : Some x.connected ≡ Some c = f in let also : x.connected ≡ c = cc in
-          vacant i x e (ap (λ (c : Connected K). c.place) also ∙ same)
-
-  client_ports : HasLanes after.next p.limits.max_clients (map (λ c. c.connected) after.clients) after.client_lanes
-  client_ports =
-      let n = sound.client_ports in
-      record {
-        few = omega (arith, few, length-map after.clients (λ (c : ClientPart K). c.connected), length-append p.clients (last_client ∷ []));
-        own = λ i c at. connected_cases i c at
-            (λ before h. let o = n.own i c before in
-            let e = lane_before p.client_lanes last c.lane o.0 in (
-              omega (arith, o.0, length-append p.client_lanes (last ∷ [])),
-              ap (λ (x : Lane Q RequestNote QH). x.owner) e ∙ o.1,
-              ap (λ (x : Lane Q RequestNote QH). length x.messages.held) e ∙ o.2,
-              ap (λ (x : Lane Q RequestNote QH). x.messages.room) e ∙ o.3,
-            ))
-            (λ end is.
-            let P : Connected K → Type 0 = λ c. (c.lane < length after.client_lanes)
-            × ((lane_of c.lane after.client_lanes).owner ≡ c.port.id)
-            × (length (lane_of c.lane after.client_lanes).messages.held ≡ c.port.pool_size)
-            × ((lane_of c.lane after.client_lanes).messages.room ≡ c.port.initial_max_slice_len) in
-            let e = lane_last p.client_lanes last in
-            subst P is (
-              omega (arith, length-append p.client_lanes (last ∷ [])),
-              ap (λ (x : Lane Q RequestNote QH). x.owner) e,
-              ap (λ (x : Lane Q RequestNote QH). length x.messages.held) e ∙ slots_are,
-              ap (λ (x : Lane Q RequestNote QH). x.messages.room) e ∙ new.room_is,
-            ));
-        ported = λ l h. ⊎_elim
-            (λ b. let o = n.ported l b in (
-              o.0,
-              o.1,
-              ap (λ cs. slice_get cs o.0)
-                  (map-append (λ (c : ClientPart K). c.connected) p.clients _) ∙ snoc_keeps _ _ o.0 o.1 o.2,
-              o.3,
-            ))
-            (λ far. (
-              length p.clients,
-              last_client.connected,
-              ap (λ cs. slice_get cs (length p.clients)) (map-append (λ (c : ClientPart K). c.connected) p.clients _)
-                  ∙ last_at _ _ (length p.clients) (length-map p.clients (λ (c : ClientPart K). c.connected)),
-              omega (arith, h, far, length-append p.client_lanes (last ∷ [])),
-            ))
-            (cases_lt l (length p.client_lanes));
-        owned_once = λ l k h g same. lane_cases p.client_lanes last new l
-            (λ before e. lane_cases p.client_lanes last new k
-            (λ also f. n.owned_once l k before also (sym (ap (λ (x : Lane Q RequestNote QH). x.owner) e) ∙ same
-            ∙ ap (λ (x : Lane Q RequestNote QH). x.owner) f))
-            (λ is f gone. absurd (omega (
-              arith,
-              n.numbered l before,
-              ap (λ (x : Lane Q RequestNote QH). x.owner) e,
-              same,
-              ap (λ (x : Lane Q RequestNote QH). x.owner) f,
-            )))
-            (λ far f gone. absurd (omega (arith, g, far, length-append p.client_lanes (last ∷ [])))))
-            (λ is e gone. lane_cases p.client_lanes last new k
-            (λ also f. absurd (omega (
-              arith,
-              n.numbered k also,
-              ap (λ (x : Lane Q RequestNote QH). x.owner) e,
-              same,
-              ap (λ (x : Lane Q RequestNote QH). x.owner) f,
-            )))
-            (λ too f gone. is ∙ sym too)
-            (λ far f gone. absurd (omega (arith, g, far, length-append p.client_lanes (last ∷ [])))))
-            (λ far e gone. absurd (omega (arith, h, far, length-append p.client_lanes (last ∷ []))));
-        numbered = λ l h. lane_cases p.client_lanes last new l
-            (λ before e. omega (arith, n.numbered l before, ap (λ (x : Lane Q RequestNote QH). x.owner) e))
-            (λ is e gone. omega (arith, ap (λ (x : Lane Q RequestNote QH). x.owner) e))
-            (λ far e gone. absurd (omega (arith, h, far, length-append p.client_lanes (last ∷ []))));
-        placed = λ i c at. connected_cases i c at (λ before h. n.placed i c before)
-            (λ end is. omega (arith, inside, ap (λ (c : Connected K). c.place) is));
-        placed_once = λ i j c d at there same. connected_cases i c at
-            (λ before h. connected_cases j d there
-            (λ also g. n.placed_once i j c d before also same)
-            (λ end is. absurd (another i c before (same ∙ sym (ap (λ (c : Connected K). c.place) is)))))
-            (λ end is. connected_cases j d there
-            (λ also g. absurd (another j d also (sym same ∙ sym (ap (λ (c : Connected K). c.place) is))))
-            (λ too also. end ∙ sym too));
-        numbered_once = λ i j c d at there same. connected_cases i c at
-            (λ before h. connected_cases j d there
-            (λ also g. n.numbered_once i j c d before also same)
-            (λ end is. absurd (omega (
-              arith,
-              given_before p.next p.limits.max_clients _ p.client_lanes n i c before,
-              same,
-              ap (λ (c : Connected K). c.port.id) is,
-            ))))
-            (λ end is. connected_cases j d there
-            (λ also g. absurd (omega (
-              arith,
-              given_before p.next p.limits.max_clients _ p.client_lanes n j d also,
-              same,
-              ap (λ (c : Connected K). c.port.id) is,
-            )))
-            (λ too also. end ∙ sym too));
-      }
-
-  server_ports : HasLanes after.next p.limits.max_servers (map (λ s. s.connected) p.servers) p.server_lanes
-  server_ports = let n = sound.server_ports in record {
-    few = n.few;
-    own = n.own;
-    ported = n.ported;
-    owned_once = n.owned_once;
-    numbered = λ i h. omega (arith, n.numbered i h);
-    placed = n.placed;
-    placed_once = n.placed_once;
-    numbered_once = n.numbered_once;
-  }
-
   -- a client was created
   pub client_sound : IsSound after empty_hand
   client_sound = record {
@@ -469,6 +322,8 @@ module _ {Q QH P PH K : Type 0} (p : Parts Q QH P PH K) (settings : ClientSettin
           (λ e is. ap (λ (c : ClientPart K). c.port.is_held) (sym is));
       servers = sound.held_by_value.servers;
     };
-    client_ports = client_ports;
-    server_ports = server_ports;
+    client_ports = port_added (λ (c : ClientPart K). c.connected) p.next p.limits.max_clients p.clients p.client_lanes sound.client_ports
+        last_client last
+        new refl refl refl slots_are new.room_is inside vacant few;
+    server_ports = later_next sound.server_ports;
   }

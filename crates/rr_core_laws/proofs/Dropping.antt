@@ -6,7 +6,8 @@ use Rattle.rr_lanes.specs.Lanes.{times, queue_at, borrowed_at, all_entries}
 use Rattle.rr_parts.specs.declared.held.Held.{Held}
 use Rattle.rr_parts.specs.declared.note.RequestNote.{RequestNote}
 use Rattle.rr_parts.specs.declared.note.ResponseNote.{ResponseNote}
-use Rattle.rr_parts.specs.Parts.{Parts, ClientPart, ServerPart, Lane}
+use Rattle.rr_parts.specs.declared.held.Stage.{Stage}
+use Rattle.rr_parts.specs.Parts.{Parts, Connected, ClientPart, ServerPart, Lane}
 use Rattle.rr_parts.specs.Views.{lane_of, no_request, no_response}
 use Rattle.rr_parts.specs.Sound.{IsSound, IsCounted, IsHeldOnce, IsStored, IsVacated, Hand, handles, is_request_at, is_response_at, is_active_at, is_request_loan, is_response_loan, is_received, is_in_lane, is_pending, is_active_of, is_loan_from, is_received_at, request_note, response_note, request_uses, response_uses, server_place}
 use Rattle.rr_parts.specs.Frames.{Frame, frame_of, moved, SameFrame}
@@ -85,37 +86,31 @@ module _ {Q QH P PH K : Type 0} (p : Parts Q QH P PH K) (held : Held) (hand : Ha
       × (frame_of b.connected ≡ frame_of c.connected)
   before = client_before p (held ∷ hand) sound clients servers client_lanes server_lanes waiting p.table.seats p.next frame
 
+  -- a count that goes by a port's handles has one less where the dropped handle was counted
+  counted_less : (test : Stage → Bool) (old new : Connected K) {was now : ℕ} → was ≡ handles p (is_in_lane test old.lane) (held ∷ hand)
+      → now + mark (is_in_lane test old.lane held) ≡ was → frame_of old ≡ frame_of new → now ≡ handles dropped (is_in_lane test new.lane) hand
+  counted_less test old new counted less same =
+      omega (
+        arith,
+        counted,
+        one_less (is_in_lane test old.lane),
+        less,
+        ap (λ (f : Frame K). handles dropped (is_in_lane test f.lane) hand) same,
+      )
+
   stored : IsStored dropped hand
   stored =
       let n = sound.stored in
       record {
         request_loans = λ i c at.
             let b = d.client_counts i c at in
-            omega (
-              arith,
-              n.request_loans i b.0 b.1,
-              one_less (is_in_lane is_request_loan b.0.lane),
-              b.3,
-              ap (λ (f : Frame K). handles dropped (is_in_lane is_request_loan f.lane) hand) b.2,
-            );
+            counted_less is_request_loan b.0.connected c.connected (n.request_loans i b.0 b.1) b.3 b.2;
         pendings = λ i c at.
             let b = d.client_counts i c at in
-            omega (
-              arith,
-              n.pendings i b.0 b.1,
-              one_less (is_in_lane is_pending b.0.lane),
-              b.4,
-              ap (λ (f : Frame K). handles dropped (is_in_lane is_pending f.lane) hand) b.2,
-            );
+            counted_less is_pending b.0.connected c.connected (n.pendings i b.0 b.1) b.4 b.2;
         response_loans = λ i c at.
             let b = d.server_counts i c at in
-            omega (
-              arith,
-              n.response_loans i b.0 b.1,
-              one_less (is_in_lane is_response_loan b.0.lane),
-              b.3,
-              ap (λ (f : Frame K). handles dropped (is_in_lane is_response_loan f.lane) hand) b.2,
-            );
+            counted_less is_response_loan b.0.connected c.connected (n.response_loans i b.0 b.1) b.3 b.2;
         active_loans = λ k server loans s at is.
             let same : handles dropped (is_loan_from p k) hand ≡ handles dropped (is_loan_from dropped k) hand =
             sym (λ i. handles dropped (λ h. is_response_loan h.stage && (response_note_same h.lane h.slot i).active_request == k) hand) in

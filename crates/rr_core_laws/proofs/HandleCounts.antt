@@ -17,7 +17,7 @@ use Rattle.rr_parts.specs.declared.held.Stage.TheVariants as stage
 use Rattle.rr_parts.specs.Parts.{Parts, Connected, ClientPart, ServerPart, Lane}
 use Rattle.rr_parts.specs.Views.{lane_of, state_of, handle_in, handle_of}
 use Rattle.rr_parts.specs.Sound as sound_of
-use Rattle.rr_parts.specs.Sound.{IsSound, HasLanes, empty_hand, is_of_request, is_of_response, is_in_lane, is_loan_from, request_uses, response_uses}
+use Rattle.rr_parts.specs.Sound.{IsSound, HasLanes, empty_hand, is_of_request, is_of_response, handles, is_in_lane, is_loan_from, request_uses, response_uses}
 use Rattle.rr_core_laws.proofs.Agreeing.{request_lane, response_lane}
 use Rattle.rr_core_laws.proofs.Stages.{handle_uses_request, handle_uses_response}
 use Rattle.rr_core_laws.proofs.Tallies.{and_none, tally-same}
@@ -54,6 +54,16 @@ module _ {Q QH P PH K : Type 0} (p : Parts Q QH P PH K) where
       ∙ tally-map_values (handle_of p) test p.table.seats
 
   module _ (sound : IsSound p empty_hand) where
+    -- a stored number counts the handles that pass a test, if each passes it by its stage and its lane
+    counted_by : (is_of : Handle Q QH P PH → Bool) (test : Stage → Bool) (lane : ℕ) {stored : ℕ} → stored ≡ handles p (is_in_lane test lane) empty_hand
+        → ((k : ℕ) (s : Seat Held) → fin_map.get p.table.seats k ≡ Some s → (g : Stage) → s.value.stage ≡ g
+        → is_of (handle_in p g s.value.lane s.value.slot) ≡ (test g && s.value.lane == lane))
+        → count_by is_of (all_handles (state_of p)) ≡ stored
+    counted_by is_of test lane its go =
+        handles_counted is_of
+        ∙ tally-same p.table.seats _ (λ s. is_in_lane test lane s.value) (λ k s e. go k s e s.value.stage refl)
+        ∙ and_none _ ∙ sym its
+
     module _ (i : ℕ) (c : ClientPart K) (at : slice_get p.clients i ≡ Some c) where
       -- a request is the client's if it stands in the client's lane
       owned : (k : ℕ) (s : Seat Held) → fin_map.get p.table.seats k ≡ Some s → is_of_request s.value.stage ≡ true
@@ -65,10 +75,7 @@ module _ {Q QH P PH K : Type 0} (p : Parts Q QH P PH K) where
           (listed (λ c. c.connected) p.clients i c at) s.value.lane (request_lane p empty_hand sound.counted k s e is)
 
       pub loans_counted : loaned_requests (state_of p) c.port.id ≡ c.loans
-      loans_counted =
-          handles_counted (is_request_loan c.port.id)
-          ∙ tally-same p.table.seats _ (λ s. is_in_lane sound_of.is_request_loan c.lane s.value) (λ k s e. go k s e s.value.stage refl)
-          ∙ and_none _ ∙ sym (sound.stored.request_loans i c at)
+      loans_counted = counted_by (is_request_loan c.port.id) sound_of.is_request_loan c.lane (sound.stored.request_loans i c at) go
         where
           go : (k : ℕ) (s : Seat Held) → fin_map.get p.table.seats k ≡ Some s → (g : Stage) → s.value.stage ≡ g
               → is_request_loan c.port.id (handle_in p g s.value.lane s.value.slot) ≡ (sound_of.is_request_loan g && s.value.lane == c.lane)
@@ -77,10 +84,7 @@ module _ {Q QH P PH K : Type 0} (p : Parts Q QH P PH K) where
           go k s e other is = refl
 
       pub pendings_counted : pending_responses (state_of p) c.port.id ≡ c.pendings
-      pendings_counted =
-          handles_counted (is_pending_of c.port.id)
-          ∙ tally-same p.table.seats _ (λ s. is_in_lane sound_of.is_pending c.lane s.value) (λ k s e. go k s e s.value.stage refl)
-          ∙ and_none _ ∙ sym (sound.stored.pendings i c at)
+      pendings_counted = counted_by (is_pending_of c.port.id) sound_of.is_pending c.lane (sound.stored.pendings i c at) go
         where
           go : (k : ℕ) (s : Seat Held) → fin_map.get p.table.seats k ≡ Some s → (g : Stage) → s.value.stage ≡ g
               → is_pending_of c.port.id (handle_in p g s.value.lane s.value.slot) ≡ (sound_of.is_pending g && s.value.lane == c.lane)
@@ -98,10 +102,7 @@ module _ {Q QH P PH K : Type 0} (p : Parts Q QH P PH K) where
           (listed (λ c. c.connected) p.servers i c at) s.value.lane (response_lane p empty_hand sound.counted k s e is)
 
       pub responses_counted : loaned_responses (state_of p) c.port.id ≡ c.loans
-      responses_counted =
-          handles_counted (is_response_loan c.port.id)
-          ∙ tally-same p.table.seats _ (λ s. is_in_lane sound_of.is_response_loan c.lane s.value) (λ k s e. go k s e s.value.stage refl)
-          ∙ and_none _ ∙ sym (sound.stored.response_loans i c at)
+      responses_counted = counted_by (is_response_loan c.port.id) sound_of.is_response_loan c.lane (sound.stored.response_loans i c at) go
         where
           go : (k : ℕ) (s : Seat Held) → fin_map.get p.table.seats k ≡ Some s → (g : Stage) → s.value.stage ≡ g
               → is_response_loan c.port.id (handle_in p g s.value.lane s.value.slot) ≡
@@ -119,10 +120,5 @@ module _ {Q QH P PH K : Type 0} (p : Parts Q QH P PH K) where
       where
         go : (s : Seat Held) (g : Stage) → is_response_loan_from k (handle_in p g s.value.lane s.value.slot) ≡
             (sound_of.is_response_loan g && (sound_of.response_note p s.value.lane s.value.slot).active_request == k)
-        go s stage.RequestMutUninit = refl
         go s stage.RequestMut = refl
-        go s (stage.PendingResponse hint connections) = refl
-        go s (stage.ActiveRequest server loans) = refl
-        go s stage.ResponseMutUninit = refl
-        go s stage.ResponseMut = refl
-        go s stage.Response = refl
+        go s other = refl

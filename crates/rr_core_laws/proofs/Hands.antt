@@ -1,6 +1,7 @@
 -- A handle goes from the table into a call's hand, and from the hand into the table.
 use Rattle.std.proofs.Common.{◌≡◌, ◌≢◌, ◌<◌, ◌+◌, ℕ, Bool, true, false, List, [], ◌∷◌, None, Some, refl, sym, ap, ◌∙◌, subst, ⊎_elim, arith}
 use Rattle.std.specs.Prelude.{◌&&◌, count_by, slice_get}
+use Rattle.std.specs.Ordering.{nat_cmp}
 use Rattle.std.specs.FinMap as fin_map
 use Rattle.std.proofs.lemmas.List.Sums.{sum_by-cons}
 use Rattle.rr_table.specs.Maps.{mark}
@@ -10,7 +11,7 @@ use Rattle.rr_table.proofs.MapLaws.{tally-insert, tally-remove, get-insert_cases
 use Rattle.rr_parts.specs.declared.held.Held.{Held}
 use Rattle.rr_parts.specs.declared.held.Stage.TheVariants as stage
 use Rattle.rr_parts.specs.Parts.{ClientPart, Parts, Lane}
-use Rattle.rr_parts.specs.Sound.{IsSound, Hand, handles, is_of_response, is_request_loan, is_pending, is_active_of, is_received, is_request_at, is_response_at, is_active_at, is_loan_from, request_uses, response_uses, request_note, response_note, server_place, place_of}
+use Rattle.rr_parts.specs.Sound.{IsSound, Hand, handles, is_of_response, is_request_loan, is_pending, is_active_of, is_received, is_request_at, is_response_at, is_active_at, is_loan_from, request_uses, response_uses, request_note, response_note, server_place, place_of, IsAddressed, IsSized, IsVacated, IsHeldByValue}
 use Rattle.rr_parts.specs.Frames.{LanesAlike, SameFrame}
 use Rattle.rr_parts.specs.Hands.{IsSeatable}
 use Rattle.std.proofs.lemmas.Bool.{cases_eq}
@@ -47,6 +48,41 @@ module _ {Q QH P PH K : Type 0} (p : Parts Q QH P PH K) where
     marks_each = λ l. refl;
     numbers = omega arith;
   }
+
+  -- what is true whatever handles stand in the table
+  module _ (seats : fin_map.FinMap nat_cmp (Seat Held)) where
+    abbrev reseated : Parts Q QH P PH K
+    reseated = record p { table = record p.table { seats = seats } }
+
+    reseated_addressed : IsAddressed p → IsAddressed reseated
+    reseated_addressed n = record {
+      requests = n.requests;
+      responses = n.responses;
+      clients_below = n.clients_below;
+      actives_below = n.actives_below;
+      answered_below = n.answered_below;
+      answers = n.answers;
+      entries = n.entries;
+    }
+
+    reseated_sized : IsSized p → IsSized reseated
+    reseated_sized n = record {
+      limits_fit = n.limits_fit;
+      client_lanes = n.client_lanes;
+      server_lanes = n.server_lanes;
+      waiting = n.waiting;
+      waiting_slots = n.waiting_slots;
+      next_fits = n.next_fits;
+      channels = n.channels;
+      loans_made = n.loans_made;
+      rows_fit = n.rows_fit;
+    }
+
+    reseated_vacated : IsVacated p → IsVacated reseated
+    reseated_vacated n = record { of_clients = n.of_clients; of_servers = n.of_servers; awaits_none = n.awaits_none }
+
+    reseated_by_value : IsHeldByValue p → IsHeldByValue reseated
+    reseated_by_value n = record { clients = n.clients; servers = n.servers }
 
   module _ (hand : Hand) (k : ℕ) (s : Seat Held) (at : fin_map.get p.table.seats k ≡ Some s) (sound : IsSound p hand) where
     abbrev taken : Parts Q QH P PH K
@@ -89,15 +125,7 @@ module _ {Q QH P PH K : Type 0} (p : Parts Q QH P PH K) where
         received = λ j t e. n.received j t (still j t e);
         answering = λ l i j server loans t u e. n.answering l i j server loans t u (still j t e);
       };
-      addressed = let n = sound.addressed in record {
-        requests = n.requests;
-        responses = n.responses;
-        clients_below = n.clients_below;
-        actives_below = n.actives_below;
-        answered_below = n.answered_below;
-        answers = n.answers;
-        entries = n.entries;
-      };
+      addressed = reseated_addressed taken.table.seats sound.addressed;
       seated = let n = sound.seated in record {
         placed = λ j t e. n.placed j t (still j t e);
         client_rows = n.client_rows;
@@ -115,19 +143,9 @@ module _ {Q QH P PH K : Type 0} (p : Parts Q QH P PH K) where
         borrowed_requests = λ l server h. n.borrowed_requests l server h ∙ same_taken _;
         borrowed_responses = λ l i channel c h e. n.borrowed_responses l i channel c h e ∙ same_taken _;
       };
-      sized = let n = sound.sized in record {
-        limits_fit = n.limits_fit;
-        client_lanes = n.client_lanes;
-        server_lanes = n.server_lanes;
-        waiting = n.waiting;
-        waiting_slots = n.waiting_slots;
-        next_fits = n.next_fits;
-        channels = n.channels;
-        loans_made = n.loans_made;
-        rows_fit = n.rows_fit;
-      };
-      vacated = let n = sound.vacated in record { of_clients = n.of_clients; of_servers = n.of_servers; awaits_none = n.awaits_none };
-      held_by_value = let n = sound.held_by_value in record { clients = n.clients; servers = n.servers };
+      sized = reseated_sized taken.table.seats sound.sized;
+      vacated = reseated_vacated taken.table.seats sound.vacated;
+      held_by_value = reseated_by_value taken.table.seats sound.held_by_value;
       client_ports = sound.client_ports;
       server_ports = sound.server_ports;
     }
@@ -206,15 +224,7 @@ module _ {Q QH P PH K : Type 0} (p : Parts Q QH P PH K) where
             subst R is (λ h f. new.answering server loans h l i u (f ∙ sym m)))
             (λ b. n.answering l i j server loans t u b);
       };
-      addressed = let n = sound.addressed in record {
-        requests = n.requests;
-        responses = n.responses;
-        clients_below = n.clients_below;
-        actives_below = n.actives_below;
-        answered_below = n.answered_below;
-        answers = n.answers;
-        entries = n.entries;
-      };
+      addressed = reseated_addressed given.table.seats sound.addressed;
       seated = let n = sound.seated in record {
         placed = λ j t e. cases j t e
             (λ m is. let R : Seat Held → Type 0 = λ t. t.place ≡ place_of p t.value in subst R is new.placed)
@@ -242,19 +252,9 @@ module _ {Q QH P PH K : Type 0} (p : Parts Q QH P PH K) where
         borrowed_requests = λ l server h. n.borrowed_requests l server h ∙ same_given _;
         borrowed_responses = λ l i channel c h e. n.borrowed_responses l i channel c h e ∙ same_given _;
       };
-      sized = let n = sound.sized in record {
-        limits_fit = n.limits_fit;
-        client_lanes = n.client_lanes;
-        server_lanes = n.server_lanes;
-        waiting = n.waiting;
-        waiting_slots = n.waiting_slots;
-        next_fits = n.next_fits;
-        channels = n.channels;
-        loans_made = n.loans_made;
-        rows_fit = n.rows_fit;
-      };
-      vacated = let n = sound.vacated in record { of_clients = n.of_clients; of_servers = n.of_servers; awaits_none = n.awaits_none };
-      held_by_value = let n = sound.held_by_value in record { clients = n.clients; servers = n.servers };
+      sized = reseated_sized given.table.seats sound.sized;
+      vacated = reseated_vacated given.table.seats sound.vacated;
+      held_by_value = reseated_by_value given.table.seats sound.held_by_value;
       client_ports = sound.client_ports;
       server_ports = sound.server_ports;
     }

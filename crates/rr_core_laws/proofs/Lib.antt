@@ -10,6 +10,7 @@ pub mod Looking
 pub mod Shown
 pub mod Connected
 pub mod Alive
+pub mod NewPort
 pub mod ClientSound
 pub mod Pigeons
 pub mod Adding
@@ -19,6 +20,7 @@ pub mod Frames
 pub mod Hands
 pub mod Kept
 pub mod Places
+pub mod LoanedLane
 pub mod LoanSound
 pub mod HandleCounts
 pub mod LoanView

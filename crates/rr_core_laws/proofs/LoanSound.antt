@@ -1,8 +1,8 @@
 -- What is true of a core stays true as a request is loaned.
-use Rattle.std.proofs.Common.{◌≡◌, ◌≢◌, ◌<◌, ◌+◌, ◌^◌, ℕ, true, false, [], ◌∷◌, None, Some, length, get_or, map, refl, sym, ap, ◌∙◌, subst, ⊎_elim, option_map, arith}
-use Rattle.std.specs.Prelude.{◌==◌, ◌&&◌, slice_get, slice_index, slice_set, count_by}
+use Rattle.std.proofs.Common.{◌≡◌, ◌≢◌, ◌<◌, ◌+◌, ◌^◌, ℕ, [], ◌∷◌, None, Some, length, get_or, map, refl, sym, ap, ◌∙◌, subst, ⊎_elim, option_map, arith}
+use Rattle.std.specs.Prelude.{◌==◌, ◌&&◌, slice_get, slice_index, count_by}
 use Rattle.std.specs.FinMap as fin_map
-use Rattle.std.proofs.lemmas.Bool.{false≢true, cases_eq, cases_lt, eq-eqb, ne_eqb}
+use Rattle.std.proofs.lemmas.Bool.{false≢true, cases_lt, eq-eqb, ne_eqb}
 use Rattle.std.proofs.lemmas.List.{get_or-set_same, get_or-set_other, length-set}
 use Rattle.std.proofs.lemmas.Option.{slice_get-map, slice_get_within, get_or_from_slice_get}
 use Rattle.rr_table.specs.Maps.{mark}
@@ -16,31 +16,12 @@ use Rattle.rr_parts.specs.Views.{no_lane, no_request, lane_of}
 use Rattle.rr_parts.specs.Sound.{IsSound, IsCounted, IsHeldOnce, IsNumbered, IsAddressed, IsStored, IsVacated, IsShaped, empty_hand, handles, is_of_request, is_request_at, is_response_at, is_active_at, is_request_loan, is_in_lane, is_pending, is_active_of, is_response_loan, is_loan_from, is_received_at, request_note, request_uses, server_place}
 use Rattle.rr_parts.specs.Frames.{Frame, frame_of, SameFrame}
 use Rattle.rr_parts.specs.Loaning.{with_one_loan, with_messages, loan_note, loan_held, loan_place, with_loan_in_hand, with_request_loan}
+use Rattle.rr_core_laws.proofs.LoanedLane.{slot_cases, both_true, held_once_more, noted_elsewhere}
 use Rattle.rr_core_laws.proofs.Places.{set_alike, set_cases}
 use Rattle.rr_core_laws.proofs.Stages.{loan_is_request, pending_is_request, handle_uses_request}
 use Rattle.rr_core_laws.proofs.Frames.{client_before, client_after, framed_client_ports, framed_server_ports, framed_by_value, framed_sized, lanes_set, ports_set}
 use Rattle.rr_core_laws.proofs.Kept.{framed_seated}
 use Rattle.rr_core_laws.proofs.Hands.{count-cons, one_in_hand, none_in_hand, never, lanes_same, seated_sound}
-
--- two slots of a lane are told apart
-pub other_slot : (l i k j : ℕ) → l ≡ k → (i ≡ j → ⊥) → (l == k && i == j) ≡ false
-other_slot l i k j e n = rw (eq-eqb l k e) (ne_eqb i j n)
-
--- and so are two lanes
-pub other_lanes : (l i k j : ℕ) → (l ≡ k → ⊥) → (l == k && i == j) ≡ false
-other_lanes l i k j n = rw (ne_eqb l k n) refl
-
--- a slot is this one, or another
-pub slot_cases : {Z : Type 0} (l i k j : ℕ) → (l ≡ k → i ≡ j → Z) → ((l == k && i == j) ≡ false → ((l ≡ k) → (i ≡ j) → ⊥) → Z) → Z
-slot_cases l i k j here there =
-    ⊎_elim
-    (λ e. ⊎_elim (λ f. here e f) (λ n. there (other_slot l i k j e n) (λ _ f. n f)) (cases_eq i j))
-    (λ n. there (other_lanes l i k j n) (λ e _. n e))
-    (cases_eq l k)
-
--- a slot is itself
-pub both_true : (l i k j : ℕ) → l ≡ k → i ≡ j → (l == k && i == j) ≡ true
-both_true l i k j e f = rw (eq-eqb l k e) (eq-eqb i j f)
 
 module _ {Q QH P PH K : Type 0} (p : Parts Q QH P PH K) (sound : IsSound p empty_hand) (index : ℕ) (c : ClientPart K)
     (at : slice_get p.clients index ≡ Some c) (slot len : ℕ) (header : QH)
@@ -122,46 +103,14 @@ module _ {Q QH P PH K : Type 0} (p : Parts Q QH P PH K) (sound : IsSound p empty
   -- one slot is held once more
   held_is : (k j : ℕ) → slice_index (lane_of k after.client_lanes).messages.held j ≡ slice_index
       (lane_of k p.client_lanes).messages.held j + mark (c.lane == k && slot == j)
-  held_is k j =
-      ⊎_elim
-      (λ e. let lane : lane_of k after.client_lanes ≡ fresh = sym (ap (λ k. lane_of k after.client_lanes) e) ∙ here_is in
-      let old : slice_index (lane_of k p.client_lanes).messages.held j ≡ slice_index m.held j = sym
-      (ap (λ k. slice_index (lane_of k p.client_lanes).messages.held j) e) in
-      let new : slice_index (lane_of k after.client_lanes).messages.held j ≡ slice_index (slice_set m.held slot 1) j = ap
-      (λ (x : Lane Q RequestNote QH). slice_index x.messages.held j) lane in
-      ⊎_elim
-      (λ f. omega (
-        arith,
-        new,
-        old,
-        ap (λ b. slice_index (slice_set m.held slot 1) b) (sym f),
-        get_or-set_same m.held slot 1 0 within,
-        ap (λ b. slice_index m.held b) f,
-        not_held,
-        ap mark (both_true c.lane slot k j e f),
-      ))
-      (λ n. omega (arith, new, old, get_or-set_other m.held slot j 1 0 (λ f. n (sym f)), ap mark (other_slot c.lane slot k j e n)))
-      (cases_eq slot j))
-      (λ n. omega (
-        arith,
-        ap (λ (x : Lane Q RequestNote QH). slice_index x.messages.held j) (there_is k n),
-        ap mark (other_lanes c.lane slot k j n),
-      ))
-      (cases_eq c.lane k)
+  held_is = held_once_more p.client_lanes c.lane slot fresh own.0 refl within not_held
 
   used_is : (k j : ℕ) → request_uses after k j ≡ request_uses p k j + mark (c.lane == k && slot == j)
   used_is k j = omega (arith, held_is k j, same_of (λ x. times j (all_entries x.messages.queues)) refl k)
 
   -- what is noted of another slot, and of this one
   note_there : (k j : ℕ) → ((c.lane ≡ k) → (slot ≡ j) → ⊥) → request_note after k j ≡ request_note p k j
-  note_there k j n =
-      ⊎_elim
-      (λ e. ap (λ (x : Lane Q RequestNote QH). get_or x.messages.notes j no_request)
-      (sym (ap (λ k. lane_of k after.client_lanes) e) ∙ here_is)
-      ∙ get_or-set_other m.notes slot j (loan_note p c) no_request (λ f. n e (sym f))
-      ∙ ap (λ k. get_or (lane_of k p.client_lanes).messages.notes j no_request) e)
-      (λ far. ap (λ (x : Lane Q RequestNote QH). get_or x.messages.notes j no_request) (there_is k far))
-      (cases_eq c.lane k)
+  note_there = noted_elsewhere p.client_lanes c.lane slot fresh own.0 (loan_note p c) no_request refl
 
   note_here : request_note after c.lane slot ≡ loan_note p c
   note_here =
@@ -245,7 +194,8 @@ module _ {Q QH P PH K : Type 0} (p : Parts Q QH P PH K) (sound : IsSound p empty
             (r.0, d.0, d.1, ap (λ (f : Frame K). f.port.id) d.2 ∙ r.3);
         answering = λ l i k server loans s u e is f.
             let a = n.answering l i k server loans s u e is f in (
-              number_of (noted_before s.value.lane s.value.slot (handle_uses_request p empty_hand sound.counted k s e (ap is_of_request is)))
+              number_of (noted_before s.value.lane s.value.slot
+                  (handle_uses_request p empty_hand sound.counted k s e (ap is_of_request is)))
                   ∙ a.0,
               a.1,
             );

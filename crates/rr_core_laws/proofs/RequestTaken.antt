@@ -23,7 +23,7 @@ use Rattle.rr_core_laws.proofs.Frames.{framed_client_ports, framed_server_ports,
 use Rattle.rr_core_laws.proofs.HandleCounts.{listed}
 use Rattle.rr_core_laws.proofs.Hands.{count-cons, none_in_hand, lanes_same}
 use Rattle.rr_core_laws.proofs.Kept.{framed_seated, kept_numbered, kept_addressed}
-use Rattle.rr_core_laws.proofs.LoanSound.{other_slot, other_lanes, both_true}
+use Rattle.rr_core_laws.proofs.LoanedLane.{other_slot, other_lanes, both_true}
 use Rattle.rr_core_laws.proofs.Places.{set_alike}
 use Rattle.rr_core_laws.proofs.Stages.{handle_uses_request, handle_uses_response}
 use Rattle.rr_core_laws.proofs.TakenLane.{queue_there, queue_here, borrowed_here, borrowed_there, held_more, uses_kept, taken_shaped, entry}

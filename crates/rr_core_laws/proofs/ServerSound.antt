@@ -1,17 +1,16 @@
 -- What is true of a core stays true as a server is created.
-use Rattle.std.proofs.Common.{◌≡◌, ◌≢◌, ◌<◌, ◌+◌, ◌*◌, ◌^◌, ℕ, Bool, true, false, cond, List, [], ◌∷◌, Option, None, Some, option_map, find, length, get_or, map, replicate, refl, sym, ap, ◌∙◌, subst, ⊎_elim, arith}
+use Rattle.std.proofs.Common.{◌≡◌, ◌≢◌, ◌<◌, ◌+◌, ◌*◌, ◌^◌, ℕ, Bool, true, false, cond, [], ◌∷◌, Option, None, Some, find, length, get_or, refl, sym, ap, ◌∙◌, subst, arith}
 use Rattle.std.specs.Prelude.{◌==◌, ◌&&◌, slice_get, slice_index}
 use Rattle.std.specs.Option.{option_map_or, option_or}
 use Rattle.std.specs.FinMap as fin_map
-use Rattle.std.proofs.lemmas.Bool.{cases_lt, false_from_ne_true, eqb-true, eq-eqb, and_parts}
-use Rattle.std.proofs.lemmas.List.{length-append, length-replicate, length-map, map-append, get_or-replicate}
-use Rattle.std.proofs.lemmas.Option.{slice_get-map}
+use Rattle.std.proofs.lemmas.Bool.{false_from_ne_true, eqb-true, eq-eqb, and_parts}
+use Rattle.std.proofs.lemmas.List.{length-append, length-replicate}
 use Rattle.std.proofs.Math.ListN.{get_or-append}
 use Rattle.std.proofs.Math.Seq.{get_or-append_seam}
 use Rattle.rr_table.specs.Maps.{tally}
 use Rattle.rr_table.specs.Seats.{Seat}
-use Rattle.rr_lanes.specs.Lanes.{Messages, times, all_entries, queue_at, borrowed_at}
-use Rattle.rr_lanes.proofs.EntryLaws.{times-empty}
+use Rattle.rr_table.specs.declared.place.Place.{Place}
+use Rattle.rr_lanes.specs.Lanes.{Messages, times, queue_at, borrowed_at}
 use Rattle.rr_hub.specs.declared.settings.ServerSettings.{ServerSettings}
 use Rattle.rr_hub.specs.Limits.{worst_case_requests}
 use Rattle.rr_hub.specs.Creation.{loans_of}
@@ -19,16 +18,16 @@ use Rattle.rr_parts.specs.declared.held.Held.{Held}
 use Rattle.rr_parts.specs.declared.held.Stage.{Stage}
 use Rattle.rr_parts.specs.declared.held.Stage.TheVariants as stage
 use Rattle.rr_parts.specs.declared.note.ResponseNote.{ResponseNote}
-use Rattle.rr_parts.specs.Parts.{Parts, Connected, ServerPart, Lane}
+use Rattle.rr_parts.specs.Parts.{Parts, ServerPart, Lane}
 use Rattle.rr_parts.specs.Views.{no_response, lane_of}
-use Rattle.rr_parts.specs.Sound.{IsSound, IsCounted, IsHeldOnce, IsNumbered, IsAddressed, IsSeated, IsStored, IsSized, IsVacated, HasLanes, IsShaped, empty_hand, is_of_response, is_active_of, is_response_loan, is_received, has_request_at, is_received_at, response_note, response_uses, server_place, place_at}
+use Rattle.rr_parts.specs.Sound.{IsSound, IsCounted, IsHeldOnce, IsNumbered, IsAddressed, IsSeated, IsStored, IsSized, IsVacated, IsShaped, empty_hand, is_of_response, is_active_of, is_response_loan, is_received, has_request_at, is_received_at, response_note, response_uses, server_place, place_at}
 use Rattle.rr_parts.specs.Creating.{IsNew, server_port, with_server_part}
 use Rattle.rr_core_laws.proofs.Found.{find_last}
-use Rattle.rr_core_laws.proofs.NewLanes.{LooksLike, looks_like, lane_before, lane_last, lane_cases, new_queue}
-use Rattle.rr_core_laws.proofs.Adding.{given_before}
+use Rattle.rr_core_laws.proofs.NewLanes.{LooksLike, looks_like, lane_before, lane_cases, new_queue}
+use Rattle.rr_core_laws.proofs.NewPort.{port_added, later_next, new_shaped}
 use Rattle.rr_core_laws.proofs.Agreeing.{response_lane}
 use Rattle.rr_core_laws.proofs.Stages.{answer_is_response, received_is_response, handle_uses_response}
-use Rattle.rr_core_laws.proofs.Tallies.{and_none, tally-none, tally-same, last_at, snoc_cases, snoc_keeps}
+use Rattle.rr_core_laws.proofs.Tallies.{and_none, tally-none, tally-same, snoc_cases, snoc_keeps}
 
 module _ {Q QH P PH K : Type 0} (p : Parts Q QH P PH K) (settings : ServerSettings K) (place : ℕ) (m : Messages P ResponseNote PH)
     (sound : IsSound p empty_hand)
@@ -191,24 +190,27 @@ module _ {Q QH P PH K : Type 0} (p : Parts Q QH P PH K) (settings : ServerSettin
         (λ far e gone. absurd (omega (arith, some, ap (λ (x : Lane P ResponseNote PH). times i (queue_at x.messages c.place channel)) e)));
   }
 
+  -- a response stands in the row of a lane that was there
+  in_its_lane : (k : ℕ) (s : Seat Held) → fin_map.get p.table.seats k ≡ Some s → is_of_response s.value.stage ≡ true
+      → lane_of s.value.lane after.server_lanes ≡ lane_of s.value.lane p.server_lanes
+  in_its_lane k s at is = lane_before p.server_lanes last s.value.lane (response_lane p empty_hand sound.counted k s at is)
+
+  in_its_row : (slot : ℕ) {a b : Lane P ResponseNote PH} → a ≡ b → ◌≡◌ {A = Place} (record { row = a.row; index = slot }) (record { row = b.row; index = slot })
+  in_its_row slot same = ap (λ (l : Lane P ResponseNote PH). record { row = l.row; index = slot }) same
+
   -- a handle's place follows from the same row
   place_kept : (k : ℕ) (s : Seat Held) → fin_map.get p.table.seats k ≡ Some s → (g : Stage) → s.value.stage ≡ g
       → place_at after g s.value.lane s.value.slot ≡ place_at p g s.value.lane s.value.slot
-  place_kept k s at stage.RequestMutUninit e = refl
-  place_kept k s at stage.RequestMut e = refl
-  place_kept k s at (stage.PendingResponse hint connections) e = refl
   place_kept k s at (stage.ActiveRequest server loans) e =
       ap (λ n. record {
         row = (lane_of s.value.lane p.client_lanes).row;
         index = (n + 1) * length (lane_of s.value.lane p.client_lanes).messages.held + s.value.slot;
       })
       (active_kept k server s at (ap (is_active_of server) e ∙ eq-eqb server server refl))
-  place_kept k s at stage.ResponseMutUninit e = ap (λ (l : Lane P ResponseNote PH). record { row = l.row; index = s.value.slot })
-      (lane_before p.server_lanes last s.value.lane (response_lane p empty_hand sound.counted k s at (ap is_of_response e)))
-  place_kept k s at stage.ResponseMut e = ap (λ (l : Lane P ResponseNote PH). record { row = l.row; index = s.value.slot })
-      (lane_before p.server_lanes last s.value.lane (response_lane p empty_hand sound.counted k s at (ap is_of_response e)))
-  place_kept k s at stage.Response e = ap (λ (l : Lane P ResponseNote PH). record { row = l.row; index = s.value.slot })
-      (lane_before p.server_lanes last s.value.lane (response_lane p empty_hand sound.counted k s at (ap is_of_response e)))
+  place_kept k s at stage.ResponseMutUninit e = in_its_row s.value.slot (in_its_lane k s at (ap is_of_response e))
+  place_kept k s at stage.ResponseMut e = in_its_row s.value.slot (in_its_lane k s at (ap is_of_response e))
+  place_kept k s at stage.Response e = in_its_row s.value.slot (in_its_lane k s at (ap is_of_response e))
+  place_kept k s at other e = refl
 
   -- the rows that were there stay
   row_before : (r : ℕ) → r < length p.table.rows → slice_index after.table.rows r ≡ slice_index p.table.rows r
@@ -331,27 +333,7 @@ module _ {Q QH P PH K : Type 0} (p : Parts Q QH P PH K) (settings : ServerSettin
 
   -- the new lane has its size
   shaped : IsShaped p.limits.max_clients (worst_case_requests p.limits) p.limits.max_response_buffer_size m
-  shaped = record {
-    contents = new.contents ∙ sym slots_are;
-    notes = ap length new.notes ∙ length-replicate (server_port p settings).pool_size no_response ∙ sym slots_are;
-    user_headers = new.user_headers ∙ sym slots_are;
-    queues = ap length new.queues ∙ length-replicate p.limits.max_clients (replicate (worst_case_requests p.limits) []);
-    borrowed = ap length new.borrowed ∙ length-replicate p.limits.max_clients (replicate (worst_case_requests p.limits) 0);
-    queue_channels = λ r h. ap (λ (q : List (List (List ℕ))). length (get_or q r [])) new.queues
-        ∙ ap length (get_or-replicate p.limits.max_clients r (replicate (worst_case_requests p.limits) []) [] h)
-        ∙ length-replicate (worst_case_requests p.limits) [];
-    borrowed_channels = λ r h. ap (λ (q : List (List ℕ)). length (get_or q r [])) new.borrowed
-        ∙ ap length (get_or-replicate p.limits.max_clients r (replicate (worst_case_requests p.limits) 0) [] h)
-        ∙ length-replicate (worst_case_requests p.limits) 0;
-    capacity_is = new.capacity_is;
-    within = λ r c. omega (arith, ap length (new_queue m new r c));
-    inside = λ slot some. absurd (omega (
-      arith,
-      some,
-      ap (λ (q : List (List (List ℕ))). times slot (all_entries q)) new.queues,
-      times-empty slot p.limits.max_clients (worst_case_requests p.limits),
-    ));
-  }
+  shaped = new_shaped new
 
   sized : IsSized after
   sized =
@@ -381,134 +363,6 @@ module _ {Q QH P PH K : Type 0} (p : Parts Q QH P PH K) (settings : ServerSettin
     awaits_none = λ l i there none. sound.vacated.awaits_none l i there (λ j s e. none j s (snoc_keeps p.servers _ j s e));
   }
 
-  -- a port of the longer list is one of the list's, or the new one
-  connected_cases : {Z : Type 0} (i : ℕ) (c : Connected K) → slice_get (map (λ s. s.connected) after.servers) i ≡ Some c
-      → (slice_get (map (λ s. s.connected) p.servers) i ≡ Some c → i < length p.servers → Z)
-      → (i ≡ length p.servers → record { port = server_port p settings; lane = length p.server_lanes; place = place; loans = 0 } ≡ c
-      → Z) → Z
-  connected_cases i c at before fresh =
-      snoc_cases (map (λ (s : ServerPart K). s.connected) p.servers) _ i c
-      (sym (ap (λ (cs : List (Connected K)). slice_get cs i) (map-append (λ (s : ServerPart K). s.connected) p.servers _)) ∙ at)
-      (λ e h. before e (omega (arith, h, length-map p.servers (λ (s : ServerPart K). s.connected))))
-      (λ e is. fresh (omega (arith, e, length-map p.servers (λ (s : ServerPart K). s.connected))) is)
-
-  -- no server has the place of the new one
-  another : (i : ℕ) (c : Connected K) → slice_get (map (λ s. s.connected) p.servers) i ≡ Some c → c.place ≡ place → ⊥
-  another i c at same = go (slice_get p.servers i) refl (sym (slice_get-map (λ (s : ServerPart K). s.connected) p.servers i) ∙ at)
-    where
-      go : (o : Option (ServerPart K)) → slice_get p.servers i ≡ o → option_map (λ s. s.connected) o ≡ Some c → ⊥
-      go None e f = let no : None ≡ Some c = f in cc
-      go (Some x) e f = let is : Some x.connected ≡ Some c = f in let also : x.connected ≡ c = cc in
-          vacant i x e (ap (λ (c : Connected K). c.place) also ∙ same)
-
-  server_ports : HasLanes after.next p.limits.max_servers (map (λ s. s.connected) after.servers) after.server_lanes
-  server_ports =
-      let n = sound.server_ports in
-      record {
-        few = omega (arith, few, length-map after.servers (λ (s : ServerPart K). s.connected), length-append p.servers (last_server ∷ []));
-        own = λ i c at. connected_cases i c at
-            (λ before h. let o = n.own i c before in
-            let e = lane_before p.server_lanes last c.lane o.0 in (
-              omega (arith, o.0, length-append p.server_lanes (last ∷ [])),
-              ap (λ (x : Lane P ResponseNote PH). x.owner) e ∙ o.1,
-              ap (λ (x : Lane P ResponseNote PH). length x.messages.held) e ∙ o.2,
-              ap (λ (x : Lane P ResponseNote PH). x.messages.room) e ∙ o.3,
-            ))
-            (λ end is.
-            let IsOwn : Connected K → Type 0 = λ c. (c.lane < length after.server_lanes)
-            × ((lane_of c.lane after.server_lanes).owner ≡ c.port.id)
-            × (length (lane_of c.lane after.server_lanes).messages.held ≡ c.port.pool_size)
-            × ((lane_of c.lane after.server_lanes).messages.room ≡ c.port.initial_max_slice_len) in
-            let e = lane_last p.server_lanes last in
-            subst IsOwn is (
-              omega (arith, length-append p.server_lanes (last ∷ [])),
-              ap (λ (x : Lane P ResponseNote PH). x.owner) e,
-              ap (λ (x : Lane P ResponseNote PH). length x.messages.held) e ∙ slots_are,
-              ap (λ (x : Lane P ResponseNote PH). x.messages.room) e ∙ new.room_is,
-            ));
-        ported = λ l h. ⊎_elim
-            (λ b. let o = n.ported l b in (
-              o.0,
-              o.1,
-              ap (λ cs. slice_get cs o.0)
-                  (map-append (λ (s : ServerPart K). s.connected) p.servers _) ∙ snoc_keeps _ _ o.0 o.1 o.2,
-              o.3,
-            ))
-            (λ far. (
-              length p.servers,
-              last_server.connected,
-              ap (λ cs. slice_get cs (length p.servers)) (map-append (λ (s : ServerPart K). s.connected) p.servers _)
-                  ∙ last_at _ _ (length p.servers) (length-map p.servers (λ (s : ServerPart K). s.connected)),
-              omega (arith, h, far, length-append p.server_lanes (last ∷ [])),
-            ))
-            (cases_lt l (length p.server_lanes));
-        owned_once = λ l k h g same. lane_cases p.server_lanes last new l
-            (λ before e. lane_cases p.server_lanes last new k
-            (λ also f. n.owned_once l k before also (sym (ap (λ (x : Lane P ResponseNote PH). x.owner) e) ∙ same
-            ∙ ap (λ (x : Lane P ResponseNote PH). x.owner) f))
-            (λ is f gone. absurd (omega (
-              arith,
-              n.numbered l before,
-              ap (λ (x : Lane P ResponseNote PH). x.owner) e,
-              same,
-              ap (λ (x : Lane P ResponseNote PH). x.owner) f,
-            )))
-            (λ far f gone. absurd (omega (arith, g, far, length-append p.server_lanes (last ∷ [])))))
-            (λ is e gone. lane_cases p.server_lanes last new k
-            (λ also f. absurd (omega (
-              arith,
-              n.numbered k also,
-              ap (λ (x : Lane P ResponseNote PH). x.owner) e,
-              same,
-              ap (λ (x : Lane P ResponseNote PH). x.owner) f,
-            )))
-            (λ too f gone. is ∙ sym too)
-            (λ far f gone. absurd (omega (arith, g, far, length-append p.server_lanes (last ∷ [])))))
-            (λ far e gone. absurd (omega (arith, h, far, length-append p.server_lanes (last ∷ []))));
-        numbered = λ l h. lane_cases p.server_lanes last new l
-            (λ before e. omega (arith, n.numbered l before, ap (λ (x : Lane P ResponseNote PH). x.owner) e))
-            (λ is e gone. omega (arith, ap (λ (x : Lane P ResponseNote PH). x.owner) e))
-            (λ far e gone. absurd (omega (arith, h, far, length-append p.server_lanes (last ∷ []))));
-        placed = λ i c at. connected_cases i c at (λ before h. n.placed i c before)
-            (λ end is. omega (arith, inside, ap (λ (c : Connected K). c.place) is));
-        placed_once = λ i j c d at there same. connected_cases i c at
-            (λ before h. connected_cases j d there
-            (λ also g. n.placed_once i j c d before also same)
-            (λ end is. absurd (another i c before (same ∙ sym (ap (λ (c : Connected K). c.place) is)))))
-            (λ end is. connected_cases j d there
-            (λ also g. absurd (another j d also (sym same ∙ sym (ap (λ (c : Connected K). c.place) is))))
-            (λ too also. end ∙ sym too));
-        numbered_once = λ i j c d at there same. connected_cases i c at
-            (λ before h. connected_cases j d there
-            (λ also g. n.numbered_once i j c d before also same)
-            (λ end is. absurd (omega (
-              arith,
-              given_before p.next p.limits.max_servers _ p.server_lanes n i c before,
-              same,
-              ap (λ (c : Connected K). c.port.id) is,
-            ))))
-            (λ end is. connected_cases j d there
-            (λ also g. absurd (omega (
-              arith,
-              given_before p.next p.limits.max_servers _ p.server_lanes n j d also,
-              same,
-              ap (λ (c : Connected K). c.port.id) is,
-            )))
-            (λ too also. end ∙ sym too));
-      }
-
-  client_ports : HasLanes after.next p.limits.max_clients (map (λ c. c.connected) p.clients) p.client_lanes
-  client_ports = let n = sound.client_ports in record {
-    few = n.few;
-    own = n.own;
-    ported = n.ported;
-    owned_once = n.owned_once;
-    numbered = λ i h. omega (arith, n.numbered i h);
-    placed = n.placed;
-    placed_once = n.placed_once;
-    numbered_once = n.numbered_once;
-  }
-
   -- a server was created
   pub server_sound : IsSound after empty_hand
   server_sound = record {
@@ -525,6 +379,8 @@ module _ {Q QH P PH K : Type 0} (p : Parts Q QH P PH K) (settings : ServerSettin
       servers = λ i c at. snoc_cases p.servers last_server i c at (λ before h. sound.held_by_value.servers i c before)
           (λ e is. ap (λ (s : ServerPart K). s.port.is_held) (sym is));
     };
-    client_ports = client_ports;
-    server_ports = server_ports;
+    client_ports = later_next sound.client_ports;
+    server_ports = port_added (λ (s : ServerPart K). s.connected) p.next p.limits.max_servers p.servers p.server_lanes sound.server_ports
+        last_server last
+        new refl refl refl slots_are new.room_is inside vacant few;
   }

@@ -1,6 +1,6 @@
 -- What contracts see where what stands in the slot of one handle is written.
 use Rattle.std.proofs.Common.{◌≡◌, ◌≢◌, ◌<◌, ◌≤◌, ℕ, Bool, true, false, cond, List, [], Some, find, map, length, refl, sym, ap, ◌∙◌, arith}
-use Rattle.std.specs.Prelude.{◌==◌, slice_get, slice_index_or, slice_set}
+use Rattle.std.specs.Prelude.{◌==◌, ◌&&◌, slice_get, slice_index_or, slice_set}
 use Rattle.std.specs.Option.{option_map_or}
 use Rattle.std.specs.FinMap as fin_map
 use Rattle.std.proofs.lemmas.Bool.{eq-eqb}
@@ -8,11 +8,13 @@ use Rattle.std.proofs.lemmas.List.{map-set}
 use Rattle.std.proofs.lemmas.Option.{slice_get-get_or}
 use Rattle.rr_slots.specs.Pools.{Written}
 use Rattle.rr_table.specs.Seats.{Seat, value_at}
+use Rattle.rr_table.specs.Maps.{tally}
 use Rattle.rr_table.proofs.MapLaws.{map_values-but, tally_one}
 use Rattle.rr_lanes.specs.Lanes.{Messages, all_entries, times, with_changed_at}
 use Rattle.rr_hub.specs.Keys.{RequestKey, ResponseKey}
 use Rattle.rr_hub.specs.Messages.{Handle, RequestMessage, ResponseMessage}
 use Rattle.rr_hub.specs.State.{with_changed}
+use Rattle.rr_parts.specs.declared.held.Stage.{Stage}
 use Rattle.rr_parts.specs.declared.held.Held.{Held}
 use Rattle.rr_parts.specs.declared.note.RequestNote.{RequestNote}
 use Rattle.rr_parts.specs.declared.note.ResponseNote.{ResponseNote}
@@ -20,7 +22,7 @@ use Rattle.rr_parts.specs.declared.port.OwnedLane.{OwnedLane}
 use Rattle.rr_parts.specs.Ports.{lane_part}
 use Rattle.rr_parts.specs.Parts.{Parts, Lane}
 use Rattle.rr_parts.specs.Views.{no_lane, no_request, no_response, lane_of, handle_in, handle_of, requests_at, responses_at, state_of}
-use Rattle.rr_parts.specs.Sound.{IsSound, Hand, is_of_request, is_of_response, has_request_at, has_response_at, request_uses, response_uses}
+use Rattle.rr_parts.specs.Sound.{IsSound, Hand, is_of_request, is_of_response, request_uses, response_uses}
 use Rattle.rr_parts.specs.Frames.{moved}
 use Rattle.rr_parts.specs.Writing.{with_messages}
 use Rattle.rr_core_laws.proofs.Adding.{mapped}
@@ -98,19 +100,26 @@ module _ {Q QH P PH K : Type 0} (p : Parts Q QH P PH K) (n : ℕ) (held : Held) 
       (shown p n held h)))
       (same_requests q p requests) (same_responses q p responses) refl refl
 
+  -- where one handle at most passes a test in a slot, and this one does, no other does
+  alone : (of : Stage → Bool) → of held.stage ≡ true
+      → tally (λ (s : Seat Held). of s.value.stage && (s.value.lane == held.lane && s.value.slot == held.slot)) p.table.seats ≤ 1
+      → (k : ℕ) (x : Seat Held) → fin_map.get p.table.seats k ≡ Some x → of x.value.stage ≡ true → x.value.lane ≡ held.lane
+      → x.value.slot ≡ held.slot → k ≡ n
+  alone of is once k x at passes lane slot =
+      let f = seat_under p.table n held h in
+      let here : Seat Held → Bool = λ s. of s.value.stage && (s.value.lane == held.lane && s.value.slot == held.slot) in
+      let its : here f.0 ≡ true = rw f.2
+      (rw is (rw (eq-eqb held.lane held.lane refl) (rw (eq-eqb held.slot held.slot refl) refl))) in
+      let there : here x ≡ true = rw passes
+      (rw (eq-eqb x.value.lane held.lane lane) (rw (eq-eqb x.value.slot held.slot slot) refl)) in
+      tally_one here p.table.seats k n x f.0 once at there f.1 its
+
   module _ (hand : Hand) (sound : IsSound p hand) where
     module _ (is : is_of_request held.stage ≡ true) (once : request_uses p held.lane held.slot ≤ 1) where
       -- no other handle is of its request, and no entry
       request_alone : (k : ℕ) (x : Seat Held) → fin_map.get p.table.seats k ≡ Some x → is_of_request x.value.stage ≡ true
           → x.value.lane ≡ held.lane → x.value.slot ≡ held.slot → k ≡ n
-      request_alone k x at of lane slot =
-          let f = seat_under p.table n held h in
-          let its : has_request_at held.lane held.slot f.0 ≡ true = rw f.2
-          (rw is (rw (eq-eqb held.lane held.lane refl) (rw (eq-eqb held.slot held.slot refl) refl))) in
-          let there : has_request_at held.lane held.slot x ≡ true = rw of
-          (rw (eq-eqb x.value.lane held.lane lane) (rw (eq-eqb x.value.slot held.slot slot) refl)) in
-          tally_one (has_request_at held.lane held.slot) p.table.seats k n x f.0
-          (omega (arith, once, sound.counted.requests held.lane held.slot)) at there f.1 its
+      request_alone = alone is_of_request is (omega (arith, once, sound.counted.requests held.lane held.slot))
 
       request_unqueued : times held.slot (all_entries (lane_of held.lane p.client_lanes).messages.queues) ≡ 0
       request_unqueued = omega (arith, once, request_held p hand sound.counted n held h is)
@@ -151,14 +160,7 @@ module _ {Q QH P PH K : Type 0} (p : Parts Q QH P PH K) (n : ℕ) (held : Held) 
       -- no other handle is of its response, and no entry
       response_alone : (k : ℕ) (x : Seat Held) → fin_map.get p.table.seats k ≡ Some x → is_of_response x.value.stage ≡ true
           → x.value.lane ≡ held.lane → x.value.slot ≡ held.slot → k ≡ n
-      response_alone k x at of lane slot =
-          let f = seat_under p.table n held h in
-          let its : has_response_at held.lane held.slot f.0 ≡ true = rw f.2
-          (rw is (rw (eq-eqb held.lane held.lane refl) (rw (eq-eqb held.slot held.slot refl) refl))) in
-          let there : has_response_at held.lane held.slot x ≡ true = rw of
-          (rw (eq-eqb x.value.lane held.lane lane) (rw (eq-eqb x.value.slot held.slot slot) refl)) in
-          tally_one (has_response_at held.lane held.slot) p.table.seats k n x f.0
-          (omega (arith, once, sound.counted.responses held.lane held.slot)) at there f.1 its
+      response_alone = alone is_of_response is (omega (arith, once, sound.counted.responses held.lane held.slot))
 
       response_unqueued : times held.slot (all_entries (lane_of held.lane p.server_lanes).messages.queues) ≡ 0
       response_unqueued = omega (arith, once, response_held p hand sound.counted n held h is)

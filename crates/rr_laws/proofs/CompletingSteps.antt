@@ -1,21 +1,19 @@
 -- Each step keeps that a request has received all that does not stand in a list.
-use Rattle.std.proofs.Common.{◌≡◌, ℕ, ◌<◌, Bool, true, false, cond, eqb, List, [], ◌∷◌, ◌++◌, Option, Some, None, MatchOption, Result, Ok, Err, refl, sym, ap, ◌∙◌, subst, ⊎_elim, inl, inr, arith}
+use Rattle.std.proofs.Common.{◌≡◌, ℕ, ◌<◌, true, false, eqb, List, [], ◌∷◌, ◌++◌, Option, Some, None, MatchOption, Result, Ok, Err, refl, sym, ap, ◌∙◌, subst, ⊎_elim, inl, inr, arith}
 use Rattle.std.specs.Prelude.{find, IsSomeAnd}
 use Rattle.std.proofs.lemmas.Bool.{eq-eqb, eqb-true}
 use Rattle.rr_slots.specs.declared.family.Family.{Family}
 use Rattle.rr_hub.specs.declared.settings.BackpressureAction.{BackpressureAction}
-use Rattle.rr_hub.specs.declared.settings.ClientSettings.{ClientSettings}
 use Rattle.rr_hub.specs.declared.settings.ServerSettings.{ServerSettings}
-use Rattle.rr_hub.specs.declared.error.ClientCreateError.{ClientCreateError}
 use Rattle.rr_hub.specs.declared.error.LoanError.{LoanError}
 use Rattle.rr_hub.specs.declared.error.RequestSendError.{RequestSendError}
 use Rattle.rr_hub.specs.declared.error.SendError.{SendError}
 use Rattle.rr_hub.specs.declared.error.ReceiveError.{ReceiveError}
-use Rattle.rr_hub.specs.Messages.{Content, Handle, with_hint}
-use Rattle.rr_hub.specs.Writing.{with_element, with_element_at, with_user_header, with_request_content, with_response_content, after_init}
+use Rattle.rr_hub.specs.Messages.{with_hint}
+use Rattle.rr_hub.specs.Writing.{with_element, with_element_at, with_user_header, after_init}
 use Rattle.rr_hub.specs.Ports.{Server}
-use Rattle.rr_hub.specs.State.{State, client_at, active_at, pending_at, handle_at, with_changed}
-use Rattle.rr_hub.specs.Creation.{CreatesClient, CreatesServer}
+use Rattle.rr_hub.specs.State.{State, client_at, active_at, pending_at, handle_at}
+use Rattle.rr_hub.specs.Creation.{CreatesServer}
 use Rattle.rr_hub.specs.Loans.{LoansRequest, LoansResponse}
 use Rattle.rr_hub.specs.Sends.{SendsRequest, SendsResponse}
 use Rattle.rr_hub.specs.Receives.{ReceivesRequest, ReceivesResponse}
@@ -23,82 +21,39 @@ use Rattle.rr_hub.specs.Releases.{after_release}
 use Rattle.rr_steps.specs.declared.command.Command.{Command}
 use Rattle.rr_steps.specs.declared.reply.Reply.{Reply}
 use Rattle.rr_steps.specs.Refusals.{refusal}
-use Rattle.rr_steps.specs.Step.{client_settings, server_settings, with_content, with_complete, Loans, Acts, Step}
+use Rattle.rr_steps.specs.Step.{client_settings, server_settings, with_complete, Loans, Acts, Step}
 use Rattle.rr_steps.specs.AnswerRule.{Event, creates_waiting}
-use Rattle.rr_laws.specs.Roles.{role_of}
 use Rattle.rr_laws.specs.Reached.{IsReached}
 use Rattle.rr_laws.specs.Apart.{IsApart}
 use Rattle.rr_laws.specs.Left.{IsLeftFit}
 use Rattle.rr_laws.specs.Following.{queued, Moves, MovesQuietly, Follows}
 use Rattle.rr_laws.specs.Settling.{IsNew, Settles}
 use Rattle.rr_laws.specs.Completing.{IsUnderWay, Completes}
-use Rattle.rr_laws.proofs.RoleLaws.{roles-changed}
 use Rattle.rr_laws.proofs.Opening.{some_and, open_active}
 use Rattle.rr_laws.proofs.Connected.{has_below}
 use Rattle.rr_laws.proofs.Loaning.{loans_request_reached}
-use Rattle.rr_laws.proofs.Changing.{init_role, hint_role, content_role, complete_reached}
+use Rattle.rr_laws.proofs.Changing.{init_role, hint_role, complete_reached}
 use Rattle.rr_laws.proofs.ApartSends.{loans_request_apart}
 use Rattle.rr_laws.proofs.ApartSteps.{complete_apart}
 use Rattle.rr_laws.proofs.LeftSteps.{loans_request_left, loans_response_left}
 use Rattle.rr_laws.proofs.Occurring.{false_is_true}
-use Rattle.rr_laws.proofs.Telling.{is_refusing, IsSilent, silent, refusing_silent, refusing_creates_none, refusal_refuses, three_true}
+use Rattle.rr_laws.proofs.Telling.{speaks, is_refusing, IsSilent, silent, refusing_silent, refusing_creates_none, refusal_refuses, three_true}
 use Rattle.rr_laws.proofs.Growing.{loaned_below}
 use Rattle.rr_laws.proofs.Coming.{IsLoan, silent_comes, loan_comes, received_comes, responded_comes}
 use Rattle.rr_laws.proofs.Following.{GainsLoan}
-use Rattle.rr_laws.proofs.FollowingSteps.{both, unmoved, changed_quietly, complete_roles, complete_quietly, written, creates_client_quietly, creates_server_quietly, copy_moves, refused_loan, sent_now, loaned_response_complete, copied_now, not_copied, copied_request}
+use Rattle.rr_laws.proofs.FollowingSteps.{both, unmoved, changed_quietly, complete_quietly, written, creates_client_quietly, creates_server_quietly, copy_moves, refused_loan, sent_now, loaned_response_complete, copied_now, not_copied, copied_request}
 use Rattle.rr_laws.proofs.Histories.{first_was_sent}
 use Rattle.rr_laws.proofs.Moving.{then_quietly}
 use Rattle.rr_laws.proofs.MovingReleases.{after_release_quietly}
 use Rattle.rr_laws.proofs.MovingSends.{loaned_request_moves, sent_request_quietly, sent_response_moves, unsent_response_moves}
 use Rattle.rr_laws.proofs.MovingReceives.{loaned_response_moves, received_request_moves, no_request_quietly, refused_request_quietly, received_response_moves}
-use Rattle.rr_laws.proofs.Settling.{settles_same, then_settles, settles_after}
+use Rattle.rr_laws.proofs.Settling.{then_settles, settles_after}
 use Rattle.rr_laws.proofs.SettlingHandles.{after_release_settles}
 use Rattle.rr_laws.proofs.SettlingSends.{listed_below, loaned_request_settles, loaned_response_settles, sent_request_settles, received_request_settles}
 use Rattle.rr_laws.proofs.SettlingResponses.{sent_response_settles, unsent_response_settles}
 use Rattle.rr_laws.proofs.SettlingServers.{new_server_settles, received_listed, created_waits}
 use Rattle.rr_laws.proofs.CompletingEvents.{completes_quietly, completes_sent, completes_responded}
-
-module _ {T H K : Type 0} where
-  -- no entry goes on, nothing is new, and no server ends
-  abbrev pub SettlesQuietly : State T H T H K → State T H T H K → Type 0
-  SettlesQuietly old new = Settles (IsNew old) (λ n. ⊥) (λ server p before after. after ≡ before) old new
-
-  -- what settles where nothing changed
-  unsettled : {Begins : ℕ → ℕ → Type 0} {Ends : ℕ → Type 0} (old new : State T H T H K) → new ≡ old
-      → Settles Begins Ends (λ server p before after. after ≡ before) old new
-  unsettled {Begins} {Ends} old new same = subst (λ (x : State T H T H K). Settles Begins Ends
-      (λ server p before after. after ≡ before) old x) (sym same) (settles_same old old (omega arith) refl refl refl refl)
-
-  -- a change of a handle that keeps its role
-  changed_settles : {Begins : ℕ → ℕ → Type 0} {Ends : ℕ → Type 0} (s : State T H T H K) (n : ℕ) (change : Handle T H T H → Handle T H T H)
-      → ((h : Handle T H T H) → role_of (change h) ≡ role_of h) →
-      Settles Begins Ends (λ server p before after. after ≡ before) s (with_changed s n change)
-  changed_settles s n change same = settles_same s (with_changed s n change) (omega arith)
-      (roles-changed change same s.handles n) refl refl refl
-
-  -- a message says something else
-  content_settles : {Begins : ℕ → ℕ → Type 0} {Ends : ℕ → Type 0} (s : State T H T H K) (n : ℕ) (change : Content T H → Content T H)
-      → Settles Begins Ends (λ server p before after. after ≡ before) s (with_content s n change)
-  content_settles s n change = changed_settles s n (λ h. with_request_content change (with_response_content change h)) (content_role change)
-
-  -- all elements of a message are written
-  complete_settles : {Begins : ℕ → ℕ → Type 0} {Ends : ℕ → Type 0} (s : State T H T H K) (n : ℕ) (elements : List T)
-      → Settles Begins Ends (λ server p before after. after ≡ before) s (with_complete s n elements)
-  complete_settles s n elements = settles_same s (with_complete s n elements) (omega arith) (complete_roles s n elements) refl refl refl
-
-  -- an element is written, or not
-  written_settles : (old new : State T H T H K) (n : ℕ) (b : Bool) (change : Content T H → Content T H)
-      → new ≡ cond b (with_content old n change) old → SettlesQuietly old new
-  written_settles old new n true change same = subst (λ (x : State T H T H K). SettlesQuietly old x) (sym same)
-      (content_settles old n change)
-  written_settles old new n false change same = unsettled old new same
-
-  -- a client is created, or not
-  creates_client_settles : (s : State T H T H K) (settings : ClientSettings K) (result : Result ℕ ClientCreateError) (new : State T H T H K)
-      → CreatesClient s settings result new → SettlesQuietly s new
-  creates_client_settles s settings (Ok number) new made = subst (λ (x : State T H T H K). SettlesQuietly s x) (sym made.2)
-      (settles_same s _ (omega arith) refl refl refl refl)
-  creates_client_settles s settings (Err error) new made = unsettled s new made.1
+use Rattle.rr_laws.proofs.SettlingWrites.{SettlesQuietly, unsettled, changed_settles, complete_settles, written_settles, creates_client_settles}
 
 module _ {T H K : Type 0} (answer : K → ℕ → ℕ → BackpressureAction) (IsDefaultElement : T → Type 0) (IsDefaultHeader : H → Type 0)
     (family : Family) (history : List (Event T H K)) (old : State T H T H K)
@@ -124,6 +79,11 @@ module _ {T H K : Type 0} (answer : K → ℕ → ℕ → BackpressureAction) (I
       → Completes (history ++ (command, reply) ∷ []) new
   unchanged command reply new quiet plain steps same = quietly command reply new quiet plain steps (unmoved old new same)
       (unsettled old new same)
+
+  kept : (command : Command T H K) (reply : Reply T H) (new : State T H T H K) → speaks (command, reply) ≡ false
+      → ((n : ℕ) → creates_waiting n (command, reply) ≡ false) → Steps command reply new → new ≡ old
+      → Completes (history ++ (command, reply) ∷ []) new
+  kept command reply new quiet = unchanged command reply new (silent command reply quiet)
 
   -- a server is created, or not
   created : (settings : ServerSettings K) (n : ℕ) (new : State T H T H K) → Steps (Command.CreateServer settings) (Reply.Created n) new
@@ -314,13 +274,10 @@ module _ {T H K : Type 0} (answer : K → ℕ → ℕ → BackpressureAction) (I
   acts_complete (Command.CreateClient settings) (Reply.ClientError e) new after steps acts =
       quietly _ _ new (silent _ _ refl) (λ k. refl) steps (creates_client_quietly old (client_settings family settings) (Err e) new acts)
       (creates_client_settles old (client_settings family settings) (Err e) new acts)
-  acts_complete (Command.CreateClient settings) Reply.NoMemory new after steps acts = unchanged _ _ new (silent _ _ refl)
-      (λ k. refl) steps acts
+  acts_complete (Command.CreateClient settings) Reply.NoMemory new after steps acts = kept _ _ new refl (λ k. refl) steps acts
   acts_complete (Command.CreateServer settings) (Reply.Created n) new after steps acts = created settings n new steps acts
-  acts_complete (Command.CreateServer settings) (Reply.ServerError e) new after steps acts = unchanged _ _ new (silent _ _ refl)
-      (λ k. refl) steps acts.1
-  acts_complete (Command.CreateServer settings) Reply.NoMemory new after steps acts = unchanged _ _ new (silent _ _ refl)
-      (λ k. refl) steps acts
+  acts_complete (Command.CreateServer settings) (Reply.ServerError e) new after steps acts = kept _ _ new refl (λ k. refl) steps acts.1
+  acts_complete (Command.CreateServer settings) Reply.NoMemory new after steps acts = kept _ _ new refl (λ k. refl) steps acts
   acts_complete (Command.Loan n len) (Reply.Loaned k) new after steps acts =
       loan _ _ n len k new (record {
         sends = refl;
@@ -332,7 +289,7 @@ module _ {T H K : Type 0} (answer : K → ℕ → ℕ → BackpressureAction) (I
       }) (λ k. refl) acts new (unmoved new new refl) (unsettled new new refl) steps
   acts_complete (Command.Loan n len) (Reply.LoanError e) new after steps acts = not_loaned _ _ n len e new (silent _ _ refl)
       (λ k. refl) steps acts
-  acts_complete (Command.Loan n len) Reply.NoMemory new after steps acts = unchanged _ _ new (silent _ _ refl) (λ k. refl) steps acts
+  acts_complete (Command.Loan n len) Reply.NoMemory new after steps acts = kept _ _ new refl (λ k. refl) steps acts
   acts_complete (Command.LoanDefault n len) (Reply.Loaned k) new after steps acts =
       loan _ _ n len k acts.0 (record {
         sends = refl;
@@ -347,7 +304,7 @@ module _ {T H K : Type 0} (answer : K → ℕ → ℕ → BackpressureAction) (I
       (complete_settles acts.0 k acts.1)) steps
   acts_complete (Command.LoanDefault n len) (Reply.LoanError e) new after steps acts = not_loaned _ _ n len e new (silent _ _ refl)
       (λ k. refl) steps acts
-  acts_complete (Command.LoanDefault n len) Reply.NoMemory new after steps acts = unchanged _ _ new (silent _ _ refl) (λ k. refl) steps acts
+  acts_complete (Command.LoanDefault n len) Reply.NoMemory new after steps acts = kept _ _ new refl (λ k. refl) steps acts
   acts_complete (Command.SendCopy n v) (Reply.Pending k connections) new after steps acts =
       quietly _ _ new (silent _ _ refl) (λ k. refl) steps (copied_request answer IsDefaultElement IsDefaultHeader family history old fits
       apart follows n k v acts.0 new (Ok connections) acts.1 acts.2)
@@ -366,7 +323,7 @@ module _ {T H K : Type 0} (answer : K → ℕ → ℕ → BackpressureAction) (I
       (not_copied answer IsDefaultElement IsDefaultHeader family history old fits apart follows n send.1 v e send.0 new send.2 send.3)
       (not_copied_settles n send.1 v e send.0 new send.2 send.3))
       acts
-  acts_complete (Command.SendCopy n v) Reply.NoMemory new after steps acts = unchanged _ _ new (silent _ _ refl) (λ k. refl) steps acts
+  acts_complete (Command.SendCopy n v) Reply.NoMemory new after steps acts = kept _ _ new refl (λ k. refl) steps acts
   acts_complete (Command.Push n v) (Reply.Flag b) new after steps acts =
       let same = (some_and (handle_at old n) _ acts).2.1 in quietly _ _ new (silent _ _ refl) (λ k. refl) steps
       (written old new n b (with_element v) same) (written_settles old new n b (with_element v) same)
@@ -380,7 +337,7 @@ module _ {T H K : Type 0} (answer : K → ℕ → ℕ → BackpressureAction) (I
       quietly _ _ new (silent _ _ refl) (λ k. refl) steps (subst (λ (x : State T H T H K). MovesQuietly old x) (sym acts)
       (changed_quietly old n after_init init_role))
       (subst (λ (x : State T H T H K). SettlesQuietly old x) (sym acts) (changed_settles old n after_init init_role))
-  acts_complete (Command.IsDeliverable n) (Reply.Flag b) new after steps acts = unchanged _ _ new (silent _ _ refl) (λ k. refl) steps acts.1
+  acts_complete (Command.IsDeliverable n) (Reply.Flag b) new after steps acts = kept _ _ new refl (λ k. refl) steps acts.1
   acts_complete (Command.Send n) (Reply.Pending k connections) new after steps acts =
       quietly _ _ new (silent _ _ refl) (λ k. refl) steps (sent_request_quietly answer old fits apart n (Ok connections) new acts.1)
       (sent_request_settles answer old fits apart left n (Ok connections) new acts.1 (λ server q e. inr (inr (q, e))))
@@ -398,36 +355,32 @@ module _ {T H K : Type 0} (answer : K → ℕ → ℕ → BackpressureAction) (I
   acts_complete (Command.Receive n) Reply.Nothing new after steps acts = ⊎_elim
       (λ request. quietly _ _ new (silent _ _ refl) (λ k. refl) steps (no_request_quietly old n new request)
       (received_request_settles old n (Ok None) new request))
-      (λ (response : ReceivesResponse old n (Ok None) new). unchanged _ _ new (silent _ _ refl) (λ k. refl) steps
+      (λ (response : ReceivesResponse old n (Ok None) new). kept _ _ new refl (λ k. refl) steps
       (some_and (pending_at old n) _ response).2.1)
       acts
   acts_complete (Command.Receive n) (Reply.ReceiveError e) new after steps acts = ⊎_elim
       (λ request. quietly _ _ new (silent _ _ refl) (λ k. refl) steps (refused_request_quietly old n e new request)
       (received_request_settles old n (Err e) new request))
-      (λ response. unchanged _ _ new (silent _ _ refl) (λ k. refl) steps (refused_same n e new response))
+      (λ response. kept _ _ new refl (λ k. refl) steps (refused_same n e new response))
       acts
-  acts_complete (Command.Receive n) Reply.NoMemory new after steps acts = unchanged _ _ new (silent _ _ refl) (λ k. refl) steps acts
-  acts_complete (Command.HasEntries n) (Reply.Flag b) new after steps acts = unchanged _ _ new (silent _ _ refl) (λ k. refl) steps acts.1
-  acts_complete (Command.IsConnected n) (Reply.Flag b) new after steps acts = unchanged _ _ new (silent _ _ refl) (λ k. refl) steps acts.1
+  acts_complete (Command.Receive n) Reply.NoMemory new after steps acts = kept _ _ new refl (λ k. refl) steps acts
+  acts_complete (Command.HasEntries n) (Reply.Flag b) new after steps acts = kept _ _ new refl (λ k. refl) steps acts.1
+  acts_complete (Command.IsConnected n) (Reply.Flag b) new after steps acts = kept _ _ new refl (λ k. refl) steps acts.1
   acts_complete (Command.SetHint n) Reply.Done new after steps acts =
       quietly _ _ new (silent _ _ refl) (λ k. refl) steps (subst (λ (x : State T H T H K). MovesQuietly old x) (sym acts)
       (changed_quietly old n with_hint hint_role))
       (subst (λ (x : State T H T H K). SettlesQuietly old x) (sym acts) (changed_settles old n with_hint hint_role))
-  acts_complete (Command.HasHint n) (Reply.Flag b) new after steps acts = unchanged _ _ new (silent _ _ refl) (λ k. refl) steps acts.1
-  acts_complete (Command.Servers n) (Reply.Count c) new after steps acts = unchanged _ _ new (silent _ _ refl) (λ k. refl) steps acts.1
-  acts_complete (Command.Header n) (Reply.RequestHeader h) new after steps acts = unchanged _ _ new (silent _ _ refl)
-      (λ k. refl) steps acts.1
-  acts_complete (Command.Header n) (Reply.ResponseHeader h) new after steps acts = unchanged _ _ new (silent _ _ refl)
-      (λ k. refl) steps acts.1
-  acts_complete (Command.UserHeader n) (Reply.UserHeader h) new after steps acts = unchanged _ _ new (silent _ _ refl)
-      (λ k. refl) steps acts.1
-  acts_complete (Command.Payload n) (Reply.Payload elements) new after steps acts = unchanged _ _ new (silent _ _ refl)
-      (λ k. refl) steps acts.1
-  acts_complete (Command.Payload n) Reply.NoMemory new after steps acts = unchanged _ _ new (silent _ _ refl) (λ k. refl) steps acts
-  acts_complete (Command.Origin n) (Reply.Id m) new after steps acts = unchanged _ _ new (silent _ _ refl) (λ k. refl) steps acts.1
-  acts_complete (Command.Strategy n) (Reply.Strategy s) new after steps acts = unchanged _ _ new (silent _ _ refl) (λ k. refl) steps acts.1
-  acts_complete (Command.MaxSliceLen n) (Reply.Count c) new after steps acts = unchanged _ _ new (silent _ _ refl) (λ k. refl) steps acts.1
-  acts_complete (Command.UpdateConnections n) Reply.Done new after steps acts = unchanged _ _ new (silent _ _ refl) (λ k. refl) steps acts
+  acts_complete (Command.HasHint n) (Reply.Flag b) new after steps acts = kept _ _ new refl (λ k. refl) steps acts.1
+  acts_complete (Command.Servers n) (Reply.Count c) new after steps acts = kept _ _ new refl (λ k. refl) steps acts.1
+  acts_complete (Command.Header n) (Reply.RequestHeader h) new after steps acts = kept _ _ new refl (λ k. refl) steps acts.1
+  acts_complete (Command.Header n) (Reply.ResponseHeader h) new after steps acts = kept _ _ new refl (λ k. refl) steps acts.1
+  acts_complete (Command.UserHeader n) (Reply.UserHeader h) new after steps acts = kept _ _ new refl (λ k. refl) steps acts.1
+  acts_complete (Command.Payload n) (Reply.Payload elements) new after steps acts = kept _ _ new refl (λ k. refl) steps acts.1
+  acts_complete (Command.Payload n) Reply.NoMemory new after steps acts = kept _ _ new refl (λ k. refl) steps acts
+  acts_complete (Command.Origin n) (Reply.Id m) new after steps acts = kept _ _ new refl (λ k. refl) steps acts.1
+  acts_complete (Command.Strategy n) (Reply.Strategy s) new after steps acts = kept _ _ new refl (λ k. refl) steps acts.1
+  acts_complete (Command.MaxSliceLen n) (Reply.Count c) new after steps acts = kept _ _ new refl (λ k. refl) steps acts.1
+  acts_complete (Command.UpdateConnections n) Reply.Done new after steps acts = kept _ _ new refl (λ k. refl) steps acts
   acts_complete (Command.Release n) Reply.Done new after steps acts = released n new steps acts
   acts_complete command reply new after steps acts = absurd acts
 

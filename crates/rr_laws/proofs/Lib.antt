@@ -52,5 +52,6 @@ pub mod Coming
 pub mod Completing
 pub mod CompletingEvents
 pub mod SettlingServers
+pub mod SettlingWrites
 pub mod CompletingSteps
 pub mod AnswerRuleHolds

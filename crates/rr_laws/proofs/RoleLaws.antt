@@ -10,7 +10,7 @@ use Rattle.std.proofs.lemmas.Bool.{cases_eq}
 use Rattle.rr_table.specs.Maps.{mark, tally}
 use Rattle.rr_table.proofs.MapLaws.{get-map_values, map_values-insert, map_values-remove, insert_itself, tally-map_values, tally-insert, tally-remove, tally-replace, get-remove_other, get-remove_same}
 use Rattle.rr_hub.specs.Keys.{RequestKey, ResponseKey}
-use Rattle.rr_hub.specs.Messages.{Handle, RequestMutUninit, RequestMut, PendingResponse, ActiveRequest, ResponseMutUninit, ResponseMut, Response}
+use Rattle.rr_hub.specs.Messages.{Handle, RequestMut}
 use Rattle.rr_hub.specs.State.{State, all_handles}
 use Rattle.rr_hub.specs.Counts.{is_request_loan, is_response_loan, is_pending_of, is_borrowed_request, is_borrowed_response, loaned_requests, loaned_responses, pending_responses}
 use Rattle.rr_hub.specs.Releases.{map_handles}

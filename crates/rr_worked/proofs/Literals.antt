@@ -50,6 +50,10 @@ module _ {A X : Type 0} (cmp : A → A → Ordering) where
         ∙ ap (where_key cmp (λ x. not (eq_by_cmp cmp key x))) (entries_lit es s)
         ∙ sym (entries_lit (where_key cmp (λ x. not (eq_by_cmp cmp key x)) es) t))
 
+-- the entries of other keys
+abbrev without : {A X : Type 0} → (A → A → Ordering) → A → List (A × X) → List (A × X)
+without cmp key es = where_key cmp (λ x. not (eq_by_cmp cmp key x)) es
+
 module _ {X : Type 0} where
   pub empty_numbers : empty {X = X} {R = nat_cmp} ≡ from_sorted []
   empty_numbers = empty_lit nat_cmp
@@ -71,41 +75,35 @@ module _ {X : Type 0} where
   pub empty_request_keys : empty {X = X} {R = request_key_cmp} ≡ from_sorted []
   empty_request_keys = empty_lit request_key_cmp
 
-  pub insert_request_keys : (es : List (RequestKey × X)) (key : RequestKey) (x : X) → is_sorted request_key_cmp es ≡ true
-      → is_sorted request_key_cmp (put request_key_cmp key x es) ≡ true
+module _ {X : Type 0} (es : List (RequestKey × X)) where
+  pub insert_request_keys : (key : RequestKey) (x : X) → is_sorted request_key_cmp es ≡ true → is_sorted request_key_cmp (put request_key_cmp key x es) ≡ true
       → insert (from_sorted {R = request_key_cmp} es) key x ≡ from_sorted (put request_key_cmp key x es)
-  insert_request_keys = insert_lit request_key_cmp request_keys_total request_keys_exact
+  insert_request_keys = insert_lit request_key_cmp request_keys_total request_keys_exact es
 
-  pub retain_request_keys : (es : List (RequestKey × X)) (p : RequestKey → Bool) → is_sorted request_key_cmp es ≡ true
-      → is_sorted request_key_cmp (where_key request_key_cmp p es) ≡ true
+  pub retain_request_keys : (p : RequestKey → Bool) → is_sorted request_key_cmp es ≡ true → is_sorted request_key_cmp (where_key request_key_cmp p es) ≡ true
       → retain_keys (from_sorted {R = request_key_cmp} es) p ≡ from_sorted (where_key request_key_cmp p es)
-  retain_request_keys = retain_lit request_key_cmp request_keys_total request_keys_exact
+  retain_request_keys = retain_lit request_key_cmp request_keys_total request_keys_exact es
 
-  pub remove_request_keys : (es : List (RequestKey × X)) (key : RequestKey) → is_sorted request_key_cmp es ≡ true
-      → is_sorted request_key_cmp (where_key request_key_cmp (λ x. not (eq_by_cmp request_key_cmp key x)) es) ≡ true
-      → remove (from_sorted {R = request_key_cmp} es) key ≡ from_sorted
-      (where_key request_key_cmp (λ x. not (eq_by_cmp request_key_cmp key x)) es)
-  remove_request_keys = remove_lit request_key_cmp request_keys_total request_keys_exact
+  pub remove_request_keys : (key : RequestKey) → is_sorted request_key_cmp es ≡ true → is_sorted request_key_cmp (without request_key_cmp key es) ≡ true
+      → remove (from_sorted {R = request_key_cmp} es) key ≡ from_sorted (without request_key_cmp key es)
+  remove_request_keys = remove_lit request_key_cmp request_keys_total request_keys_exact es
 
 module _ {X : Type 0} where
   pub empty_response_keys : empty {X = X} {R = response_key_cmp} ≡ from_sorted []
   empty_response_keys = empty_lit response_key_cmp
 
-  pub insert_response_keys : (es : List (ResponseKey × X)) (key : ResponseKey) (x : X) → is_sorted response_key_cmp es ≡ true
-      → is_sorted response_key_cmp (put response_key_cmp key x es) ≡ true
+module _ {X : Type 0} (es : List (ResponseKey × X)) where
+  pub insert_response_keys : (key : ResponseKey) (x : X) → is_sorted response_key_cmp es ≡ true → is_sorted response_key_cmp (put response_key_cmp key x es) ≡ true
       → insert (from_sorted {R = response_key_cmp} es) key x ≡ from_sorted (put response_key_cmp key x es)
-  insert_response_keys = insert_lit response_key_cmp response_keys_total response_keys_exact
+  insert_response_keys = insert_lit response_key_cmp response_keys_total response_keys_exact es
 
-  pub retain_response_keys : (es : List (ResponseKey × X)) (p : ResponseKey → Bool) → is_sorted response_key_cmp es ≡ true
-      → is_sorted response_key_cmp (where_key response_key_cmp p es) ≡ true
+  pub retain_response_keys : (p : ResponseKey → Bool) → is_sorted response_key_cmp es ≡ true → is_sorted response_key_cmp (where_key response_key_cmp p es) ≡ true
       → retain_keys (from_sorted {R = response_key_cmp} es) p ≡ from_sorted (where_key response_key_cmp p es)
-  retain_response_keys = retain_lit response_key_cmp response_keys_total response_keys_exact
+  retain_response_keys = retain_lit response_key_cmp response_keys_total response_keys_exact es
 
-  pub remove_response_keys : (es : List (ResponseKey × X)) (key : ResponseKey) → is_sorted response_key_cmp es ≡ true
-      → is_sorted response_key_cmp (where_key response_key_cmp (λ x. not (eq_by_cmp response_key_cmp key x)) es) ≡ true
-      → remove (from_sorted {R = response_key_cmp} es) key ≡ from_sorted
-      (where_key response_key_cmp (λ x. not (eq_by_cmp response_key_cmp key x)) es)
-  remove_response_keys = remove_lit response_key_cmp response_keys_total response_keys_exact
+  pub remove_response_keys : (key : ResponseKey) → is_sorted response_key_cmp es ≡ true → is_sorted response_key_cmp (without response_key_cmp key es) ≡ true
+      → remove (from_sorted {R = response_key_cmp} es) key ≡ from_sorted (without response_key_cmp key es)
+  remove_response_keys = remove_lit response_key_cmp response_keys_total response_keys_exact es
 
 -- the rules for the three kinds of key
 pub ruleset literals = (
