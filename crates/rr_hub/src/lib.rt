@@ -9,8 +9,6 @@ mod limits;
 mod request_header;
 mod response_header;
 mod settings;
-#[cfg(test)]
-mod tests;
 
 pub use backpressure::{BackpressureFn, BackpressureInfo};
 pub use error::{

@@ -3,7 +3,5 @@
 
 mod lane;
 mod links;
-#[cfg(test)]
-mod tests;
 
 pub use lane::{Lane, LaneSize};

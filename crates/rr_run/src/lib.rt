@@ -4,8 +4,6 @@
 mod places;
 mod runner;
 mod script;
-#[cfg(test)]
-mod tests;
 
 pub use runner::Runner;
 pub use script::serve;

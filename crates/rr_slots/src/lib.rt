@@ -13,8 +13,6 @@ mod option_body;
 mod pool;
 mod slice_body;
 mod slot;
-#[cfg(test)]
-mod tests;
 
 pub use body::Body;
 pub use channel_state::{ChannelState, RequestId};

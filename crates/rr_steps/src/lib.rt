@@ -4,8 +4,6 @@
 mod command;
 mod elements;
 mod reply;
-#[cfg(test)]
-mod tests;
 
 pub use command::Command;
 pub use elements::Elements;

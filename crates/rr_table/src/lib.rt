@@ -7,6 +7,3 @@ mod table;
 
 pub use place::Place;
 pub use table::Table;
-
-#[cfg(test)]
-mod tests;

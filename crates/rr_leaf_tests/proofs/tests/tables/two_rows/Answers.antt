@@ -5,7 +5,7 @@ use Rattle.rr_table.proofs.MapLaws.{get-insert_other}
 use Rattle.rr_table.proofs.SeatLaws.{vacant-no_seats, vacant-seated}
 use Rattle.rr_table.specs.Seats.{Seats, no_seats, with_row, IsVacant}
 use Rattle.rr_table.specs.Places.{place}
-use Rattle.rr_table.proofs.tests.two_rows.Goals as goal
+use Rattle.rr_leaf_tests.proofs.tests.tables.two_rows.Goals as goal
 
 -- no seats in two rows
 two : (s t u : Seats ℕ) → s ≡ no_seats → t ≡ with_row s 2 → u ≡ with_row t 1 → u ≡ with_row (with_row no_seats 2) 1

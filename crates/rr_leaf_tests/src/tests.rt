@@ -1,0 +1,24 @@
+//! Each public call once with ample memory, and what no clause says.
+//!
+//! A function makes the calls and returns what they returned; its test compares that once, since each assertion is an exit
+//! that has to be proved.
+use std::alloc::Global;
+
+mod bodies;
+mod channels;
+mod connections;
+mod errors;
+mod lane_bodies;
+mod lanes;
+mod limits;
+mod messages;
+mod pools;
+mod replies;
+mod tables;
+
+/// Two elements that own memory.
+fn texts(alloc: Global) -> Option<(String, String)> {
+    let first = String::from_str(alloc, "first").ok()?;
+    let second = String::from_str(alloc, "second").ok()?;
+    Some((first, second))
+}

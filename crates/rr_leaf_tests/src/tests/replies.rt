@@ -1,0 +1,38 @@
+//! That replies can be made and compared.
+use rr_steps::{Elements, Reply};
+use std::alloc::{AllocError, Global};
+
+/// Whether a vector's elements are those of the vector in order.
+fn are_in_order(alloc: Global) -> Result<bool, AllocError> {
+    let elements = Elements::from(vec![in alloc; 123, 456]?);
+    Ok(elements.as_slice() == [123, 456].as_slice())
+}
+
+#[test]
+fn elements_are_those_of_the_vector_in_order(rt: HostRuntime) {
+    assert!(rt; are_in_order(rt.alloc()) == Ok(true));
+}
+
+/// A reply with two elements.
+fn payload(alloc: Global, first: u64, second: u64) -> Result<Reply<u64, u64>, AllocError> {
+    Ok(Reply::Payload(Elements::from(vec![in alloc; first, second]?)))
+}
+
+/// Returns whether a payload equals the same, one turned, a shorter one, and nothing.
+fn compared(alloc: Global) -> Result<[bool; 4], AllocError> {
+    let two = payload(alloc, 1, 2)?;
+    let same = payload(alloc, 1, 2)?;
+    let turned = payload(alloc, 2, 1)?;
+    let shorter = Reply::Payload(Elements::from(vec![in alloc; 1]?));
+    Ok([
+        two == same,
+        two == turned,
+        two == shorter,
+        two == Reply::Nothing,
+    ])
+}
+
+#[test]
+fn payloads_are_equal_where_their_elements_are(rt: HostRuntime) {
+    assert!(rt; compared(rt.alloc()) == Ok([true, false, false, false]));
+}

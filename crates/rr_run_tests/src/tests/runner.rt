@@ -1,0 +1,249 @@
+//! Calls of a runner that no script reaches: kinds, lists of commands, and handlers of full queues.
+use rr_hub::{
+    AllocationStrategy, BackpressureAction, BackpressureFn, BackpressureInfo, BackpressureStrategy,
+    ClientSettings, Kind, Limits, ReceiveError, RequestSendError, SendError, ServerSettings,
+    UniqueNodeId,
+};
+use rr_run::Runner;
+use rr_steps::{Command, Reply};
+use std::alloc::{AllocError, Global};
+use std::test::Fail;
+
+/// Does as it is told at a full queue to port 2, and refuses at every other.
+#[derive(Drop)]
+struct AtPortTwo {
+    action: BackpressureAction,
+}
+
+impl BackpressureFn for AtPortTwo {
+    ghost use Rattle.std.specs.Prelude.{◌==◌, if◌then◌else◌};
+    ghost use Rattle.rr_hub.specs.declared.settings.BackpressureAction.TheVariants.{DiscardDataAndFail};
+
+    ghost answer = { λ handler _ receiver. if receiver == 2 then handler.action else DiscardDataAndFail };
+
+    fn act(&self, info: &BackpressureInfo) -> BackpressureAction {
+        if info.receiver == 2 {
+            self.action
+        } else {
+            BackpressureAction::DiscardDataAndFail
+        }
+    }
+}
+
+type TypedRunner = Runner<u64, Option<u64>, u64, AtPortTwo>;
+
+type TypedCommand = Command<u64, u64, AtPortTwo>;
+
+/// Two of everything, and one borrowed response.
+const LIMITS: Limits = Limits {
+    max_clients: 2,
+    max_servers: 2,
+    max_loaned_requests: 2,
+    max_active_requests_per_client: 2,
+    max_response_buffer_size: 2,
+    max_borrowed_responses_per_pending_response: 1,
+    enable_safe_overflow_for_requests: false,
+    enable_safe_overflow_for_responses: false,
+    enable_fire_and_forget_requests: false,
+    client_expired_connection_buffer: 1,
+    server_expired_connection_buffer: 1,
+};
+
+/// How a client is created.
+fn client(strategy: BackpressureStrategy, handler: Option<AtPortTwo>) -> ClientSettings<AtPortTwo> {
+    ClientSettings {
+        strategy,
+        initial_max_slice_len: 1,
+        allocation_strategy: AllocationStrategy::Static,
+        pool: None,
+        handler,
+    }
+}
+
+/// How a server is created.
+fn server(handler: Option<AtPortTwo>) -> ServerSettings<AtPortTwo> {
+    ServerSettings {
+        strategy: BackpressureStrategy::DiscardData,
+        initial_max_slice_len: 1,
+        allocation_strategy: AllocationStrategy::Static,
+        pool: None,
+        handler,
+        loans: 1,
+    }
+}
+
+/// Carries out a command, if the runner takes it.
+fn reply_to(runner: &mut TypedRunner, command: TypedCommand) -> Option<Reply<u64, u64>> {
+    if runner.offers(&command) {
+        Some(runner.apply(command))
+    } else {
+        None
+    }
+}
+
+/// Carries out commands. Returns the last two replies.
+fn last_replies(
+    runner: &mut TypedRunner,
+    commands: Vec<TypedCommand>,
+) -> (Option<Reply<u64, u64>>, Option<Reply<u64, u64>>) {
+    let mut before = None;
+    let mut last = None;
+    for command in commands {
+        before = last;
+        last = reply_to(runner, command);
+    }
+    (before, last)
+}
+
+/// Creates a client on a new runner. Returns the reply, and what 0 and 1 name then.
+fn named(alloc: Global) -> Result<(Option<Reply<u64, u64>>, Option<Kind>, Option<Kind>), Fail> {
+    let mut runner: TypedRunner = Runner::new(alloc, LIMITS, UniqueNodeId(7))?;
+    let created = reply_to(
+        &mut runner,
+        Command::CreateClient(client(BackpressureStrategy::DiscardData, None)),
+    );
+    Ok((created, runner.kind(0), runner.kind(1)))
+}
+
+#[test]
+fn a_number_names_what_was_created(rt: HostRuntime) -> Result<(), Fail> {
+    let client = Some(Reply::Created(0));
+    assert!(rt; named(rt.alloc())? == (client, Some(Kind::Client), None));
+    Ok(())
+}
+
+/// The replies to a list of commands, after one that was there.
+fn replies_in_turn(alloc: Global) -> Result<Vec<Reply<u64, u64>>, AllocError> {
+    Ok(vec![in alloc;
+        Reply::Nothing,
+        Reply::Created(0),
+        Reply::Created(1),
+        Reply::Pending(2, 1),
+        Reply::Active(3, 2),
+    ]?)
+}
+
+/// Whether a list of commands is carried out in turn, and their replies appended.
+fn is_run_in_turn(alloc: Global) -> Result<bool, Fail> {
+    let mut runner: TypedRunner = Runner::new(alloc, LIMITS, UniqueNodeId(7))?;
+    let mut replies = vec![in alloc; Reply::Nothing]?;
+    let commands = vec![in alloc;
+        Command::CreateClient(client(BackpressureStrategy::DiscardData, None)),
+        Command::CreateServer(server(None)),
+        Command::SendCopy(0, 123),
+        Command::Receive(1),
+    ]?;
+    runner.run(commands, &mut replies)?;
+    Ok(replies == replies_in_turn(alloc)?)
+}
+
+#[test]
+fn commands_are_carried_out_in_turn(rt: HostRuntime) -> Result<(), Fail> {
+    assert!(rt; is_run_in_turn(rt.alloc())?);
+    Ok(())
+}
+
+/// Lets a client send a third request to two servers, of which the queue to port 2 is full. Returns the reply, and what port
+/// 1 receives then, which holds as many requests as it may.
+fn third_request(
+    alloc: Global,
+    strategy: BackpressureStrategy,
+    action: BackpressureAction,
+) -> Result<(Option<Reply<u64, u64>>, Option<Reply<u64, u64>>), Fail> {
+    let mut runner: TypedRunner = Runner::new(alloc, LIMITS, UniqueNodeId(7))?;
+    let commands = vec![in alloc;
+        Command::CreateClient(client(strategy, Some(AtPortTwo { action }))),
+        Command::CreateServer(server(None)),
+        Command::CreateServer(server(None)),
+        Command::SendCopy(0, 1),
+        Command::SendCopy(0, 2),
+        Command::Receive(1),
+        Command::Receive(1),
+        Command::Release(3),
+        Command::Release(4),
+        Command::SendCopy(0, 3),
+        Command::Receive(1),
+    ]?;
+    Ok(last_replies(&mut runner, commands))
+}
+
+/// Whether the third request was delivered to port 1 alone.
+fn is_passed_over(
+    alloc: Global,
+    strategy: BackpressureStrategy,
+    action: BackpressureAction,
+) -> Result<bool, Fail> {
+    let sent = Some(Reply::Pending(7, 1));
+    let full = Some(Reply::ReceiveError(ReceiveError::ExceedsMaxBorrows));
+    Ok(third_request(alloc, strategy, action)? == (sent, full))
+}
+
+/// Whether the third request was refused, and delivered to nobody.
+fn is_refused(
+    alloc: Global,
+    strategy: BackpressureStrategy,
+    action: BackpressureAction,
+) -> Result<bool, Fail> {
+    let error = RequestSendError::SendError(SendError::UnableToDeliver);
+    let refused = Some(Reply::RequestError(error));
+    Ok(third_request(alloc, strategy, action)? == (refused, Some(Reply::Nothing)))
+}
+
+#[test]
+fn a_handler_that_discards_passes_a_full_queue_over(rt: HostRuntime) -> Result<(), Fail> {
+    let waits = BackpressureStrategy::RetryUntilDelivered;
+    assert!(rt; is_passed_over(rt.alloc(), waits, BackpressureAction::DiscardData)?);
+    Ok(())
+}
+
+#[test]
+fn a_handler_that_fails_or_retries_refuses(rt: HostRuntime) -> Result<(), Fail> {
+    let waits = BackpressureStrategy::RetryUntilDelivered;
+    assert!(rt; is_refused(rt.alloc(), waits, BackpressureAction::Retry)?);
+    assert!(rt; is_refused(rt.alloc(), waits, BackpressureAction::DiscardDataAndFail)?);
+    let discards = BackpressureStrategy::DiscardData;
+    assert!(rt; is_refused(rt.alloc(), discards, BackpressureAction::Retry)?);
+    Ok(())
+}
+
+#[test]
+fn a_handler_that_follows_leaves_it_to_the_strategy(rt: HostRuntime) -> Result<(), Fail> {
+    let follows = BackpressureAction::FollowBackpressureStrategy;
+    assert!(rt;
+        is_refused(
+            rt.alloc(),
+            BackpressureStrategy::RetryUntilDelivered,
+            follows
+        )?
+    );
+    assert!(rt; is_passed_over(rt.alloc(), BackpressureStrategy::DiscardData, follows)?);
+    Ok(())
+}
+
+/// Lets a server whose handler refuses send a third response to a queue of two. Returns the reply, and that to its next loan.
+fn third_response(
+    alloc: Global,
+) -> Result<(Option<Reply<u64, u64>>, Option<Reply<u64, u64>>), Fail> {
+    let mut runner: TypedRunner = Runner::new(alloc, LIMITS, UniqueNodeId(7))?;
+    let refuses = AtPortTwo {
+        action: BackpressureAction::DiscardData,
+    };
+    let commands = vec![in alloc;
+        Command::CreateClient(client(BackpressureStrategy::DiscardData, None)),
+        Command::CreateServer(server(Some(refuses))),
+        Command::SendCopy(0, 1),
+        Command::Receive(1),
+        Command::SendCopy(3, 4),
+        Command::SendCopy(3, 5),
+        Command::SendCopy(3, 6),
+        Command::Loan(3, 1),
+    ]?;
+    Ok(last_replies(&mut runner, commands))
+}
+
+#[test]
+fn a_servers_handler_refuses_a_response(rt: HostRuntime) -> Result<(), Fail> {
+    let refused = Some(Reply::SendError(SendError::UnableToDeliver));
+    assert!(rt; third_response(rt.alloc())? == (refused, Some(Reply::Loaned(7))));
+    Ok(())
+}
