@@ -14,4 +14,10 @@ returns-then-not-is_taken-clause-vacant g c i port at same =
 
 pub unreachable-requires : goal.unreachable-requires
 unreachable-requires g c =
-    omega (arith, c.requires, c.loop-place-test.false, each_number g.P.Placed.place c.loop-place.place c.args.ports.now c.loop-place.invariant)
+    omega (
+      arith,
+      c.requires,
+      c.loop-place-test.false,
+      each_number g.P.Placed.place c.loop-place.place c.args.ports.now
+          c.loop-place.invariant,
+    )

@@ -9,7 +9,9 @@ use Rattle.rr_core.proofs.release.clear_mark.Goals as goal
 pub returns : goal.returns
 returns c =
     let items = c.args.waiting.now.items in
-    let within : c.args.lane < length items = asked_within items c.args.lane (λ marks. c.args.slot * c.args.places + c.args.place < length marks.items) c.requires in
+    let within : c.args.lane < length items = asked_within items c.args.lane
+    (λ marks. c.args.slot * c.args.places + c.args.place < length marks.items) c.requires in
     map-set_one marks_of items c.args.lane _
     ∙ ap (λ row. slice_set (map marks_of items) c.args.lane (slice_set row (c.args.slot * c.args.places + c.args.place) false))
-    (sym (marks_read items c.args.lane c.index_mut-marks.result.now c.index_mut-marks.result.now.items within c.index_mut-marks.ensures.value refl))
+    (sym (marks_read items c.args.lane c.index_mut-marks.result.now c.index_mut-marks.result.now.items within
+    c.index_mut-marks.ensures.value refl))

@@ -3,7 +3,16 @@ use Rattle.rr_core_laws.proofs.Senders.{asked_within}
 use Rattle.rr_core.proofs.write.push_in.Goals as goal
 
 pub index-requires : goal.index-requires
-index-requires g c = omega (arith, asked_within c.args.lanes.now.items c.args.lane (λ l. c.args.slot < length l.messages.held) c.requires, c.args.lanes.now.ok.0)
+index-requires g c = omega (
+  arith,
+  asked_within c.args.lanes.now.items c.args.lane (λ l. c.args.slot < length l.messages.held) c.requires,
+  c.args.lanes.now.ok.0,
+)
 
 pub index_mut-requires : goal.index_mut-requires
-index_mut-requires g c = omega (arith, asked_within c.args.lanes.now.items c.args.lane (λ l. c.args.slot < length l.messages.held) c.requires, c.args.lanes.now.ok.0)
+index_mut-requires g c = omega (
+  arith,
+  asked_within c.args.lanes.now.items c.args.lane
+      (λ l. c.args.slot < length l.messages.held) c.requires,
+  c.args.lanes.now.ok.0,
+)

@@ -7,4 +7,5 @@ use Rattle.rr_core.proofs.send.request.is_refused.Given as goal
 -- no queue so far is refused
 abbrev pub invariant-loop-server : goal.invariant-loop-server
 invariant-loop-server g l =
-    (i : ℕ) (s : ServerPort _) → i < l.server-index → slice_get l.servers i ≡ Some s → is_refused_at g.K.BackpressureFn.answer (connected_of l.sender).port l.overflow l.messages s ≡ false
+    (i : ℕ) (s : ServerPort _) → i < l.server-index → slice_get l.servers i ≡ Some s
+    → is_refused_at g.K.BackpressureFn.answer (connected_of l.sender).port l.overflow l.messages s ≡ false

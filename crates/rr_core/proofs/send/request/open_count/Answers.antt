@@ -7,7 +7,8 @@ use Rattle.rr_core.proofs.send.request.open_count.Goals as goal
 use Rattle.rr_core.proofs.send.request.open_count.Goals.{then-not-is_blocked, else-not-is_blocked}
 
 pub is_blocked-requires : goal.is_blocked-requires
-is_blocked-requires g c = c.requires c.loop-server.server-index c.server-item.result (item_at c.args.servers.now c.loop-server.server-index c.server-item.result c.loop-server-test.true c.server-item.is)
+is_blocked-requires g c = c.requires c.loop-server.server-index c.server-item.result
+    (item_at c.args.servers.now c.loop-server.server-index c.server-item.result c.loop-server-test.true c.server-item.is)
 
 pub loop-server-preserved : goal.loop-server-preserved
 loop-server-preserved g c =
@@ -18,11 +19,23 @@ loop-server-preserved g c =
     let same = ap (λ (s : ServerPort _). not (is_blocked_at c.args.overflow c.args.messages.now s.port.place)) (sym c.server-item.is) in
     elim c.if-not-is_blocked.branch [
       | then-not-is_blocked w ↦ (
-        omega (arith, w.count-is, c.loop-server.invariant.0, count_by_more_yes (λ s. not (is_blocked_at c.args.overflow c.args.messages.now s.port.place)) xs i s c.loop-server-test.true (same ∙ told ∙ ap not w.if-not-is_blocked.true)),
+        omega (
+          arith,
+          w.count-is,
+          c.loop-server.invariant.0,
+          count_by_more_yes (λ s. not (is_blocked_at c.args.overflow c.args.messages.now s.port.place)) xs i s c.loop-server-test.true
+              (same ∙ told ∙ ap not w.if-not-is_blocked.true),
+        ),
         omega (arith, w.count-is, c.loop-server.invariant.1),
       )
       | else-not-is_blocked w ↦ (
-        omega (arith, w.count-is, c.loop-server.invariant.0, count_by_more_no (λ s. not (is_blocked_at c.args.overflow c.args.messages.now s.port.place)) xs i s c.loop-server-test.true (same ∙ told ∙ ap not w.if-not-is_blocked.false)),
+        omega (
+          arith,
+          w.count-is,
+          c.loop-server.invariant.0,
+          count_by_more_no (λ s. not (is_blocked_at c.args.overflow c.args.messages.now s.port.place)) xs i s c.loop-server-test.true
+              (same ∙ told ∙ ap not w.if-not-is_blocked.false),
+        ),
         omega (arith, w.count-is, c.loop-server.invariant.1),
       )
     ]

@@ -10,17 +10,24 @@ use Rattle.rr_core.proofs.send.request.put_in.Goals as goal
 
 pub index_mut-requires : goal.index_mut-requires
 index_mut-requires g c =
-    omega (arith, asked_within c.args.lanes.now.items c.args.lane (λ l. HasQueues l.messages c.args.servers.now) c.requires.queues, c.args.lanes.now.ok.0)
+    omega (
+      arith,
+      asked_within c.args.lanes.now.items c.args.lane (λ l. HasQueues l.messages c.args.servers.now) c.requires.queues,
+      c.args.lanes.now.ok.0,
+    )
 
 -- what is asked of the lane is true of the one that was read
-asked : (g : _) (c : After-index_mut g) → (0 < c.index_mut.result.now.messages.capacity) × (0 < slice_index c.index_mut.result.now.messages.held c.args.slot)
+asked : (g : _) (c : After-index_mut g) → (0 < c.index_mut.result.now.messages.capacity)
+    × (0 < slice_index c.index_mut.result.now.messages.held c.args.slot)
     × (uses c.index_mut.result.now.messages c.args.slot + length c.args.servers.now < 2 ^ 64)
 asked g c =
     asked_of c.args.lanes.now.items c.args.lane c.index_mut.result.now c.index_mut.ensures.value
-    (λ l. (0 < l.messages.capacity) × (0 < slice_index l.messages.held c.args.slot) × (uses l.messages c.args.slot + length c.args.servers.now < 2 ^ 64)) c.requires.held
+    (λ l. (0 < l.messages.capacity) × (0 < slice_index l.messages.held c.args.slot)
+    × (uses l.messages c.args.slot + length c.args.servers.now < 2 ^ 64)) c.requires.held
 
 pub put_all-requires-clause-queues : goal.put_all-requires-clause-queues
-put_all-requires-clause-queues g c = asked_of c.args.lanes.now.items c.args.lane c.index_mut.result.now c.index_mut.ensures.value (λ l. HasQueues l.messages c.args.servers.now) c.requires.queues
+put_all-requires-clause-queues g c = asked_of c.args.lanes.now.items c.args.lane c.index_mut.result.now c.index_mut.ensures.value
+    (λ l. HasQueues l.messages c.args.servers.now) c.requires.queues
 
 pub put_all-requires-clause-capacity : goal.put_all-requires-clause-capacity
 put_all-requires-clause-capacity g c = (asked g (goal.at.put_all-requires-clause-capacity g c).After-index_mut).0
@@ -35,6 +42,7 @@ pub returns : goal.returns
 returns g c =
     let items = c.args.lanes.now.items in
     told_of items c.args.lane c.index_mut.result.now c.index_mut.ensures.value
-    (λ l. _ ≡ slice_set items c.args.lane (with_messages l (with_puts c.args.overflow c.args.slot l.messages (places_of c.args.servers.now))))
+    (λ l. _ ≡ slice_set items c.args.lane (with_messages l (with_puts c.args.overflow c.args.slot l.messages
+    (places_of c.args.servers.now))))
     (asked_within items c.args.lane (λ l. HasQueues l.messages c.args.servers.now) c.requires.queues)
     (ap (λ m. slice_set items c.args.lane (with_messages c.index_mut.result.now m)) c.put_all.ensures)

@@ -28,16 +28,19 @@ free_place-place-requires g c =
 
 -- where memory was refused the parts are as before
 unchanged : (g : _) (c : In_err-insert_client g)
-    → with_vectors (parts_of c.self.inside) (map client_part c.insert_client.new.clients.items) (map lane_part c.insert_client.new.lanes.items)
+    → with_vectors (parts_of c.self.inside) (map client_part c.insert_client.new.clients.items)
+    (map lane_part c.insert_client.new.lanes.items)
     (map marks_of c.insert_client.new.waiting.items) c.insert_client.new.table c.self.inside.next
     ≡ parts_of c.self.inside
 unchanged g c =
     let p = parts_of c.self.inside in
     let kept = c.in_err-insert_client.ensures in
-    same_vectors p p _ _ _ _ p.next (ap (map client_part) kept.clients) (ap (map lane_part) kept.lanes) (ap (map marks_of) kept.waiting) kept.table refl refl
+    same_vectors p p _ _ _ _ p.next (ap (map client_part) kept.clients) (ap (map lane_part) kept.lanes)
+    (ap (map marks_of) kept.waiting) kept.table refl refl
 
 pub returns-in_err-insert_client-clause-err : goal.returns-in_err-insert_client-clause-err
-returns-in_err-insert_client-clause-err g c = on_err_any _ (ap state_of (unchanged g (goal.at.returns-in_err-insert_client-clause-err g c).In_err-insert_client) ∙ c.self.view_is)
+returns-in_err-insert_client-clause-err g c = on_err_any _ (ap state_of
+    (unchanged g (goal.at.returns-in_err-insert_client-clause-err g c).In_err-insert_client) ∙ c.self.view_is)
 
 -- as many slots as the settings say
 pool : (g : _) (c : goal.After-self-1 g) → c.pool_size-slots.result ≡ (client_port (parts_of c.self.inside) c.args.settings).pool_size
@@ -45,27 +48,41 @@ pool g c = c.pool_size-slots.ensures ∙ ap (λ w. pool_size_of w c.args.setting
 
 -- the new lane is new
 new_lane : (g : _) (c : goal.After-self-1 g)
-    → IsNew (client_port (parts_of c.self.inside) c.args.settings).pool_size c.args.settings.initial_max_slice_len c.self.inside.limits.max_servers 1
+    → IsNew (client_port (parts_of c.self.inside) c.args.settings).pool_size c.args.settings.initial_max_slice_len
+    c.self.inside.limits.max_servers 1
     c.self.inside.limits.max_active_requests_per_client no_request c.in_ok-store.store.messages
 new_lane g c =
     let limits = c.self.inside.limits in
-    subst (λ slots. IsNew slots c.args.settings.initial_max_slice_len limits.max_servers 1 limits.max_active_requests_per_client no_request c.in_ok-store.store.messages)
+    subst (λ slots. IsNew slots c.args.settings.initial_max_slice_len limits.max_servers 1 limits.max_active_requests_per_client no_request
+    c.in_ok-store.store.messages)
     (pool g c) c.in_ok-store.ensures.messages
 
 -- the new port is the one that the settings say
 port : (g : _) (c : goal.After-self-1 g)
     → connected_of c.client_port-port.result
-    ≡ record { port = client_port (parts_of c.self.inside) c.args.settings; lane = length (parts_of c.self.inside).client_lanes; place = c.free_place-place.result; loans = 0 }
+    ≡ record {
+      port = client_port (parts_of c.self.inside) c.args.settings;
+      lane = length (parts_of c.self.inside).client_lanes;
+      place = c.free_place-place.result;
+      loans = 0;
+    }
 port g c =
     let p = parts_of c.self.inside in
-    let lane : c.len.result ≡ length p.client_lanes = c.len.ensures ∙ c.self.inside.client_lanes.ok.0 ∙ sym (length-map c.self.inside.client_lanes.items lane_part) in
+    let lane : c.len.result ≡ length p.client_lanes = c.len.ensures ∙ c.self.inside.client_lanes.ok.0
+    ∙ sym (length-map c.self.inside.client_lanes.items lane_part) in
     c.client_port-port.ensures
-    ∙ ap (λ n. record { port = record (client_port p c.args.settings) { pool_size = n }; lane = c.len.result; place = c.free_place-place.result; loans = 0 }) (pool g c)
+    ∙ ap (λ n. record {
+      port = record (client_port p c.args.settings) { pool_size = n };
+      lane = c.len.result;
+      place = c.free_place-place.result;
+      loans = 0;
+    }) (pool g c)
     ∙ ap (λ l. record { port = client_port p c.args.settings; lane = l; place = c.free_place-place.result; loans = 0 }) lane
 
 -- the parts after it
 parts : (g : _) (c : goal.After-self-1 g)
-    → with_vectors (parts_of c.self.inside) (map client_part c.insert_client.new.clients.items) (map lane_part c.insert_client.new.lanes.items)
+    → with_vectors (parts_of c.self.inside) (map client_part c.insert_client.new.clients.items)
+    (map lane_part c.insert_client.new.lanes.items)
     (map marks_of c.insert_client.new.waiting.items) c.insert_client.new.table (c.self.inside.next + 1)
     ≡ with_client_part (parts_of c.self.inside) c.args.settings c.free_place-place.result c.in_ok-store.store.messages
 parts g c =
@@ -85,7 +102,8 @@ parts g c =
     refl refl
 
 -- no client has the place
-vacant : (g : _) (c : goal.After-self-1 g) (i : ℕ) (d : ClientPart _) → slice_get (parts_of c.self.inside).clients i ≡ Some d → d.place ≢ c.free_place-place.result
+vacant : (g : _) (c : goal.After-self-1 g) (i : ℕ) (d : ClientPart _) → slice_get (parts_of c.self.inside).clients i ≡ Some d
+    → d.place ≢ c.free_place-place.result
 vacant g c i d at same =
     let found = mapped client_part c.self.inside.clients.items i d at in
     c.free_place-place.ensures.vacant i found.0
@@ -95,7 +113,8 @@ vacant g c i d at same =
 pub returns-clause-ok : goal.returns-clause-ok
 returns-clause-ok g c =
     ap state_of (parts g c)
-    ∙ client_view (parts_of c.self.inside) c.args.settings c.free_place-place.result c.in_ok-store.store.messages c.self.invariant.sound _ _ _ _ _ (new_lane g c) (vacant g c)
+    ∙ client_view (parts_of c.self.inside) c.args.settings c.free_place-place.result c.in_ok-store.store.messages c.self.invariant.sound _ _
+    _ _ _ (new_lane g c) (vacant g c)
     ∙ ap (λ s. with_client s c.args.settings) c.self.view_is
 
 pub invariant_of-self-2 : goal.invariant_of-self-2
@@ -104,10 +123,18 @@ invariant_of-self-2 g c =
     let due = rw (← c.self.view_is) at c.requires.due in
     record {
       sound = subst (λ p. IsSound p empty_hand) (sym (parts g c))
-          (client_sound p c.args.settings c.free_place-place.result c.in_ok-store.store.messages c.self.invariant.sound (new_lane g c) c.free_place-place.ensures.inside (vacant g c)
+          (client_sound p c.args.settings c.free_place-place.result c.in_ok-store.store.messages c.self.invariant.sound
+          (new_lane g c) c.free_place-place.ensures.inside (vacant g c)
           (fewer p due) (not_refused (state_of p) due).0
-          (omega (arith, c.in_ok-store.ensures.fits, c.in_ok-store.ensures.row, ap (λ n. (c.self.inside.limits.max_servers + 1) * n) (pool g c))));
-      reached = subst (λ s. IsReached s) (sym (returns-clause-ok g c)) (with_client_reached c.args.self.now (subst (λ s. IsReached s) c.self.view_is c.self.invariant.reached) c.args.settings c.requires.due);
+          (omega (
+            arith,
+            c.in_ok-store.ensures.fits,
+            c.in_ok-store.ensures.row,
+            ap (λ n. (c.self.inside.limits.max_servers + 1) * n) (pool g c),
+          )));
+      reached = subst (λ s. IsReached s) (sym (returns-clause-ok g c))
+          (with_client_reached c.args.self.now (subst (λ s. IsReached s) c.self.view_is c.self.invariant.reached) c.args.settings
+          c.requires.due);
     }
 
 pub invariant_of-self : goal.invariant_of-self

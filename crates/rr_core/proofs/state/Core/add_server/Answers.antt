@@ -25,7 +25,8 @@ use Rattle.rr_core.proofs.state.Core.add_server.Goals as goal
 pub free_place-place-requires : goal.free_place-place-requires
 free_place-place-requires g c =
     let p = parts_of c.self.inside in
-    let few : length p.servers < c.self.inside.limits.max_servers = fewer_servers p c.args.settings (rw (← c.self.view_is) at c.requires.due) in
+    let few : length p.servers < c.self.inside.limits.max_servers = fewer_servers p c.args.settings
+    (rw (← c.self.view_is) at c.requires.due) in
     omega (arith, ap length c.as_slice.ensures.value, few, length-map c.self.inside.servers.items server_part)
 
 pub worst_case_responses-requires-clause-counts : goal.worst_case_responses-requires-clause-counts
@@ -35,7 +36,8 @@ worst_case_responses-requires-clause-counts g c =
 
 -- where memory was refused the parts are as before
 unchanged : (g : _) (c : In_err-insert_port g)
-    → with_servers (parts_of c.self.inside) (map server_part c.insert_port.new.ports.items) (map lane_part c.insert_port.new.lanes.items) c.insert_port.new.table c.self.inside.next
+    → with_servers (parts_of c.self.inside) (map server_part c.insert_port.new.ports.items)
+    (map lane_part c.insert_port.new.lanes.items) c.insert_port.new.table c.self.inside.next
     ≡ parts_of c.self.inside
 unchanged g c =
     let p = parts_of c.self.inside in
@@ -54,11 +56,13 @@ loans g c = c.max-loans.ensures ∙ max_comm c.args.settings.loans 1
 pool : (g : _) (c : goal.After-self-1 g) → c.pool_size-slots.result ≡ (server_port (parts_of c.self.inside) c.args.settings).pool_size
 pool g c =
     c.pool_size-slots.ensures
-    ∙ ap (λ w. pool_size_of w c.args.settings.pool) (c.worst_case_responses.ensures ∙ ap (λ n. worst_case_responses c.self.inside.limits n) (loans g c))
+    ∙ ap (λ w. pool_size_of w c.args.settings.pool) (c.worst_case_responses.ensures
+    ∙ ap (λ n. worst_case_responses c.self.inside.limits n) (loans g c))
 
 -- the new lane is new
 new_lane : (g : _) (c : goal.After-self-1 g)
-    → IsNew (server_port (parts_of c.self.inside) c.args.settings).pool_size c.args.settings.initial_max_slice_len c.self.inside.limits.max_clients
+    → IsNew (server_port (parts_of c.self.inside) c.args.settings).pool_size c.args.settings.initial_max_slice_len
+    c.self.inside.limits.max_clients
     (worst_case_requests c.self.inside.limits) c.self.inside.limits.max_response_buffer_size no_response c.in_ok-messages.messages
 new_lane g c =
     let made = c.in_ok-messages.ensures in
@@ -77,17 +81,29 @@ new_lane g c =
 -- the new port is the one that the settings say
 port : (g : _) (c : goal.After-self-1 g)
     → connected_of c.server_port.result
-    ≡ record { port = server_port (parts_of c.self.inside) c.args.settings; lane = length (parts_of c.self.inside).server_lanes; place = c.free_place-place.result; loans = 0 }
+    ≡ record {
+      port = server_port (parts_of c.self.inside) c.args.settings;
+      lane = length (parts_of c.self.inside).server_lanes;
+      place = c.free_place-place.result;
+      loans = 0;
+    }
 port g c =
     let p = parts_of c.self.inside in
-    let lane : c.len.result ≡ length p.server_lanes = c.len.ensures ∙ c.self.inside.server_lanes.ok.0 ∙ sym (length-map c.self.inside.server_lanes.items lane_part) in
+    let lane : c.len.result ≡ length p.server_lanes = c.len.ensures ∙ c.self.inside.server_lanes.ok.0
+    ∙ sym (length-map c.self.inside.server_lanes.items lane_part) in
     c.server_port.ensures
-    ∙ ap (λ n. record { port = record (server_port p c.args.settings) { pool_size = n }; lane = c.len.result; place = c.free_place-place.result; loans = 0 }) (pool g c)
+    ∙ ap (λ n. record {
+      port = record (server_port p c.args.settings) { pool_size = n };
+      lane = c.len.result;
+      place = c.free_place-place.result;
+      loans = 0;
+    }) (pool g c)
     ∙ ap (λ l. record { port = server_port p c.args.settings; lane = l; place = c.free_place-place.result; loans = 0 }) lane
 
 -- the parts after it
 parts : (g : _) (c : goal.After-self-1 g)
-    → with_servers (parts_of c.self.inside) (map server_part c.insert_port.new.ports.items) (map lane_part c.insert_port.new.lanes.items) c.insert_port.new.table (c.self.inside.next + 1)
+    → with_servers (parts_of c.self.inside) (map server_part c.insert_port.new.ports.items)
+    (map lane_part c.insert_port.new.lanes.items) c.insert_port.new.table (c.self.inside.next + 1)
     ≡ with_server_part (parts_of c.self.inside) c.args.settings c.free_place-place.result c.in_ok-messages.messages
 parts g c =
     let p = parts_of c.self.inside in
@@ -97,13 +113,22 @@ parts g c =
     same_servers p (with_server_part p c.args.settings c.free_place-place.result c.in_ok-messages.messages) _ _ _ _
     (ap (map server_part) added.ports ∙ map-append server_part c.self.inside.servers.items (server ∷ [])
     ∙ ap (λ x. p.servers ++ record { connected = x; max_loaned_responses_per_request = c.max-loans.result } ∷ []) (port g c)
-    ∙ ap (λ n. p.servers ++ record { connected = record { port = server_port p c.args.settings; lane = length p.server_lanes; place = c.free_place-place.result; loans = 0 }; max_loaned_responses_per_request = n } ∷ []) (loans g c))
+    ∙ ap (λ n. p.servers ++ record {
+      connected = record {
+        port = server_port p c.args.settings;
+        lane = length p.server_lanes;
+        place = c.free_place-place.result;
+        loans = 0;
+      };
+      max_loaned_responses_per_request = n;
+    } ∷ []) (loans g c))
     (ap (map lane_part) added.lanes ∙ map-append lane_part c.self.inside.server_lanes.items (lane ∷ []))
     (added.table ∙ ap (with_row p.table) (pool g c))
     refl refl
 
 -- no server has the place
-vacant : (g : _) (c : goal.After-self-1 g) (i : ℕ) (d : ServerPart _) → slice_get (parts_of c.self.inside).servers i ≡ Some d → d.place ≢ c.free_place-place.result
+vacant : (g : _) (c : goal.After-self-1 g) (i : ℕ) (d : ServerPart _) → slice_get (parts_of c.self.inside).servers i ≡ Some d
+    → d.place ≢ c.free_place-place.result
 vacant g c i d at same =
     let found = mapped server_part c.self.inside.servers.items i d at in
     c.free_place-place.ensures.vacant i found.0
@@ -113,7 +138,8 @@ vacant g c i d at same =
 pub returns-clause-ok : goal.returns-clause-ok
 returns-clause-ok g c =
     ap state_of (parts g c)
-    ∙ server_view (parts_of c.self.inside) c.args.settings c.free_place-place.result c.in_ok-messages.messages c.self.invariant.sound _ _ _ _ _ (new_lane g c) (vacant g c) c.free_place-place.ensures.inside
+    ∙ server_view (parts_of c.self.inside) c.args.settings c.free_place-place.result c.in_ok-messages.messages c.self.invariant.sound _ _ _
+    _ _ (new_lane g c) (vacant g c) c.free_place-place.ensures.inside
     ∙ ap (λ s. with_server s c.args.settings) c.self.view_is
 
 pub invariant_of-self-2 : goal.invariant_of-self-2
@@ -122,9 +148,12 @@ invariant_of-self-2 g c =
     let due = rw (← c.self.view_is) at c.requires.due in
     record {
       sound = subst (λ p. IsSound p empty_hand) (sym (parts g c))
-          (server_sound p c.args.settings c.free_place-place.result c.in_ok-messages.messages c.self.invariant.sound (new_lane g c) c.free_place-place.ensures.inside (vacant g c)
+          (server_sound p c.args.settings c.free_place-place.result c.in_ok-messages.messages c.self.invariant.sound
+          (new_lane g c) c.free_place-place.ensures.inside (vacant g c)
           (fewer_servers p c.args.settings due) (server_not_refused (state_of p) c.args.settings due).0);
-      reached = subst (λ s. IsReached s) (sym (returns-clause-ok g c)) (with_server_reached c.args.self.now (subst (λ s. IsReached s) c.self.view_is c.self.invariant.reached) c.args.settings c.requires.due);
+      reached = subst (λ s. IsReached s) (sym (returns-clause-ok g c))
+          (with_server_reached c.args.self.now (subst (λ s. IsReached s) c.self.view_is c.self.invariant.reached) c.args.settings
+          c.requires.due);
     }
 
 pub invariant_of-self : goal.invariant_of-self

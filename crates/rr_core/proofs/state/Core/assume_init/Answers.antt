@@ -23,8 +23,10 @@ pub unreachable-requires : goal.unreachable-requires
 unreachable-requires g c =
     let missing = sym c.get.ensures ∙ c.in-None.is in
     ⊎_elim
-    (λ k. of_kind_there (parts_of c.self.inside) c.args.self.now c.id.inside.number c.args.id.now c.self.view_is c.id.view_is Kind.RequestMutUninit (λ e. cc) (λ e. cc) k missing)
-    (λ k. of_kind_there (parts_of c.self.inside) c.args.self.now c.id.inside.number c.args.id.now c.self.view_is c.id.view_is Kind.ResponseMutUninit (λ e. cc) (λ e. cc) k missing)
+    (λ k. of_kind_there (parts_of c.self.inside) c.args.self.now c.id.inside.number c.args.id.now c.self.view_is c.id.view_is
+    Kind.RequestMutUninit (λ e. cc) (λ e. cc) k missing)
+    (λ k. of_kind_there (parts_of c.self.inside) c.args.self.now c.id.inside.number c.args.id.now c.self.view_is c.id.view_is
+    Kind.ResponseMutUninit (λ e. cc) (λ e. cc) k missing)
     c.requires.uninit
 
 pub returns : goal.returns
@@ -33,7 +35,8 @@ returns g c =
     let found = sym c.get.ensures ∙ c.in-Some.is in
     initialised_view p c.id.inside.number c.in-Some.held found c.set.new.self _
     (ap (λ g. record { stage = g; lane = c.in-Some.held.lane; slot = c.in-Some.held.slot }) c.initialised.ensures) c.set.ensures
-    ∙ ap (λ s. with_changed s c.id.inside.number after_init) c.self.view_is ∙ ap (λ n. with_changed c.args.self.now n after_init) c.id.view_is
+    ∙ ap (λ s. with_changed s c.id.inside.number after_init) c.self.view_is
+    ∙ ap (λ n. with_changed c.args.self.now n after_init) c.id.view_is
 
 pub invariant_of-self : goal.invariant_of-self
 invariant_of-self g c =
@@ -41,11 +44,15 @@ invariant_of-self g c =
     let found = sym c.get.ensures ∙ c.in-Some.is in
     let uninit : (c.in-Some.held.stage ≡ stage.RequestMutUninit) ⊎ (c.in-Some.held.stage ≡ stage.ResponseMutUninit) =
     ⊎_elim
-    (λ k. inl (request_mut_stage c.in-Some.held.stage (of_kind p c.args.self.now c.id.inside.number c.args.id.now c.self.view_is c.id.view_is Kind.RequestMutUninit (λ e. cc) (λ e. cc) k c.in-Some.held found)))
-    (λ k. inr (response_mut_stage c.in-Some.held.stage (of_kind p c.args.self.now c.id.inside.number c.args.id.now c.self.view_is c.id.view_is Kind.ResponseMutUninit (λ e. cc) (λ e. cc) k c.in-Some.held found)))
+    (λ k. inl (request_mut_stage c.in-Some.held.stage (of_kind p c.args.self.now c.id.inside.number c.args.id.now c.self.view_is
+    c.id.view_is Kind.RequestMutUninit (λ e. cc) (λ e. cc) k c.in-Some.held found)))
+    (λ k. inr (response_mut_stage c.in-Some.held.stage (of_kind p c.args.self.now c.id.inside.number c.args.id.now c.self.view_is
+    c.id.view_is Kind.ResponseMutUninit (λ e. cc) (λ e. cc) k c.in-Some.held found)))
     c.requires.uninit in
     record {
       sound = initialised_sound p c.id.inside.number c.in-Some.held found c.set.new.self _
-          (ap (λ g. record { stage = g; lane = c.in-Some.held.lane; slot = c.in-Some.held.slot }) c.initialised.ensures) c.set.ensures empty_hand c.self.invariant.sound uninit;
-      reached = subst (λ s. IsReached s) (sym (returns g c)) (init_reached c.args.self.now c.args.id.now (subst (λ s. IsReached s) c.self.view_is c.self.invariant.reached));
+          (ap (λ g. record { stage = g; lane = c.in-Some.held.lane; slot = c.in-Some.held.slot }) c.initialised.ensures) c.set.ensures
+          empty_hand c.self.invariant.sound uninit;
+      reached = subst (λ s. IsReached s) (sym (returns g c))
+          (init_reached c.args.self.now c.args.id.now (subst (λ s. IsReached s) c.self.view_is c.self.invariant.reached));
     }

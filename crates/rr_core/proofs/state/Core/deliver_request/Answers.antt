@@ -19,66 +19,114 @@ use Rattle.rr_core.proofs.state.Core.deliver_request.Goals as goal
 
 pub unreachable-requires : goal.unreachable-requires
 unreachable-requires g c =
-    of_kind_there (parts_of c.self.inside) c.args.self.now c.id.inside.number c.args.id.now c.self.view_is c.id.view_is Kind.RequestMut (λ e. cc) (λ e. cc) c.requires.kind (sym c.get.ensures ∙ c.in-None.is)
+    of_kind_there (parts_of c.self.inside) c.args.self.now c.id.inside.number c.args.id.now c.self.view_is c.id.view_is Kind.RequestMut
+    (λ e. cc) (λ e. cc) c.requires.kind (sym c.get.ensures ∙ c.in-None.is)
 
 pub index-requires : goal.index-requires
 index-requires g c =
     let p = parts_of c.self.inside in
-    omega (arith, lanes_many c.self.inside.client_lanes.items c.in-Some.held.lane (spot p c.self.invariant.sound c.args.self.now c.id.inside.number c.args.id.now c.self.view_is c.id.view_is c.requires.kind c.self.inside.clients.items refl c.self.inside.servers.items refl c.in-Some.held (sym c.get.ensures ∙ c.in-Some.is)).0, c.self.inside.client_lanes.ok.0)
+    omega (
+      arith,
+      lanes_many c.self.inside.client_lanes.items c.in-Some.held.lane
+          (spot p c.self.invariant.sound c.args.self.now c.id.inside.number c.args.id.now c.self.view_is c.id.view_is c.requires.kind
+          c.self.inside.clients.items refl c.self.inside.servers.items refl c.in-Some.held (sym c.get.ensures ∙ c.in-Some.is)).0,
+      c.self.inside.client_lanes.ok.0,
+    )
 
 pub open_count-connections-requires : goal.open_count-connections-requires
 open_count-connections-requires g c =
     let p = parts_of c.self.inside in
     let lanes = c.self.inside.client_lanes.items in
-    let is = lane_is lanes c.in-Some.held.lane c.index.result.now (lanes_many lanes c.in-Some.held.lane (spot p c.self.invariant.sound c.args.self.now c.id.inside.number c.args.id.now c.self.view_is c.id.view_is c.requires.kind c.self.inside.clients.items refl c.self.inside.servers.items refl c.in-Some.held (sym c.get.ensures ∙ c.in-Some.is)).0) c.index.ensures in
-    queues_of p c.self.invariant.sound c.args.self.now c.id.inside.number c.args.id.now c.self.view_is c.id.view_is c.requires.kind c.self.inside.clients.items refl c.self.inside.servers.items refl c.in-Some.held (sym c.get.ensures ∙ c.in-Some.is) c.index.result.now.messages c.as_slice-servers.result.now (ap (λ (l : Lane _ _ _). l.messages) is) c.as_slice-servers.ensures.value
+    let is = lane_is lanes c.in-Some.held.lane c.index.result.now
+    (lanes_many lanes c.in-Some.held.lane (spot p c.self.invariant.sound c.args.self.now c.id.inside.number c.args.id.now c.self.view_is
+    c.id.view_is c.requires.kind c.self.inside.clients.items refl c.self.inside.servers.items refl c.in-Some.held
+    (sym c.get.ensures ∙ c.in-Some.is)).0) c.index.ensures in
+    queues_of p c.self.invariant.sound c.args.self.now c.id.inside.number c.args.id.now c.self.view_is c.id.view_is c.requires.kind
+    c.self.inside.clients.items refl c.self.inside.servers.items refl c.in-Some.held
+    (sym c.get.ensures ∙ c.in-Some.is) c.index.result.now.messages c.as_slice-servers.result.now
+    (ap (λ (l : Lane _ _ _). l.messages) is) c.as_slice-servers.ensures.value
 
 pub put_in-requires-clause-queues : goal.put_in-requires-clause-queues
 put_in-requires-clause-queues g c =
     let p = parts_of c.self.inside in
-    lane_asked c.self.inside.client_lanes.items c.in-Some.held.lane (spot p c.self.invariant.sound c.args.self.now c.id.inside.number c.args.id.now c.self.view_is c.id.view_is c.requires.kind c.self.inside.clients.items refl c.self.inside.servers.items refl c.in-Some.held (sym c.get.ensures ∙ c.in-Some.is)).0 (λ l. HasQueues l.messages c.as_slice-servers.result.now) (λ l. HasQueues l.messages c.as_slice-servers.result.now) (λ l h. h)
-    (queues_of p c.self.invariant.sound c.args.self.now c.id.inside.number c.args.id.now c.self.view_is c.id.view_is c.requires.kind c.self.inside.clients.items refl c.self.inside.servers.items refl c.in-Some.held (sym c.get.ensures ∙ c.in-Some.is) _ c.as_slice-servers.result.now refl c.as_slice-servers.ensures.value)
+    lane_asked c.self.inside.client_lanes.items c.in-Some.held.lane
+    (spot p c.self.invariant.sound c.args.self.now c.id.inside.number c.args.id.now c.self.view_is c.id.view_is c.requires.kind
+    c.self.inside.clients.items refl c.self.inside.servers.items refl c.in-Some.held (sym c.get.ensures ∙ c.in-Some.is)).0
+    (λ l. HasQueues l.messages c.as_slice-servers.result.now) (λ l. HasQueues l.messages c.as_slice-servers.result.now) (λ l h. h)
+    (queues_of p c.self.invariant.sound c.args.self.now c.id.inside.number c.args.id.now c.self.view_is c.id.view_is c.requires.kind
+    c.self.inside.clients.items refl c.self.inside.servers.items refl c.in-Some.held
+    (sym c.get.ensures ∙ c.in-Some.is) _ c.as_slice-servers.result.now refl c.as_slice-servers.ensures.value)
 
 pub put_in-requires-clause-held : goal.put_in-requires-clause-held
 put_in-requires-clause-held g c =
     let p = parts_of c.self.inside in
-    lane_asked c.self.inside.client_lanes.items c.in-Some.held.lane (spot p c.self.invariant.sound c.args.self.now c.id.inside.number c.args.id.now c.self.view_is c.id.view_is c.requires.kind c.self.inside.clients.items refl c.self.inside.servers.items refl c.in-Some.held (sym c.get.ensures ∙ c.in-Some.is)).0
-    (λ l. (0 < l.messages.capacity) × (0 < slice_index l.messages.held c.in-Some.held.slot) × (uses l.messages c.in-Some.held.slot + length c.as_slice-servers.result.now < 2 ^ 64))
-    (λ l. (0 < l.messages.capacity) × (0 < slice_index l.messages.held c.in-Some.held.slot) × (uses l.messages c.in-Some.held.slot + length c.as_slice-servers.result.now < 2 ^ 64)) (λ l h. h)
-    (takes p c.self.invariant.sound c.args.self.now c.id.inside.number c.args.id.now c.self.view_is c.id.view_is c.requires.kind c.self.inside.clients.items refl c.self.inside.servers.items refl c.in-Some.held (sym c.get.ensures ∙ c.in-Some.is) c.as_slice-servers.result.now c.as_slice-servers.ensures.value)
+    lane_asked c.self.inside.client_lanes.items c.in-Some.held.lane
+    (spot p c.self.invariant.sound c.args.self.now c.id.inside.number c.args.id.now c.self.view_is c.id.view_is c.requires.kind
+    c.self.inside.clients.items refl c.self.inside.servers.items refl c.in-Some.held (sym c.get.ensures ∙ c.in-Some.is)).0
+    (λ l. (0 < l.messages.capacity) × (0 < slice_index l.messages.held c.in-Some.held.slot)
+    × (uses l.messages c.in-Some.held.slot + length c.as_slice-servers.result.now < 2 ^ 64))
+    (λ l. (0 < l.messages.capacity) × (0 < slice_index l.messages.held c.in-Some.held.slot)
+    × (uses l.messages c.in-Some.held.slot + length c.as_slice-servers.result.now < 2 ^ 64)) (λ l h. h)
+    (takes p c.self.invariant.sound c.args.self.now c.id.inside.number c.args.id.now c.self.view_is c.id.view_is c.requires.kind
+    c.self.inside.clients.items refl c.self.inside.servers.items refl c.in-Some.held
+    (sym c.get.ensures ∙ c.in-Some.is) c.as_slice-servers.result.now c.as_slice-servers.ensures.value)
 
 pub set_marks_in-requires : goal.set_marks_in-requires
 set_marks_in-requires g c =
     let p = parts_of c.self.inside in
-    marks p c.self.invariant.sound c.args.self.now c.id.inside.number c.args.id.now c.self.view_is c.id.view_is c.requires.kind c.self.inside.clients.items refl c.self.inside.servers.items refl c.in-Some.held (sym c.get.ensures ∙ c.in-Some.is) c.self.inside.waiting.items refl c.as_slice-servers.result.now c.as_slice-servers.ensures.value
+    marks p c.self.invariant.sound c.args.self.now c.id.inside.number c.args.id.now c.self.view_is c.id.view_is c.requires.kind
+    c.self.inside.clients.items refl c.self.inside.servers.items refl c.in-Some.held
+    (sym c.get.ensures ∙ c.in-Some.is) c.self.inside.waiting.items refl c.as_slice-servers.result.now c.as_slice-servers.ensures.value
 
 pub count_as_sent-requires : goal.count_as_sent-requires
 count_as_sent-requires g c =
     let p = parts_of c.self.inside in
-    counts p c.self.invariant.sound c.args.self.now c.id.inside.number c.args.id.now c.self.view_is c.id.view_is c.requires.kind c.self.inside.clients.items refl c.self.inside.servers.items refl c.in-Some.held (sym c.get.ensures ∙ c.in-Some.is)
+    counts p c.self.invariant.sound c.args.self.now c.id.inside.number c.args.id.now c.self.view_is c.id.view_is c.requires.kind
+    c.self.inside.clients.items refl c.self.inside.servers.items refl c.in-Some.held (sym c.get.ensures ∙ c.in-Some.is)
 
 -- the parts after it
 parts : (g : _) (c : goal.After-set g)
-    → with_vectors (parts_of c.self.inside) (map client_part c.count_as_sent.new.clients.items) (map lane_part c.put_in.new.lanes.items) (map marks_of c.set_marks_in.new.waiting.items) c.set.new.self c.self.inside.next
-    ≡ after (parts_of c.self.inside) c.self.invariant.sound c.args.self.now c.id.inside.number c.args.id.now c.self.view_is c.id.view_is c.requires.kind c.self.inside.clients.items refl c.self.inside.servers.items refl c.in-Some.held (sym c.get.ensures ∙ c.in-Some.is) c.open_count-connections.result
+    → with_vectors (parts_of c.self.inside) (map client_part c.count_as_sent.new.clients.items) (map lane_part c.put_in.new.lanes.items)
+    (map marks_of c.set_marks_in.new.waiting.items) c.set.new.self c.self.inside.next
+    ≡ after (parts_of c.self.inside) c.self.invariant.sound c.args.self.now c.id.inside.number c.args.id.now c.self.view_is c.id.view_is
+    c.requires.kind c.self.inside.clients.items refl c.self.inside.servers.items refl c.in-Some.held
+    (sym c.get.ensures ∙ c.in-Some.is) c.open_count-connections.result
 parts g c =
     let p = parts_of c.self.inside in
-    fields p c.self.invariant.sound c.args.self.now c.id.inside.number c.args.id.now c.self.view_is c.id.view_is c.requires.kind c.self.inside.clients.items refl c.self.inside.servers.items refl c.in-Some.held (sym c.get.ensures ∙ c.in-Some.is) c.open_count-connections.result c.self.inside.client_lanes.items refl c.as_slice-servers.result.now c.as_slice-servers.ensures.value
-    c.count_as_sent.new.clients.items c.count_as_sent.ensures c.put_in.new.lanes.items c.put_in.ensures (map marks_of c.set_marks_in.new.waiting.items) c.set_marks_in.ensures c.set.new.self c.set.ensures
+    fields p c.self.invariant.sound c.args.self.now c.id.inside.number c.args.id.now c.self.view_is c.id.view_is c.requires.kind
+    c.self.inside.clients.items refl c.self.inside.servers.items refl c.in-Some.held
+    (sym c.get.ensures ∙ c.in-Some.is) c.open_count-connections.result c.self.inside.client_lanes.items refl
+    c.as_slice-servers.result.now c.as_slice-servers.ensures.value
+    c.count_as_sent.new.clients.items c.count_as_sent.ensures c.put_in.new.lanes.items c.put_in.ensures
+    (map marks_of c.set_marks_in.new.waiting.items) c.set_marks_in.ensures c.set.new.self c.set.ensures
 
 pub returns : goal.returns
 returns g c =
     let p = parts_of c.self.inside in
     let lanes = c.self.inside.client_lanes.items in
-    let is = lane_is lanes c.in-Some.held.lane c.index.result.now (lanes_many lanes c.in-Some.held.lane (spot p c.self.invariant.sound c.args.self.now c.id.inside.number c.args.id.now c.self.view_is c.id.view_is c.requires.kind c.self.inside.clients.items refl c.self.inside.servers.items refl c.in-Some.held (sym c.get.ensures ∙ c.in-Some.is)).0) c.index.ensures in
-    shows p c.self.invariant.sound c.args.self.now c.id.inside.number c.args.id.now c.self.view_is c.id.view_is c.requires.kind c.self.inside.clients.items refl c.self.inside.servers.items refl c.in-Some.held (sym c.get.ensures ∙ c.in-Some.is) c.open_count-connections.result _ (ap state_of (parts g c))
-    (counted p c.self.invariant.sound c.args.self.now c.id.inside.number c.args.id.now c.self.view_is c.id.view_is c.requires.kind c.self.inside.clients.items refl c.self.inside.servers.items refl c.in-Some.held (sym c.get.ensures ∙ c.in-Some.is) c.index.result.now.messages (ap (λ (l : Lane _ _ _). l.messages) is) c.as_slice-servers.result.now c.as_slice-servers.ensures.value c.open_count-connections.result c.open_count-connections.ensures)
+    let is = lane_is lanes c.in-Some.held.lane c.index.result.now
+    (lanes_many lanes c.in-Some.held.lane (spot p c.self.invariant.sound c.args.self.now c.id.inside.number c.args.id.now c.self.view_is
+    c.id.view_is c.requires.kind c.self.inside.clients.items refl c.self.inside.servers.items refl c.in-Some.held
+    (sym c.get.ensures ∙ c.in-Some.is)).0) c.index.ensures in
+    shows p c.self.invariant.sound c.args.self.now c.id.inside.number c.args.id.now c.self.view_is c.id.view_is c.requires.kind
+    c.self.inside.clients.items refl c.self.inside.servers.items refl c.in-Some.held
+    (sym c.get.ensures ∙ c.in-Some.is) c.open_count-connections.result _ (ap state_of (parts g c))
+    (counted p c.self.invariant.sound c.args.self.now c.id.inside.number c.args.id.now c.self.view_is c.id.view_is c.requires.kind
+    c.self.inside.clients.items refl c.self.inside.servers.items refl c.in-Some.held
+    (sym c.get.ensures ∙ c.in-Some.is) c.index.result.now.messages
+    (ap (λ (l : Lane _ _ _). l.messages) is) c.as_slice-servers.result.now c.as_slice-servers.ensures.value
+    c.open_count-connections.result c.open_count-connections.ensures)
 
 pub invariant_of-self : goal.invariant_of-self
 invariant_of-self g c =
     let p = parts_of c.self.inside in
     record {
-      sound = subst (λ p. IsSound p empty_hand) (sym (parts g c)) (after_sound p c.self.invariant.sound c.args.self.now c.id.inside.number c.args.id.now c.self.view_is c.id.view_is c.requires.kind c.self.inside.clients.items refl c.self.inside.servers.items refl c.in-Some.held (sym c.get.ensures ∙ c.in-Some.is) c.open_count-connections.result);
-      reached = sends_request_reached c.args.self.now (subst (λ s. IsReached s) c.self.view_is c.self.invariant.reached) c.args.id.now g.K.BackpressureFn.answer (Ok c.open_count-connections.result) _
-          (sends_unrefused c.args.self.now (subst (λ s. IsReached s) c.self.view_is c.self.invariant.reached) c.args.id.now g.K.BackpressureFn.answer c.open_count-connections.result _ c.requires.due (returns g c));
+      sound = subst (λ p. IsSound p empty_hand) (sym (parts g c))
+          (after_sound p c.self.invariant.sound c.args.self.now c.id.inside.number c.args.id.now c.self.view_is c.id.view_is c.requires.kind
+          c.self.inside.clients.items refl c.self.inside.servers.items refl c.in-Some.held
+          (sym c.get.ensures ∙ c.in-Some.is) c.open_count-connections.result);
+      reached = sends_request_reached c.args.self.now (subst (λ s. IsReached s) c.self.view_is c.self.invariant.reached) c.args.id.now
+          g.K.BackpressureFn.answer (Ok c.open_count-connections.result) _
+          (sends_unrefused c.args.self.now (subst (λ s. IsReached s) c.self.view_is c.self.invariant.reached) c.args.id.now
+          g.K.BackpressureFn.answer c.open_count-connections.result _ c.requires.due (returns g c));
     }

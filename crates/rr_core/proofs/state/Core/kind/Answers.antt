@@ -15,7 +15,8 @@ pub returns-then-is_server_held : goal.returns-then-is_server_held
 returns-then-is_server_held g c =
     let client = client_seen c.self.inside.clients.items _ c.id.inside.number _ c.as_slice.ensures.value c.is_client_held.ensures in
     let server = server_seen c.self.inside.servers.items _ c.id.inside.number _ c.as_slice-2.ensures.value c.is_server_held.ensures in
-    kind_server (state_of (parts_of c.self.inside)) c.id.inside.number (client ∙ c.if-is_client_held.false) (server ∙ c.if-is_server_held.true)
+    kind_server (state_of (parts_of c.self.inside)) c.id.inside.number (client ∙ c.if-is_client_held.false)
+    (server ∙ c.if-is_server_held.true)
     ∙ ap (λ s. kind_at s c.id.inside.number) c.self.view_is ∙ ap (kind_at c.args.self.now) c.id.view_is
 
 pub returns-in-Some : goal.returns-in-Some
@@ -23,7 +24,8 @@ returns-in-Some g c =
     let client = client_seen c.self.inside.clients.items _ c.id.inside.number _ c.as_slice.ensures.value c.is_client_held.ensures in
     let server = server_seen c.self.inside.servers.items _ c.id.inside.number _ c.as_slice-2.ensures.value c.is_server_held.ensures in
     ap Some c.kind.ensures ∙ sym (kind_shown (parts_of c.self.inside) c.id.inside.number c.in-Some.held (sym c.get.ensures ∙ c.in-Some.is))
-    ∙ kind_handle (state_of (parts_of c.self.inside)) c.id.inside.number (client ∙ c.if-is_client_held.false) (server ∙ c.if-is_server_held.false)
+    ∙ kind_handle (state_of (parts_of c.self.inside)) c.id.inside.number (client ∙ c.if-is_client_held.false)
+    (server ∙ c.if-is_server_held.false)
     ∙ ap (λ s. kind_at s c.id.inside.number) c.self.view_is ∙ ap (kind_at c.args.self.now) c.id.view_is
 
 pub returns-in-None : goal.returns-in-None
@@ -31,5 +33,6 @@ returns-in-None g c =
     let client = client_seen c.self.inside.clients.items _ c.id.inside.number _ c.as_slice.ensures.value c.is_client_held.ensures in
     let server = server_seen c.self.inside.servers.items _ c.id.inside.number _ c.as_slice-2.ensures.value c.is_server_held.ensures in
     sym (ap (option_map kind_of) (nothing_shown (parts_of c.self.inside) c.id.inside.number (sym c.get.ensures ∙ c.in-None.is)))
-    ∙ kind_handle (state_of (parts_of c.self.inside)) c.id.inside.number (client ∙ c.if-is_client_held.false) (server ∙ c.if-is_server_held.false)
+    ∙ kind_handle (state_of (parts_of c.self.inside)) c.id.inside.number (client ∙ c.if-is_client_held.false)
+    (server ∙ c.if-is_server_held.false)
     ∙ ap (λ s. kind_at s c.id.inside.number) c.self.view_is ∙ ap (kind_at c.args.self.now) c.id.view_is

@@ -41,13 +41,17 @@ use Rattle.rr_core.proofs.state.Core.loan_request.Goals as goal
 pub unreachable-requires : goal.unreachable-requires
 unreachable-requires g c =
     let items = c.self.inside.clients.items in
-    let none = standing_nowhere (λ (x : ClientPort _). x.port.id == c.args.client) items (ap (position _) (sym c.as_slice.ensures.value) ∙ sym c.index_of.ensures ∙ c.in-None.is) in
-    client_there (state_of (parts_of c.self.inside)) c.args.client (subst (λ s. kind_at s c.args.client ≡ Some kind.Client) (sym c.self.view_is) c.requires.kind) (no_client_seen c.args.client items none)
+    let none = standing_nowhere (λ (x : ClientPort _). x.port.id == c.args.client) items
+    (ap (position _) (sym c.as_slice.ensures.value) ∙ sym c.index_of.ensures ∙ c.in-None.is) in
+    client_there (state_of (parts_of c.self.inside)) c.args.client
+    (subst (λ s. kind_at s c.args.client ≡ Some kind.Client) (sym c.self.view_is) c.requires.kind)
+    (no_client_seen c.args.client items none)
 
 pub index-requires : goal.index-requires
 index-requires g c =
     let items = c.self.inside.clients.items in
-    let it = standing_at (λ (x : ClientPort _). x.port.id == c.args.client) c.in-Some.index c.as_slice.result.now items c.index_of.result c.index_of.ensures c.as_slice.ensures.value c.in-Some.is in
+    let it = standing_at (λ (x : ClientPort _). x.port.id == c.args.client) c.in-Some.index c.as_slice.result.now items c.index_of.result
+    c.index_of.ensures c.as_slice.ensures.value c.in-Some.is in
     omega (arith, slice_get_within items c.in-Some.index it.it it.at, c.self.inside.clients.ok.0)
 
 -- the client that was read is the one there, and the one that contracts see
@@ -58,7 +62,8 @@ found : (g : _) (c : After-index g) → (slice_get c.self.inside.clients.items c
 found g c =
     let items = c.self.inside.clients.items in
     let i = c.in-Some.index in
-    let it = standing_at (λ (x : ClientPort _). x.port.id == c.args.client) i c.as_slice.result.now items c.index_of.result c.index_of.ensures
+    let it = standing_at (λ (x : ClientPort _). x.port.id == c.args.client) i c.as_slice.result.now items c.index_of.result
+    c.index_of.ensures
     c.as_slice.ensures.value c.in-Some.is in
     let same : it.it ≡ c.index.result.now = sym (read_at items i it.it c.index.result.now it.at c.index.ensures) in
     let at : slice_get items i ≡ Some c.index.result.now = it.at ∙ ap Some same in (
@@ -70,11 +75,16 @@ found g c =
 
 -- it is among the clients, also when it is read again
 inside : (g : _) (c : After-index g) → c.in-Some.index < c.self.inside.clients.len
-inside g c = omega (arith, slice_get_within c.self.inside.clients.items c.in-Some.index c.index.result.now (found g c).0, c.self.inside.clients.ok.0)
+inside g c = omega (
+  arith,
+  slice_get_within c.self.inside.clients.items c.in-Some.index c.index.result.now (found g c).0,
+  c.self.inside.clients.ok.0,
+)
 
 -- the lane from which it sends is its own, and its pool has so many slots
 own : (g : _) (c : After-index g) → (c.index.result.now.port.lane < length (parts_of c.self.inside).client_lanes)
-    × (length (lane_of c.index.result.now.port.lane (parts_of c.self.inside).client_lanes).messages.held ≡ c.index.result.now.port.pool_size)
+    × (length (lane_of c.index.result.now.port.lane (parts_of c.self.inside).client_lanes).messages.held
+    ≡ c.index.result.now.port.pool_size)
 own g c =
     let p = parts_of c.self.inside in
     let client = client_part c.index.result.now in
@@ -137,8 +147,11 @@ insert-requires-clause-place g c =
     let rows = c.self.invariant.sound.seated.client_rows c.index.result.now.port.lane (own g first).0 in
     let row_is = row g (goal.at.insert-requires-clause-place g c).After-insert-arg-1 (there g first) in
     let slots = ap (λ (l : Lane _ _ _). length l.messages.held) is in
-    let free : c.in-Ok.slot < length c.index_mut.result.now.messages.held = slice_get_within _ c.in-Ok.slot 0 c.in-Ok.ensures.free in
-    (omega (arith, rows.0, row_is), in_row _ _ _ _ (omega (arith, free, slots)) (ap (λ r. slice_index_or c.self.inside.table.rows r 0) row_is ∙ rows.1))
+    let free : c.in-Ok.slot < length c.index_mut.result.now.messages.held = slice_get_within _ c.in-Ok.slot 0 c.in-Ok.ensures.free in (
+      omega (arith, rows.0, row_is),
+      in_row _ _ _ _ (omega (arith, free, slots))
+          (ap (λ r. slice_index_or c.self.inside.table.rows r 0) row_is ∙ rows.1),
+    )
 
 pub insert-requires-clause-vacant : goal.insert-requires-clause-vacant
 insert-requires-clause-vacant g c k s e at =
@@ -149,8 +162,10 @@ insert-requires-clause-vacant g c k s e at =
     let slots = ap (λ (l : Lane _ _ _). length l.messages.held) is in
     let none : slice_index (lane_of lane p.client_lanes).messages.held c.in-Ok.slot ≡ 0 =
     ap (λ (l : Lane _ _ _). slice_index l.messages.held c.in-Ok.slot) is ∙ get_or_from_slice_get _ c.in-Ok.slot 0 0 c.in-Ok.ensures.free in
-    own_vacant p c.self.invariant.sound lane c.in-Ok.slot (own g first).0 (omega (arith, slots, slice_get_within _ c.in-Ok.slot 0 c.in-Ok.ensures.free))
-    none k s e (at ∙ ap (λ r. record { row = r; index = c.in-Ok.slot }) (row g (goal.at.insert-requires-clause-vacant g c).After-insert-arg-1 (there g first)))
+    own_vacant p c.self.invariant.sound lane c.in-Ok.slot (own g first).0
+    (omega (arith, slots, slice_get_within _ c.in-Ok.slot 0 c.in-Ok.ensures.free))
+    none k s e (at ∙ ap (λ r. record { row = r; index = c.in-Ok.slot })
+    (row g (goal.at.insert-requires-clause-vacant g c).After-insert-arg-1 (there g first)))
 
 pub insert-requires-clause-fresh : goal.insert-requires-clause-fresh
 insert-requires-clause-fresh g c = c.self.invariant.sound.numbered.fresh c.self.inside.next (omega arith)
@@ -162,7 +177,8 @@ pub overflow_add-port : goal.overflow_add-port
 overflow_add-port g c =
     let p = parts_of c.self.inside in
     let f = found g (goal.at.overflow_add-port g c).After-index in
-    let again = read_at c.self.inside.clients.items c.in-Some.index c.index.result.now c.index_mut-port.result.now f.0 c.index_mut-port.ensures.value in
+    let again = read_at c.self.inside.clients.items c.in-Some.index c.index.result.now c.index_mut-port.result.now f.0
+    c.index_mut-port.ensures.value in
     omega (
       arith,
       loans_fit p.limits c.self.invariant.sound.sized.limits_fit c.index_mut-port.result.now.port.loans
@@ -172,9 +188,15 @@ overflow_add-port g c =
 pub overflow_add-port-in-Ok : goal.overflow_add-port-in-Ok
 overflow_add-port-in-Ok g c =
     let f = found g (goal.at.overflow_add-port-in-Ok g c).After-index in
-    let again = read_at c.self.inside.clients.items c.in-Some.index c.index.result.now c.index_mut-port.result.now f.0 c.index_mut-port.ensures.value in
+    let again = read_at c.self.inside.clients.items c.in-Some.index c.index.result.now c.index_mut-port.result.now f.0
+    c.index_mut-port.ensures.value in
     let sized = c.self.invariant.sound.sized in
-    omega (arith, sized.loans_made c.in-Some.index (client_part c.index.result.now) f.1, sized.next_fits, ap (λ (x : ClientPort _). x.loans_made) again)
+    omega (
+      arith,
+      sized.loans_made c.in-Some.index (client_part c.index.result.now) f.1,
+      sized.next_fits,
+      ap (λ (x : ClientPort _). x.loans_made) again,
+    )
 
 -- what is known of the slot that was loaned: nothing held it, and the client's pool and loans had room
 lent : (g : _) (c : goal.After-new g)
@@ -194,15 +216,22 @@ lent g c =
       ap (λ (l : Lane _ _ _). slice_get l.messages.held c.in-Ok.slot) is ∙ c.in-Ok.ensures.free,
       ap (λ (l : Lane _ _ _). times c.in-Ok.slot (all_entries l.messages.queues)) is ∙ c.in-Ok.ensures.unused,
       refusal_stored p sound c.in-Some.index (client_part c.index.result.now) f.1 c.args.len
-          ∙ none_due p sound c.in-Some.index (client_part c.index.result.now) f.1 c.args.len (sym c.is_too_long.ensures ∙ c.if-is_too_long.false)
+          ∙ none_due p sound c.in-Some.index (client_part c.index.result.now) f.1 c.args.len
+          (sym c.is_too_long.ensures ∙ c.if-is_too_long.false)
           (omega (arith, c.if-self-port.false)) used,
     )
 
 -- the parts after it
 parts : (g : _) (c : goal.After-new g)
     → with_vectors (parts_of c.self.inside)
-    (map client_part (slice_set c.self.inside.clients.items c.in-Some.index (record { port = record c.index_mut-port.result.now.port { loans = c.index_mut-port.result.now.port.loans + 1 }; loans_made = c.index_mut-port.result.now.loans_made + 1; pendings = c.index_mut-port.result.now.pendings })))
-    (map lane_part (slice_set c.self.inside.client_lanes.items c.index.result.now.port.lane (record { owner = c.index_mut.result.now.owner; row = c.index_mut.result.now.row; messages = c.loan.new.self })))
+    (map client_part (slice_set c.self.inside.clients.items c.in-Some.index
+    (record {
+      port = record c.index_mut-port.result.now.port { loans = c.index_mut-port.result.now.port.loans + 1 };
+      loans_made = c.index_mut-port.result.now.loans_made + 1;
+      pendings = c.index_mut-port.result.now.pendings;
+    })))
+    (map lane_part (slice_set c.self.inside.client_lanes.items c.index.result.now.port.lane
+    (record { owner = c.index_mut.result.now.owner; row = c.index_mut.result.now.row; messages = c.loan.new.self })))
     (parts_of c.self.inside).waiting c.insert.new.self (c.self.inside.next + 1)
     ≡ with_request_loan (parts_of c.self.inside) c.in-Some.index (client_part c.index.result.now) c.in-Ok.slot c.args.len c.default.result
 parts g c =
@@ -222,19 +251,26 @@ parts g c =
     let noted : note ≡ loan_note p client =
     ap (λ n. record { number = p.next; client = n; request_id = c.index-2.result.now.loans_made }) (sym f.3)
     ∙ ap (λ (x : ClientPort _). record { number = p.next; client = port.port.id; request_id = x.loans_made }) second in
-    let changed : c.loan.new.self ≡ loaned (lane_of client.lane p.client_lanes).messages c.in-Ok.slot c.args.len (loan_note p client) c.default.result =
+    let changed : c.loan.new.self ≡ loaned (lane_of client.lane p.client_lanes).messages c.in-Ok.slot c.args.len
+    (loan_note p client) c.default.result =
     c.in-Ok.ensures.ok
     ∙ ap (λ (l : Lane _ _ _). loaned l.messages c.in-Ok.slot c.args.len note c.default.result) (sym is)
     ∙ ap (λ n. loaned (lane_of client.lane p.client_lanes).messages c.in-Ok.slot c.args.len n c.default.result) noted in
     same_vectors p (with_request_loan p i client c.in-Ok.slot c.args.len c.default.result) _ _ p.waiting c.insert.new.self (p.next + 1)
     (map-set_one client_part items i _
-    ∙ ap (λ (x : ClientPort _). slice_set p.clients i (client_part (record { port = record x.port { loans = x.port.loans + 1 }; loans_made = x.loans_made + 1; pendings = x.pendings }))) again)
+    ∙ ap (λ (x : ClientPort _). slice_set p.clients i (client_part (record {
+      port = record x.port { loans = x.port.loans + 1 };
+      loans_made = x.loans_made + 1;
+      pendings = x.pendings;
+    }))) again)
     (map-set_one lane_part lanes client.lane _
     ∙ ap (λ m. slice_set p.client_lanes client.lane (with_messages (lane_part c.index_mut.result.now) m)) changed
-    ∙ ap (λ x. slice_set p.client_lanes client.lane (with_messages x (loaned (lane_of client.lane p.client_lanes).messages c.in-Ok.slot c.args.len (loan_note p client) c.default.result))) (sym is))
+    ∙ ap (λ x. slice_set p.client_lanes client.lane (with_messages x
+    (loaned (lane_of client.lane p.client_lanes).messages c.in-Ok.slot c.args.len (loan_note p client) c.default.result))) (sym is))
     refl
     (c.insert.ensures
-    ∙ ap (λ r. seated p.table p.next (record { row = r; index = c.in-Ok.slot }) (record { stage = stage.RequestMutUninit; lane = client.lane; slot = c.in-Ok.slot })) (row g at.After-insert-arg-1 here))
+    ∙ ap (λ r. seated p.table p.next (record { row = r; index = c.in-Ok.slot })
+    (record { stage = stage.RequestMutUninit; lane = client.lane; slot = c.in-Ok.slot })) (row g at.After-insert-arg-1 here))
     refl refl
 
 -- a number is left
@@ -244,7 +280,8 @@ left g c = let some = subst (λ s. 0 < numbers_left s) (sym c.self.view_is) c.re
 -- nothing changed
 unchanged : (g : _) (c : goal.In-Err g)
     → with_vectors (parts_of c.self.inside) (parts_of c.self.inside).clients
-    (map lane_part (slice_set c.self.inside.client_lanes.items c.index.result.now.port.lane (record { owner = c.index_mut.result.now.owner; row = c.index_mut.result.now.row; messages = c.loan.new.self })))
+    (map lane_part (slice_set c.self.inside.client_lanes.items c.index.result.now.port.lane
+    (record { owner = c.index_mut.result.now.owner; row = c.index_mut.result.now.row; messages = c.loan.new.self })))
     (parts_of c.self.inside).waiting (parts_of c.self.inside).table c.self.inside.next ≡ parts_of c.self.inside
 unchanged g c =
     let p = parts_of c.self.inside in
@@ -261,7 +298,8 @@ returns-in-Ok-clause-loans g c =
     let p = parts_of c.self.inside in
     let f = found g (goal.at.returns-in-Ok-clause-loans g c).After-index in
     let l = lent g c in
-    lends p c.self.invariant.sound c.in-Some.index (client_part c.index.result.now) f.1 _ c.args.client c.args.len c.in-Ok.slot _ c.default.result
+    lends p c.self.invariant.sound c.in-Some.index (client_part c.index.result.now) f.1 _ c.args.client c.args.len c.in-Ok.slot _
+    c.default.result
     f.2 l.2 c.default.ensures l.0 l.1 c.args.self.now _ c.self.view_is c.new.ensures (ap state_of (parts g c))
 
 pub returns-in-Err-clause-loans : goal.returns-in-Err-clause-loans
@@ -275,8 +313,10 @@ returns-in-Err-clause-loans g c =
     let few : client.loans < p.limits.max_loaned_requests = omega (arith, c.if-self-port.false) in
     refuses p c.self.invariant.sound c.in-Some.index client f.1 c.args.client c.args.len LoanError.OutOfMemory f.2
     (pool_refusal p c.self.invariant.sound c.in-Some.index client f.1 c.args.len c.in-Err.field-0 long few
-    (let R : Lane _ _ _ → Type 0 = λ l. IsErrOf {T = ℕ} (Err c.in-Err.field-0) AcquireError.Full ↔ (used_count l.messages ≡ length l.messages.held) in subst R (sym is) c.in-Err.ensures.full)
-    (let R : Lane _ _ _ → Type 0 = λ l. IsErrOf {T = ℕ} (Err c.in-Err.field-0) AcquireError.NoRoom → l.messages.room < c.args.len in subst R (sym is) c.in-Err.ensures.no_room))
+    (let R : Lane _ _ _ → Type 0 = λ l. IsErrOf {T = ℕ} (Err c.in-Err.field-0) AcquireError.Full ↔
+    (used_count l.messages ≡ length l.messages.held) in subst R (sym is) c.in-Err.ensures.full)
+    (let R : Lane _ _ _ → Type 0 = λ l. IsErrOf {T = ℕ} (Err c.in-Err.field-0) AcquireError.NoRoom → l.messages.room < c.args.len in
+    subst R (sym is) c.in-Err.ensures.no_room))
     c.args.self.now _ c.self.view_is (ap state_of (unchanged g c) ∙ c.self.view_is)
 
 pub invariant_of-self : goal.invariant_of-self
@@ -286,8 +326,10 @@ invariant_of-self g c =
     let l = lent g c in
     record {
       sound = subst (λ p. IsSound p empty_hand) (sym (parts g c))
-          (loan_sound p c.self.invariant.sound c.in-Some.index (client_part c.index.result.now) f.1 c.in-Ok.slot c.args.len c.default.result l.0 l.1 (left g c));
-      reached = loans_request_reached c.args.self.now (subst (λ s. IsReached s) c.self.view_is c.self.invariant.reached) g.QH.Default.is_default c.args.client c.args.len (Ok c.new.result) _ (returns-in-Ok-clause-loans g c);
+          (loan_sound p c.self.invariant.sound c.in-Some.index
+          (client_part c.index.result.now) f.1 c.in-Ok.slot c.args.len c.default.result l.0 l.1 (left g c));
+      reached = loans_request_reached c.args.self.now (subst (λ s. IsReached s) c.self.view_is c.self.invariant.reached)
+          g.QH.Default.is_default c.args.client c.args.len (Ok c.new.result) _ (returns-in-Ok-clause-loans g c);
     }
 
 pub invariant_of-self-in-Err : goal.invariant_of-self-in-Err
@@ -304,4 +346,5 @@ returns-in-Ok-clause-unreduced g c pool same = cc
 
 pub returns-in-Err-clause-unreduced : goal.returns-in-Err-clause-unreduced
 returns-in-Err-clause-unreduced g c pool same =
-    request_finds_memory c.args.self.now (subst (λ s. IsReached s) c.self.view_is c.self.invariant.reached) g.QH.Default.is_default c.args.client c.args.len _ pool (returns-in-Err-clause-loans g c)
+    request_finds_memory c.args.self.now (subst (λ s. IsReached s) c.self.view_is c.self.invariant.reached) g.QH.Default.is_default
+    c.args.client c.args.len _ pool (returns-in-Err-clause-loans g c)

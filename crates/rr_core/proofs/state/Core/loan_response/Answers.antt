@@ -36,65 +36,14 @@ use Rattle.rr_laws.proofs.Memory.{response_finds_memory}
 use Rattle.rr_core.specs.Reaching.{IsCore}
 use Rattle.rr_core.specs.declared.loan.response.Asked.{Asked}
 use Rattle.rr_core.proofs.state.Core.loan_response.Goals.{After-asked_from-asked, After-index-port, After-is_too_long, After-is_at_loan_limit, After-index_mut, After-index-in-Ok, After-set}
+use Rattle.rr_core.proofs.state.Core.loan_response.Answers.Facts.{asked, same, there, length_told, limit_told, old, row_is, told}
 use Rattle.rr_core.proofs.state.Core.loan_response.Goals as goal
+mod Facts
 
 pub asked_from-asked-requires : goal.asked_from-asked-requires
 asked_from-asked-requires g c =
-    active_of_one (parts_of c.self.inside) c.self.invariant.sound c.args.self.now c.active.inside.number c.args.active.now c.self.view_is c.active.view_is c.requires.kind c.self.inside.servers.items refl
-
--- the active request that was looked up, and its server
-abbrev IsAsked : {Q QH P PH K : Type 0} → Parts Q QH P PH K → List (ServerPort K) → ℕ → Asked → Type 0
-IsAsked p items n a = Found p items n a.server a.index a.lane a.slot a.loans
-
-asked : (g : _) (c : After-asked_from-asked g) → IsAsked (parts_of c.self.inside) c.self.inside.servers.items c.active.inside.number c.asked_from-asked.result
-asked g c =
-    let a = c.asked_from-asked.result in
-    found (parts_of c.self.inside) c.self.invariant.sound c.self.inside.servers.items refl c.active.inside.number a.server a.index a.lane a.slot a.loans
-    c.asked_from-asked.ensures.held c.asked_from-asked.ensures.server
-
--- the server that was read is that one
-same : (g : _) (c : After-index-port g) (f : IsAsked (parts_of c.self.inside) c.self.inside.servers.items c.active.inside.number c.asked_from-asked.result)
-    → c.index-port.result.now ≡ f.it
-same g c f = read_at c.self.inside.servers.items c.asked_from-asked.result.index f.it c.index-port.result.now f.there c.index-port.ensures
-
--- the lane from which it sends is there
-there : (g : _) (c : After-index-port g) (f : IsAsked (parts_of c.self.inside) c.self.inside.servers.items c.active.inside.number c.asked_from-asked.result)
-    → (c.index-port.result.now.port.lane ≡ f.it.port.lane) × (f.it.port.lane < length c.self.inside.server_lanes.items)
-there g c f = (ap (λ (x : ServerPort _). x.port.lane) (same g c f), lanes_many c.self.inside.server_lanes.items f.it.port.lane f.own.0)
-
--- what was told of the length and of the loans holds of it
-length_told : (g : _) (c : After-is_too_long g) (f : IsAsked (parts_of c.self.inside) c.self.inside.servers.items c.active.inside.number c.asked_from-asked.result)
-    → c.index-port.result.now ≡ f.it → is_too_long (server_part f.it).port c.args.len ≡ c.is_too_long.result
-length_told g c f is = ap (λ (x : ServerPort _). is_too_long (server_part x).port c.args.len) (sym is) ∙ sym c.is_too_long.ensures
-
-limit_told : (g : _) (c : After-is_at_loan_limit g) (f : IsAsked (parts_of c.self.inside) c.self.inside.servers.items c.active.inside.number c.asked_from-asked.result)
-    → c.index-port.result.now ≡ f.it
-    → (nat_le f.it.max_loaned_responses_per_request c.asked_from-asked.result.loans || nat_le (max_loaned_responses c.self.inside.limits f.it.max_loaned_responses_per_request) f.it.port.loans) ≡ c.is_at_loan_limit.result
-limit_told g c f is =
-    ap (λ (x : ServerPort _). nat_le x.max_loaned_responses_per_request c.asked_from-asked.result.loans || nat_le (max_loaned_responses c.self.inside.limits x.max_loaned_responses_per_request) x.port.loans) (sym is)
-    ∙ sym c.is_at_loan_limit.ensures
-
--- the lane from which was loaned
-old : (g : _) (c : After-index_mut g) (f : IsAsked (parts_of c.self.inside) c.self.inside.servers.items c.active.inside.number c.asked_from-asked.result)
-    → (c.index-port.result.now.port.lane ≡ f.it.port.lane) × (f.it.port.lane < length c.self.inside.server_lanes.items)
-    → lane_of f.it.port.lane (parts_of c.self.inside).server_lanes ≡ lane_part c.index_mut.result.now
-old g c f t =
-    let lanes = c.self.inside.server_lanes.items in
-    lane_is lanes f.it.port.lane c.index_mut.result.now t.1 (c.index_mut.ensures.value ∙ ap (λ l. get_or lanes l c.index_mut.result.now) t.0)
-
--- its row stays
-row_is : (g : _) (c : After-index-in-Ok g) (f : IsAsked (parts_of c.self.inside) c.self.inside.servers.items c.active.inside.number c.asked_from-asked.result)
-    → (c.index-port.result.now.port.lane ≡ f.it.port.lane) × (f.it.port.lane < length c.self.inside.server_lanes.items)
-    → lane_of f.it.port.lane (parts_of c.self.inside).server_lanes ≡ lane_part c.index_mut.result.now
-    → c.index-in-Ok.result.now.row ≡ (lane_of f.it.port.lane (parts_of c.self.inside).server_lanes).row
-row_is g c f t is =
-    ap (λ (x : OwnedLane _ _ _ _). x.row) (c.index-in-Ok.ensures ∙ get_or-set_same c.self.inside.server_lanes.items c.index-port.result.now.port.lane _ _ (omega (arith, t.1, t.0)))
-    ∙ sym (ap (λ (l : Lane _ _ _). l.row) is)
-
--- the active request stands in the table with one more loan
-told : (g : _) (c : After-set g) (f : IsAsked (parts_of c.self.inside) c.self.inside.servers.items c.active.inside.number c.asked_from-asked.result)
-    → c.set.new.self ≡ seated c.self.inside.table c.active.inside.number f.seat.place c.with_one_loan.result
-told g c f = subst (λ o. IfSome o (λ s. c.set.new.self ≡ seated c.self.inside.table c.active.inside.number s.place c.with_one_loan.result)) f.here c.set.ensures
+    active_of_one (parts_of c.self.inside) c.self.invariant.sound c.args.self.now c.active.inside.number c.args.active.now c.self.view_is
+    c.active.view_is c.requires.kind c.self.inside.servers.items refl
 
 pub index-port-requires : goal.index-port-requires
 index-port-requires g c =
@@ -115,7 +64,8 @@ returns-then-is_too_long-clause-loans g c =
     let server = server_part f.it in
     let long = length_told g at.After-is_too_long f is ∙ c.if-is_too_long.true in
     refuses p c.self.invariant.sound a.index server f.at n a.lane a.slot a.loans f.seat f.here f.is c.args.len LoanError.ExceedsMaxLoanSize
-    (due_refusal _ server.port c.args.len LoanError.ExceedsMaxLoanSize (first_due p c.self.invariant.sound a.index server f.at n a.lane a.slot a.loans f.seat f.here f.is c.args.len long))
+    (due_refusal _ server.port c.args.len LoanError.ExceedsMaxLoanSize
+    (first_due p c.self.invariant.sound a.index server f.at n a.lane a.slot a.loans f.seat f.here f.is c.args.len long))
     c.args.self.now c.args.self.now c.args.active.now c.self.view_is c.active.view_is refl
 
 pub returns-then-is_at_loan_limit-clause-loans : goal.returns-then-is_at_loan_limit-clause-loans
@@ -130,7 +80,8 @@ returns-then-is_at_loan_limit-clause-loans g c =
     let long = length_told g at.After-is_too_long f is ∙ c.if-is_too_long.false in
     let reached = limit_told g at.After-is_at_loan_limit f is ∙ c.if-is_at_loan_limit.true in
     refuses p c.self.invariant.sound a.index server f.at n a.lane a.slot a.loans f.seat f.here f.is c.args.len LoanError.ExceedsMaxLoans
-    (due_refusal _ server.port c.args.len LoanError.ExceedsMaxLoans (second_due p c.self.invariant.sound a.index server f.at n a.lane a.slot a.loans f.seat f.here f.is c.args.len long reached))
+    (due_refusal _ server.port c.args.len LoanError.ExceedsMaxLoans
+    (second_due p c.self.invariant.sound a.index server f.at n a.lane a.slot a.loans f.seat f.here f.is c.args.len long reached))
     c.args.self.now c.args.self.now c.args.active.now c.self.view_is c.active.view_is refl
 
 pub index-requires : goal.index-requires
@@ -147,7 +98,8 @@ note-request-requires g c =
     let at = goal.at.note-request-requires g c in
     let f = asked g at.After-asked_from-asked in
     let lanes = c.self.inside.client_lanes.items in
-    let was : lane_of a.lane p.client_lanes ≡ lane_part c.index.result.now = lane_is lanes a.lane c.index.result.now (lanes_many lanes a.lane f.asked.0) c.index.ensures in
+    let was : lane_of a.lane p.client_lanes ≡ lane_part c.index.result.now = lane_is lanes a.lane c.index.result.now
+    (lanes_many lanes a.lane f.asked.0) c.index.ensures in
     omega (arith, f.asked.1, ap (λ (l : Lane _ _ _). length l.messages.held) was)
 
 pub index_mut-requires : goal.index_mut-requires
@@ -187,7 +139,8 @@ insert-requires-clause-place g c =
     let set = told g at.After-set f in
     let rows : c.set.new.self.rows ≡ p.table.rows = ap (λ (t : Seats Held). t.rows) set in
     let its = c.self.invariant.sound.seated.server_rows f.it.port.lane f.own.0 in
-    let slots : length (lane_of f.it.port.lane p.server_lanes).messages.held ≡ length c.index_mut.result.now.messages.held = ap (λ (l : Lane _ _ _). length l.messages.held) was in (
+    let slots : length (lane_of f.it.port.lane p.server_lanes).messages.held ≡ length c.index_mut.result.now.messages.held = ap
+    (λ (l : Lane _ _ _). length l.messages.held) was in (
       omega (arith, its.0, row, ap length rows),
       omega (
         arith,
@@ -216,9 +169,11 @@ insert-requires-clause-vacant g c k s e stands =
     ap (λ (l : Lane _ _ _). slice_index l.messages.held c.in-Ok.slot) was ∙ get_or_from_slice_get _ c.in-Ok.slot 0 0 c.in-Ok.ensures.free in
     let place : s.place ≡ answer_place p server c.in-Ok.slot = stands ∙ ap (λ r. record { row = r; index = c.in-Ok.slot }) row in
     ⊎_elim
-    (λ now. response_vacant p c.self.invariant.sound f.it.port.lane c.in-Ok.slot f.own.0 none n f.seat f.here (ap (λ (t : Seat Held). t.place) now.1 ∙ place))
+    (λ now. response_vacant p c.self.invariant.sound f.it.port.lane c.in-Ok.slot f.own.0 none n f.seat f.here
+    (ap (λ (t : Seat Held). t.place) now.1 ∙ place))
     (λ before. response_vacant p c.self.invariant.sound f.it.port.lane c.in-Ok.slot f.own.0 none k s before.1 place)
-    (get-insert_cases p.table.seats n (seat f.seat.place c.with_one_loan.result) k s (sym (ap (λ (t : Seats Held). fin_map.get t.seats k) set) ∙ e))
+    (get-insert_cases p.table.seats n (seat f.seat.place c.with_one_loan.result) k s
+    (sym (ap (λ (t : Seats Held). fin_map.get t.seats k) set) ∙ e))
 
 pub insert-requires-clause-fresh : goal.insert-requires-clause-fresh
 insert-requires-clause-fresh g c =
@@ -247,7 +202,8 @@ overflow_add-index_mut g c =
     let a = c.asked_from-asked.result in
     let at = goal.at.overflow_add-index_mut g c in
     let f = asked g at.After-asked_from-asked in
-    let again : c.index_mut-in-Ok.result.now ≡ f.it = read_at items a.index f.it c.index_mut-in-Ok.result.now f.there c.index_mut-in-Ok.ensures.value in
+    let again : c.index_mut-in-Ok.result.now ≡ f.it = read_at items a.index f.it c.index_mut-in-Ok.result.now f.there
+    c.index_mut-in-Ok.ensures.value in
     omega (arith, answers_fit p c.self.invariant.sound a.index (server_part f.it) f.at, ap (λ (x : ServerPort _). x.port.loans) again)
 
 -- the parts after it
@@ -258,10 +214,16 @@ parts : (g : _) (c : goal.After-new g)
     × (times c.in-Ok.slot (all_entries (lane_of f.it.port.lane p.server_lanes).messages.queues) ≡ 0)
     × (stored_refusal p c.self.invariant.sound a.index (server_part f.it) f.at n a.lane a.slot a.loans f.seat f.here f.is c.args.len ≡ None)
     × (with_servers p
-    (map server_part (slice_set c.self.inside.servers.items a.index (record { port = record c.index_mut-in-Ok.result.now.port { loans = c.index_mut-in-Ok.result.now.port.loans + 1 }; max_loaned_responses_per_request = c.index_mut-in-Ok.result.now.max_loaned_responses_per_request })))
-    (map lane_part (slice_set c.self.inside.server_lanes.items c.index-port.result.now.port.lane (record { owner = c.index_mut.result.now.owner; row = c.index_mut.result.now.row; messages = c.loan.new.self })))
+    (map server_part (slice_set c.self.inside.servers.items a.index
+    (record {
+      port = record c.index_mut-in-Ok.result.now.port { loans = c.index_mut-in-Ok.result.now.port.loans + 1 };
+      max_loaned_responses_per_request = c.index_mut-in-Ok.result.now.max_loaned_responses_per_request;
+    })))
+    (map lane_part (slice_set c.self.inside.server_lanes.items c.index-port.result.now.port.lane
+    (record { owner = c.index_mut.result.now.owner; row = c.index_mut.result.now.row; messages = c.loan.new.self })))
     c.insert.new.self (c.self.inside.next + 1)
-    ≡ with_response_loan p a.index (server_part f.it) n f.seat.place (active_held f.it.port.id a.lane a.slot (a.loans + 1)) (answer_note p (server_part f.it) n a.lane a.slot) c.in-Ok.slot c.args.len c.default.result)
+    ≡ with_response_loan p a.index (server_part f.it) n f.seat.place (active_held f.it.port.id a.lane a.slot (a.loans + 1))
+    (answer_note p (server_part f.it) n a.lane a.slot) c.in-Ok.slot c.args.len c.default.result)
 parts g c =
     let p = parts_of c.self.inside in
     let items = c.self.inside.servers.items in
@@ -279,36 +241,60 @@ parts g c =
     let long = length_told g at.After-is_too_long f is ∙ c.if-is_too_long.false in
     let reached = limit_told g at.After-is_at_loan_limit f is ∙ c.if-is_at_loan_limit.false in
     let slot = c.in-Ok.slot in
-    let free : slice_get (lane_of f.it.port.lane p.server_lanes).messages.held slot ≡ Some 0 = ap (λ (l : Lane _ _ _). slice_get l.messages.held slot) was ∙ c.in-Ok.ensures.free in
-    let unused : times slot (all_entries (lane_of f.it.port.lane p.server_lanes).messages.queues) ≡ 0 = ap (λ (l : Lane _ _ _). times slot (all_entries l.messages.queues)) was ∙ c.in-Ok.ensures.unused in
-    let used : used_count (lane_of f.it.port.lane p.server_lanes).messages < server.port.pool_size = not_full f.own.2 (used_le (lane_of f.it.port.lane p.server_lanes).messages _)
-    (λ full. no_error (c.in-Ok.ensures.full.1 (sym (ap (λ (l : Lane _ _ _). used_count l.messages) was) ∙ full ∙ ap (λ (l : Lane _ _ _). length l.messages.held) was))) in
-    let again : c.index_mut-in-Ok.result.now ≡ f.it = read_at items a.index f.it c.index_mut-in-Ok.result.now f.there c.index_mut-in-Ok.ensures.value in
+    let free : slice_get (lane_of f.it.port.lane p.server_lanes).messages.held slot ≡ Some 0 = ap
+    (λ (l : Lane _ _ _). slice_get l.messages.held slot) was ∙ c.in-Ok.ensures.free in
+    let unused : times slot (all_entries (lane_of f.it.port.lane p.server_lanes).messages.queues) ≡ 0 = ap
+    (λ (l : Lane _ _ _). times slot (all_entries l.messages.queues)) was ∙ c.in-Ok.ensures.unused in
+    let used : used_count (lane_of f.it.port.lane p.server_lanes).messages < server.port.pool_size = not_full f.own.2
+    (used_le (lane_of f.it.port.lane p.server_lanes).messages _)
+    (λ full. no_error (c.in-Ok.ensures.full.1 (sym (ap (λ (l : Lane _ _ _). used_count l.messages) was) ∙ full
+    ∙ ap (λ (l : Lane _ _ _). length l.messages.held) was))) in
+    let again : c.index_mut-in-Ok.result.now ≡ f.it = read_at items a.index f.it c.index_mut-in-Ok.result.now f.there
+    c.index_mut-in-Ok.ensures.value in
     let requests = c.self.inside.client_lanes.items in
     let request : c.note-request.result ≡ request_note p a.lane a.slot =
-    sym (ap (λ (l : Lane _ _ _). get_or l.messages.notes a.slot no_request) (lane_is requests a.lane c.index.result.now (lanes_many requests a.lane f.asked.0) c.index.ensures)
+    sym (ap (λ (l : Lane _ _ _). get_or l.messages.notes a.slot no_request)
+    (lane_is requests a.lane c.index.result.now (lanes_many requests a.lane f.asked.0) c.index.ensures)
     ∙ get_or_from_slice_get _ a.slot c.note-request.result no_request c.note-request.ensures) in
     let noted : c.response_note-note.result ≡ answer_note p server n a.lane a.slot =
-    c.response_note-note.ensures ∙ ap (λ s. answer_note_of s n c.note-request.result a.slot p.next) (sym f.same) ∙ ap (λ r. answer_note_of f.it.port.id n r a.slot p.next) request in
-    let changed : c.loan.new.self ≡ loaned (lane_of f.it.port.lane p.server_lanes).messages slot c.args.len (answer_note p server n a.lane a.slot) c.default.result =
+    c.response_note-note.ensures ∙ ap (λ s. answer_note_of s n c.note-request.result a.slot p.next) (sym f.same)
+    ∙ ap (λ r. answer_note_of f.it.port.id n r a.slot p.next) request in
+    let changed : c.loan.new.self ≡ loaned (lane_of f.it.port.lane p.server_lanes).messages slot c.args.len
+    (answer_note p server n a.lane a.slot) c.default.result =
     c.in-Ok.ensures.ok
     ∙ ap (λ (l : Lane _ _ _). loaned l.messages slot c.args.len c.response_note-note.result c.default.result) (sym was)
     ∙ ap (λ n. loaned (lane_of f.it.port.lane p.server_lanes).messages slot c.args.len n c.default.result) noted in
-    let more : c.with_one_loan.result ≡ active_held f.it.port.id a.lane a.slot (a.loans + 1) = c.with_one_loan.ensures ∙ ap (λ s. active_held s a.lane a.slot (a.loans + 1)) (sym f.same) in (
+    let more : c.with_one_loan.result ≡ active_held f.it.port.id a.lane a.slot (a.loans + 1) = c.with_one_loan.ensures
+    ∙ ap (λ s. active_held s a.lane a.slot (a.loans + 1)) (sym f.same) in (
       f,
       free,
       unused,
       none_due p c.self.invariant.sound a.index server f.at n a.lane a.slot a.loans f.seat f.here f.is c.args.len long reached used,
-      same_servers p (with_response_loan p a.index server n f.seat.place (active_held f.it.port.id a.lane a.slot (a.loans + 1)) (answer_note p server n a.lane a.slot) slot c.args.len c.default.result) _ _ c.insert.new.self (p.next + 1)
-          (map-set_one server_part items a.index _ ∙ ap (λ (x : ServerPort _). slice_set p.servers a.index (server_part (record { port = record x.port { loans = x.port.loans + 1 }; max_loaned_responses_per_request = x.max_loaned_responses_per_request }))) again)
+      same_servers p (with_response_loan p a.index server n f.seat.place (active_held f.it.port.id a.lane a.slot (a.loans + 1))
+          (answer_note p server n a.lane a.slot) slot c.args.len c.default.result) _ _ c.insert.new.self (p.next + 1)
+          (map-set_one server_part items a.index _ ∙ ap (λ (x : ServerPort _). slice_set p.servers a.index
+          (server_part (record {
+            port = record x.port { loans = x.port.loans + 1 };
+            max_loaned_responses_per_request = x.max_loaned_responses_per_request;
+          }))) again)
           (map-set_one lane_part lanes c.index-port.result.now.port.lane _
           ∙ ap (λ l. slice_set p.server_lanes l (with_messages (lane_part c.index_mut.result.now) c.loan.new.self)) here.0
           ∙ ap (λ m. slice_set p.server_lanes f.it.port.lane (with_messages (lane_part c.index_mut.result.now) m)) changed
-          ∙ ap (λ x. slice_set p.server_lanes f.it.port.lane (with_messages x (loaned (lane_of f.it.port.lane p.server_lanes).messages slot c.args.len (answer_note p server n a.lane a.slot) c.default.result))) (sym was))
+          ∙ ap (λ x. slice_set p.server_lanes f.it.port.lane
+          (with_messages x (loaned (lane_of f.it.port.lane p.server_lanes).messages slot c.args.len
+          (answer_note p server n a.lane a.slot) c.default.result))) (sym was))
           (c.insert.ensures
-          ∙ ap (λ t. seated t p.next (record { row = c.index-in-Ok.result.now.row; index = slot }) (record { stage = stage.ResponseMutUninit; lane = c.index-port.result.now.port.lane; slot = slot })) (set ∙ ap (seated p.table n f.seat.place) more)
-          ∙ ap (λ r. seated (seated p.table n f.seat.place (active_held f.it.port.id a.lane a.slot (a.loans + 1))) p.next (record { row = r; index = slot }) (record { stage = stage.ResponseMutUninit; lane = c.index-port.result.now.port.lane; slot = slot })) row
-          ∙ ap (λ l. seated (seated p.table n f.seat.place (active_held f.it.port.id a.lane a.slot (a.loans + 1))) p.next (answer_place p server slot) (record { stage = stage.ResponseMutUninit; lane = l; slot = slot })) here.0)
+          ∙ ap (λ t. seated t p.next (record { row = c.index-in-Ok.result.now.row; index = slot })
+          (record { stage = stage.ResponseMutUninit; lane = c.index-port.result.now.port.lane; slot = slot }))
+          (set ∙ ap (seated p.table n f.seat.place) more)
+          ∙ ap (λ r. seated (seated p.table n f.seat.place (active_held f.it.port.id a.lane a.slot (a.loans + 1))) p.next
+          (record { row = r; index = slot }) (record {
+            stage = stage.ResponseMutUninit;
+            lane = c.index-port.result.now.port.lane;
+            slot = slot;
+          })) row
+          ∙ ap (λ l. seated (seated p.table n f.seat.place (active_held f.it.port.id a.lane a.slot (a.loans + 1))) p.next
+          (answer_place p server slot) (record { stage = stage.ResponseMutUninit; lane = l; slot = slot })) here.0)
           refl refl,
     )
 
@@ -319,7 +305,8 @@ left g c = let some = subst (λ s. 0 < numbers_left s) (sym c.self.view_is) c.re
 -- nothing changed
 unchanged : (g : _) (c : goal.In-Err g)
     → with_servers (parts_of c.self.inside) (parts_of c.self.inside).servers
-    (map lane_part (slice_set c.self.inside.server_lanes.items c.index-port.result.now.port.lane (record { owner = c.index_mut.result.now.owner; row = c.index_mut.result.now.row; messages = c.loan.new.self })))
+    (map lane_part (slice_set c.self.inside.server_lanes.items c.index-port.result.now.port.lane
+    (record { owner = c.index_mut.result.now.owner; row = c.index_mut.result.now.row; messages = c.loan.new.self })))
     (parts_of c.self.inside).table c.self.inside.next ≡ parts_of c.self.inside
 unchanged g c =
     let p = parts_of c.self.inside in
@@ -337,7 +324,8 @@ returns-in-Ok-clause-loans g c =
     let a = c.asked_from-asked.result in
     let r = parts g c in
     let f = r.0 in
-    lends p c.self.invariant.sound a.index (server_part f.it) f.at c.active.inside.number a.lane a.slot a.loans f.seat f.here f.is _ c.args.len c.in-Ok.slot _ c.default.result r.3 c.default.ensures r.1 r.2
+    lends p c.self.invariant.sound a.index (server_part f.it) f.at c.active.inside.number a.lane a.slot a.loans f.seat f.here f.is _
+    c.args.len c.in-Ok.slot _ c.default.result r.3 c.default.ensures r.1 r.2
     c.args.self.now _ c.args.active.now c.self.view_is c.active.view_is c.new.ensures (ap state_of r.4)
 
 pub returns-in-Err-clause-loans : goal.returns-in-Err-clause-loans
@@ -354,9 +342,12 @@ returns-in-Err-clause-loans g c =
     let long = length_told g at.After-is_too_long f is ∙ c.if-is_too_long.false in
     let reached = limit_told g at.After-is_at_loan_limit f is ∙ c.if-is_at_loan_limit.false in
     refuses p c.self.invariant.sound a.index server f.at n a.lane a.slot a.loans f.seat f.here f.is c.args.len LoanError.OutOfMemory
-    (pool_refusal p c.self.invariant.sound a.index server f.at n a.lane a.slot a.loans f.seat f.here f.is c.args.len c.in-Err.field-0 long reached
-    (let R : Lane _ _ _ → Type 0 = λ l. IsErrOf {T = ℕ} (Err c.in-Err.field-0) AcquireError.Full ↔ (used_count l.messages ≡ length l.messages.held) in subst R (sym was) c.in-Err.ensures.full)
-    (let R : Lane _ _ _ → Type 0 = λ l. IsErrOf {T = ℕ} (Err c.in-Err.field-0) AcquireError.NoRoom → l.messages.room < c.args.len in subst R (sym was) c.in-Err.ensures.no_room))
+    (pool_refusal p c.self.invariant.sound a.index server f.at n a.lane a.slot a.loans f.seat f.here f.is c.args.len c.in-Err.field-0 long
+    reached
+    (let R : Lane _ _ _ → Type 0 = λ l. IsErrOf {T = ℕ} (Err c.in-Err.field-0) AcquireError.Full ↔
+    (used_count l.messages ≡ length l.messages.held) in subst R (sym was) c.in-Err.ensures.full)
+    (let R : Lane _ _ _ → Type 0 = λ l. IsErrOf {T = ℕ} (Err c.in-Err.field-0) AcquireError.NoRoom → l.messages.room < c.args.len in
+    subst R (sym was) c.in-Err.ensures.no_room))
     c.args.self.now _ c.args.active.now c.self.view_is c.active.view_is (ap state_of (unchanged g c) ∙ c.self.view_is)
 
 pub invariant_of-self : goal.invariant_of-self
@@ -367,8 +358,10 @@ invariant_of-self g c =
     let f = r.0 in
     record {
       sound = subst (λ p. IsSound p empty_hand) (sym r.4)
-          (answer_sound p c.self.invariant.sound a.index (server_part f.it) f.at c.active.inside.number a.lane a.slot a.loans f.seat f.here f.is f.given c.in-Ok.slot c.args.len c.default.result r.1 r.2 (left g c));
-      reached = loans_response_reached c.args.self.now (subst (λ s. IsReached s) c.self.view_is c.self.invariant.reached) g.PH.Default.is_default c.args.active.now c.args.len (Ok c.new.result) _ (returns-in-Ok-clause-loans g c);
+          (answer_sound p c.self.invariant.sound a.index (server_part f.it) f.at c.active.inside.number a.lane a.slot a.loans f.seat f.here
+          f.is f.given c.in-Ok.slot c.args.len c.default.result r.1 r.2 (left g c));
+      reached = loans_response_reached c.args.self.now (subst (λ s. IsReached s) c.self.view_is c.self.invariant.reached)
+          g.PH.Default.is_default c.args.active.now c.args.len (Ok c.new.result) _ (returns-in-Ok-clause-loans g c);
     }
 
 pub invariant_of-self-in-Err : goal.invariant_of-self-in-Err
@@ -385,4 +378,5 @@ returns-in-Ok-clause-unreduced g c pool is = cc
 
 pub returns-in-Err-clause-unreduced : goal.returns-in-Err-clause-unreduced
 returns-in-Err-clause-unreduced g c pool same =
-    response_finds_memory c.args.self.now (subst (λ s. IsReached s) c.self.view_is c.self.invariant.reached) g.PH.Default.is_default c.args.active.now c.args.len _ pool (returns-in-Err-clause-loans g c)
+    response_finds_memory c.args.self.now (subst (λ s. IsReached s) c.self.view_is c.self.invariant.reached) g.PH.Default.is_default
+    c.args.active.now c.args.len _ pool (returns-in-Err-clause-loans g c)

@@ -18,7 +18,8 @@ pub invariant_of-result : goal.invariant_of-result
 invariant_of-result g c =
     let fits : hub_refusal c.args.limits ≡ None = sym c.refusal.ensures ∙ c.in-None.is in
     record {
-      sound = rw (ap (map _) c.new.ensures.items) (rw (ap (map _) c.new-in-None.ensures.items) (rw (ap (map _) c.new-in-None-2.ensures.items)
+      sound = rw (ap (map _) c.new.ensures.items) (rw (ap (map _) c.new-in-None.ensures.items)
+          (rw (ap (map _) c.new-in-None-2.ensures.items)
           (rw (ap (map _) c.new-in-None-3.ensures.items) (rw (ap (map _) c.new-in-None-4.ensures.items) (rw c.new-in-None-5.ensures
           (start_sound _ _ _ _ _ c.args.limits c.args.node_id.0 c.default.result c.default-in-None.result fits))))));
       reached = subst (λ s. IsReached s) (sym (returns-in-None g c).1) (empty_hub_reached c.args.limits c.args.node_id.0 fits);

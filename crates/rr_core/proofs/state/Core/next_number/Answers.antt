@@ -10,4 +10,5 @@ returns-clause-number g c = ap (λ s. s.next) c.self.view_is
 
 pub returns-clause-free : goal.returns-clause-free
 returns-clause-free g c =
-    sym (ap (λ s. kind_at s c.self.inside.next) c.self.view_is) ∙ next_names_nothing (parts_of c.self.inside) empty_hand c.self.invariant.sound
+    sym (ap (λ s. kind_at s c.self.inside.next) c.self.view_is)
+    ∙ next_names_nothing (parts_of c.self.inside) empty_hand c.self.invariant.sound

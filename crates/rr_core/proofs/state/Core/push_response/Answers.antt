@@ -21,32 +21,43 @@ pub push_in-requires : goal.push_in-requires
 push_in-requires g c =
     let p = parts_of c.self.inside in
     let found = sym c.get.ensures ∙ c.in-Some.is in
-    let kind = of_kind p c.args.self.now c.id.inside.number c.args.id.now c.self.view_is c.id.view_is Kind.ResponseMutUninit (λ e. cc) (λ e. cc) c.requires c.in-Some.held found in
+    let kind = of_kind p c.args.self.now c.id.inside.number c.args.id.now c.self.view_is c.id.view_is Kind.ResponseMutUninit (λ e. cc)
+    (λ e. cc) c.requires c.in-Some.held found in
     let is = response_mut_stage c.in-Some.held.stage kind in
     let spot = response_spot p empty_hand c.self.invariant.sound.counted c.id.inside.number c.in-Some.held found (ap is_of_response is) in
     let lane = stored_lane c.self.inside.server_lanes.items c.in-Some.held.lane spot.0 in
-    subst (λ o. IsSomeAnd o (λ l. c.in-Some.held.slot < length l.messages.held)) (sym lane.1) (omega (arith, spot.1, ap (λ l. length l.messages.held) lane.2))
+    subst (λ o. IsSomeAnd o (λ l. c.in-Some.held.slot < length l.messages.held)) (sym lane.1)
+    (omega (arith, spot.1, ap (λ l. length l.messages.held) lane.2))
 
 pub unreachable-requires : goal.unreachable-requires
 unreachable-requires g c =
-    of_kind_there (parts_of c.self.inside) c.args.self.now c.id.inside.number c.args.id.now c.self.view_is c.id.view_is Kind.ResponseMutUninit (λ e. cc) (λ e. cc) c.requires (sym c.get.ensures ∙ c.in-None.is)
+    of_kind_there (parts_of c.self.inside) c.args.self.now c.id.inside.number c.args.id.now c.self.view_is c.id.view_is
+    Kind.ResponseMutUninit (λ e. cc) (λ e. cc) c.requires (sym c.get.ensures ∙ c.in-None.is)
 
 pub returns : goal.returns
 returns g c =
     let p = parts_of c.self.inside in
     let found = sym c.get.ensures ∙ c.in-Some.is in
-    let kind = of_kind p c.args.self.now c.id.inside.number c.args.id.now c.self.view_is c.id.view_is Kind.ResponseMutUninit (λ e. cc) (λ e. cc) c.requires c.in-Some.held found in
+    let kind = of_kind p c.args.self.now c.id.inside.number c.args.id.now c.self.view_is c.id.view_is Kind.ResponseMutUninit (λ e. cc)
+    (λ e. cc) c.requires c.in-Some.held found in
     let is = response_mut_stage c.in-Some.held.stage kind in
     let spot = response_spot p empty_hand c.self.invariant.sound.counted c.id.inside.number c.in-Some.held found (ap is_of_response is) in
     let lane = stored_lane c.self.inside.server_lanes.items c.in-Some.held.lane spot.0 in
-    let pushed = subst (λ o. IsSomeAnd o (λ l. c.push_in.new.lanes.items ≡ cond c.push_in.result (slice_set c.self.inside.server_lanes.items c.in-Some.held.lane (with_messages l (with_changed_at l.messages c.in-Some.held.slot (appended c.args.item)))) c.self.inside.server_lanes.items)) lane.1 c.push_in.ensures.pushed in
-    let lanes = lanes_written c.self.inside.server_lanes.items c.in-Some.held.lane c.in-Some.held.slot (appended c.args.item) c.push_in.result c.push_in.new.lanes.items lane.0 lane.2 pushed in
-    let told = subst (λ o. IsSomeAnd o (λ l. c.push_in.result ≡ not (is_written (content_at l.messages c.in-Some.held.slot)))) lane.1 c.push_in.ensures.told in
+    let pushed = subst (λ o. IsSomeAnd o (λ l. c.push_in.new.lanes.items ≡ cond c.push_in.result
+    (slice_set c.self.inside.server_lanes.items c.in-Some.held.lane
+    (with_messages l (with_changed_at l.messages c.in-Some.held.slot (appended c.args.item)))) c.self.inside.server_lanes.items)) lane.1
+    c.push_in.ensures.pushed in
+    let lanes = lanes_written c.self.inside.server_lanes.items c.in-Some.held.lane c.in-Some.held.slot
+    (appended c.args.item) c.push_in.result c.push_in.new.lanes.items lane.0 lane.2 pushed in
+    let told = subst (λ o. IsSomeAnd o (λ l. c.push_in.result ≡ not (is_written (content_at l.messages c.in-Some.held.slot)))) lane.1
+    c.push_in.ensures.told in
     let state =
     ap (λ ls. state_of (record p { server_lanes = ls })) lanes
     ∙ pushed_response_view p c.self.invariant.sound c.id.inside.number c.in-Some.held found c.args.item is c.push_in.result
-    ∙ ap (λ s. cond c.push_in.result (with_changed s c.id.inside.number (with_response_content (with_element c.args.item))) s) c.self.view_is
-    ∙ ap (λ n. cond c.push_in.result (with_changed c.args.self.now n (with_response_content (with_element c.args.item))) c.args.self.now) c.id.view_is in
+    ∙ ap (λ s. cond c.push_in.result (with_changed s c.id.inside.number (with_response_content (with_element c.args.item))) s)
+    c.self.view_is
+    ∙ ap (λ n. cond c.push_in.result (with_changed c.args.self.now n (with_response_content (with_element c.args.item))) c.args.self.now)
+    c.id.view_is in
     of_response p c.args.self.now c.id.inside.number c.args.id.now c.self.view_is c.id.view_is c.in-Some.held found _ (ap is_of_response is)
     (told ∙ ap (λ l. not (is_written (content_at l.messages c.in-Some.held.slot))) lane.2, state)
 
@@ -54,14 +65,21 @@ pub invariant_of-self : goal.invariant_of-self
 invariant_of-self g c =
     let p = parts_of c.self.inside in
     let found = sym c.get.ensures ∙ c.in-Some.is in
-    let kind = of_kind p c.args.self.now c.id.inside.number c.args.id.now c.self.view_is c.id.view_is Kind.ResponseMutUninit (λ e. cc) (λ e. cc) c.requires c.in-Some.held found in
+    let kind = of_kind p c.args.self.now c.id.inside.number c.args.id.now c.self.view_is c.id.view_is Kind.ResponseMutUninit (λ e. cc)
+    (λ e. cc) c.requires c.in-Some.held found in
     let is = response_mut_stage c.in-Some.held.stage kind in
     let spot = response_spot p empty_hand c.self.invariant.sound.counted c.id.inside.number c.in-Some.held found (ap is_of_response is) in
     let lane = stored_lane c.self.inside.server_lanes.items c.in-Some.held.lane spot.0 in
-    let pushed = subst (λ o. IsSomeAnd o (λ l. c.push_in.new.lanes.items ≡ cond c.push_in.result (slice_set c.self.inside.server_lanes.items c.in-Some.held.lane (with_messages l (with_changed_at l.messages c.in-Some.held.slot (appended c.args.item)))) c.self.inside.server_lanes.items)) lane.1 c.push_in.ensures.pushed in
-    let lanes = lanes_written c.self.inside.server_lanes.items c.in-Some.held.lane c.in-Some.held.slot (appended c.args.item) c.push_in.result c.push_in.new.lanes.items lane.0 lane.2 pushed in
+    let pushed = subst (λ o. IsSomeAnd o (λ l. c.push_in.new.lanes.items ≡ cond c.push_in.result
+    (slice_set c.self.inside.server_lanes.items c.in-Some.held.lane
+    (with_messages l (with_changed_at l.messages c.in-Some.held.slot (appended c.args.item)))) c.self.inside.server_lanes.items)) lane.1
+    c.push_in.ensures.pushed in
+    let lanes = lanes_written c.self.inside.server_lanes.items c.in-Some.held.lane c.in-Some.held.slot
+    (appended c.args.item) c.push_in.result c.push_in.new.lanes.items lane.0 lane.2 pushed in
     record {
       sound = subst (λ ls. IsSound (record p { server_lanes = ls }) empty_hand) (sym lanes)
           (pushed_response_sound p c.self.invariant.sound c.id.inside.number c.in-Some.held found c.args.item is c.push_in.result);
-      reached = push_reached c.args.self.now c.args.id.now (with_response_content (with_element c.args.item)) (response_content_role (with_element c.args.item)) c.push_in.result _ _ _ (subst (λ s. IsReached s) c.self.view_is c.self.invariant.reached) (returns g c);
+      reached = push_reached c.args.self.now c.args.id.now (with_response_content (with_element c.args.item))
+          (response_content_role (with_element c.args.item)) c.push_in.result _ _ _
+          (subst (λ s. IsReached s) c.self.view_is c.self.invariant.reached) (returns g c);
     }

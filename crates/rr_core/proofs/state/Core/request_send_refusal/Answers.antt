@@ -20,26 +20,32 @@ use Rattle.rr_core.proofs.state.Core.request_send_refusal.Goals as goal
 
 pub unreachable-requires : goal.unreachable-requires
 unreachable-requires g c =
-    of_kind_there (parts_of c.self.inside) c.args.self.now c.id.inside.number c.args.id.now c.self.view_is c.id.view_is Kind.RequestMut (λ e. cc) (λ e. cc) c.requires (sym c.get.ensures ∙ c.in-None.is)
+    of_kind_there (parts_of c.self.inside) c.args.self.now c.id.inside.number c.args.id.now c.self.view_is c.id.view_is Kind.RequestMut
+    (λ e. cc) (λ e. cc) c.requires (sym c.get.ensures ∙ c.in-None.is)
 
 pub index-requires : goal.index-requires
 index-requires g c =
     let items = c.self.inside.clients.items in
     let i = c.in-Some-index_of_lane.index in
-    let it = standing_at (λ (x : ClientPort _). x.port.lane == c.in-Some.held.lane) i c.as_slice.result.now items c.index_of_lane.result c.index_of_lane.ensures c.as_slice.ensures.value c.in-Some-index_of_lane.is in
+    let it = standing_at (λ (x : ClientPort _). x.port.lane == c.in-Some.held.lane) i c.as_slice.result.now items c.index_of_lane.result
+    c.index_of_lane.ensures c.as_slice.ensures.value c.in-Some-index_of_lane.is in
     omega (arith, slice_get_within items i it.it it.at, c.self.inside.clients.ok.0)
 
 pub unreachable-requires-in-None-index_of_lane : goal.unreachable-requires-in-None-index_of_lane
 unreachable-requires-in-None-index_of_lane g c =
     let p = parts_of c.self.inside in
-    let sender = client p c.self.invariant.sound c.args.self.now c.id.inside.number c.args.id.now c.self.view_is c.id.view_is c.requires c.self.inside.clients.items refl c.self.inside.servers.items refl c.in-Some.held (sym c.get.ensures ∙ c.in-Some.is) in
-    let none : None ≡ Some sender.index = sym c.in-None-index_of_lane.is ∙ c.index_of_lane.ensures ∙ ap (position _) c.as_slice.ensures.value ∙ sender.found in cc
+    let sender = client p c.self.invariant.sound c.args.self.now c.id.inside.number c.args.id.now c.self.view_is c.id.view_is c.requires
+    c.self.inside.clients.items refl c.self.inside.servers.items refl c.in-Some.held (sym c.get.ensures ∙ c.in-Some.is) in
+    let none : None ≡ Some sender.index = sym c.in-None-index_of_lane.is ∙ c.index_of_lane.ensures
+    ∙ ap (position _) c.as_slice.ensures.value ∙ sender.found in cc
 
 -- the lane of the request is there
 there : (g : _) (c : In-Some g) → c.in-Some.held.lane < length c.self.inside.client_lanes.items
 there g c =
     let p = parts_of c.self.inside in
-    lanes_many c.self.inside.client_lanes.items c.in-Some.held.lane (spot p c.self.invariant.sound c.args.self.now c.id.inside.number c.args.id.now c.self.view_is c.id.view_is c.requires c.self.inside.clients.items refl c.self.inside.servers.items refl c.in-Some.held (sym c.get.ensures ∙ c.in-Some.is)).0
+    lanes_many c.self.inside.client_lanes.items c.in-Some.held.lane
+    (spot p c.self.invariant.sound c.args.self.now c.id.inside.number c.args.id.now c.self.view_is c.id.view_is c.requires
+    c.self.inside.clients.items refl c.self.inside.servers.items refl c.in-Some.held (sym c.get.ensures ∙ c.in-Some.is)).0
 
 -- and is the one that was read
 lane_read : (g : _) (c : After-index-2 g) → c.in-Some.held.lane < length c.self.inside.client_lanes.items
@@ -48,15 +54,22 @@ lane_read g c within = lane_is c.self.inside.client_lanes.items c.in-Some.held.l
 
 -- the client that was read sends the request
 sender : (g : _) (c : After-index g)
-    → c.index.result.now ≡ (client (parts_of c.self.inside) c.self.invariant.sound c.args.self.now c.id.inside.number c.args.id.now c.self.view_is c.id.view_is c.requires c.self.inside.clients.items refl c.self.inside.servers.items refl c.in-Some.held (sym c.get.ensures ∙ c.in-Some.is)).it
+    → c.index.result.now ≡ (client (parts_of c.self.inside) c.self.invariant.sound c.args.self.now c.id.inside.number c.args.id.now
+    c.self.view_is c.id.view_is c.requires c.self.inside.clients.items refl c.self.inside.servers.items refl c.in-Some.held
+    (sym c.get.ensures ∙ c.in-Some.is)).it
 sender g c =
     let p = parts_of c.self.inside in
-    read_client p c.self.invariant.sound c.args.self.now c.id.inside.number c.args.id.now c.self.view_is c.id.view_is c.requires c.self.inside.clients.items refl c.self.inside.servers.items refl c.in-Some.held (sym c.get.ensures ∙ c.in-Some.is) c.in-Some-index_of_lane.index c.as_slice.result.now c.index_of_lane.result c.index_of_lane.ensures c.as_slice.ensures.value c.in-Some-index_of_lane.is c.index.result.now c.index.ensures
+    read_client p c.self.invariant.sound c.args.self.now c.id.inside.number c.args.id.now c.self.view_is c.id.view_is c.requires
+    c.self.inside.clients.items refl c.self.inside.servers.items refl c.in-Some.held
+    (sym c.get.ensures ∙ c.in-Some.is) c.in-Some-index_of_lane.index c.as_slice.result.now c.index_of_lane.result
+    c.index_of_lane.ensures c.as_slice.ensures.value c.in-Some-index_of_lane.is c.index.result.now c.index.ensures
 
 pub returns-then-self-client : goal.returns-then-self-client
 returns-then-self-client g c =
     let p = parts_of c.self.inside in
-    too_many p c.self.invariant.sound c.args.self.now c.id.inside.number c.args.id.now c.self.view_is c.id.view_is c.requires c.self.inside.clients.items refl c.self.inside.servers.items refl c.in-Some.held (sym c.get.ensures ∙ c.in-Some.is) g.K.BackpressureFn.answer c.index.result.now
+    too_many p c.self.invariant.sound c.args.self.now c.id.inside.number c.args.id.now c.self.view_is c.id.view_is c.requires
+    c.self.inside.clients.items refl c.self.inside.servers.items refl c.in-Some.held
+    (sym c.get.ensures ∙ c.in-Some.is) g.K.BackpressureFn.answer c.index.result.now
     (sender g (goal.at.returns-then-self-client g c).After-index) c.if-self-client.true
 
 pub index-requires-2 : goal.index-requires-2
@@ -67,17 +80,27 @@ is_refused-requires g c =
     let p = parts_of c.self.inside in
     let at = goal.at.is_refused-requires g c in
     let is = lane_read g at.After-index-2 (there g at.In-Some) in
-    queues_of p c.self.invariant.sound c.args.self.now c.id.inside.number c.args.id.now c.self.view_is c.id.view_is c.requires c.self.inside.clients.items refl c.self.inside.servers.items refl c.in-Some.held (sym c.get.ensures ∙ c.in-Some.is) c.index-2.result.now.messages c.as_slice-2.result.now (ap (λ (l : Lane _ _ _). l.messages) is) c.as_slice-2.ensures.value
+    queues_of p c.self.invariant.sound c.args.self.now c.id.inside.number c.args.id.now c.self.view_is c.id.view_is c.requires
+    c.self.inside.clients.items refl c.self.inside.servers.items refl c.in-Some.held
+    (sym c.get.ensures ∙ c.in-Some.is) c.index-2.result.now.messages c.as_slice-2.result.now
+    (ap (λ (l : Lane _ _ _). l.messages) is) c.as_slice-2.ensures.value
 
 -- whether a queue refuses it decides
 decided : (g : _) (c : After-is_refused g) → c.in-Some.held.lane < length c.self.inside.client_lanes.items
     → lane_of c.in-Some.held.lane (parts_of c.self.inside).client_lanes ≡ lane_part c.index-2.result.now
-    → c.index.result.now ≡ (client (parts_of c.self.inside) c.self.invariant.sound c.args.self.now c.id.inside.number c.args.id.now c.self.view_is c.id.view_is c.requires c.self.inside.clients.items refl c.self.inside.servers.items refl c.in-Some.held (sym c.get.ensures ∙ c.in-Some.is)).it
+    → c.index.result.now ≡ (client (parts_of c.self.inside) c.self.invariant.sound c.args.self.now c.id.inside.number c.args.id.now
+    c.self.view_is c.id.view_is c.requires c.self.inside.clients.items refl c.self.inside.servers.items refl c.in-Some.held
+    (sym c.get.ensures ∙ c.in-Some.is)).it
     → (b : Bool) → c.is_refused.result ≡ b
-    → IsRequestMutAnd c.args.self.now c.args.id.now (λ client message. cond b (Some (RequestSendError.SendError SendError.UnableToDeliver)) None ≡ request_send_refusal g.K.BackpressureFn.answer c.args.self.now client message)
+    → IsRequestMutAnd c.args.self.now c.args.id.now (λ client message. cond b
+    (Some (RequestSendError.SendError SendError.UnableToDeliver)) None
+    ≡ request_send_refusal g.K.BackpressureFn.answer c.args.self.now client message)
 decided g c within is sends b told =
     let p = parts_of c.self.inside in
-    not_too_many p c.self.invariant.sound c.args.self.now c.id.inside.number c.args.id.now c.self.view_is c.id.view_is c.requires c.self.inside.clients.items refl c.self.inside.servers.items refl c.in-Some.held (sym c.get.ensures ∙ c.in-Some.is) g.K.BackpressureFn.answer c.index.result.now sends c.if-self-client.false c.index-2.result.now.messages (ap (λ (l : Lane _ _ _). l.messages) is) c.as_slice-2.result.now c.as_slice-2.ensures.value
+    not_too_many p c.self.invariant.sound c.args.self.now c.id.inside.number c.args.id.now c.self.view_is c.id.view_is c.requires
+    c.self.inside.clients.items refl c.self.inside.servers.items refl c.in-Some.held
+    (sym c.get.ensures ∙ c.in-Some.is) g.K.BackpressureFn.answer c.index.result.now sends c.if-self-client.false
+    c.index-2.result.now.messages (ap (λ (l : Lane _ _ _). l.messages) is) c.as_slice-2.result.now c.as_slice-2.ensures.value
     b (sym told ∙ c.is_refused.ensures)
 
 pub returns-then-is_refused : goal.returns-then-is_refused
