@@ -1,4 +1,5 @@
-use Rattle.std.proofs.Common.{◌≡◌, ◌<◌, ◌+◌, ℕ, List, find, None, Some, Ok, Err, [], length, get_or, map, refl, sym, ap, ◌∙◌, subst, arith}
+use Rattle.std.proofs.Common.{◌≡◌, ◌<◌, ◌+◌, ℕ, List, find, None, Some, Ok, [], length, get_or, map}
+use Rattle.std.proofs.Common.{refl, sym, ap, ◌∙◌, subst, arith}
 use Rattle.std.specs.List.{position}
 use Rattle.std.specs.Prelude.{◌==◌, slice_get, slice_index, slice_index_or, slice_set, drop}
 use Rattle.std.specs.FinMap as fin_map
@@ -14,8 +15,9 @@ use Rattle.rr_parts.specs.declared.port.OwnedLane.{OwnedLane}
 use Rattle.rr_core.specs.Inside.{parts_of}
 use Rattle.rr_parts.specs.Ports.{client_part, lane_part}
 use Rattle.rr_parts.specs.Loaning.{with_messages}
-use Rattle.rr_parts.specs.Parts.{ClientPart, Connected, Lane}
-use Rattle.rr_parts.specs.Receiving.{IsNextSender, queue_from, borrowed_from, received_held, with_received_response}
+use Rattle.rr_parts.specs.Kinds.{stage_kind}
+use Rattle.rr_parts.specs.Parts.{Parts, ClientPart, Connected, Lane}
+use Rattle.rr_parts.specs.Receiving.{IsNextSender, Reaches, queue_from, received_held, with_received_response}
 use Rattle.rr_parts.specs.Sound.{IsSound, empty_hand, response_note, response_place}
 use Rattle.rr_parts.specs.Views.{state_of, lane_of, no_response}
 use Rattle.rr_core_laws.proofs.Adding.{mapped, with_servers, same_servers}
@@ -23,7 +25,7 @@ use Rattle.rr_core_laws.proofs.Entries.{found_none}
 use Rattle.rr_core_laws.proofs.Asking.{standing_at, read_at, lane_is, lanes_many, borrows_fit}
 use Rattle.rr_core_laws.proofs.Connected.{of_kind, of_kind_there, pending_has_request}
 use Rattle.rr_core_laws.proofs.HandleCounts.{listed}
-use Rattle.rr_core_laws.proofs.Places.{standing_nowhere, map-set_one}
+use Rattle.rr_core_laws.proofs.Places.{Standing, standing_nowhere, map-set_one}
 use Rattle.rr_core_laws.proofs.Queues.{times_queue}
 use Rattle.rr_core_laws.proofs.Receivable.{IsAsking, asking, reaches, receives, receives_nothing, by_error}
 use Rattle.rr_core_laws.proofs.Seating.{entry_waits, not_held, no_handle, received_sound}
@@ -32,327 +34,298 @@ use Rattle.rr_core_laws.proofs.Vacant.{response_vacant}
 use Rattle.rr_laws.specs.Reached.{IsReached}
 use Rattle.rr_laws.proofs.Receiving.{receives_response_reached}
 use Rattle.rr_core.proofs.state.Core.receive_response.Goals as goal
+use Rattle.rr_core.proofs.state.Core.receive_response.Goals.{In-Some, In-Some-index_of_lane, After-index}
+use Rattle.rr_core.proofs.state.Core.receive_response.Goals.{In-Ok-Some, After-index_mut, After-note-number, After-new}
+
+-- the handle is of a pending response
+pending : (g : _) (c : In-Some g) → stage_kind c.in-Some.held.stage ≡ kind.PendingResponse
+pending g c =
+    of_kind (parts_of c.self.inside) c.args.self.now c.id.inside.number c.args.id.now c.self.view_is c.id.view_is kind.PendingResponse
+    (λ e. cc) (λ e. cc) c.requires c.in-Some.held (sym c.get.ensures ∙ c.in-Some.is)
+
+-- the port that was found
+port : (g : _) (c : In-Some-index_of_lane g)
+    → Standing (λ (x : ClientPort _). x.port.lane == c.in-Some.held.lane) c.self.inside.clients.items c.in-Some-index_of_lane.index
+port g c =
+    standing_at (λ (x : ClientPort _). x.port.lane == c.in-Some.held.lane) c.in-Some-index_of_lane.index c.as_slice.result.now
+    c.self.inside.clients.items c.index_of_lane.result c.index_of_lane.ensures c.as_slice.ensures.value c.in-Some-index_of_lane.is
+
+-- the client that asks, and on which channel
+asked : (g : _) (c : After-index g)
+    → IsAsking (parts_of c.self.inside) c.args.id.now c.in-Some-index_of_lane.index c.in-Some.held.slot (client_part c.index.result.now)
+asked g c =
+    let items = c.self.inside.clients.items in
+    let i = c.in-Some-index_of_lane.index in
+    let now = c.index.result.now in
+    let at = goal.at.next_sender-requires g c in
+    let it = port g at.In-Some-index_of_lane in
+    let same : now ≡ it.it = read_at items i it.it now it.at c.index.ensures in
+    asking (parts_of c.self.inside) c.self.invariant.sound c.id.inside.number c.in-Some.held (sym c.get.ensures ∙ c.in-Some.is)
+    (pending g at.In-Some) c.args.id.now c.id.view_is i (client_part now) (listed client_part items i now (it.at ∙ ap Some (sym same)))
+    (ap (λ (x : ClientPort _). x.port.lane) same ∙ eqb-true it.it.port.lane c.in-Some.held.lane it.passes)
+
+-- each server's lane has a queue to it
+reach : (g : _) (c : After-index g) → Reaches (parts_of c.self.inside).server_lanes c.index.result.now.port.place c.in-Some.held.slot
+reach g c =
+    let asks = asked g c in
+    reaches (parts_of c.self.inside) c.self.invariant.sound c.in-Some-index_of_lane.index (client_part c.index.result.now) asks.at
+    c.in-Some.held.slot asks.inside
+
+-- in the lane that was chosen a response waits, and there is room
+next : (g : _) (c : In-Ok-Some g)
+    → IsNextSender (parts_of c.self.inside).server_lanes c.index.result.now.port.place c.in-Some.held.slot
+    c.self.inside.limits.max_borrowed_responses_per_pending_response (Ok (Some c.in-Ok-Some.lane))
+next g c =
+    subst (λ o. IsNextSender (parts_of c.self.inside).server_lanes c.index.result.now.port.place c.in-Some.held.slot
+    c.self.inside.limits.max_borrowed_responses_per_pending_response (Ok o)) c.in-Ok-Some.field-0-is c.in-Ok-Some.ensures
+
+-- that lane is the one that is lent
+lane_was : (g : _) (c : After-index_mut g) → c.in-Ok-Some.lane < length (parts_of c.self.inside).server_lanes
+    → lane_of c.in-Ok-Some.lane (parts_of c.self.inside).server_lanes ≡ lane_part c.index_mut.result.now
+lane_was g c there =
+    let lanes = c.self.inside.server_lanes.items in
+    lane_is lanes c.in-Ok-Some.lane c.index_mut.result.now (lanes_many lanes c.in-Ok-Some.lane there) c.index_mut.ensures.value
+
+-- what is read of a lane that has changed
+read_changed : {X : Type 0} (lanes : List X) (lane : ℕ) (x y : X)
+    → lane < length lanes → y ≡ get_or (slice_set lanes lane x) lane y → y ≡ x
+read_changed lanes lane x y there e = e ∙ get_or-set_same lanes lane x y there
+
+-- a response that waits in front of a queue, its number and its lane's row
+record IsFront {Q QH P PH K : Type 0} (p : Parts Q QH P PH K) (lane place channel slot number row : ℕ) : Type 0 where
+  there : lane < length p.server_lanes
+  first : slice_get (queue_from p.server_lanes place channel lane) 0 ≡ Some slot
+  waits : 0 < times slot (all_entries (lane_of lane p.server_lanes).messages.queues)
+  numbered : number ≡ (response_note p lane slot).number
+  in_row : row ≡ (lane_of lane p.server_lanes).row
+
+-- the response that is taken is such a one
+front : (g : _) (c : After-note-number g) → c.in-Ok-Some.lane < length (parts_of c.self.inside).server_lanes
+    → lane_of c.in-Ok-Some.lane (parts_of c.self.inside).server_lanes ≡ lane_part c.index_mut.result.now
+    → IsFront (parts_of c.self.inside) c.in-Ok-Some.lane c.index.result.now.port.place c.in-Some.held.slot c.take-slot.result
+    c.note-number.result.number c.index-in-Ok-Some.result.now.row
+front g c there was =
+    let p = parts_of c.self.inside in
+    let lanes = c.self.inside.server_lanes.items in
+    let lane = c.in-Ok-Some.lane in
+    let place = c.index.result.now.port.place in
+    let channel = c.in-Some.held.slot in
+    let slot = c.take-slot.result in
+    let now = c.index-in-Ok-Some-2.result.now in
+    let many = lanes_many lanes lane there in
+    let first : slice_get (queue_from p.server_lanes place channel lane) 0 ≡ Some slot =
+    ap (λ (l : Lane _ _ _). slice_get (queue_at l.messages place channel) 0) was ∙ c.take-slot.ensures.first in
+    record {
+      there = there;
+      first = first;
+      waits = omega (
+        arith,
+        entry_waits (queue_from p.server_lanes place channel lane) slot first,
+        times_queue (lane_of lane p.server_lanes).messages slot place channel,
+      );
+      numbered = ap (λ (n : ResponseNote). n.number)
+          (sym (get_or_from_slice_get now.messages.notes slot c.note-number.result no_response c.note-number.ensures)
+          ∙ ap (λ (x : OwnedLane _ _ _ _). get_or x.messages.notes slot no_response)
+          (read_changed lanes lane _ now many c.index-in-Ok-Some-2.ensures)
+          ∙ ap (λ (m : Messages _ _ _). get_or m.notes slot no_response) c.take-slot.ensures.state
+          ∙ sym (ap (λ (l : Lane _ _ _). get_or l.messages.notes slot no_response) was));
+      in_row =
+          ap (λ (x : OwnedLane _ _ _ _). x.row)
+          (read_changed lanes lane _ c.index-in-Ok-Some.result.now many c.index-in-Ok-Some.ensures)
+          ∙ sym (ap (λ (l : Lane _ _ _). l.row) was);
+    }
+
+-- the parts after it
+after : (g : _) (c : After-new g)
+    → with_servers (parts_of c.self.inside) (parts_of c.self.inside).servers
+    (map lane_part (slice_set c.self.inside.server_lanes.items c.in-Ok-Some.lane
+    (record { owner = c.index_mut.result.now.owner; row = c.index_mut.result.now.row; messages = c.take-slot.new.self })))
+    c.insert.new.self c.self.inside.next
+    ≡ with_received_response (parts_of c.self.inside) c.in-Ok-Some.lane c.index.result.now.port.place c.in-Some.held.slot
+    c.take-slot.result
+after g c =
+    let p = parts_of c.self.inside in
+    let lane = c.in-Ok-Some.lane in
+    let lent = c.index_mut.result.now in
+    let place = c.index.result.now.port.place in
+    let channel = c.in-Some.held.slot in
+    let slot = c.take-slot.result in
+    let at = goal.at.returns-in-Ok-Some g c in
+    let there = (next g at.In-Ok-Some).0 in
+    let was = lane_was g at.After-index_mut there in
+    let front = front g at.After-note-number there was in
+    same_servers p (with_received_response p lane place channel slot) p.servers _ c.insert.new.self p.next refl
+    (map-set_one lane_part c.self.inside.server_lanes.items lane _
+    ∙ ap (λ n. slice_set p.server_lanes lane (with_messages (lane_part lent) n)) c.take-slot.ensures.state
+    ∙ ap (λ x. slice_set p.server_lanes lane
+    (with_messages x (taken x.messages place channel slot (drop 1 (queue_at x.messages place channel))))) (sym was))
+    (c.insert.ensures
+    ∙ ap (λ r. seated p.table c.note-number.result.number (record { row = r; index = slot }) (received_held p lane slot)) front.in_row
+    ∙ ap (λ n. seated p.table n (response_place p lane slot) (received_held p lane slot)) front.numbered)
+    refl refl
 
 pub unreachable-requires : goal.unreachable-requires
 unreachable-requires g c =
-    of_kind_there (parts_of c.self.inside) c.args.self.now c.id.inside.number c.args.id.now c.self.view_is c.id.view_is kind.PendingResponse (λ e. cc) (λ e. cc) c.requires (sym c.get.ensures ∙ c.in-None.is)
+    of_kind_there (parts_of c.self.inside) c.args.self.now c.id.inside.number c.args.id.now c.self.view_is c.id.view_is
+    kind.PendingResponse (λ e. cc) (λ e. cc) c.requires (sym c.get.ensures ∙ c.in-None.is)
 
 -- where no client sends from a lane, none does
-no_port : {K : Type 0} (items : List (ClientPort K)) (lane : ℕ) → find (λ x. x.port.lane == lane) items ≡ None → (i : ℕ) (c : Connected K) → slice_get (map (λ c. c.connected) (map client_part items)) i ≡ Some c → c.lane ≡ lane → ⊥
+no_port : {K : Type 0} (items : List (ClientPort K)) (lane : ℕ) → find (λ x. x.port.lane == lane) items ≡ None
+    → (i : ℕ) (c : Connected K) → slice_get (map (λ c. c.connected) (map client_part items)) i ≡ Some c → c.lane ≡ lane → ⊥
 no_port {K} items lane none i c at its =
     let first = mapped (λ (c : ClientPart K). c.connected) (map client_part items) i c at in
     let second = mapped client_part items i first.0 first.1 in
-    false≢true (sym (found_none (λ (x : ClientPort K). x.port.lane == lane) items none i second.0 second.1) ∙ eq-eqb second.0.port.lane lane (ap (λ (c : ClientPart K). c.lane) second.2 ∙ ap (λ (c : Connected K). c.lane) first.2 ∙ its))
+    false≢true (sym (found_none (λ (x : ClientPort K). x.port.lane == lane) items none i second.0 second.1)
+    ∙ eq-eqb second.0.port.lane lane (ap (λ (c : ClientPart K). c.lane) second.2 ∙ ap (λ (c : Connected K). c.lane) first.2 ∙ its))
 
 pub index-requires : goal.index-requires
 index-requires g c =
-    let held = c.in-Some.held in
-    let items = c.self.inside.clients.items in
-    let i = c.in-Some-index_of_lane.index in
-    let it = standing_at (λ (x : ClientPort _). x.port.lane == held.lane) i c.as_slice.result.now items c.index_of_lane.result c.index_of_lane.ensures c.as_slice.ensures.value c.in-Some-index_of_lane.is in
-    omega (arith, slice_get_within items i it.it it.at, c.self.inside.clients.ok.0)
+    let it = port g c in
+    omega (arith, slice_get_within c.self.inside.clients.items c.in-Some-index_of_lane.index it.it it.at, c.self.inside.clients.ok.0)
 
 pub unreachable-requires-in-None-index_of_lane : goal.unreachable-requires-in-None-index_of_lane
 unreachable-requires-in-None-index_of_lane g c =
-    let p = parts_of c.self.inside in
-    let found = sym c.get.ensures ∙ c.in-Some.is in
     let held = c.in-Some.held in
-    let is_pending = of_kind p c.args.self.now c.id.inside.number c.args.id.now c.self.view_is c.id.view_is kind.PendingResponse (λ e. cc) (λ e. cc) c.requires held found in
     let items = c.self.inside.clients.items in
-    let none = standing_nowhere (λ (x : ClientPort _). x.port.lane == held.lane) items (ap (position _) (sym c.as_slice.ensures.value) ∙ sym c.index_of_lane.ensures ∙ c.in-None-index_of_lane.is) in
-    let spot = request_spot p empty_hand c.self.invariant.sound.counted c.id.inside.number held found (pending_has_request _ is_pending) in
+    let is_pending = pending g (goal.at.unreachable-requires-in-None-index_of_lane g c).In-Some in
+    let none = standing_nowhere (λ (x : ClientPort _). x.port.lane == held.lane) items
+    (ap (position _) (sym c.as_slice.ensures.value) ∙ sym c.index_of_lane.ensures ∙ c.in-None-index_of_lane.is) in
+    let spot = request_spot (parts_of c.self.inside) empty_hand c.self.invariant.sound.counted c.id.inside.number held
+    (sym c.get.ensures ∙ c.in-Some.is) (pending_has_request _ is_pending) in
     let port = c.self.invariant.sound.client_ports.ported held.lane spot.0 in
-    no_port c.self.inside.clients.items held.lane none port.0 port.1 port.2 port.3
+    no_port items held.lane none port.0 port.1 port.2 port.3
 
 pub next_sender-requires : goal.next_sender-requires
-next_sender-requires g c lane h =
-    let p = parts_of c.self.inside in
-    let found = sym c.get.ensures ∙ c.in-Some.is in
-    let held = c.in-Some.held in
-    let is_pending = of_kind p c.args.self.now c.id.inside.number c.args.id.now c.self.view_is c.id.view_is kind.PendingResponse (λ e. cc) (λ e. cc) c.requires held found in
-    let items = c.self.inside.clients.items in
-    let i = c.in-Some-index_of_lane.index in
-    let it = standing_at (λ (x : ClientPort _). x.port.lane == held.lane) i c.as_slice.result.now items c.index_of_lane.result c.index_of_lane.ensures c.as_slice.ensures.value c.in-Some-index_of_lane.is in
-    let at = listed client_part items i it.it it.at in
-    let client = client_part it.it in
-    let same : c.index.result.now ≡ it.it = read_at items i it.it c.index.result.now it.at c.index.ensures in
-    let asks = asking p c.self.invariant.sound c.id.inside.number held found is_pending c.args.id.now c.id.view_is i client at (eqb-true it.it.port.lane held.lane it.passes) in
-    let r = reaches p c.self.invariant.sound i client at held.slot asks.inside lane h in
-    let place : c.index.result.now.port.place ≡ client.place = ap (λ (x : ClientPort _). x.port.place) same in
-    (omega (arith, r.0, place), omega (arith, r.1, ap (λ r. length (slice_index_or (lane_of lane p.server_lanes).messages.queues r [])) place))
+next_sender-requires g c = reach g c
+
+pub index_mut-requires : goal.index_mut-requires
+index_mut-requires g c =
+    let lanes = c.self.inside.server_lanes.items in
+    let there = (next g (goal.at.index_mut-requires g c).In-Ok-Some).0 in
+    omega (arith, lanes_many lanes c.in-Ok-Some.lane there, c.self.inside.server_lanes.ok.0)
 
 pub take-slot-requires-clause-receiver : goal.take-slot-requires-clause-receiver
 take-slot-requires-clause-receiver g c =
-    let p = parts_of c.self.inside in
-    let found = sym c.get.ensures ∙ c.in-Some.is in
-    let held = c.in-Some.held in
-    let is_pending = of_kind p c.args.self.now c.id.inside.number c.args.id.now c.self.view_is c.id.view_is kind.PendingResponse (λ e. cc) (λ e. cc) c.requires held found in
-    let items = c.self.inside.clients.items in
-    let i = c.in-Some-index_of_lane.index in
-    let it = standing_at (λ (x : ClientPort _). x.port.lane == held.lane) i c.as_slice.result.now items c.index_of_lane.result c.index_of_lane.ensures c.as_slice.ensures.value c.in-Some-index_of_lane.is in
-    let at = listed client_part items i it.it it.at in
-    let client = client_part it.it in
-    let same : c.index.result.now ≡ it.it = read_at items i it.it c.index.result.now it.at c.index.ensures in
-    let asks = asking p c.self.invariant.sound c.id.inside.number held found is_pending c.args.id.now c.id.view_is i client at (eqb-true it.it.port.lane held.lane it.passes) in
-    let lane = c.in-Ok-Some.lane in
-    let next : IsNextSender p.server_lanes c.index.result.now.port.place held.slot p.limits.max_borrowed_responses_per_pending_response (Ok (Some lane)) = subst (λ o. IsNextSender p.server_lanes c.index.result.now.port.place held.slot p.limits.max_borrowed_responses_per_pending_response (Ok o)) c.in-Ok-Some.field-0-is c.in-Ok-Some.ensures in
-    let lanes = c.self.inside.server_lanes.items in
-    let there : lane < length lanes = lanes_many lanes lane next.0 in
-    let old : lane_of lane p.server_lanes ≡ lane_part c.index_mut.result.now = lane_is lanes lane c.index_mut.result.now there c.index_mut.ensures.value in
-    let place : c.index.result.now.port.place ≡ client.place = ap (λ (x : ClientPort _). x.port.place) same in
-    let r = reaches p c.self.invariant.sound i client at held.slot asks.inside lane next.0 in
-    omega (arith, r.0, place, ap (λ (l : Lane _ _ _). length l.messages.queues) old)
+    let at = goal.at.take-slot-requires-clause-receiver g c in
+    let there = (next g at.In-Ok-Some).0 in
+    subst (λ (l : Lane _ _ _). c.index.result.now.port.place < length l.messages.queues)
+    (lane_was g at.After-index_mut there) (reach g at.After-index c.in-Ok-Some.lane there).0
+
+pub take-slot-requires-clause-channel : goal.take-slot-requires-clause-channel
+take-slot-requires-clause-channel g c =
+    let at = goal.at.take-slot-requires-clause-channel g c in
+    let there = (next g at.In-Ok-Some).0 in
+    subst (λ (l : Lane _ _ _). c.in-Some.held.slot < length (slice_index_or l.messages.queues c.index.result.now.port.place []))
+    (lane_was g at.After-index_mut there) (reach g at.After-index c.in-Ok-Some.lane there).1
+
+pub take-slot-requires-clause-entry : goal.take-slot-requires-clause-entry
+take-slot-requires-clause-entry g c =
+    let at = goal.at.take-slot-requires-clause-entry g c in
+    let next = next g at.In-Ok-Some in
+    subst (λ (l : Lane _ _ _). 0 < length (queue_at l.messages c.index.result.now.port.place c.in-Some.held.slot))
+    (lane_was g at.After-index_mut next.0) next.1
 
 pub take-slot-requires-clause-fits : goal.take-slot-requires-clause-fits
 take-slot-requires-clause-fits g c =
-    let p = parts_of c.self.inside in
-    let found = sym c.get.ensures ∙ c.in-Some.is in
-    let held = c.in-Some.held in
-    let is_pending = of_kind p c.args.self.now c.id.inside.number c.args.id.now c.self.view_is c.id.view_is kind.PendingResponse (λ e. cc) (λ e. cc) c.requires held found in
-    let items = c.self.inside.clients.items in
-    let i = c.in-Some-index_of_lane.index in
-    let it = standing_at (λ (x : ClientPort _). x.port.lane == held.lane) i c.as_slice.result.now items c.index_of_lane.result c.index_of_lane.ensures c.as_slice.ensures.value c.in-Some-index_of_lane.is in
-    let at = listed client_part items i it.it it.at in
-    let client = client_part it.it in
-    let same : c.index.result.now ≡ it.it = read_at items i it.it c.index.result.now it.at c.index.ensures in
-    let asks = asking p c.self.invariant.sound c.id.inside.number held found is_pending c.args.id.now c.id.view_is i client at (eqb-true it.it.port.lane held.lane it.passes) in
-    let lane = c.in-Ok-Some.lane in
-    let next : IsNextSender p.server_lanes c.index.result.now.port.place held.slot p.limits.max_borrowed_responses_per_pending_response (Ok (Some lane)) = subst (λ o. IsNextSender p.server_lanes c.index.result.now.port.place held.slot p.limits.max_borrowed_responses_per_pending_response (Ok o)) c.in-Ok-Some.field-0-is c.in-Ok-Some.ensures in
-    let lanes = c.self.inside.server_lanes.items in
-    let there : lane < length lanes = lanes_many lanes lane next.0 in
-    let old : lane_of lane p.server_lanes ≡ lane_part c.index_mut.result.now = lane_is lanes lane c.index_mut.result.now there c.index_mut.ensures.value in
-    let place : c.index.result.now.port.place ≡ client.place = ap (λ (x : ClientPort _). x.port.place) same in
-    omega (arith, next.2, borrows_fit p.limits c.self.invariant.sound.sized.limits_fit, ap (λ (l : Lane _ _ _). borrowed_at l.messages c.index.result.now.port.place held.slot) old)
+    let at = goal.at.take-slot-requires-clause-fits g c in
+    let next = next g at.In-Ok-Some in
+    omega (
+      arith,
+      next.2,
+      borrows_fit c.self.inside.limits c.self.invariant.sound.sized.limits_fit,
+      ap (λ (l : Lane _ _ _). borrowed_at l.messages c.index.result.now.port.place c.in-Some.held.slot)
+          (lane_was g at.After-index_mut next.0),
+    )
 
 pub note-number-requires : goal.note-number-requires
 note-number-requires g c =
-    let p = parts_of c.self.inside in
-    let found = sym c.get.ensures ∙ c.in-Some.is in
-    let held = c.in-Some.held in
-    let is_pending = of_kind p c.args.self.now c.id.inside.number c.args.id.now c.self.view_is c.id.view_is kind.PendingResponse (λ e. cc) (λ e. cc) c.requires held found in
-    let items = c.self.inside.clients.items in
-    let i = c.in-Some-index_of_lane.index in
-    let it = standing_at (λ (x : ClientPort _). x.port.lane == held.lane) i c.as_slice.result.now items c.index_of_lane.result c.index_of_lane.ensures c.as_slice.ensures.value c.in-Some-index_of_lane.is in
-    let at = listed client_part items i it.it it.at in
-    let client = client_part it.it in
-    let same : c.index.result.now ≡ it.it = read_at items i it.it c.index.result.now it.at c.index.ensures in
-    let asks = asking p c.self.invariant.sound c.id.inside.number held found is_pending c.args.id.now c.id.view_is i client at (eqb-true it.it.port.lane held.lane it.passes) in
-    let lane = c.in-Ok-Some.lane in
-    let next : IsNextSender p.server_lanes c.index.result.now.port.place held.slot p.limits.max_borrowed_responses_per_pending_response (Ok (Some lane)) = subst (λ o. IsNextSender p.server_lanes c.index.result.now.port.place held.slot p.limits.max_borrowed_responses_per_pending_response (Ok o)) c.in-Ok-Some.field-0-is c.in-Ok-Some.ensures in
     let lanes = c.self.inside.server_lanes.items in
-    let there : lane < length lanes = lanes_many lanes lane next.0 in
-    let old : lane_of lane p.server_lanes ≡ lane_part c.index_mut.result.now = lane_is lanes lane c.index_mut.result.now there c.index_mut.ensures.value in
-    let place : c.index.result.now.port.place ≡ client.place = ap (λ (x : ClientPort _). x.port.place) same in
+    let lane = c.in-Ok-Some.lane in
+    let held = c.index_mut.result.now.messages.held in
+    let slot = c.take-slot.result in
+    let there = (next g (goal.at.note-number-requires g c).In-Ok-Some).0 in
     omega (
       arith,
       c.take-slot.ensures.within,
-      ap (λ (x : OwnedLane _ _ _ _). length x.messages.held) (c.index-in-Ok-Some-2.ensures ∙ get_or-set_same lanes lane _ _ there),
+      ap (λ (x : OwnedLane _ _ _ _). length x.messages.held)
+          (read_changed lanes lane _ c.index-in-Ok-Some-2.result.now (lanes_many lanes lane there) c.index-in-Ok-Some-2.ensures),
       ap (λ (m : Messages _ _ _). length m.held) c.take-slot.ensures.state,
-      length-set c.index_mut.result.now.messages.held c.take-slot.result (slice_index c.index_mut.result.now.messages.held c.take-slot.result + 1),
+      length-set held slot (slice_index held slot + 1),
     )
 
 pub insert-requires-clause-place : goal.insert-requires-clause-place
 insert-requires-clause-place g c =
-    let p = parts_of c.self.inside in
-    let found = sym c.get.ensures ∙ c.in-Some.is in
-    let held = c.in-Some.held in
-    let is_pending = of_kind p c.args.self.now c.id.inside.number c.args.id.now c.self.view_is c.id.view_is kind.PendingResponse (λ e. cc) (λ e. cc) c.requires held found in
-    let items = c.self.inside.clients.items in
-    let i = c.in-Some-index_of_lane.index in
-    let it = standing_at (λ (x : ClientPort _). x.port.lane == held.lane) i c.as_slice.result.now items c.index_of_lane.result c.index_of_lane.ensures c.as_slice.ensures.value c.in-Some-index_of_lane.is in
-    let at = listed client_part items i it.it it.at in
-    let client = client_part it.it in
-    let same : c.index.result.now ≡ it.it = read_at items i it.it c.index.result.now it.at c.index.ensures in
-    let asks = asking p c.self.invariant.sound c.id.inside.number held found is_pending c.args.id.now c.id.view_is i client at (eqb-true it.it.port.lane held.lane it.passes) in
-    let lane = c.in-Ok-Some.lane in
-    let next : IsNextSender p.server_lanes c.index.result.now.port.place held.slot p.limits.max_borrowed_responses_per_pending_response (Ok (Some lane)) = subst (λ o. IsNextSender p.server_lanes c.index.result.now.port.place held.slot p.limits.max_borrowed_responses_per_pending_response (Ok o)) c.in-Ok-Some.field-0-is c.in-Ok-Some.ensures in
-    let lanes = c.self.inside.server_lanes.items in
-    let there : lane < length lanes = lanes_many lanes lane next.0 in
-    let old : lane_of lane p.server_lanes ≡ lane_part c.index_mut.result.now = lane_is lanes lane c.index_mut.result.now there c.index_mut.ensures.value in
-    let place : c.index.result.now.port.place ≡ client.place = ap (λ (x : ClientPort _). x.port.place) same in
-    let slot = c.take-slot.result in
-    let first : slice_get (queue_from p.server_lanes client.place held.slot lane) 0 ≡ Some slot =
-    ap (λ (l : Lane _ _ _). slice_get (queue_at l.messages client.place held.slot) 0) old ∙ ap (λ r. slice_get (queue_at c.index_mut.result.now.messages r held.slot) 0) (sym place) ∙ c.take-slot.ensures.first in
-    let waits : 0 < times slot (all_entries (lane_of lane p.server_lanes).messages.queues) =
-    omega (arith, entry_waits (queue_from p.server_lanes client.place held.slot lane) slot first, times_queue (lane_of lane p.server_lanes).messages slot client.place held.slot) in
-    let row : c.index-in-Ok-Some.result.now.row ≡ (lane_of lane p.server_lanes).row =
-    ap (λ (x : OwnedLane _ _ _ _). x.row) (c.index-in-Ok-Some.ensures ∙ get_or-set_same lanes lane _ _ there) ∙ sym (ap (λ (l : Lane _ _ _). l.row) old) in
-    let rows = c.self.invariant.sound.seated.server_rows lane next.0 in (
+    let at = goal.at.insert-requires-clause-place g c in
+    let there = (next g at.In-Ok-Some).0 in
+    let was = lane_was g at.After-index_mut there in
+    let row = (front g at.After-note-number there was).in_row in
+    let rows = c.self.invariant.sound.seated.server_rows c.in-Ok-Some.lane there in (
       omega (arith, rows.0, row),
-      omega (arith, c.take-slot.ensures.within, ap (λ (l : Lane _ _ _). length l.messages.held) old, ap (slice_index c.self.inside.table.rows) row, rows.1),
+      omega (
+        arith,
+        c.take-slot.ensures.within,
+        ap (λ (l : Lane _ _ _). length l.messages.held) was,
+        ap (slice_index c.self.inside.table.rows) row,
+        rows.1,
+      ),
     )
 
 pub insert-requires-clause-vacant : goal.insert-requires-clause-vacant
 insert-requires-clause-vacant g c k s e is =
     let p = parts_of c.self.inside in
-    let found = sym c.get.ensures ∙ c.in-Some.is in
-    let held = c.in-Some.held in
-    let is_pending = of_kind p c.args.self.now c.id.inside.number c.args.id.now c.self.view_is c.id.view_is kind.PendingResponse (λ e. cc) (λ e. cc) c.requires held found in
-    let items = c.self.inside.clients.items in
-    let i = c.in-Some-index_of_lane.index in
-    let it = standing_at (λ (x : ClientPort _). x.port.lane == held.lane) i c.as_slice.result.now items c.index_of_lane.result c.index_of_lane.ensures c.as_slice.ensures.value c.in-Some-index_of_lane.is in
-    let at = listed client_part items i it.it it.at in
-    let client = client_part it.it in
-    let same : c.index.result.now ≡ it.it = read_at items i it.it c.index.result.now it.at c.index.ensures in
-    let asks = asking p c.self.invariant.sound c.id.inside.number held found is_pending c.args.id.now c.id.view_is i client at (eqb-true it.it.port.lane held.lane it.passes) in
     let lane = c.in-Ok-Some.lane in
-    let next : IsNextSender p.server_lanes c.index.result.now.port.place held.slot p.limits.max_borrowed_responses_per_pending_response (Ok (Some lane)) = subst (λ o. IsNextSender p.server_lanes c.index.result.now.port.place held.slot p.limits.max_borrowed_responses_per_pending_response (Ok o)) c.in-Ok-Some.field-0-is c.in-Ok-Some.ensures in
-    let lanes = c.self.inside.server_lanes.items in
-    let there : lane < length lanes = lanes_many lanes lane next.0 in
-    let old : lane_of lane p.server_lanes ≡ lane_part c.index_mut.result.now = lane_is lanes lane c.index_mut.result.now there c.index_mut.ensures.value in
-    let place : c.index.result.now.port.place ≡ client.place = ap (λ (x : ClientPort _). x.port.place) same in
     let slot = c.take-slot.result in
-    let first : slice_get (queue_from p.server_lanes client.place held.slot lane) 0 ≡ Some slot =
-    ap (λ (l : Lane _ _ _). slice_get (queue_at l.messages client.place held.slot) 0) old ∙ ap (λ r. slice_get (queue_at c.index_mut.result.now.messages r held.slot) 0) (sym place) ∙ c.take-slot.ensures.first in
-    let waits : 0 < times slot (all_entries (lane_of lane p.server_lanes).messages.queues) =
-    omega (arith, entry_waits (queue_from p.server_lanes client.place held.slot lane) slot first, times_queue (lane_of lane p.server_lanes).messages slot client.place held.slot) in
-    let row : c.index-in-Ok-Some.result.now.row ≡ (lane_of lane p.server_lanes).row =
-    ap (λ (x : OwnedLane _ _ _ _). x.row) (c.index-in-Ok-Some.ensures ∙ get_or-set_same lanes lane _ _ there) ∙ sym (ap (λ (l : Lane _ _ _). l.row) old) in
-    response_vacant p c.self.invariant.sound lane slot next.0 (not_held p c.self.invariant.sound lane slot waits) k s e (is ∙ ap (λ r. record { row = r; index = slot }) row)
+    let at = goal.at.insert-requires-clause-vacant g c in
+    let there = (next g at.In-Ok-Some).0 in
+    let front = front g at.After-note-number there (lane_was g at.After-index_mut there) in
+    response_vacant p c.self.invariant.sound lane slot there (not_held p c.self.invariant.sound lane slot front.waits)
+    k s e (is ∙ ap (λ r. record { row = r; index = slot }) front.in_row)
 
 pub insert-requires-clause-fresh : goal.insert-requires-clause-fresh
 insert-requires-clause-fresh g c =
     let p = parts_of c.self.inside in
-    let found = sym c.get.ensures ∙ c.in-Some.is in
-    let held = c.in-Some.held in
-    let is_pending = of_kind p c.args.self.now c.id.inside.number c.args.id.now c.self.view_is c.id.view_is kind.PendingResponse (λ e. cc) (λ e. cc) c.requires held found in
-    let items = c.self.inside.clients.items in
-    let i = c.in-Some-index_of_lane.index in
-    let it = standing_at (λ (x : ClientPort _). x.port.lane == held.lane) i c.as_slice.result.now items c.index_of_lane.result c.index_of_lane.ensures c.as_slice.ensures.value c.in-Some-index_of_lane.is in
-    let at = listed client_part items i it.it it.at in
-    let client = client_part it.it in
-    let same : c.index.result.now ≡ it.it = read_at items i it.it c.index.result.now it.at c.index.ensures in
-    let asks = asking p c.self.invariant.sound c.id.inside.number held found is_pending c.args.id.now c.id.view_is i client at (eqb-true it.it.port.lane held.lane it.passes) in
-    let lane = c.in-Ok-Some.lane in
-    let next : IsNextSender p.server_lanes c.index.result.now.port.place held.slot p.limits.max_borrowed_responses_per_pending_response (Ok (Some lane)) = subst (λ o. IsNextSender p.server_lanes c.index.result.now.port.place held.slot p.limits.max_borrowed_responses_per_pending_response (Ok o)) c.in-Ok-Some.field-0-is c.in-Ok-Some.ensures in
-    let lanes = c.self.inside.server_lanes.items in
-    let there : lane < length lanes = lanes_many lanes lane next.0 in
-    let old : lane_of lane p.server_lanes ≡ lane_part c.index_mut.result.now = lane_is lanes lane c.index_mut.result.now there c.index_mut.ensures.value in
-    let place : c.index.result.now.port.place ≡ client.place = ap (λ (x : ClientPort _). x.port.place) same in
-    let slot = c.take-slot.result in
-    let first : slice_get (queue_from p.server_lanes client.place held.slot lane) 0 ≡ Some slot =
-    ap (λ (l : Lane _ _ _). slice_get (queue_at l.messages client.place held.slot) 0) old ∙ ap (λ r. slice_get (queue_at c.index_mut.result.now.messages r held.slot) 0) (sym place) ∙ c.take-slot.ensures.first in
-    let waits : 0 < times slot (all_entries (lane_of lane p.server_lanes).messages.queues) =
-    omega (arith, entry_waits (queue_from p.server_lanes client.place held.slot lane) slot first, times_queue (lane_of lane p.server_lanes).messages slot client.place held.slot) in
-    let number : c.note-number.result.number ≡ (response_note p lane slot).number =
-    ap (λ (n : ResponseNote). n.number)
-    (sym (get_or_from_slice_get c.index-in-Ok-Some-2.result.now.messages.notes slot c.note-number.result no_response c.note-number.ensures)
-    ∙ ap (λ (x : OwnedLane _ _ _ _). get_or x.messages.notes slot no_response) (c.index-in-Ok-Some-2.ensures ∙ get_or-set_same lanes lane _ _ there)
-    ∙ ap (λ (m : Messages _ _ _). get_or m.notes slot no_response) c.take-slot.ensures.state
-    ∙ sym (ap (λ (l : Lane _ _ _). get_or l.messages.notes slot no_response) old)) in
-    ap (fin_map.get p.table.seats) number ∙ no_handle p c.self.invariant.sound lane slot waits
-
--- the parts after it
-parts : (g : _) (c : goal.After-new g)
-    → (lane : ℕ) × (i : ℕ) × (client : ClientPart _) × (channel : ℕ) × (there : lane < length (parts_of c.self.inside).server_lanes) × (asks : IsAsking (parts_of c.self.inside) c.args.id.now i channel client)
-    × (slice_get (queue_from (parts_of c.self.inside).server_lanes client.place channel lane) 0 ≡ Some c.take-slot.result)
-    × (borrowed_from (parts_of c.self.inside).server_lanes client.place channel lane < (parts_of c.self.inside).limits.max_borrowed_responses_per_pending_response)
-    × (c.note-number.result.number ≡ (response_note (parts_of c.self.inside) lane c.take-slot.result).number)
-    × (with_servers (parts_of c.self.inside) (parts_of c.self.inside).servers
-    (map lane_part (slice_set c.self.inside.server_lanes.items c.in-Ok-Some.lane (record { owner = c.index_mut.result.now.owner; row = c.index_mut.result.now.row; messages = c.take-slot.new.self })))
-    c.insert.new.self c.self.inside.next
-    ≡ with_received_response (parts_of c.self.inside) lane client.place channel c.take-slot.result)
-parts g c =
-    let p = parts_of c.self.inside in
-    let found = sym c.get.ensures ∙ c.in-Some.is in
-    let held = c.in-Some.held in
-    let is_pending = of_kind p c.args.self.now c.id.inside.number c.args.id.now c.self.view_is c.id.view_is kind.PendingResponse (λ e. cc) (λ e. cc) c.requires held found in
-    let items = c.self.inside.clients.items in
-    let i = c.in-Some-index_of_lane.index in
-    let it = standing_at (λ (x : ClientPort _). x.port.lane == held.lane) i c.as_slice.result.now items c.index_of_lane.result c.index_of_lane.ensures c.as_slice.ensures.value c.in-Some-index_of_lane.is in
-    let at = listed client_part items i it.it it.at in
-    let client = client_part it.it in
-    let same : c.index.result.now ≡ it.it = read_at items i it.it c.index.result.now it.at c.index.ensures in
-    let asks = asking p c.self.invariant.sound c.id.inside.number held found is_pending c.args.id.now c.id.view_is i client at (eqb-true it.it.port.lane held.lane it.passes) in
-    let lane = c.in-Ok-Some.lane in
-    let next : IsNextSender p.server_lanes c.index.result.now.port.place held.slot p.limits.max_borrowed_responses_per_pending_response (Ok (Some lane)) = subst (λ o. IsNextSender p.server_lanes c.index.result.now.port.place held.slot p.limits.max_borrowed_responses_per_pending_response (Ok o)) c.in-Ok-Some.field-0-is c.in-Ok-Some.ensures in
-    let lanes = c.self.inside.server_lanes.items in
-    let there : lane < length lanes = lanes_many lanes lane next.0 in
-    let old : lane_of lane p.server_lanes ≡ lane_part c.index_mut.result.now = lane_is lanes lane c.index_mut.result.now there c.index_mut.ensures.value in
-    let place : c.index.result.now.port.place ≡ client.place = ap (λ (x : ClientPort _). x.port.place) same in
-    let slot = c.take-slot.result in
-    let first : slice_get (queue_from p.server_lanes client.place held.slot lane) 0 ≡ Some slot =
-    ap (λ (l : Lane _ _ _). slice_get (queue_at l.messages client.place held.slot) 0) old ∙ ap (λ r. slice_get (queue_at c.index_mut.result.now.messages r held.slot) 0) (sym place) ∙ c.take-slot.ensures.first in
-    let waits : 0 < times slot (all_entries (lane_of lane p.server_lanes).messages.queues) =
-    omega (arith, entry_waits (queue_from p.server_lanes client.place held.slot lane) slot first, times_queue (lane_of lane p.server_lanes).messages slot client.place held.slot) in
-    let number : c.note-number.result.number ≡ (response_note p lane slot).number =
-    ap (λ (n : ResponseNote). n.number)
-    (sym (get_or_from_slice_get c.index-in-Ok-Some-2.result.now.messages.notes slot c.note-number.result no_response c.note-number.ensures)
-    ∙ ap (λ (x : OwnedLane _ _ _ _). get_or x.messages.notes slot no_response) (c.index-in-Ok-Some-2.ensures ∙ get_or-set_same lanes lane _ _ there)
-    ∙ ap (λ (m : Messages _ _ _). get_or m.notes slot no_response) c.take-slot.ensures.state
-    ∙ sym (ap (λ (l : Lane _ _ _). get_or l.messages.notes slot no_response) old)) in
-    let row : c.index-in-Ok-Some.result.now.row ≡ (lane_of lane p.server_lanes).row =
-    ap (λ (x : OwnedLane _ _ _ _). x.row) (c.index-in-Ok-Some.ensures ∙ get_or-set_same lanes lane _ _ there) ∙ sym (ap (λ (l : Lane _ _ _). l.row) old) in
-    let few : borrowed_from p.server_lanes client.place held.slot lane < p.limits.max_borrowed_responses_per_pending_response = omega (arith, next.2, ap (λ r. borrowed_from p.server_lanes r held.slot lane) place) in
-    let m = (lane_of lane p.server_lanes).messages in
-    let changed : c.take-slot.new.self ≡ taken m client.place held.slot slot (drop 1 (queue_at m client.place held.slot)) =
-    c.take-slot.ensures.state
-    ∙ ap (λ r. taken c.index_mut.result.now.messages r held.slot slot (drop 1 (queue_at c.index_mut.result.now.messages r held.slot))) place
-    ∙ ap (λ (l : Lane _ _ _). taken l.messages client.place held.slot slot (drop 1 (queue_at l.messages client.place held.slot))) (sym old) in (
-      lane,
-      i,
-      client,
-      held.slot,
-      next.0,
-      asks,
-      first,
-      few,
-      number,
-      same_servers p (with_received_response p lane client.place held.slot slot) p.servers _ c.insert.new.self p.next refl
-          (map-set_one lane_part lanes lane _
-          ∙ ap (λ n. slice_set p.server_lanes lane (with_messages (lane_part c.index_mut.result.now) n)) changed
-          ∙ ap (λ x. slice_set p.server_lanes lane (with_messages x (taken m client.place held.slot slot (drop 1 (queue_at m client.place held.slot))))) (sym old))
-          (c.insert.ensures
-          ∙ ap (λ r. seated p.table c.note-number.result.number (record { row = r; index = slot }) (received_held p lane slot)) row
-          ∙ ap (λ n. seated p.table n (response_place p lane slot) (received_held p lane slot)) number)
-          refl refl,
-    )
+    let at = goal.at.insert-requires-clause-fresh g c in
+    let there = (next g at.In-Ok-Some).0 in
+    let front = front g at.After-note-number there (lane_was g at.After-index_mut there) in
+    ap (fin_map.get p.table.seats) front.numbered
+    ∙ no_handle p c.self.invariant.sound c.in-Ok-Some.lane c.take-slot.result front.waits
 
 pub returns-in-Ok-Some : goal.returns-in-Ok-Some
 returns-in-Ok-Some g c =
-    let r = parts g c in
-    receives (parts_of c.self.inside) c.self.invariant.sound r.1 r.2 r.5.at r.3 c.args.id.now r.5.pending r.5.seen r.5.its_client r.5.its_channel c.args.self.now c.self.view_is
-    r.0 r.4 c.take-slot.result r.5.inside r.6 r.7 _ (c.new.ensures ∙ r.8) _ (ap state_of r.9)
+    let at = goal.at.returns-in-Ok-Some g c in
+    let asks = asked g at.After-index in
+    let next = next g at.In-Ok-Some in
+    let front = front g at.After-note-number next.0 (lane_was g at.After-index_mut next.0) in
+    receives (parts_of c.self.inside) c.self.invariant.sound c.in-Some-index_of_lane.index (client_part c.index.result.now) asks.at
+    c.in-Some.held.slot c.args.id.now asks.pending asks.seen asks.its_client asks.its_channel c.args.self.now c.self.view_is
+    c.in-Ok-Some.lane next.0 c.take-slot.result asks.inside front.first next.2
+    _ (c.new.ensures ∙ front.numbered) _ (ap state_of (after g c))
 
 pub returns-in-Ok-None : goal.returns-in-Ok-None
 returns-in-Ok-None g c =
     let p = parts_of c.self.inside in
-    let found = sym c.get.ensures ∙ c.in-Some.is in
-    let held = c.in-Some.held in
-    let is_pending = of_kind p c.args.self.now c.id.inside.number c.args.id.now c.self.view_is c.id.view_is kind.PendingResponse (λ e. cc) (λ e. cc) c.requires held found in
-    let items = c.self.inside.clients.items in
-    let i = c.in-Some-index_of_lane.index in
-    let it = standing_at (λ (x : ClientPort _). x.port.lane == held.lane) i c.as_slice.result.now items c.index_of_lane.result c.index_of_lane.ensures c.as_slice.ensures.value c.in-Some-index_of_lane.is in
-    let at = listed client_part items i it.it it.at in
-    let client = client_part it.it in
-    let same : c.index.result.now ≡ it.it = read_at items i it.it c.index.result.now it.at c.index.ensures in
-    let asks = asking p c.self.invariant.sound c.id.inside.number held found is_pending c.args.id.now c.id.view_is i client at (eqb-true it.it.port.lane held.lane it.passes) in
-    let place : c.index.result.now.port.place ≡ client.place = ap (λ (x : ClientPort _). x.port.place) same in
-    let next : IsNextSender p.server_lanes c.index.result.now.port.place held.slot p.limits.max_borrowed_responses_per_pending_response (Ok None) = subst (λ o. IsNextSender p.server_lanes c.index.result.now.port.place held.slot p.limits.max_borrowed_responses_per_pending_response (Ok o)) c.in-Ok-None.field-0-is c.in-Ok-None.ensures in
-    receives_nothing p c.self.invariant.sound i client at held.slot c.args.id.now asks.pending asks.seen asks.its_client asks.its_channel c.args.self.now c.self.view_is
-    (λ lane h. ap (λ r. queue_from p.server_lanes r held.slot lane) (sym place) ∙ next lane h) _ refl
+    let asks = asked g (goal.at.returns-in-Ok-None g c).After-index in
+    let next = subst (λ o. IsNextSender p.server_lanes c.index.result.now.port.place c.in-Some.held.slot
+    p.limits.max_borrowed_responses_per_pending_response (Ok o)) c.in-Ok-None.field-0-is c.in-Ok-None.ensures in
+    receives_nothing p c.self.invariant.sound c.in-Some-index_of_lane.index (client_part c.index.result.now) asks.at
+    c.in-Some.held.slot c.args.id.now asks.pending asks.seen asks.its_client asks.its_channel c.args.self.now c.self.view_is next _ refl
 
 pub returns-in-Err : goal.returns-in-Err
 returns-in-Err g c =
-    let p = parts_of c.self.inside in
-    let found = sym c.get.ensures ∙ c.in-Some.is in
-    let held = c.in-Some.held in
-    let is_pending = of_kind p c.args.self.now c.id.inside.number c.args.id.now c.self.view_is c.id.view_is kind.PendingResponse (λ e. cc) (λ e. cc) c.requires held found in
-    let items = c.self.inside.clients.items in
-    let i = c.in-Some-index_of_lane.index in
-    let it = standing_at (λ (x : ClientPort _). x.port.lane == held.lane) i c.as_slice.result.now items c.index_of_lane.result c.index_of_lane.ensures c.as_slice.ensures.value c.in-Some-index_of_lane.is in
-    let at = listed client_part items i it.it it.at in
-    let client = client_part it.it in
-    let same : c.index.result.now ≡ it.it = read_at items i it.it c.index.result.now it.at c.index.ensures in
-    let asks = asking p c.self.invariant.sound c.id.inside.number held found is_pending c.args.id.now c.id.view_is i client at (eqb-true it.it.port.lane held.lane it.passes) in
-    let place : c.index.result.now.port.place ≡ client.place = ap (λ (x : ClientPort _). x.port.place) same in
-    by_error p c.self.invariant.sound i client at held.slot c.args.id.now asks c.args.self.now c.self.view_is c.in-Err.error
-    (subst (λ r. IsNextSender p.server_lanes r held.slot p.limits.max_borrowed_responses_per_pending_response (Err c.in-Err.error)) place c.in-Err.ensures)
+    let asks = asked g (goal.at.returns-in-Err g c).After-index in
+    by_error (parts_of c.self.inside) c.self.invariant.sound c.in-Some-index_of_lane.index (client_part c.index.result.now) asks.at
+    c.in-Some.held.slot c.args.id.now asks c.args.self.now c.self.view_is c.in-Err.error c.in-Err.ensures
 
 pub invariant_of-self : goal.invariant_of-self
 invariant_of-self g c =
-    let r = parts g c in
+    let at = goal.at.invariant_of-self g c in
+    let asks = asked g at.After-index in
+    let there = (next g at.In-Ok-Some).0 in
+    let front = front g at.After-note-number there (lane_was g at.After-index_mut there) in
     record {
-      sound = subst (λ p. IsSound p empty_hand) (sym r.9) (received_sound (parts_of c.self.inside) c.self.invariant.sound r.0 r.4 r.1 r.2 r.5.at r.3 c.take-slot.result r.5.inside r.6);
-      reached = receives_response_reached c.args.self.now (subst (λ s. IsReached s) c.self.view_is c.self.invariant.reached) c.args.id.now (Ok (Some c.new.result)) _ (returns-in-Ok-Some g c);
+      sound = subst (λ p. IsSound p empty_hand) (sym (after g c))
+          (received_sound (parts_of c.self.inside) c.self.invariant.sound c.in-Ok-Some.lane there c.in-Some-index_of_lane.index
+          (client_part c.index.result.now) asks.at c.in-Some.held.slot c.take-slot.result asks.inside front.first);
+      reached = receives_response_reached c.args.self.now (subst (λ s. IsReached s) c.self.view_is c.self.invariant.reached) c.args.id.now
+          (Ok (Some c.new.result)) _ (returns-in-Ok-Some g c);
     }
