@@ -20,13 +20,35 @@ use Rattle.rr_parts.specs.Receiving.{Reaches}
 use Rattle.rr_laws.specs.Reached.{IsReached}
 use Rattle.rr_laws.proofs.Leaving.{after_release_reached}
 use Rattle.rr_core.proofs.state.Core.release_pending.Goals as goal
+use Rattle.rr_core.proofs.state.Core.release_pending.Goals.{In-Some, After-end_pending-place}
+
+-- the handle is found in its seat
+found : (g : _) (c : In-Some g) → PendingFound (parts_of c.self.inside) c.id.inside.number c.in-Some.held
+found g c =
+    pending_found (parts_of c.self.inside) c.self.invariant.sound c.args.self.now c.id.inside.number c.args.id.now c.self.view_is c.id.view_is
+    c.requires c.in-Some.held (sym c.get.ensures ∙ c.in-Some.is)
+
+-- and who sends from its lane
+sending : (g : _) (c : In-Some g) → Sending c.self.inside.clients.items c.in-Some.held.lane
+sending g c =
+    client_sending (parts_of c.self.inside) c.self.invariant.sound c.self.inside.clients.items refl c.in-Some.held.lane (found g c).lane
+
+-- its client has one pending response less
+ended : (g : _) (c : After-end_pending-place g) (s : Sending c.self.inside.clients.items c.in-Some.held.lane)
+    → (c.end_pending-place.result ≡ s.it.port.place)
+    × (c.end_pending-place.new.clients.items ≡ slice_set c.self.inside.clients.items s.index (with_pending_ended s.it))
+ended g c s =
+    let items = c.self.inside.clients.items in
+    of_found (λ (x : ClientPort _). x.port.lane == c.in-Some.held.lane) items s.index s.it s.found s.at
+    (λ i x. (c.end_pending-place.result ≡ x.port.place) × (c.end_pending-place.new.clients.items ≡ slice_set items i (with_pending_ended x)))
+    c.end_pending-place.ensures
 
 pub end_pending-place-requires : goal.end_pending-place-requires
 end_pending-place-requires g c =
     let p = parts_of c.self.inside in
     let held = c.in-Some.held in
-    let f = pending_found p c.self.invariant.sound c.args.self.now c.id.inside.number c.args.id.now c.self.view_is c.id.view_is c.requires held (sym c.get.ensures ∙ c.in-Some.is) in
-    let s = client_sending p c.self.invariant.sound c.self.inside.clients.items refl held.lane f.lane in
+    let f = found g (goal.at.end_pending-place-requires g c).In-Some in
+    let s = sending g (goal.at.end_pending-place-requires g c).In-Some in
     to_found (λ (x : ClientPort _). x.port.lane == held.lane) c.self.inside.clients.items s.index s.it s.found s.at (λ _ x. 0 < x.pendings)
     (has_pending p c.self.invariant.sound c.id.inside.number f.seat f.at f.hint f.connections f.pending s.index (client_part s.it) s.there (s.sends ∙ sym (ap (λ (h : Held). h.lane) f.is)))
 
@@ -34,10 +56,9 @@ pub clear_channel-requires : goal.clear_channel-requires
 clear_channel-requires g c =
     let p = parts_of c.self.inside in
     let held = c.in-Some.held in
-    let f = pending_found p c.self.invariant.sound c.args.self.now c.id.inside.number c.args.id.now c.self.view_is c.id.view_is c.requires held (sym c.get.ensures ∙ c.in-Some.is) in
-    let s = client_sending p c.self.invariant.sound c.self.inside.clients.items refl held.lane f.lane in
-    let place = of_found (λ (x : ClientPort _). x.port.lane == held.lane) c.self.inside.clients.items s.index s.it s.found s.at
-    (λ i x. (c.end_pending-place.result ≡ x.port.place) × (c.end_pending-place.new.clients.items ≡ slice_set c.self.inside.clients.items i (with_pending_ended x))) c.end_pending-place.ensures in
+    let f = found g (goal.at.clear_channel-requires g c).In-Some in
+    let s = sending g (goal.at.clear_channel-requires g c).In-Some in
+    let place = ended g (goal.at.clear_channel-requires g c).After-end_pending-place s in
     let sends : s.it.port.lane ≡ f.seat.value.lane = s.sends ∙ sym (ap (λ (h : Held). h.lane) f.is) in
     let channel = inside p c.self.invariant.sound c.id.inside.number f.seat f.at f.hint f.connections f.pending s.index (client_part s.it) s.there sends in
     subst (λ r. Reaches p.server_lanes r held.slot) (sym place.0)
@@ -47,7 +68,7 @@ pub give_back_in-requires : goal.give_back_in-requires
 give_back_in-requires g c =
     let p = parts_of c.self.inside in
     let held = c.in-Some.held in
-    let f = pending_found p c.self.invariant.sound c.args.self.now c.id.inside.number c.args.id.now c.self.view_is c.id.view_is c.requires held (sym c.get.ensures ∙ c.in-Some.is) in
+    let f = found g (goal.at.give_back_in-requires g c).In-Some in
     lane_asked c.self.inside.client_lanes.items held.lane f.lane (λ l. 0 < slice_index l.messages.held held.slot) (λ l. 0 < slice_index l.messages.held held.slot) (λ l h. h) f.slot
 
 -- the parts after it
@@ -58,11 +79,10 @@ parts : (g : _) (c : goal.After-give_back_in g) → (f : PendingFound (parts_of 
 parts g c =
     let p = parts_of c.self.inside in
     let held = c.in-Some.held in
-    let f = pending_found p c.self.invariant.sound c.args.self.now c.id.inside.number c.args.id.now c.self.view_is c.id.view_is c.requires held (sym c.get.ensures ∙ c.in-Some.is) in
-    let s = client_sending p c.self.invariant.sound c.self.inside.clients.items refl held.lane f.lane in
+    let f = found g (goal.at.returns g c).In-Some in
+    let s = sending g (goal.at.returns g c).In-Some in
     let sends : s.it.port.lane ≡ f.seat.value.lane = s.sends ∙ sym (ap (λ (h : Held). h.lane) f.is) in
-    let ended = of_found (λ (x : ClientPort _). x.port.lane == held.lane) c.self.inside.clients.items s.index s.it s.found s.at
-    (λ i x. (c.end_pending-place.result ≡ x.port.place) × (c.end_pending-place.new.clients.items ≡ slice_set c.self.inside.clients.items i (with_pending_ended x))) c.end_pending-place.ensures in (
+    let ended = ended g (goal.at.returns g c).After-end_pending-place s in (
       f,
       s,
       sends,

@@ -16,20 +16,32 @@ use Rattle.rr_core_laws.proofs.Senders.{of_found, to_found}
 use Rattle.rr_laws.specs.Reached.{IsReached}
 use Rattle.rr_laws.proofs.Leaving.{after_release_reached}
 use Rattle.rr_core.proofs.state.Core.release_request_loan.Goals as goal
+use Rattle.rr_core.proofs.state.Core.release_request_loan.Goals.{In-Some}
+
+-- the handle is found in its seat
+found : (g : _) (c : In-Some g) → LoanFound (parts_of c.self.inside) c.id.inside.number c.in-Some.held
+found g c =
+    loan_found (parts_of c.self.inside) c.self.invariant.sound c.args.self.now c.id.inside.number c.args.id.now c.self.view_is c.id.view_is
+    c.requires c.in-Some.held (sym c.get.ensures ∙ c.in-Some.is)
+
+-- and who sends from its lane
+sending : (g : _) (c : In-Some g) → Sending c.self.inside.clients.items c.in-Some.held.lane
+sending g c =
+    client_sending (parts_of c.self.inside) c.self.invariant.sound c.self.inside.clients.items refl c.in-Some.held.lane (found g c).lane
 
 pub give_back_in-requires : goal.give_back_in-requires
 give_back_in-requires g c =
     let p = parts_of c.self.inside in
     let held = c.in-Some.held in
-    let f = loan_found p c.self.invariant.sound c.args.self.now c.id.inside.number c.args.id.now c.self.view_is c.id.view_is c.requires held (sym c.get.ensures ∙ c.in-Some.is) in
+    let f = found g (goal.at.give_back_in-requires g c).In-Some in
     lane_asked c.self.inside.client_lanes.items held.lane f.lane (λ l. 0 < slice_index l.messages.held held.slot) (λ l. 0 < slice_index l.messages.held held.slot) (λ l h. h) f.slot
 
 pub end_request_loan-requires : goal.end_request_loan-requires
 end_request_loan-requires g c =
     let p = parts_of c.self.inside in
     let held = c.in-Some.held in
-    let f = loan_found p c.self.invariant.sound c.args.self.now c.id.inside.number c.args.id.now c.self.view_is c.id.view_is c.requires held (sym c.get.ensures ∙ c.in-Some.is) in
-    let s = client_sending p c.self.invariant.sound c.self.inside.clients.items refl held.lane f.lane in
+    let f = found g (goal.at.end_request_loan-requires g c).In-Some in
+    let s = sending g (goal.at.end_request_loan-requires g c).In-Some in
     to_found (λ (x : ClientPort _). x.port.lane == held.lane) c.self.inside.clients.items s.index s.it s.found s.at (λ _ x. 0 < x.port.loans)
     (has_loan p c.self.invariant.sound c.id.inside.number f.seat f.at f.loan s.index (client_part s.it) s.there (s.sends ∙ sym (ap (λ (h : Held). h.lane) f.is)))
 
@@ -41,8 +53,8 @@ parts : (g : _) (c : goal.After-end_request_loan g) → (f : LoanFound (parts_of
 parts g c =
     let p = parts_of c.self.inside in
     let held = c.in-Some.held in
-    let f = loan_found p c.self.invariant.sound c.args.self.now c.id.inside.number c.args.id.now c.self.view_is c.id.view_is c.requires held (sym c.get.ensures ∙ c.in-Some.is) in
-    let s = client_sending p c.self.invariant.sound c.self.inside.clients.items refl held.lane f.lane in
+    let f = found g (goal.at.returns g c).In-Some in
+    let s = sending g (goal.at.returns g c).In-Some in
     let sends : s.it.port.lane ≡ f.seat.value.lane = s.sends ∙ sym (ap (λ (h : Held). h.lane) f.is) in
     let clients = of_found (λ (x : ClientPort _). x.port.lane == held.lane) c.self.inside.clients.items s.index s.it s.found s.at
     (λ i x. c.end_request_loan.new.clients.items ≡ slice_set c.self.inside.clients.items i (with_loan_ended x)) c.end_request_loan.ensures in (

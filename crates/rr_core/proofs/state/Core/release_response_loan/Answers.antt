@@ -11,7 +11,7 @@ use Rattle.rr_parts.specs.Releasing.{is_loaned_response, given_back}
 use Rattle.rr_parts.specs.Sound.{IsSound, empty_hand}
 use Rattle.rr_parts.specs.Views.{lane_of, state_of, no_response}
 use Rattle.rr_core_laws.proofs.Adding.{with_servers}
-use Rattle.rr_core_laws.proofs.AnswerFields.{server_sending, answer_found, answer_parts, has_loan}
+use Rattle.rr_core_laws.proofs.AnswerFields.{AnswerFound, Sending, server_sending, answer_found, answer_parts, has_loan}
 use Rattle.rr_core_laws.proofs.Places.{map-set_one}
 use Rattle.rr_core_laws.proofs.ReceivedFields.{note_is}
 use Rattle.rr_core_laws.proofs.ReleaseFields.{lane_asked, lanes_then, handle_there}
@@ -20,12 +20,24 @@ use Rattle.rr_core_laws.proofs.Shown.{held_within}
 use Rattle.rr_laws.specs.Reached.{IsReached}
 use Rattle.rr_laws.proofs.Leaving.{after_release_reached}
 use Rattle.rr_core.proofs.state.Core.release_response_loan.Goals as goal
+use Rattle.rr_core.proofs.state.Core.release_response_loan.Goals.{In-Some}
+
+-- the handle is found in its seat
+found : (g : _) (c : In-Some g) → AnswerFound (parts_of c.self.inside) c.id.inside.number c.in-Some.held
+found g c =
+    answer_found (parts_of c.self.inside) c.self.invariant.sound c.args.self.now c.id.inside.number c.args.id.now c.self.view_is c.id.view_is
+    c.requires c.in-Some.held (sym c.get.ensures ∙ c.in-Some.is)
+
+-- and who sends from its lane
+sending : (g : _) (c : In-Some g) → Sending c.self.inside.servers.items c.in-Some.held.lane
+sending g c =
+    server_sending (parts_of c.self.inside) c.self.invariant.sound c.self.inside.servers.items refl c.in-Some.held.lane (found g c).lane
 
 pub note_in-note-requires : goal.note_in-note-requires
 note_in-note-requires g c =
     let p = parts_of c.self.inside in
     let held = c.in-Some.held in
-    let f = answer_found p c.self.invariant.sound c.args.self.now c.id.inside.number c.args.id.now c.self.view_is c.id.view_is c.requires held (sym c.get.ensures ∙ c.in-Some.is) in
+    let f = found g (goal.at.note_in-note-requires g c).In-Some in
     subst (λ ls. IsSomeAnd (slice_get ls held.lane) (λ l. held.slot < length l.messages.held)) (sym c.as_slice.ensures.value)
     (lane_asked c.self.inside.server_lanes.items held.lane f.lane (λ l. held.slot < length l.messages.held) (λ l. held.slot < length l.messages.held) (λ l h. h)
     (held_within (lane_of held.lane p.server_lanes).messages.held held.slot f.slot))
@@ -34,15 +46,15 @@ pub give_back_in-requires : goal.give_back_in-requires
 give_back_in-requires g c =
     let p = parts_of c.self.inside in
     let held = c.in-Some.held in
-    let f = answer_found p c.self.invariant.sound c.args.self.now c.id.inside.number c.args.id.now c.self.view_is c.id.view_is c.requires held (sym c.get.ensures ∙ c.in-Some.is) in
+    let f = found g (goal.at.give_back_in-requires g c).In-Some in
     lane_asked c.self.inside.server_lanes.items held.lane f.lane (λ l. 0 < slice_index l.messages.held held.slot) (λ l. 0 < slice_index l.messages.held held.slot) (λ l h. h) f.slot
 
 pub end_answer-requires-clause-counted : goal.end_answer-requires-clause-counted
 end_answer-requires-clause-counted g c =
     let p = parts_of c.self.inside in
     let held = c.in-Some.held in
-    let f = answer_found p c.self.invariant.sound c.args.self.now c.id.inside.number c.args.id.now c.self.view_is c.id.view_is c.requires held (sym c.get.ensures ∙ c.in-Some.is) in
-    let s = server_sending p c.self.invariant.sound c.self.inside.servers.items refl held.lane f.lane in
+    let f = found g (goal.at.end_answer-requires-clause-counted g c).In-Some in
+    let s = sending g (goal.at.end_answer-requires-clause-counted g c).In-Some in
     to_found (λ (x : ServerPort _). x.port.lane == held.lane) c.self.inside.servers.items s.index s.it s.found s.at (λ _ x. 0 < x.port.loans)
     (has_loan p c.self.invariant.sound c.id.inside.number held f s.index (server_part s.it) s.there s.sends)
 
@@ -52,8 +64,8 @@ after : (g : _) (c : goal.After-end_answer g) → let p = parts_of c.self.inside
 after g c =
     let p = parts_of c.self.inside in
     let held = c.in-Some.held in
-    let f = answer_found p c.self.invariant.sound c.args.self.now c.id.inside.number c.args.id.now c.self.view_is c.id.view_is c.requires held (sym c.get.ensures ∙ c.in-Some.is) in
-    let s = server_sending p c.self.invariant.sound c.self.inside.servers.items refl held.lane f.lane in
+    let f = found g (goal.at.returns g c).In-Some in
+    let s = sending g (goal.at.returns g c).In-Some in
     let note = c.note_in-note.result in
     let noted = note_is c.self.inside.server_lanes.items c.as_slice.result.now held.lane held.slot note no_response f.lane c.as_slice.ensures.value c.note_in-note.ensures in
     let servers = of_found (λ (x : ServerPort _). x.port.lane == held.lane) c.self.inside.servers.items s.index s.it s.found s.at
