@@ -8,7 +8,7 @@ use Rattle.rr_parts.specs.Ports.{server_part, lane_part, marks_of}
 use Rattle.rr_parts.specs.Releasing.{is_active_request, borrow_ended}
 use Rattle.rr_parts.specs.Sound.{IsSound, empty_hand, server_place}
 use Rattle.rr_parts.specs.Views.{lane_of, state_of}
-use Rattle.rr_core_laws.proofs.ActiveFields.{ActiveFound, active_found, server_of_active, marks_asked, active_parts}
+use Rattle.rr_core_laws.proofs.ActiveFields.{Serving, ActiveFound, active_found, server_of_active, marks_asked, active_parts}
 use Rattle.rr_core_laws.proofs.ActiveReleased.{after_active, active_sound}
 use Rattle.rr_core_laws.proofs.ActiveView.{active_view}
 use Rattle.rr_core_laws.proofs.Adding.{with_vectors}
@@ -18,29 +18,42 @@ use Rattle.rr_core_laws.proofs.Senders.{of_found}
 use Rattle.rr_laws.specs.Reached.{IsReached}
 use Rattle.rr_laws.proofs.Leaving.{after_release_reached}
 use Rattle.rr_core.proofs.state.Core.release_active.Goals as goal
+use Rattle.rr_core.proofs.state.Core.release_active.Goals.{In-Some, After-server, After-place_of-place}
+
+-- the handle is found in its seat
+found : (g : _) (c : In-Some g) → ActiveFound (parts_of c.self.inside) c.id.inside.number c.in-Some.held
+found g c =
+    active_found (parts_of c.self.inside) c.self.invariant.sound c.args.self.now c.id.inside.number c.args.id.now c.self.view_is c.id.view_is
+    c.requires c.in-Some.held (sym c.get.ensures ∙ c.in-Some.is)
+
+-- its server is there
+serving : (g : _) (c : After-server g) (f : ActiveFound (parts_of c.self.inside) c.id.inside.number c.in-Some.held)
+    → Serving c.as_slice.result.now c.server.result (server_place (parts_of c.self.inside) f.server)
+serving g c f =
+    server_of_active (parts_of c.self.inside) c.self.invariant.sound c.as_slice.result.now (ap (map server_part) (sym c.as_slice.ensures.value))
+    c.id.inside.number c.in-Some.held f c.server.result c.server.ensures
+
+-- and where others send to it
+placed : (g : _) (c : After-place_of-place g) (f : ActiveFound (parts_of c.self.inside) c.id.inside.number c.in-Some.held)
+    → Serving c.as_slice.result.now c.server.result (server_place (parts_of c.self.inside) f.server)
+    → c.place_of-place.result ≡ server_place (parts_of c.self.inside) f.server
+placed g c f s =
+    of_found (λ (x : ServerPort _). x.port.id == c.server.result) c.as_slice.result.now s.index s.it s.found s.at
+    (λ _ x. c.place_of-place.result ≡ x.port.place) c.place_of-place.ensures ∙ s.placed
 
 pub place_of-place-requires : goal.place_of-place-requires
 place_of-place-requires g c =
-    let p = parts_of c.self.inside in
-    let held = c.in-Some.held in
-    let f = active_found p c.self.invariant.sound c.args.self.now c.id.inside.number c.args.id.now c.self.view_is c.id.view_is c.requires held (sym c.get.ensures ∙ c.in-Some.is) in
-    let servers = c.as_slice.result.now in
-    let are : p.servers ≡ map server_part servers = ap (map server_part) (sym c.as_slice.ensures.value) in
-    let s = server_of_active p c.self.invariant.sound servers are c.id.inside.number held f c.server.result c.server.ensures in
-    subst IsSome (sym s.found) refl
+    let at = goal.at.place_of-place-requires g c in
+    subst IsSome (sym (serving g at.After-server (found g at.In-Some)).found) refl
 
 pub end_borrow_in-requires-clause-receiver : goal.end_borrow_in-requires-clause-receiver
 end_borrow_in-requires-clause-receiver g c =
     let p = parts_of c.self.inside in
     let held = c.in-Some.held in
-    let f = active_found p c.self.invariant.sound c.args.self.now c.id.inside.number c.args.id.now c.self.view_is c.id.view_is c.requires held (sym c.get.ensures ∙ c.in-Some.is) in
-    let servers = c.as_slice.result.now in
-    let are : p.servers ≡ map server_part servers = ap (map server_part) (sym c.as_slice.ensures.value) in
-    let s = server_of_active p c.self.invariant.sound servers are c.id.inside.number held f c.server.result c.server.ensures in
-    let place : c.place_of-place.result ≡ server_place p f.server =
-    of_found (λ (x : ServerPort _). x.port.id == c.server.result) servers s.index s.it s.found s.at (λ _ x. c.place_of-place.result ≡ x.port.place) c.place_of-place.ensures ∙ s.placed in
-    let here : 0 < borrowed_at (lane_of held.lane p.client_lanes).messages c.place_of-place.result 0 =
-    subst (λ r. 0 < borrowed_at (lane_of held.lane p.client_lanes).messages r 0) (sym place) f.some in
+    let at = goal.at.end_borrow_in-requires-clause-receiver g c in
+    let f = found g at.In-Some in
+    let place = placed g at.After-place_of-place f (serving g at.After-server f) in
+    let here = subst (λ r. 0 < borrowed_at (lane_of held.lane p.client_lanes).messages r 0) (sym place) f.some in
     lane_asked c.self.inside.client_lanes.items held.lane f.lane
     (λ l. (c.place_of-place.result < length l.messages.queues) × (0 < length (slice_index_or l.messages.queues c.place_of-place.result [])))
     (λ l. (c.place_of-place.result < length l.messages.queues) × (0 < length (slice_index_or l.messages.queues c.place_of-place.result []))) (λ l h. h)
@@ -50,14 +63,10 @@ pub end_borrow_in-requires-clause-counted : goal.end_borrow_in-requires-clause-c
 end_borrow_in-requires-clause-counted g c =
     let p = parts_of c.self.inside in
     let held = c.in-Some.held in
-    let f = active_found p c.self.invariant.sound c.args.self.now c.id.inside.number c.args.id.now c.self.view_is c.id.view_is c.requires held (sym c.get.ensures ∙ c.in-Some.is) in
-    let servers = c.as_slice.result.now in
-    let are : p.servers ≡ map server_part servers = ap (map server_part) (sym c.as_slice.ensures.value) in
-    let s = server_of_active p c.self.invariant.sound servers are c.id.inside.number held f c.server.result c.server.ensures in
-    let place : c.place_of-place.result ≡ server_place p f.server =
-    of_found (λ (x : ServerPort _). x.port.id == c.server.result) servers s.index s.it s.found s.at (λ _ x. c.place_of-place.result ≡ x.port.place) c.place_of-place.ensures ∙ s.placed in
-    let here : 0 < borrowed_at (lane_of held.lane p.client_lanes).messages c.place_of-place.result 0 =
-    subst (λ r. 0 < borrowed_at (lane_of held.lane p.client_lanes).messages r 0) (sym place) f.some in
+    let at = goal.at.end_borrow_in-requires-clause-counted g c in
+    let f = found g at.In-Some in
+    let place = placed g at.After-place_of-place f (serving g at.After-server f) in
+    let here = subst (λ r. 0 < borrowed_at (lane_of held.lane p.client_lanes).messages r 0) (sym place) f.some in
     lane_asked c.self.inside.client_lanes.items held.lane f.lane
     (λ l. (0 < borrowed_at l.messages c.place_of-place.result 0) × (0 < slice_index l.messages.held held.slot))
     (λ l. (0 < borrowed_at l.messages c.place_of-place.result 0) × (0 < slice_index l.messages.held held.slot)) (λ l h. h) (here, f.slot)
@@ -66,12 +75,9 @@ pub clear_mark-requires : goal.clear_mark-requires
 clear_mark-requires g c =
     let p = parts_of c.self.inside in
     let held = c.in-Some.held in
-    let f = active_found p c.self.invariant.sound c.args.self.now c.id.inside.number c.args.id.now c.self.view_is c.id.view_is c.requires held (sym c.get.ensures ∙ c.in-Some.is) in
-    let servers = c.as_slice.result.now in
-    let are : p.servers ≡ map server_part servers = ap (map server_part) (sym c.as_slice.ensures.value) in
-    let s = server_of_active p c.self.invariant.sound servers are c.id.inside.number held f c.server.result c.server.ensures in
-    let place : c.place_of-place.result ≡ server_place p f.server =
-    of_found (λ (x : ServerPort _). x.port.id == c.server.result) servers s.index s.it s.found s.at (λ _ x. c.place_of-place.result ≡ x.port.place) c.place_of-place.ensures ∙ s.placed in
+    let at = goal.at.clear_mark-requires g c in
+    let f = found g at.In-Some in
+    let place = placed g at.After-place_of-place f (serving g at.After-server f) in
     marks_asked p c.self.invariant.sound c.self.inside.waiting.items refl c.id.inside.number held f c.place_of-place.result place
 
 -- the parts after it
@@ -81,12 +87,9 @@ parts : (g : _) (c : goal.After-clear_mark g) → (f : ActiveFound (parts_of c.s
 parts g c =
     let p = parts_of c.self.inside in
     let held = c.in-Some.held in
-    let f = active_found p c.self.invariant.sound c.args.self.now c.id.inside.number c.args.id.now c.self.view_is c.id.view_is c.requires held (sym c.get.ensures ∙ c.in-Some.is) in
-    let servers = c.as_slice.result.now in
-    let are : p.servers ≡ map server_part servers = ap (map server_part) (sym c.as_slice.ensures.value) in
-    let s = server_of_active p c.self.invariant.sound servers are c.id.inside.number held f c.server.result c.server.ensures in
-    let place : c.place_of-place.result ≡ server_place p f.server =
-    of_found (λ (x : ServerPort _). x.port.id == c.server.result) servers s.index s.it s.found s.at (λ _ x. c.place_of-place.result ≡ x.port.place) c.place_of-place.ensures ∙ s.placed in (
+    let at = goal.at.returns g c in
+    let f = found g at.In-Some in
+    let place = placed g at.After-place_of-place f (serving g at.After-server f) in (
       f,
       active_parts p c.self.invariant.sound c.id.inside.number held f c.place_of-place.result place (map lane_part c.end_borrow_in.new.lanes.items) (map marks_of c.clear_mark.new.waiting.items) c.remove.new.self
           (lanes_then c.self.inside.client_lanes.items held.lane f.lane c.end_borrow_in.new.lanes.items (λ m. borrow_ended m c.place_of-place.result 0 held.slot) c.end_borrow_in.ensures)
