@@ -10,12 +10,13 @@ use Rattle.rr_parts.specs.declared.port.ServerPort.{ServerPort}
 use Rattle.rr_parts.specs.Delivering.{HasQueue, delivered}
 use Rattle.rr_parts.specs.Ending.{IsAskedPlace, IsLoanEnded, found_under, with_answer_ended}
 use Rattle.rr_core.specs.Inside.{parts_of}
+use Rattle.rr_parts.specs.Loaning.{with_messages}
 use Rattle.rr_parts.specs.Ports.{server_part, lane_part}
 use Rattle.rr_parts.specs.Releasing.{given_back}
-use Rattle.rr_parts.specs.Sound.{IsSound, empty_hand}
+use Rattle.rr_parts.specs.Sound.{response_note, IsSound, empty_hand}
 use Rattle.rr_parts.specs.Views.{lane_of, state_of, no_response, response_at}
 use Rattle.rr_core_laws.proofs.Adding.{with_servers}
-use Rattle.rr_core_laws.proofs.AnswerFields.{server_sending, answer_found, has_loan}
+use Rattle.rr_core_laws.proofs.AnswerFields.{AnswerFound, Sending, server_sending, answer_found, has_loan}
 use Rattle.rr_core_laws.proofs.AnswerSent.{has_capacity, sent_parts}
 use Rattle.rr_core_laws.proofs.Connected.{of_kind, of_kind_there}
 use Rattle.rr_core_laws.proofs.Places.{map-set_one}
@@ -29,12 +30,52 @@ use Rattle.rr_laws.proofs.Sending.{response_put_reached}
 use Rattle.rr_laws.proofs.Leaving.{after_release_reached}
 use Rattle.rr_laws.proofs.Opening.{open_response_mut}
 use Rattle.rr_core.proofs.state.Core.deliver_response.Goals as goal
+use Rattle.rr_core.proofs.state.Core.deliver_response.Goals.{In-Some, After-note_in-note, After-deliver_in}
+
+-- the handle is found in its seat
+found : (g : _) (c : In-Some g) → AnswerFound (parts_of c.self.inside) c.id.inside.number c.in-Some.held
+found g c =
+    answer_found (parts_of c.self.inside) c.self.invariant.sound c.args.self.now c.id.inside.number c.args.id.now c.self.view_is c.id.view_is
+    (loaned_kind c.args.self.now c.args.id.now c.requires) c.in-Some.held (sym c.get.ensures ∙ c.in-Some.is)
+
+-- and who sends from its lane
+sending : (g : _) (c : In-Some g) → Sending c.self.inside.servers.items c.in-Some.held.lane
+sending g c =
+    server_sending (parts_of c.self.inside) c.self.invariant.sound c.self.inside.servers.items refl c.in-Some.held.lane (found g c).lane
+
+-- its note is the one that is kept
+noted : (g : _) (c : After-note_in-note g) → AnswerFound (parts_of c.self.inside) c.id.inside.number c.in-Some.held
+    → response_note (parts_of c.self.inside) c.in-Some.held.lane c.in-Some.held.slot ≡ c.note_in-note.result
+noted g c f =
+    note_is c.self.inside.server_lanes.items c.as_slice.result.now c.in-Some.held.lane c.in-Some.held.slot c.note_in-note.result no_response
+    f.lane c.as_slice.ensures.value c.note_in-note.ensures
+
+-- its lane after it was delivered, in which its slot is held as it was
+delivered_then : (g : _) (c : After-deliver_in g) → AnswerFound (parts_of c.self.inside) c.id.inside.number c.in-Some.held
+    → Sending c.self.inside.servers.items c.in-Some.held.lane
+    → (map lane_part c.deliver_in.new.lanes.items
+    ≡ slice_set (parts_of c.self.inside).server_lanes c.in-Some.held.lane
+    (with_messages (lane_of c.in-Some.held.lane (parts_of c.self.inside).server_lanes)
+    (delivered (lane_of c.in-Some.held.lane (parts_of c.self.inside).server_lanes).messages
+    c.self.inside.limits.enable_safe_overflow_for_responses c.note_in-note.result.channel c.in-Some.held.slot c.reached_place-reach.result)))
+    × (c.in-Some.held.lane < length (map lane_part c.deliver_in.new.lanes.items))
+    × (0 < slice_index (lane_of c.in-Some.held.lane (map lane_part c.deliver_in.new.lanes.items)).messages.held c.in-Some.held.slot)
+delivered_then g c f s =
+    let held = c.in-Some.held in
+    let overflow = c.self.inside.limits.enable_safe_overflow_for_responses in
+    let channel = c.note_in-note.result.channel in
+    let reach = c.reached_place-reach.result in
+    let mid = lanes_then c.self.inside.server_lanes.items held.lane f.lane c.deliver_in.new.lanes.items
+    (λ m. delivered m overflow channel held.slot reach) c.deliver_in.ensures in
+    let then = held_then (parts_of c.self.inside) c.self.invariant.sound c.id.inside.number held f s.index (server_part s.it) s.there s.sends
+    overflow channel reach (map lane_part c.deliver_in.new.lanes.items) mid in
+    (mid, then.0, then.1)
 
 pub note_in-note-requires : goal.note_in-note-requires
 note_in-note-requires g c =
     let p = parts_of c.self.inside in
     let held = c.in-Some.held in
-    let f = answer_found p c.self.invariant.sound c.args.self.now c.id.inside.number c.args.id.now c.self.view_is c.id.view_is (loaned_kind c.args.self.now c.args.id.now c.requires) held (sym c.get.ensures ∙ c.in-Some.is) in
+    let f = found g (goal.at.note_in-note-requires g c).In-Some in
     subst (λ ls. IsSomeAnd (slice_get ls held.lane) (λ l. held.slot < length l.messages.held)) (sym c.as_slice.ensures.value)
     (lane_asked c.self.inside.server_lanes.items held.lane f.lane (λ l. held.slot < length l.messages.held) (λ l. held.slot < length l.messages.held) (λ l h. h)
     (held_within (lane_of held.lane p.server_lanes).messages.held held.slot f.slot))
@@ -46,10 +87,11 @@ pub deliver_in-requires-clause-queue : goal.deliver_in-requires-clause-queue
 deliver_in-requires-clause-queue g c =
     let p = parts_of c.self.inside in
     let held = c.in-Some.held in
-    let f = answer_found p c.self.invariant.sound c.args.self.now c.id.inside.number c.args.id.now c.self.view_is c.id.view_is (loaned_kind c.args.self.now c.args.id.now c.requires) held (sym c.get.ensures ∙ c.in-Some.is) in
-    let s = server_sending p c.self.invariant.sound c.self.inside.servers.items refl held.lane f.lane in
+    let at = goal.at.deliver_in-requires-clause-queue g c in
+    let f = found g at.In-Some in
+    let s = sending g at.In-Some in
     let note = c.note_in-note.result in
-    let noted = note_is c.self.inside.server_lanes.items c.as_slice.result.now held.lane held.slot note no_response f.lane c.as_slice.ensures.value c.note_in-note.ensures in
+    let noted = noted g at.After-note_in-note f in
     lane_asked c.self.inside.server_lanes.items held.lane f.lane (λ l. HasQueue l.messages note.channel c.reached_place-reach.result) (λ l. HasQueue l.messages note.channel c.reached_place-reach.result) (λ l h. h)
     (queue_asked p c.self.invariant.sound c.id.inside.number held f s.index (server_part s.it) s.there s.sends note noted c.reached_place-reach.result c.reached_place-reach.ensures)
 
@@ -57,8 +99,9 @@ pub deliver_in-requires-clause-capacity : goal.deliver_in-requires-clause-capaci
 deliver_in-requires-clause-capacity g c =
     let p = parts_of c.self.inside in
     let held = c.in-Some.held in
-    let f = answer_found p c.self.invariant.sound c.args.self.now c.id.inside.number c.args.id.now c.self.view_is c.id.view_is (loaned_kind c.args.self.now c.args.id.now c.requires) held (sym c.get.ensures ∙ c.in-Some.is) in
-    let s = server_sending p c.self.invariant.sound c.self.inside.servers.items refl held.lane f.lane in
+    let at = goal.at.deliver_in-requires-clause-capacity g c in
+    let f = found g at.In-Some in
+    let s = sending g at.In-Some in
     lane_asked c.self.inside.server_lanes.items held.lane f.lane (λ l. 0 < l.messages.capacity) (λ l. 0 < l.messages.capacity) (λ l h. h)
     (has_capacity p c.self.invariant.sound c.id.inside.number held f s.index (server_part s.it) s.there s.sends)
 
@@ -66,8 +109,9 @@ pub deliver_in-requires-clause-slot : goal.deliver_in-requires-clause-slot
 deliver_in-requires-clause-slot g c =
     let p = parts_of c.self.inside in
     let held = c.in-Some.held in
-    let f = answer_found p c.self.invariant.sound c.args.self.now c.id.inside.number c.args.id.now c.self.view_is c.id.view_is (loaned_kind c.args.self.now c.args.id.now c.requires) held (sym c.get.ensures ∙ c.in-Some.is) in
-    let s = server_sending p c.self.invariant.sound c.self.inside.servers.items refl held.lane f.lane in
+    let at = goal.at.deliver_in-requires-clause-slot g c in
+    let f = found g at.In-Some in
+    let s = sending g at.In-Some in
     lane_asked c.self.inside.server_lanes.items held.lane f.lane
     (λ l. (0 < slice_index l.messages.held held.slot) × (uses l.messages held.slot + 1 < 2 ^ 64)) (λ l. (0 < slice_index l.messages.held held.slot) × (uses l.messages held.slot + 1 < 2 ^ 64)) (λ l h. h)
     (slot_asked p c.self.invariant.sound c.id.inside.number held f s.index (server_part s.it) s.there s.sends)
@@ -76,20 +120,19 @@ pub give_back_in-requires : goal.give_back_in-requires
 give_back_in-requires g c =
     let p = parts_of c.self.inside in
     let held = c.in-Some.held in
-    let f = answer_found p c.self.invariant.sound c.args.self.now c.id.inside.number c.args.id.now c.self.view_is c.id.view_is (loaned_kind c.args.self.now c.args.id.now c.requires) held (sym c.get.ensures ∙ c.in-Some.is) in
-    let s = server_sending p c.self.invariant.sound c.self.inside.servers.items refl held.lane f.lane in
-    let overflow = c.self.inside.limits.enable_safe_overflow_for_responses in
-    let channel = c.note_in-note.result.channel in
-    let mid = lanes_then c.self.inside.server_lanes.items held.lane f.lane c.deliver_in.new.lanes.items (λ m. delivered m overflow channel held.slot c.reached_place-reach.result) c.deliver_in.ensures in
-    let then = held_then p c.self.invariant.sound c.id.inside.number held f s.index (server_part s.it) s.there s.sends overflow channel c.reached_place-reach.result (map lane_part c.deliver_in.new.lanes.items) mid in
-    lane_asked c.deliver_in.new.lanes.items held.lane then.0 (λ l. 0 < slice_index l.messages.held held.slot) (λ l. 0 < slice_index l.messages.held held.slot) (λ l h. h) then.1
+    let at = goal.at.give_back_in-requires g c in
+    let f = found g at.In-Some in
+    let s = sending g at.In-Some in
+    let then = delivered_then g at.After-deliver_in f s in
+    lane_asked c.deliver_in.new.lanes.items held.lane then.1 (λ l. 0 < slice_index l.messages.held held.slot) (λ l. 0 < slice_index l.messages.held held.slot) (λ l h. h) then.2
 
 pub end_answer-requires-clause-counted : goal.end_answer-requires-clause-counted
 end_answer-requires-clause-counted g c =
     let p = parts_of c.self.inside in
     let held = c.in-Some.held in
-    let f = answer_found p c.self.invariant.sound c.args.self.now c.id.inside.number c.args.id.now c.self.view_is c.id.view_is (loaned_kind c.args.self.now c.args.id.now c.requires) held (sym c.get.ensures ∙ c.in-Some.is) in
-    let s = server_sending p c.self.invariant.sound c.self.inside.servers.items refl held.lane f.lane in
+    let at = goal.at.end_answer-requires-clause-counted g c in
+    let f = found g at.In-Some in
+    let s = sending g at.In-Some in
     to_found (λ (x : ServerPort _). x.port.lane == held.lane) c.self.inside.servers.items s.index s.it s.found s.at (λ _ x. 0 < x.port.loans)
     (has_loan p c.self.invariant.sound c.id.inside.number held f s.index (server_part s.it) s.there s.sends)
 
@@ -99,13 +142,12 @@ after : (g : _) (c : goal.After-end_answer g) → let p = parts_of c.self.inside
 after g c =
     let p = parts_of c.self.inside in
     let held = c.in-Some.held in
-    let f = answer_found p c.self.invariant.sound c.args.self.now c.id.inside.number c.args.id.now c.self.view_is c.id.view_is (loaned_kind c.args.self.now c.args.id.now c.requires) held (sym c.get.ensures ∙ c.in-Some.is) in
-    let s = server_sending p c.self.invariant.sound c.self.inside.servers.items refl held.lane f.lane in
+    let at = goal.at.returns g c in
+    let f = found g at.In-Some in
+    let s = sending g at.In-Some in
     let note = c.note_in-note.result in
-    let noted = note_is c.self.inside.server_lanes.items c.as_slice.result.now held.lane held.slot note no_response f.lane c.as_slice.ensures.value c.note_in-note.ensures in
-    let overflow = c.self.inside.limits.enable_safe_overflow_for_responses in
-    let mid = lanes_then c.self.inside.server_lanes.items held.lane f.lane c.deliver_in.new.lanes.items (λ m. delivered m overflow note.channel held.slot c.reached_place-reach.result) c.deliver_in.ensures in
-    let then = held_then p c.self.invariant.sound c.id.inside.number held f s.index (server_part s.it) s.there s.sends overflow note.channel c.reached_place-reach.result (map lane_part c.deliver_in.new.lanes.items) mid in
+    let noted = noted g at.After-note_in-note f in
+    let then = delivered_then g at.After-deliver_in f s in
     let servers = of_found (λ (x : ServerPort _). x.port.lane == held.lane) c.self.inside.servers.items s.index s.it s.found s.at
     (λ i x. c.end_answer.new.servers.items ≡ slice_set c.self.inside.servers.items i (with_answer_ended x)) c.end_answer.ensures.servers in
     let table = of_found (λ (x : ServerPort _). x.port.lane == held.lane) c.self.inside.servers.items s.index s.it s.found s.at
@@ -115,8 +157,8 @@ after g c =
     sent_parts p c.self.invariant.sound c.id.inside.number held f s.index (server_part s.it) s.there s.sends note noted c.reached_place-reach.result c.reached_place-reach.ensures
     (map server_part c.end_answer.new.servers.items) (map lane_part c.deliver_in.new.lanes.items) (map lane_part c.give_back_in.new.lanes.items) c.end_answer.new.table
     (ap (map server_part) servers ∙ map-set_one server_part c.self.inside.servers.items s.index (with_answer_ended s.it))
-    mid
-    (lanes_then c.deliver_in.new.lanes.items held.lane then.0 c.give_back_in.new.lanes.items (λ m. given_back m held.slot) c.give_back_in.ensures)
+    then.0
+    (lanes_then c.deliver_in.new.lanes.items held.lane then.1 c.give_back_in.new.lanes.items (λ m. given_back m held.slot) c.give_back_in.ensures)
     table.0 asked (subst (λ n. IsLoanEnded note.active_request (found_under (unseated c.self.inside.table n) note.active_request table.0) (unseated c.self.inside.table n) c.end_answer.new.table) (sym c.id.view_is) table.2)
 
 pub unreachable-requires : goal.unreachable-requires
@@ -127,13 +169,14 @@ pub returns : goal.returns
 returns g c =
     let p = parts_of c.self.inside in
     let held = c.in-Some.held in
-    let found = sym c.get.ensures ∙ c.in-Some.is in
-    let f = answer_found p c.self.invariant.sound c.args.self.now c.id.inside.number c.args.id.now c.self.view_is c.id.view_is (loaned_kind c.args.self.now c.args.id.now c.requires) held found in
-    let s = server_sending p c.self.invariant.sound c.self.inside.servers.items refl held.lane f.lane in
-    let kind = of_kind p c.args.self.now c.id.inside.number c.args.id.now c.self.view_is c.id.view_is Kind.ResponseMut (λ e. cc) (λ e. cc) c.requires held found in
+    let seated = sym c.get.ensures ∙ c.in-Some.is in
+    let at = goal.at.returns g c in
+    let f = found g at.In-Some in
+    let s = sending g at.In-Some in
+    let kind = of_kind p c.args.self.now c.id.inside.number c.args.id.now c.self.view_is c.id.view_is Kind.ResponseMut (λ e. cc) (λ e. cc) c.requires held seated in
     let q = with_servers p (map server_part c.end_answer.new.servers.items) (map lane_part c.give_back_in.new.lanes.items) c.end_answer.new.table c.self.inside.next in
     of_sent p c.self.invariant.sound c.id.inside.number held f s.index (server_part s.it) s.there s.sends
-    (λ t j _ message. state_of q ≡ after_release (record t { responses = with_response_put t message }) j) found kind (after g c).1
+    (λ t j _ message. state_of q ≡ after_release (record t { responses = with_response_put t message }) j) seated kind (after g c).1
     c.args.self.now c.args.id.now c.self.view_is c.id.view_is
 
 pub invariant_of-self : goal.invariant_of-self
