@@ -6,10 +6,23 @@ use Rattle.std.specs.Prelude.{slice_index_or}
 use Rattle.std.proofs.lemmas.Bool.{false≢true}
 use Rattle.std.proofs.lemmas.List.{length-map}
 use Rattle.rr_parts.specs.Receiving.{IsLookedThrough, queue_from, borrowed_from}
+use Rattle.rr_parts.specs.Views.{lane_of}
 use Rattle.rr_core_laws.proofs.Asking.{lane_is}
 use Rattle.rr_core_laws.proofs.NextSender.{looked_at_none, looked_at_empty, looked_at_blocked, empty_of, some_of}
 use Rattle.rr_core.proofs.receive.next_sender.Goals as goal
-use Rattle.rr_core.proofs.receive.next_sender.Goals.{then-has_entries+else-borrowed-most, else-has_entries}
+use Rattle.rr_core.proofs.receive.next_sender.Goals.{In-loop-lane, After-index, then-has_entries+else-borrowed-most, else-has_entries}
+
+-- the lane is there
+within : (g : _) (c : In-loop-lane g) → c.loop-lane.lane < length c.args.lanes.now.items
+within g c = omega (arith, c.loop-lane-test.true, c.len-lane-end.ensures, c.args.lanes.now.ok.0)
+
+-- and is the one that is read
+lane_was : (g : _) (c : After-index g) → c.loop-lane.lane < length c.args.lanes.now.items
+    → lane_of c.loop-lane.lane (map lane_part c.args.lanes.now.items) ≡ lane_part c.index.result.now
+lane_was g c there = lane_is c.args.lanes.now.items c.loop-lane.lane c.index.result.now there c.index.ensures
+
+pub index-requires : goal.index-requires
+index-requires g c = omega (arith, within g c, c.args.lanes.now.ok.0)
 
 pub loop-lane-init : goal.loop-lane-init
 loop-lane-init g c = looked_at_none (map lane_part c.args.lanes.now.items) c.args.place c.args.channel c.args.most
@@ -17,22 +30,25 @@ loop-lane-init g c = looked_at_none (map lane_part c.args.lanes.now.items) c.arg
 pub has_entries-requires-clause-receiver : goal.has_entries-requires-clause-receiver
 has_entries-requires-clause-receiver g c =
     let lanes = c.args.lanes.now.items in
-    let within : c.loop-lane.lane < length lanes = omega (arith, c.loop-lane-test.true, c.len-lane-end.ensures, c.args.lanes.now.ok.0) in
-    let is = lane_is lanes c.loop-lane.lane c.index.result.now within c.index.ensures in
+    let at = goal.at.has_entries-requires-clause-receiver g c in
+    let within = within g at.In-loop-lane in
+    let is = lane_was g at.After-index within in
     omega (arith, (c.requires c.loop-lane.lane (omega (arith, within, length-map lanes lane_part))).0, ap (λ (l : Lane _ _ _). length l.messages.queues) is)
 
 pub has_entries-requires-clause-channel : goal.has_entries-requires-clause-channel
 has_entries-requires-clause-channel g c =
     let lanes = c.args.lanes.now.items in
-    let within : c.loop-lane.lane < length lanes = omega (arith, c.loop-lane-test.true, c.len-lane-end.ensures, c.args.lanes.now.ok.0) in
-    let is = lane_is lanes c.loop-lane.lane c.index.result.now within c.index.ensures in
+    let at = goal.at.has_entries-requires-clause-channel g c in
+    let within = within g at.In-loop-lane in
+    let is = lane_was g at.After-index within in
     omega (arith, (c.requires c.loop-lane.lane (omega (arith, within, length-map lanes lane_part))).1, ap (λ (l : Lane _ _ _). length (slice_index_or l.messages.queues c.args.place [])) is)
 
 pub loop-lane-preserved : goal.loop-lane-preserved
 loop-lane-preserved g c =
     let lanes = c.args.lanes.now.items in
-    let within : c.loop-lane.lane < length lanes = omega (arith, c.loop-lane-test.true, c.len-lane-end.ensures, c.args.lanes.now.ok.0) in
-    let is = lane_is lanes c.loop-lane.lane c.index.result.now within c.index.ensures in
+    let at = goal.at.loop-lane-preserved g c in
+    let within = within g at.In-loop-lane in
+    let is = lane_was g at.After-index within in
     let ls = map lane_part lanes in
     let queue : queue_from ls c.args.place c.args.channel c.loop-lane.lane ≡ queue_at c.index.result.now.messages c.args.place c.args.channel = ap (λ (l : Lane _ _ _). queue_at l.messages c.args.place c.args.channel) is in
     elim c.if-has_entries.branch [

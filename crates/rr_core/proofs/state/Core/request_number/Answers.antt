@@ -1,30 +1,39 @@
 use Rattle.std.proofs.Common.{◌≡◌, ◌<◌, length, sym, ap, ◌∙◌, arith}
 use Rattle.std.proofs.lemmas.List.{length-map}
+use Rattle.rr_hub.specs.declared.kind.Kind.{Kind}
 use Rattle.rr_parts.specs.declared.note.RequestNote.{RequestNote}
 use Rattle.rr_core.specs.Inside.{parts_of}
 use Rattle.rr_parts.specs.Ports.{lane_part}
+use Rattle.rr_parts.specs.Kinds.{stage_kind}
 use Rattle.rr_parts.specs.Sound.{empty_hand}
+use Rattle.rr_parts.specs.Views.{lane_of}
 use Rattle.rr_core_laws.proofs.Shown.{lane_read, request_spot}
 use Rattle.rr_core_laws.proofs.Connected.{is_active, active_there, of_active, active_has_request}
 use Rattle.rr_core_laws.proofs.Alive.{note_read}
 use Rattle.rr_core.proofs.state.Core.request_number.Goals as goal
+use Rattle.rr_core.proofs.state.Core.request_number.Goals.{In-Some}
+
+-- the message of the handle has a lane and a slot
+spot : (g : _) (c : In-Some g) → (stage_kind c.in-Some.held.stage ≡ Kind.ActiveRequest)
+    × (c.in-Some.held.lane < length c.self.inside.client_lanes.items)
+    × (c.in-Some.held.lane < length (parts_of c.self.inside).client_lanes)
+    × (c.in-Some.held.slot < length (lane_of c.in-Some.held.lane (parts_of c.self.inside).client_lanes).messages.held)
+spot g c =
+    let kind = is_active (parts_of c.self.inside) c.args.self.now c.id.inside.number c.args.id.now c.self.view_is c.id.view_is c.in-Some.held (sym c.get.ensures ∙ c.in-Some.is) c.requires in
+    let spot = request_spot (parts_of c.self.inside) empty_hand c.self.invariant.sound.counted c.id.inside.number c.in-Some.held
+    (sym c.get.ensures ∙ c.in-Some.is) (active_has_request _ kind) in
+    let within : c.in-Some.held.lane < length c.self.inside.client_lanes.items = omega (arith, spot.0, length-map c.self.inside.client_lanes.items lane_part) in
+    (kind, within, spot.0, spot.1)
 
 pub index-requires : goal.index-requires
 index-requires g c =
-    let p = parts_of c.self.inside in
-    let found = sym c.get.ensures ∙ c.in-Some.is in
-    let kind = is_active p c.args.self.now c.id.inside.number c.args.id.now c.self.view_is c.id.view_is c.in-Some.held found c.requires in
-    let spot = request_spot p empty_hand c.self.invariant.sound.counted c.id.inside.number c.in-Some.held found (active_has_request _ kind) in
-    omega (arith, spot.0, length-map c.self.inside.client_lanes.items lane_part, c.self.inside.client_lanes.ok.0)
+    let spot = spot g (goal.at.index-requires g c).In-Some in
+    omega (arith, spot.1, c.self.inside.client_lanes.ok.0)
 
 pub note-requires : goal.note-requires
 note-requires g c =
-    let p = parts_of c.self.inside in
-    let found = sym c.get.ensures ∙ c.in-Some.is in
-    let kind = is_active p c.args.self.now c.id.inside.number c.args.id.now c.self.view_is c.id.view_is c.in-Some.held found c.requires in
-    let spot = request_spot p empty_hand c.self.invariant.sound.counted c.id.inside.number c.in-Some.held found (active_has_request _ kind) in
-    let within : c.in-Some.held.lane < length c.self.inside.client_lanes.items = omega (arith, spot.0, length-map c.self.inside.client_lanes.items lane_part) in
-    omega (arith, spot.1, ap (λ l. length l.messages.held) (lane_read c.self.inside.client_lanes.items c.in-Some.held.lane c.index.result.now within c.index.ensures))
+    let spot = spot g (goal.at.note-requires g c).In-Some in
+    omega (arith, spot.3, ap (λ l. length l.messages.held) (lane_read c.self.inside.client_lanes.items c.in-Some.held.lane c.index.result.now spot.1 c.index.ensures))
 
 pub unreachable-requires : goal.unreachable-requires
 unreachable-requires g c =
@@ -34,9 +43,7 @@ pub returns : goal.returns
 returns g c =
     let p = parts_of c.self.inside in
     let found = sym c.get.ensures ∙ c.in-Some.is in
-    let kind = is_active p c.args.self.now c.id.inside.number c.args.id.now c.self.view_is c.id.view_is c.in-Some.held found c.requires in
-    let spot = request_spot p empty_hand c.self.invariant.sound.counted c.id.inside.number c.in-Some.held found (active_has_request _ kind) in
-    let within : c.in-Some.held.lane < length c.self.inside.client_lanes.items = omega (arith, spot.0, length-map c.self.inside.client_lanes.items lane_part) in
-    let note = note_read c.self.inside.client_lanes.items c.in-Some.held.lane c.index.result.now within c.index.ensures c.in-Some.held.slot c.note.result c.note.ensures in
-    of_active p c.args.self.now c.id.inside.number c.args.id.now c.self.view_is c.id.view_is c.in-Some.held found (λ number. c.note.result.number ≡ number) kind
+    let spot = spot g (goal.at.returns g c).In-Some in
+    let note = note_read c.self.inside.client_lanes.items c.in-Some.held.lane c.index.result.now spot.1 c.index.ensures c.in-Some.held.slot c.note.result c.note.ensures in
+    of_active p c.args.self.now c.id.inside.number c.args.id.now c.self.view_is c.id.view_is c.in-Some.held found (λ number. c.note.result.number ≡ number) spot.0
     (ap (λ (n : RequestNote). n.number) (sym note))

@@ -1,26 +1,34 @@
-use Rattle.std.proofs.Common.{◌<◌, length, sym, ap, ◌∙◌, arith}
+use Rattle.std.proofs.Common.{◌≡◌, true, ◌<◌, length, sym, ap, ◌∙◌, arith}
 use Rattle.std.proofs.lemmas.List.{length-map}
 use Rattle.rr_core.specs.Inside.{parts_of}
 use Rattle.rr_parts.specs.Ports.{lane_part}
-use Rattle.rr_parts.specs.Sound.{empty_hand}
+use Rattle.rr_parts.specs.Sound.{empty_hand, is_of_response}
+use Rattle.rr_parts.specs.Views.{lane_of}
 use Rattle.rr_core_laws.proofs.Shown.{lane_read, content_read, response_there, is_response, of_response, response_spot}
 use Rattle.rr_core.proofs.state.Core.response_body.Goals as goal
+use Rattle.rr_core.proofs.state.Core.response_body.Goals.{In-Some}
+
+-- the message of the handle has a lane and a slot
+spot : (g : _) (c : In-Some g) → (is_of_response c.in-Some.held.stage ≡ true)
+    × (c.in-Some.held.lane < length c.self.inside.server_lanes.items)
+    × (c.in-Some.held.lane < length (parts_of c.self.inside).server_lanes)
+    × (c.in-Some.held.slot < length (lane_of c.in-Some.held.lane (parts_of c.self.inside).server_lanes).messages.held)
+spot g c =
+    let kind = is_response (parts_of c.self.inside) c.args.self.now c.id.inside.number c.args.id.now c.self.view_is c.id.view_is c.in-Some.held (sym c.get.ensures ∙ c.in-Some.is) c.requires in
+    let spot = response_spot (parts_of c.self.inside) empty_hand c.self.invariant.sound.counted c.id.inside.number c.in-Some.held
+    (sym c.get.ensures ∙ c.in-Some.is) kind in
+    let within : c.in-Some.held.lane < length c.self.inside.server_lanes.items = omega (arith, spot.0, length-map c.self.inside.server_lanes.items lane_part) in
+    (kind, within, spot.0, spot.1)
 
 pub index-requires : goal.index-requires
 index-requires g c =
-    let p = parts_of c.self.inside in
-    let found = sym c.get.ensures ∙ c.in-Some.is in
-    let is = is_response p c.args.self.now c.id.inside.number c.args.id.now c.self.view_is c.id.view_is c.in-Some.held found c.requires in
-    omega (arith, (response_spot p empty_hand c.self.invariant.sound.counted c.id.inside.number c.in-Some.held found is).0, length-map c.self.inside.server_lanes.items lane_part, c.self.inside.server_lanes.ok.0)
+    let spot = spot g (goal.at.index-requires g c).In-Some in
+    omega (arith, spot.1, c.self.inside.server_lanes.ok.0)
 
 pub body-requires : goal.body-requires
 body-requires g c =
-    let p = parts_of c.self.inside in
-    let found = sym c.get.ensures ∙ c.in-Some.is in
-    let is = is_response p c.args.self.now c.id.inside.number c.args.id.now c.self.view_is c.id.view_is c.in-Some.held found c.requires in
-    let spot = response_spot p empty_hand c.self.invariant.sound.counted c.id.inside.number c.in-Some.held found is in
-    let within : c.in-Some.held.lane < length c.self.inside.server_lanes.items = omega (arith, spot.0, length-map c.self.inside.server_lanes.items lane_part) in
-    omega (arith, spot.1, ap (λ l. length l.messages.held) (lane_read c.self.inside.server_lanes.items c.in-Some.held.lane c.index.result.now within c.index.ensures))
+    let spot = spot g (goal.at.body-requires g c).In-Some in
+    omega (arith, spot.3, ap (λ l. length l.messages.held) (lane_read c.self.inside.server_lanes.items c.in-Some.held.lane c.index.result.now spot.1 c.index.ensures))
 
 pub unreachable-requires : goal.unreachable-requires
 unreachable-requires g c =
@@ -30,18 +38,14 @@ pub returns-clause-asked : goal.returns-clause-asked
 returns-clause-asked g c =
     let p = parts_of c.self.inside in
     let found = sym c.get.ensures ∙ c.in-Some.is in
-    let is = is_response p c.args.self.now c.id.inside.number c.args.id.now c.self.view_is c.id.view_is c.in-Some.held found c.requires in
-    let spot = response_spot p empty_hand c.self.invariant.sound.counted c.id.inside.number c.in-Some.held found is in
-    let within : c.in-Some.held.lane < length c.self.inside.server_lanes.items = omega (arith, spot.0, length-map c.self.inside.server_lanes.items lane_part) in
-    of_response p c.args.self.now c.id.inside.number c.args.id.now c.self.view_is c.id.view_is c.in-Some.held found _ is
-    (ap (λ w. w.asked_len) (sym (content_read c.self.inside.server_lanes.items c.in-Some.held.lane c.index.result.now within c.index.ensures c.in-Some.held.slot _ c.body.ensures)))
+    let spot = spot g (goal.at.returns-clause-asked g c).In-Some in
+    of_response p c.args.self.now c.id.inside.number c.args.id.now c.self.view_is c.id.view_is c.in-Some.held found _ spot.0
+    (ap (λ w. w.asked_len) (sym (content_read c.self.inside.server_lanes.items c.in-Some.held.lane c.index.result.now spot.1 c.index.ensures c.in-Some.held.slot _ c.body.ensures)))
 
 pub returns-clause-elements : goal.returns-clause-elements
 returns-clause-elements g c =
     let p = parts_of c.self.inside in
     let found = sym c.get.ensures ∙ c.in-Some.is in
-    let is = is_response p c.args.self.now c.id.inside.number c.args.id.now c.self.view_is c.id.view_is c.in-Some.held found c.requires in
-    let spot = response_spot p empty_hand c.self.invariant.sound.counted c.id.inside.number c.in-Some.held found is in
-    let within : c.in-Some.held.lane < length c.self.inside.server_lanes.items = omega (arith, spot.0, length-map c.self.inside.server_lanes.items lane_part) in
-    of_response p c.args.self.now c.id.inside.number c.args.id.now c.self.view_is c.id.view_is c.in-Some.held found _ is
-    (ap (λ w. w.elements) (sym (content_read c.self.inside.server_lanes.items c.in-Some.held.lane c.index.result.now within c.index.ensures c.in-Some.held.slot _ c.body.ensures)))
+    let spot = spot g (goal.at.returns-clause-elements g c).In-Some in
+    of_response p c.args.self.now c.id.inside.number c.args.id.now c.self.view_is c.id.view_is c.in-Some.held found _ spot.0
+    (ap (λ w. w.elements) (sym (content_read c.self.inside.server_lanes.items c.in-Some.held.lane c.index.result.now spot.1 c.index.ensures c.in-Some.held.slot _ c.body.ensures)))
