@@ -33,7 +33,12 @@ has_entries-requires-clause-receiver g c =
     let at = goal.at.has_entries-requires-clause-receiver g c in
     let within = within g at.In-loop-lane in
     let is = lane_was g at.After-index within in
-    omega (arith, (c.requires c.loop-lane.lane (omega (arith, within, length-map lanes lane_part))).0, ap (λ (l : Lane _ _ _). length l.messages.queues) is)
+    omega (
+      arith,
+      (c.requires c.loop-lane.lane (omega (arith, within, length-map lanes lane_part))).0,
+      ap
+          (λ (l : Lane _ _ _). length l.messages.queues) is,
+    )
 
 pub has_entries-requires-clause-channel : goal.has_entries-requires-clause-channel
 has_entries-requires-clause-channel g c =
@@ -41,7 +46,12 @@ has_entries-requires-clause-channel g c =
     let at = goal.at.has_entries-requires-clause-channel g c in
     let within = within g at.In-loop-lane in
     let is = lane_was g at.After-index within in
-    omega (arith, (c.requires c.loop-lane.lane (omega (arith, within, length-map lanes lane_part))).1, ap (λ (l : Lane _ _ _). length (slice_index_or l.messages.queues c.args.place [])) is)
+    omega (
+      arith,
+      (c.requires c.loop-lane.lane (omega (arith, within, length-map lanes lane_part))).1,
+      ap
+          (λ (l : Lane _ _ _). length (slice_index_or l.messages.queues c.args.place [])) is,
+    )
 
 pub loop-lane-preserved : goal.loop-lane-preserved
 loop-lane-preserved g c =
@@ -50,30 +60,60 @@ loop-lane-preserved g c =
     let within = within g at.In-loop-lane in
     let is = lane_was g at.After-index within in
     let ls = map lane_part lanes in
-    let queue : queue_from ls c.args.place c.args.channel c.loop-lane.lane ≡ queue_at c.index.result.now.messages c.args.place c.args.channel = ap (λ (l : Lane _ _ _). queue_at l.messages c.args.place c.args.channel) is in
+    let queue : queue_from ls c.args.place c.args.channel c.loop-lane.lane ≡ queue_at c.index.result.now.messages c.args.place
+    c.args.channel = ap (λ (l : Lane _ _ _). queue_at l.messages c.args.place c.args.channel) is in
     elim c.if-has_entries.branch [
       | then-has_entries+else-borrowed-most w ↦
           let second = lane_is lanes c.loop-lane.lane w.index-then-has_entries.result.now within w.index-then-has_entries.ensures in
           let full : c.args.most ≤ borrowed_from ls c.args.place c.args.channel c.loop-lane.lane =
-          omega (arith, w.if-borrowed-most.false, w.borrowed.ensures, ap (λ (l : Lane _ _ _). borrowed_at l.messages c.args.place c.args.channel) second) in
-          let some : 0 < length (queue_at c.index.result.now.messages c.args.place c.args.channel) = c.has_entries.ensures.0 w.if-has_entries.true in
+          omega (
+            arith,
+            w.if-borrowed-most.false,
+            w.borrowed.ensures,
+            ap
+                (λ (l : Lane _ _ _). borrowed_at l.messages c.args.place c.args.channel) second,
+          ) in
+          let some : 0 < length (queue_at c.index.result.now.messages c.args.place c.args.channel) = c.has_entries.ensures.0
+          w.if-has_entries.true in
           subst (IsLookedThrough ls c.args.place c.args.channel c.args.most (c.loop-lane.lane + 1)) (sym w.is_blocked-is)
-          (looked_at_blocked ls c.args.place c.args.channel c.args.most c.loop-lane.lane c.loop-lane.is_blocked c.loop-lane.invariant full (some_of (queue_from ls c.args.place c.args.channel c.loop-lane.lane) (omega (arith, some, ap length queue))))
+          (looked_at_blocked ls c.args.place c.args.channel c.args.most c.loop-lane.lane c.loop-lane.is_blocked c.loop-lane.invariant full
+          (some_of (queue_from ls c.args.place c.args.channel c.loop-lane.lane) (omega (arith, some, ap length queue))))
       | else-has_entries w ↦
-          let none : queue_at c.index.result.now.messages c.args.place c.args.channel ≡ [] = empty_of _ (λ h. false≢true (sym w.if-has_entries.false ∙ c.has_entries.ensures.1 h)) in
+          let none : queue_at c.index.result.now.messages c.args.place c.args.channel ≡ [] = empty_of _
+          (λ h. false≢true (sym w.if-has_entries.false ∙ c.has_entries.ensures.1 h)) in
           subst (IsLookedThrough ls c.args.place c.args.channel c.args.most (c.loop-lane.lane + 1)) (sym w.is_blocked-is)
-          (looked_at_empty ls c.args.place c.args.channel c.args.most c.loop-lane.lane c.loop-lane.is_blocked c.loop-lane.invariant (queue ∙ none))
+          (looked_at_empty ls c.args.place c.args.channel c.args.most c.loop-lane.lane c.loop-lane.is_blocked c.loop-lane.invariant
+          (queue ∙ none))
     ]
 
 pub returns-then-is_blocked : goal.returns-then-is_blocked
 returns-then-is_blocked g c =
     let lanes = c.args.lanes.now.items in
-    let all : length (map lane_part lanes) ≤ c.loop-lane.lane = omega (arith, c.loop-lane-test.false, c.len-lane-end.ensures, c.args.lanes.now.ok.0, length-map lanes lane_part) in
-    let b = c.loop-lane.invariant.blocked c.if-is_blocked.true in
-    ((λ l h room. c.loop-lane.invariant.passed l (omega (arith, h, all)) room), (b.0, omega (arith, b.1, c.loop-lane.auto.lane-end, c.len-lane-end.ensures, c.args.lanes.now.ok.0, length-map lanes lane_part), b.2, b.3))
+    let all : length (map lane_part lanes) ≤ c.loop-lane.lane = omega (
+      arith,
+      c.loop-lane-test.false,
+      c.len-lane-end.ensures,
+      c.args.lanes.now.ok.0,
+      length-map lanes lane_part,
+    ) in
+    let b = c.loop-lane.invariant.blocked c.if-is_blocked.true in (
+      (λ l h room. c.loop-lane.invariant.passed l (omega (arith, h, all)) room),
+      (
+        b.0,
+        omega (arith, b.1, c.loop-lane.auto.lane-end, c.len-lane-end.ensures, c.args.lanes.now.ok.0, length-map lanes lane_part),
+        b.2,
+        b.3,
+      ),
+    )
 
 pub returns : goal.returns
 returns g c l h =
     let lanes = c.args.lanes.now.items in
-    let all : length (map lane_part lanes) ≤ c.loop-lane.lane = omega (arith, c.loop-lane-test.false, c.len-lane-end.ensures, c.args.lanes.now.ok.0, length-map lanes lane_part) in
+    let all : length (map lane_part lanes) ≤ c.loop-lane.lane = omega (
+      arith,
+      c.loop-lane-test.false,
+      c.len-lane-end.ensures,
+      c.args.lanes.now.ok.0,
+      length-map lanes lane_part,
+    ) in
     c.loop-lane.invariant.clear c.if-is_blocked.false l (omega (arith, h, all))

@@ -65,7 +65,12 @@ borrowed-requires-clause-channel g c =
     let at = goal.at.borrowed-requires-clause-channel g c in
     let within = within g at.In-loop-lane in
     let is = lane_was g at.After-index within in
-    omega (arith, (c.loop-lane.invariant.reaches c.loop-lane.lane within).1, ap (λ (l : Lane _ _ _). length (slice_index_or l.messages.queues c.args.place [])) is)
+    omega (
+      arith,
+      (c.loop-lane.invariant.reaches c.loop-lane.lane within).1,
+      ap
+          (λ (l : Lane _ _ _). length (slice_index_or l.messages.queues c.args.place [])) is,
+    )
 
 pub skim_lane-requires-clause-receiver : goal.skim_lane-requires-clause-receiver
 skim_lane-requires-clause-receiver g c =
@@ -77,7 +82,12 @@ pub skim_lane-requires-clause-channel : goal.skim_lane-requires-clause-channel
 skim_lane-requires-clause-channel g c =
     let within = within g (goal.at.skim_lane-requires-clause-channel g c).In-loop-lane in
     let is = lane_lent g c within in
-    omega (arith, (c.loop-lane.invariant.reaches c.loop-lane.lane within).1, ap (λ (l : Lane _ _ _). length (slice_index_or l.messages.queues c.args.place [])) is)
+    omega (
+      arith,
+      (c.loop-lane.invariant.reaches c.loop-lane.lane within).1,
+      ap
+          (λ (l : Lane _ _ _). length (slice_index_or l.messages.queues c.args.place [])) is,
+    )
 
 pub loop-lane-preserved : goal.loop-lane-preserved
 loop-lane-preserved g c =
@@ -87,16 +97,22 @@ loop-lane-preserved g c =
     let at = goal.at.loop-lane-preserved g c in
     let within = within g at.In-loop-lane in
     let is = lane_was g at.After-index within in
-    let count : borrowed_from (map lane_part now) c.args.place 0 n ≡ c.borrowed.result = ap (λ (l : Lane _ _ _). borrowed_at l.messages c.args.place 0) is ∙ sym c.borrowed.ensures in
+    let count : borrowed_from (map lane_part now) c.args.place 0 n ≡ c.borrowed.result = ap
+    (λ (l : Lane _ _ _). borrowed_at l.messages c.args.place 0) is ∙ sym c.borrowed.ensures in
     elim c.if-borrowed-most.branch [
       | then-borrowed-most w ↦
           let here = lane_is now n w.index_mut.result.now (lanes_many now n within) w.index_mut.ensures.value in
-          subst (λ ls. IsSkimmedBelow c.args.table.now c.args.place c.args.most (n + 1) old ls) (sym (ap (λ (v : Vec _ _). map lane_part v.items) w.lanes-is ∙ map-set_one lane_part now n _))
-          (skimmed_lane c.args.table.now c.args.place c.args.most n old (map lane_part now) c.loop-lane.invariant within (omega (arith, count, w.if-borrowed-most.true)) (lane_part w.skim_lane.new.lane)
-          w.skim_lane.ensures.skimmed.0 (subst (λ l. SkimsLane c.args.table.now c.args.place w.skim_lane.ensures.skimmed.0 l (lane_part w.skim_lane.new.lane)) (sym here) w.skim_lane.ensures.skimmed.1) w.skim_lane.ensures.front)
+          subst (λ ls. IsSkimmedBelow c.args.table.now c.args.place c.args.most (n + 1) old ls)
+          (sym (ap (λ (v : Vec _ _). map lane_part v.items) w.lanes-is ∙ map-set_one lane_part now n _))
+          (skimmed_lane c.args.table.now c.args.place c.args.most n old (map lane_part now) c.loop-lane.invariant within
+          (omega (arith, count, w.if-borrowed-most.true)) (lane_part w.skim_lane.new.lane)
+          w.skim_lane.ensures.skimmed.0 (subst (λ l. SkimsLane c.args.table.now c.args.place w.skim_lane.ensures.skimmed.0 l
+          (lane_part w.skim_lane.new.lane)) (sym here) w.skim_lane.ensures.skimmed.1) w.skim_lane.ensures.front)
       | else-borrowed-most w ↦
-          subst (λ ls. IsSkimmedBelow c.args.table.now c.args.place c.args.most (n + 1) old ls) (sym (ap (λ (v : Vec _ _). map lane_part v.items) w.lanes-is))
-          (skimmed_full c.args.table.now c.args.place c.args.most n old (map lane_part now) c.loop-lane.invariant (omega (arith, count, w.if-borrowed-most.false)))
+          subst (λ ls. IsSkimmedBelow c.args.table.now c.args.place c.args.most (n + 1) old ls)
+          (sym (ap (λ (v : Vec _ _). map lane_part v.items) w.lanes-is))
+          (skimmed_full c.args.table.now c.args.place c.args.most n old (map lane_part now) c.loop-lane.invariant
+          (omega (arith, count, w.if-borrowed-most.false)))
     ]
 
 pub returns : goal.returns

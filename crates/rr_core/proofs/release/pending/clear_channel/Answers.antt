@@ -37,13 +37,23 @@ pub clear_queue-requires-clause-receiver : goal.clear_queue-requires-clause-rece
 clear_queue-requires-clause-receiver g c =
     let at = goal.at.clear_queue-requires-clause-receiver g c in
     let within = within g at.In-loop-lane in
-    omega (arith, (c.requires c.loop-lane.lane within).0, ap (λ (l : Lane _ _ _). length l.messages.queues) (lane_was g at.After-index_mut within))
+    omega (
+      arith,
+      (c.requires c.loop-lane.lane within).0,
+      ap (λ (l : Lane _ _ _). length l.messages.queues)
+          (lane_was g at.After-index_mut within),
+    )
 
 pub clear_queue-requires-clause-channel : goal.clear_queue-requires-clause-channel
 clear_queue-requires-clause-channel g c =
     let at = goal.at.clear_queue-requires-clause-channel g c in
     let within = within g at.In-loop-lane in
-    omega (arith, (c.requires c.loop-lane.lane within).1, ap (λ (l : Lane _ _ _). length (slice_index_or l.messages.queues c.args.place [])) (lane_was g at.After-index_mut within))
+    omega (
+      arith,
+      (c.requires c.loop-lane.lane within).1,
+      ap (λ (l : Lane _ _ _). length
+          (slice_index_or l.messages.queues c.args.place [])) (lane_was g at.After-index_mut within),
+    )
 
 pub loop-lane-preserved : goal.loop-lane-preserved
 loop-lane-preserved g c =
@@ -54,10 +64,13 @@ loop-lane-preserved g c =
     let within = within g at.In-loop-lane in
     let is = lane_lent g at.After-index_mut within in
     subst (λ ls. IsClearedBelow c.args.place c.args.channel (n + 1) lanes ls)
-    (sym (map-set_one lane_part now n _ ∙ ap (λ m. slice_set (map lane_part now) n (with_messages (lane_part c.index_mut.result.now) m)) c.clear_queue.ensures))
-    (cleared_more c.args.place c.args.channel lanes n (map lane_part now) c.loop-lane.invariant within (lane_part c.index_mut.result.now) is)
+    (sym (map-set_one lane_part now n _ ∙ ap (λ m. slice_set (map lane_part now) n (with_messages (lane_part c.index_mut.result.now) m))
+    c.clear_queue.ensures))
+    (cleared_more c.args.place c.args.channel lanes n (map lane_part now) c.loop-lane.invariant within
+    (lane_part c.index_mut.result.now) is)
 
 pub returns : goal.returns
 returns g c =
-    cleared_all c.args.place c.args.channel (map lane_part c.args.lanes.now.items) c.loop-lane.lane (map lane_part c.loop-lane.lanes.items) c.loop-lane.invariant
+    cleared_all c.args.place c.args.channel (map lane_part c.args.lanes.now.items) c.loop-lane.lane
+    (map lane_part c.loop-lane.lanes.items) c.loop-lane.invariant
     (omega (arith, c.loop-lane-test.false, c.len-lane-end.ensures, c.args.lanes.now.ok.0, length-map c.args.lanes.now.items lane_part))

@@ -17,7 +17,7 @@ found g c =
     let test = λ (x : ClientPort _). x.port.lane == c.args.lane in
     let items = c.args.clients.now.items in
     let is : position test items ≡ Some c.in-Some.index =
-        ap (position test) (sym c.as_slice.ensures.value) ∙ sym c.index_of_lane.ensures ∙ c.in-Some.is in
+    ap (position test) (sym c.as_slice.ensures.value) ∙ sym c.index_of_lane.ensures ∙ c.in-Some.is in
     let it = standing test items c.in-Some.index is in
     (is, slice_get_within items c.in-Some.index it.it it.at)
 
@@ -36,7 +36,7 @@ overflow_sub-client g c =
     let now = c.index_mut-client.result.now in
     let at = found g (goal.at.overflow_sub-client g c).In-Some in
     let some = of_found (λ (x : ClientPort _). x.port.lane == c.args.lane) items i now at.0
-        (slice_get-get_or items i now at.1 ∙ ap Some (sym c.index_mut-client.ensures.value)) (λ _ x. 0 < x.pendings) c.requires in
+    (slice_get-get_or items i now at.1 ∙ ap Some (sym c.index_mut-client.ensures.value)) (λ _ x. 0 < x.pendings) c.requires in
     omega (arith, some)
 
 pub returns : goal.returns
@@ -46,4 +46,5 @@ returns g c =
     let now = c.index_mut-client.result.now in
     let at = found g (goal.at.returns g c).In-Some in
     to_found (λ (x : ClientPort _). x.port.lane == c.args.lane) items i now at.0
-    (slice_get-get_or items i now at.1 ∙ ap Some (sym c.index_mut-client.ensures.value)) (λ i x. (_ ≡ x.port.place) × (_ ≡ slice_set items i (with_pending_ended x))) (refl, refl)
+    (slice_get-get_or items i now at.1 ∙ ap Some (sym c.index_mut-client.ensures.value))
+    (λ i x. (_ ≡ x.port.place) × (_ ≡ slice_set items i (with_pending_ended x))) (refl, refl)

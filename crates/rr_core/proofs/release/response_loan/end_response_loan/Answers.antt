@@ -17,7 +17,7 @@ found g c =
     let test = λ (x : ServerPort _). x.port.lane == c.args.lane in
     let items = c.args.servers.now.items in
     let is : position test items ≡ Some c.in-Some.index =
-        ap (position test) (sym c.as_slice.ensures.value) ∙ sym c.index_of_lane.ensures ∙ c.in-Some.is in
+    ap (position test) (sym c.as_slice.ensures.value) ∙ sym c.index_of_lane.ensures ∙ c.in-Some.is in
     let it = standing test items c.in-Some.index is in
     (is, slice_get_within items c.in-Some.index it.it it.at)
 
@@ -39,7 +39,7 @@ overflow_sub-index_mut g c =
     let now = c.index_mut.result.now in
     let at = found g (goal.at.overflow_sub-index_mut g c).In-Some in
     let some = of_found (λ (x : ServerPort _). x.port.lane == c.args.lane) items i now at.0
-        (slice_get-get_or items i now at.1 ∙ ap Some (sym c.index_mut.ensures.value)) (λ _ x. 0 < x.port.loans) c.requires in
+    (slice_get-get_or items i now at.1 ∙ ap Some (sym c.index_mut.ensures.value)) (λ _ x. 0 < x.port.loans) c.requires in
     omega (arith, some)
 
 pub returns-clause-place : goal.returns-clause-place

@@ -32,7 +32,9 @@ within g c there =
 pub returns-in_err-index_of : goal.returns-in_err-index_of
 returns-in_err-index_of g c =
     c.from_residual.ensures
-    ∙ sym (not_reached c.args.clients.now.items c.args.lanes.now.items c.args.table.now c.args.note (ap (position (λ (x : ClientPort _). x.port.id == c.args.note.client)) (sym c.as_slice.ensures.value) ∙ sym c.index_of.ensures ∙ c.in_err-index_of.was))
+    ∙ sym (not_reached c.args.clients.now.items c.args.lanes.now.items c.args.table.now c.args.note
+    (ap (position (λ (x : ClientPort _). x.port.id == c.args.note.client)) (sym c.as_slice.ensures.value) ∙ sym c.index_of.ensures
+    ∙ c.in_err-index_of.was))
 
 pub index-client-requires : goal.index-client-requires
 index-client-requires g c = omega (arith, (found g c).1, c.args.clients.now.ok.0)
@@ -50,7 +52,8 @@ returns-in_err-request g c =
     let found = found g at.In_ok-index_of in
     let within = within g at.After-index-client found.1 in
     c.from_residual-in_err-request.ensures
-    ∙ sym (reached_by clients lanes c.args.table.now c.args.note c.in_ok-index_of.field-0 c.index-client.result.now found.0 c.index-client.ensures c.index.result.now within c.index.ensures None (sym c.get_at.ensures ∙ c.in_err-request.was))
+    ∙ sym (reached_by clients lanes c.args.table.now c.args.note c.in_ok-index_of.field-0 c.index-client.result.now found.0
+    c.index-client.ensures c.index.result.now within c.index.ensures None (sym c.get_at.ensures ∙ c.in_err-request.was))
 
 pub returns-then-is_pending : goal.returns-then-is_pending
 returns-then-is_pending g c =
@@ -59,7 +62,8 @@ returns-then-is_pending g c =
     let at = goal.at.returns-then-is_pending g c in
     let found = found g at.In_ok-index_of in
     let within = within g at.After-index-client found.1 in
-    reached_pending clients lanes c.args.table.now c.args.note c.in_ok-index_of.field-0 c.index-client.result.now found.0 c.index-client.ensures c.index.result.now within c.index.ensures c.in_ok-request.request (sym c.get_at.ensures ∙ c.in_ok-request.was)
+    reached_pending clients lanes c.args.table.now c.args.note c.in_ok-index_of.field-0 c.index-client.result.now found.0
+    c.index-client.ensures c.index.result.now within c.index.ensures c.in_ok-request.request (sym c.get_at.ensures ∙ c.in_ok-request.was)
     (sym c.is_pending.ensures ∙ c.if-is_pending.true)
 
 pub returns-else-is_pending : goal.returns-else-is_pending
@@ -69,5 +73,6 @@ returns-else-is_pending g c =
     let at = goal.at.returns-else-is_pending g c in
     let found = found g at.In_ok-index_of in
     let within = within g at.After-index-client found.1 in
-    reached_other clients lanes c.args.table.now c.args.note c.in_ok-index_of.field-0 c.index-client.result.now found.0 c.index-client.ensures c.index.result.now within c.index.ensures c.in_ok-request.request (sym c.get_at.ensures ∙ c.in_ok-request.was)
+    reached_other clients lanes c.args.table.now c.args.note c.in_ok-index_of.field-0 c.index-client.result.now found.0
+    c.index-client.ensures c.index.result.now within c.index.ensures c.in_ok-request.request (sym c.get_at.ensures ∙ c.in_ok-request.was)
     (sym c.is_pending.ensures ∙ c.if-is_pending.false)

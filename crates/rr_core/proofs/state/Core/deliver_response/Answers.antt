@@ -35,7 +35,8 @@ use Rattle.rr_core.proofs.state.Core.deliver_response.Goals.{In-Some, After-note
 -- the handle is found in its seat
 found : (g : _) (c : In-Some g) → AnswerFound (parts_of c.self.inside) c.id.inside.number c.in-Some.held
 found g c =
-    answer_found (parts_of c.self.inside) c.self.invariant.sound c.args.self.now c.id.inside.number c.args.id.now c.self.view_is c.id.view_is
+    answer_found (parts_of c.self.inside) c.self.invariant.sound c.args.self.now c.id.inside.number c.args.id.now c.self.view_is
+    c.id.view_is
     (loaned_kind c.args.self.now c.args.id.now c.requires) c.in-Some.held (sym c.get.ensures ∙ c.in-Some.is)
 
 -- and who sends from its lane
@@ -57,7 +58,8 @@ delivered_then : (g : _) (c : After-deliver_in g) → AnswerFound (parts_of c.se
     ≡ slice_set (parts_of c.self.inside).server_lanes c.in-Some.held.lane
     (with_messages (lane_of c.in-Some.held.lane (parts_of c.self.inside).server_lanes)
     (delivered (lane_of c.in-Some.held.lane (parts_of c.self.inside).server_lanes).messages
-    c.self.inside.limits.enable_safe_overflow_for_responses c.note_in-note.result.channel c.in-Some.held.slot c.reached_place-reach.result)))
+    c.self.inside.limits.enable_safe_overflow_for_responses c.note_in-note.result.channel c.in-Some.held.slot
+    c.reached_place-reach.result)))
     × (c.in-Some.held.lane < length (map lane_part c.deliver_in.new.lanes.items))
     × (0 < slice_index (lane_of c.in-Some.held.lane (map lane_part c.deliver_in.new.lanes.items)).messages.held c.in-Some.held.slot)
 delivered_then g c f s =
@@ -67,7 +69,8 @@ delivered_then g c f s =
     let reach = c.reached_place-reach.result in
     let mid = lanes_then c.self.inside.server_lanes.items held.lane f.lane c.deliver_in.new.lanes.items
     (λ m. delivered m overflow channel held.slot reach) c.deliver_in.ensures in
-    let then = held_then (parts_of c.self.inside) c.self.invariant.sound c.id.inside.number held f s.index (server_part s.it) s.there s.sends
+    let then = held_then (parts_of c.self.inside) c.self.invariant.sound c.id.inside.number held f s.index
+    (server_part s.it) s.there s.sends
     overflow channel reach (map lane_part c.deliver_in.new.lanes.items) mid in
     (mid, then.0, then.1)
 
@@ -77,11 +80,13 @@ note_in-note-requires g c =
     let held = c.in-Some.held in
     let f = found g (goal.at.note_in-note-requires g c).In-Some in
     subst (λ ls. IsSomeAnd (slice_get ls held.lane) (λ l. held.slot < length l.messages.held)) (sym c.as_slice.ensures.value)
-    (lane_asked c.self.inside.server_lanes.items held.lane f.lane (λ l. held.slot < length l.messages.held) (λ l. held.slot < length l.messages.held) (λ l h. h)
+    (lane_asked c.self.inside.server_lanes.items held.lane f.lane (λ l. held.slot < length l.messages.held)
+    (λ l. held.slot < length l.messages.held) (λ l h. h)
     (held_within (lane_of held.lane p.server_lanes).messages.held held.slot f.slot))
 
 pub reached_place-reach-requires : goal.reached_place-reach-requires
-reached_place-reach-requires g c = lanes_there (parts_of c.self.inside) c.self.invariant.sound c.self.inside.clients.items c.self.inside.client_lanes.items refl refl
+reached_place-reach-requires g c = lanes_there (parts_of c.self.inside) c.self.invariant.sound c.self.inside.clients.items
+    c.self.inside.client_lanes.items refl refl
 
 pub deliver_in-requires-clause-queue : goal.deliver_in-requires-clause-queue
 deliver_in-requires-clause-queue g c =
@@ -92,8 +97,10 @@ deliver_in-requires-clause-queue g c =
     let s = sending g at.In-Some in
     let note = c.note_in-note.result in
     let noted = noted g at.After-note_in-note f in
-    lane_asked c.self.inside.server_lanes.items held.lane f.lane (λ l. HasQueue l.messages note.channel c.reached_place-reach.result) (λ l. HasQueue l.messages note.channel c.reached_place-reach.result) (λ l h. h)
-    (queue_asked p c.self.invariant.sound c.id.inside.number held f s.index (server_part s.it) s.there s.sends note noted c.reached_place-reach.result c.reached_place-reach.ensures)
+    lane_asked c.self.inside.server_lanes.items held.lane f.lane (λ l. HasQueue l.messages note.channel c.reached_place-reach.result)
+    (λ l. HasQueue l.messages note.channel c.reached_place-reach.result) (λ l h. h)
+    (queue_asked p c.self.invariant.sound c.id.inside.number held f s.index
+    (server_part s.it) s.there s.sends note noted c.reached_place-reach.result c.reached_place-reach.ensures)
 
 pub deliver_in-requires-clause-capacity : goal.deliver_in-requires-clause-capacity
 deliver_in-requires-clause-capacity g c =
@@ -113,7 +120,8 @@ deliver_in-requires-clause-slot g c =
     let f = found g at.In-Some in
     let s = sending g at.In-Some in
     lane_asked c.self.inside.server_lanes.items held.lane f.lane
-    (λ l. (0 < slice_index l.messages.held held.slot) × (uses l.messages held.slot + 1 < 2 ^ 64)) (λ l. (0 < slice_index l.messages.held held.slot) × (uses l.messages held.slot + 1 < 2 ^ 64)) (λ l h. h)
+    (λ l. (0 < slice_index l.messages.held held.slot) × (uses l.messages held.slot + 1 < 2 ^ 64))
+    (λ l. (0 < slice_index l.messages.held held.slot) × (uses l.messages held.slot + 1 < 2 ^ 64)) (λ l h. h)
     (slot_asked p c.self.invariant.sound c.id.inside.number held f s.index (server_part s.it) s.there s.sends)
 
 pub give_back_in-requires : goal.give_back_in-requires
@@ -124,7 +132,8 @@ give_back_in-requires g c =
     let f = found g at.In-Some in
     let s = sending g at.In-Some in
     let then = delivered_then g at.After-deliver_in f s in
-    lane_asked c.deliver_in.new.lanes.items held.lane then.1 (λ l. 0 < slice_index l.messages.held held.slot) (λ l. 0 < slice_index l.messages.held held.slot) (λ l h. h) then.2
+    lane_asked c.deliver_in.new.lanes.items held.lane then.1 (λ l. 0 < slice_index l.messages.held held.slot)
+    (λ l. 0 < slice_index l.messages.held held.slot) (λ l h. h) then.2
 
 pub end_answer-requires-clause-counted : goal.end_answer-requires-clause-counted
 end_answer-requires-clause-counted g c =
@@ -133,12 +142,16 @@ end_answer-requires-clause-counted g c =
     let at = goal.at.end_answer-requires-clause-counted g c in
     let f = found g at.In-Some in
     let s = sending g at.In-Some in
-    to_found (λ (x : ServerPort _). x.port.lane == held.lane) c.self.inside.servers.items s.index s.it s.found s.at (λ _ x. 0 < x.port.loans)
+    to_found (λ (x : ServerPort _). x.port.lane == held.lane) c.self.inside.servers.items s.index s.it s.found s.at
+    (λ _ x. 0 < x.port.loans)
     (has_loan p c.self.invariant.sound c.id.inside.number held f s.index (server_part s.it) s.there s.sends)
 
 -- the parts after it are sound, and what contracts see
-after : (g : _) (c : goal.After-end_answer g) → let p = parts_of c.self.inside in let q = with_servers p (map server_part c.end_answer.new.servers.items) (map lane_part c.give_back_in.new.lanes.items) c.end_answer.new.table c.self.inside.next in
-    IsSound q empty_hand × (state_of q ≡ after_release (record (state_of p) { responses = with_response_put (state_of p) (response_at p c.in-Some.held.lane c.in-Some.held.slot) }) c.id.inside.number)
+after : (g : _) (c : goal.After-end_answer g) → let p = parts_of c.self.inside in let q = with_servers p
+    (map server_part c.end_answer.new.servers.items) (map lane_part c.give_back_in.new.lanes.items) c.end_answer.new.table
+    c.self.inside.next in
+    IsSound q empty_hand × (state_of q ≡ after_release (record (state_of p)
+    { responses = with_response_put (state_of p) (response_at p c.in-Some.held.lane c.in-Some.held.slot) }) c.id.inside.number)
 after g c =
     let p = parts_of c.self.inside in
     let held = c.in-Some.held in
@@ -152,18 +165,25 @@ after g c =
     (λ i x. c.end_answer.new.servers.items ≡ slice_set c.self.inside.servers.items i (with_answer_ended x)) c.end_answer.ensures.servers in
     let table = of_found (λ (x : ServerPort _). x.port.lane == held.lane) c.self.inside.servers.items s.index s.it s.found s.at
     (λ _ x. (at : Option Place) × IfSome at (IsAskedPlace (map lane_part c.as_slice-in-Some.result.now) note x.port.place)
-    × IsLoanEnded note.active_request (found_under (unseated c.self.inside.table c.args.id.now) note.active_request at) (unseated c.self.inside.table c.args.id.now) c.end_answer.new.table) c.end_answer.ensures.table in
-    let asked = subst (λ ls. IfSome table.0 (IsAskedPlace (map lane_part ls) note s.it.port.place)) c.as_slice-in-Some.ensures.value table.1 in
-    sent_parts p c.self.invariant.sound c.id.inside.number held f s.index (server_part s.it) s.there s.sends note noted c.reached_place-reach.result c.reached_place-reach.ensures
-    (map server_part c.end_answer.new.servers.items) (map lane_part c.deliver_in.new.lanes.items) (map lane_part c.give_back_in.new.lanes.items) c.end_answer.new.table
+    × IsLoanEnded note.active_request (found_under (unseated c.self.inside.table c.args.id.now) note.active_request at)
+    (unseated c.self.inside.table c.args.id.now) c.end_answer.new.table) c.end_answer.ensures.table in
+    let asked = subst (λ ls. IfSome table.0 (IsAskedPlace (map lane_part ls) note s.it.port.place)) c.as_slice-in-Some.ensures.value
+    table.1 in
+    sent_parts p c.self.invariant.sound c.id.inside.number held f s.index
+    (server_part s.it) s.there s.sends note noted c.reached_place-reach.result c.reached_place-reach.ensures
+    (map server_part c.end_answer.new.servers.items) (map lane_part c.deliver_in.new.lanes.items)
+    (map lane_part c.give_back_in.new.lanes.items) c.end_answer.new.table
     (ap (map server_part) servers ∙ map-set_one server_part c.self.inside.servers.items s.index (with_answer_ended s.it))
     then.0
-    (lanes_then c.deliver_in.new.lanes.items held.lane then.1 c.give_back_in.new.lanes.items (λ m. given_back m held.slot) c.give_back_in.ensures)
-    table.0 asked (subst (λ n. IsLoanEnded note.active_request (found_under (unseated c.self.inside.table n) note.active_request table.0) (unseated c.self.inside.table n) c.end_answer.new.table) (sym c.id.view_is) table.2)
+    (lanes_then c.deliver_in.new.lanes.items held.lane then.1 c.give_back_in.new.lanes.items
+    (λ m. given_back m held.slot) c.give_back_in.ensures)
+    table.0 asked (subst (λ n. IsLoanEnded note.active_request (found_under (unseated c.self.inside.table n) note.active_request table.0)
+    (unseated c.self.inside.table n) c.end_answer.new.table) (sym c.id.view_is) table.2)
 
 pub unreachable-requires : goal.unreachable-requires
 unreachable-requires g c =
-    of_kind_there (parts_of c.self.inside) c.args.self.now c.id.inside.number c.args.id.now c.self.view_is c.id.view_is Kind.ResponseMut (λ e. cc) (λ e. cc) c.requires (sym c.get.ensures ∙ c.in-None.is)
+    of_kind_there (parts_of c.self.inside) c.args.self.now c.id.inside.number c.args.id.now c.self.view_is c.id.view_is Kind.ResponseMut
+    (λ e. cc) (λ e. cc) c.requires (sym c.get.ensures ∙ c.in-None.is)
 
 pub returns : goal.returns
 returns g c =
@@ -173,8 +193,10 @@ returns g c =
     let at = goal.at.returns g c in
     let f = found g at.In-Some in
     let s = sending g at.In-Some in
-    let kind = of_kind p c.args.self.now c.id.inside.number c.args.id.now c.self.view_is c.id.view_is Kind.ResponseMut (λ e. cc) (λ e. cc) c.requires held seated in
-    let q = with_servers p (map server_part c.end_answer.new.servers.items) (map lane_part c.give_back_in.new.lanes.items) c.end_answer.new.table c.self.inside.next in
+    let kind = of_kind p c.args.self.now c.id.inside.number c.args.id.now c.self.view_is c.id.view_is Kind.ResponseMut (λ e. cc)
+    (λ e. cc) c.requires held seated in
+    let q = with_servers p (map server_part c.end_answer.new.servers.items)
+    (map lane_part c.give_back_in.new.lanes.items) c.end_answer.new.table c.self.inside.next in
     of_sent p c.self.invariant.sound c.id.inside.number held f s.index (server_part s.it) s.there s.sends
     (λ t j _ message. state_of q ≡ after_release (record t { responses = with_response_put t message }) j) seated kind (after g c).1
     c.args.self.now c.args.id.now c.self.view_is c.id.view_is
@@ -184,5 +206,7 @@ invariant_of-self g c =
     let sent = open_response_mut c.args.self.now c.args.id.now _ (returns g c) in
     record {
       sound = (after g c).0;
-      reached = subst (λ s. IsReached s) (sym sent.4) (after_release_reached _ c.args.id.now (response_put_reached c.args.self.now (subst (λ s. IsReached s) c.self.view_is c.self.invariant.reached) c.args.id.now sent.1 sent.2));
+      reached = subst (λ s. IsReached s) (sym sent.4) (after_release_reached _ c.args.id.now
+          (response_put_reached c.args.self.now (subst (λ s. IsReached s) c.self.view_is c.self.invariant.reached) c.args.id.now sent.1
+          sent.2));
     }

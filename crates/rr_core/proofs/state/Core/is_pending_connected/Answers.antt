@@ -7,7 +7,8 @@ use Rattle.rr_parts.specs.Kinds.{stage_kind}
 use Rattle.rr_parts.specs.Sound.{empty_hand}
 use Rattle.rr_parts.specs.Views.{lane_of}
 use Rattle.rr_core_laws.proofs.Shown.{request_spot}
-use Rattle.rr_core_laws.proofs.Connected.{of_kind, of_kind_there, of_pending, pending_has_request, server_place_within, mark_within, marks_before, marks_read, waiting_seen}
+use Rattle.rr_core_laws.proofs.Connected.{of_kind, of_kind_there, of_pending, pending_has_request}
+use Rattle.rr_core_laws.proofs.Connected.{server_place_within, mark_within, marks_before, marks_read, waiting_seen}
 use Rattle.rr_hub.specs.declared.kind.Kind.{Kind}
 use Rattle.rr_core.proofs.state.Core.is_pending_connected.Goals as goal
 use Rattle.rr_core.proofs.state.Core.is_pending_connected.Goals.{In-Some}
@@ -18,7 +19,8 @@ spot : (g : _) (c : In-Some g) → (stage_kind c.in-Some.held.stage ≡ Kind.Pen
     × (c.in-Some.held.lane < length (parts_of c.self.inside).client_lanes)
     × (c.in-Some.held.slot < length (lane_of c.in-Some.held.lane (parts_of c.self.inside).client_lanes).messages.held)
 spot g c =
-    let kind = of_kind (parts_of c.self.inside) c.args.self.now c.id.inside.number c.args.id.now c.self.view_is c.id.view_is Kind.PendingResponse (λ e. cc) (λ e. cc) c.requires c.in-Some.held (sym c.get.ensures ∙ c.in-Some.is) in
+    let kind = of_kind (parts_of c.self.inside) c.args.self.now c.id.inside.number c.args.id.now c.self.view_is c.id.view_is
+    Kind.PendingResponse (λ e. cc) (λ e. cc) c.requires c.in-Some.held (sym c.get.ensures ∙ c.in-Some.is) in
     let spot = request_spot (parts_of c.self.inside) empty_hand c.self.invariant.sound.counted c.id.inside.number c.in-Some.held
     (sym c.get.ensures ∙ c.in-Some.is) (pending_has_request _ kind) in
     let within : c.in-Some.held.lane < length c.self.inside.waiting.items =
@@ -33,28 +35,40 @@ index-requires g c =
 pub overflow_mul-held : goal.overflow_mul-held
 overflow_mul-held g c =
     let spot = spot g (goal.at.overflow_mul-held g c).In-Some in
-    let marks = marks_read c.self.inside.waiting.items c.in-Some.held.lane c.index.result.now c.as_slice-in-Some.result.now spot.1 c.index.ensures c.as_slice-in-Some.ensures.value in
+    let marks = marks_read c.self.inside.waiting.items c.in-Some.held.lane c.index.result.now c.as_slice-in-Some.result.now spot.1
+    c.index.ensures c.as_slice-in-Some.ensures.value in
     let many = ap length (sym marks) ∙ c.self.invariant.sound.sized.waiting_slots c.in-Some.held.lane spot.2 in
-    omega (arith, marks_before c.in-Some.held.slot _ c.self.inside.limits.max_servers (length c.as_slice-in-Some.result.now) spot.3 many, c.as_slice-in-Some.type_inv.0)
+    omega (
+      arith,
+      marks_before c.in-Some.held.slot _ c.self.inside.limits.max_servers
+          (length c.as_slice-in-Some.result.now) spot.3 many,
+      c.as_slice-in-Some.type_inv.0,
+    )
 
 pub is_any_marked-requires : goal.is_any_marked-requires
 is_any_marked-requires g c i s it =
     let spot = spot g (goal.at.is_any_marked-requires g c).In-Some in
-    let marks = marks_read c.self.inside.waiting.items c.in-Some.held.lane c.index.result.now c.as_slice-in-Some.result.now spot.1 c.index.ensures c.as_slice-in-Some.ensures.value in
+    let marks = marks_read c.self.inside.waiting.items c.in-Some.held.lane c.index.result.now c.as_slice-in-Some.result.now spot.1
+    c.index.ensures c.as_slice-in-Some.ensures.value in
     let many = ap length (sym marks) ∙ c.self.invariant.sound.sized.waiting_slots c.in-Some.held.lane spot.2 in
     mark_within c.in-Some.held.slot _ c.self.inside.limits.max_servers s.port.place (length c.as_slice-in-Some.result.now) spot.3
-    (server_place_within c.self.inside.next c.self.inside.limits.max_servers c.self.inside.servers.items c.as_slice.result.now (parts_of c.self.inside).server_lanes c.self.invariant.sound.server_ports c.as_slice.ensures.value i s it) many
+    (server_place_within c.self.inside.next c.self.inside.limits.max_servers c.self.inside.servers.items c.as_slice.result.now
+    (parts_of c.self.inside).server_lanes c.self.invariant.sound.server_ports c.as_slice.ensures.value i s it) many
 
 pub unreachable-requires : goal.unreachable-requires
 unreachable-requires g c =
-    of_kind_there (parts_of c.self.inside) c.args.self.now c.id.inside.number c.args.id.now c.self.view_is c.id.view_is Kind.PendingResponse (λ e. cc) (λ e. cc) c.requires (sym c.get.ensures ∙ c.in-None.is)
+    of_kind_there (parts_of c.self.inside) c.args.self.now c.id.inside.number c.args.id.now c.self.view_is c.id.view_is
+    Kind.PendingResponse (λ e. cc) (λ e. cc) c.requires (sym c.get.ensures ∙ c.in-None.is)
 
 pub returns : goal.returns
 returns g c =
     let p = parts_of c.self.inside in
     let found = sym c.get.ensures ∙ c.in-Some.is in
     let spot = spot g (goal.at.returns g c).In-Some in
-    let marks = marks_read c.self.inside.waiting.items c.in-Some.held.lane c.index.result.now c.as_slice-in-Some.result.now spot.1 c.index.ensures c.as_slice-in-Some.ensures.value in
-    of_pending p c.args.self.now c.id.inside.number c.args.id.now c.self.view_is c.id.view_is c.in-Some.held found (λ servers. c.is_any_marked.result ≡ nat_lt 0 (length servers)) spot.0
+    let marks = marks_read c.self.inside.waiting.items c.in-Some.held.lane c.index.result.now c.as_slice-in-Some.result.now spot.1
+    c.index.ensures c.as_slice-in-Some.ensures.value in
+    of_pending p c.args.self.now c.id.inside.number c.args.id.now c.self.view_is c.id.view_is c.in-Some.held found
+    (λ servers. c.is_any_marked.result ≡ nat_lt 0 (length servers)) spot.0
     (c.is_any_marked.ensures
-    ∙ waiting_seen p c.in-Some.held.lane c.in-Some.held.slot c.self.inside.servers.items c.as_slice.result.now c.as_slice-in-Some.result.now refl c.as_slice.ensures.value marks)
+    ∙ waiting_seen p c.in-Some.held.lane c.in-Some.held.slot c.self.inside.servers.items c.as_slice.result.now
+    c.as_slice-in-Some.result.now refl c.as_slice.ensures.value marks)

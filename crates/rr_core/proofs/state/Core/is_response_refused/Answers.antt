@@ -24,7 +24,8 @@ use Rattle.rr_core.proofs.state.Core.is_response_refused.Goals.{In-Some, After-n
 -- the handle is found in its seat
 found : (g : _) (c : In-Some g) → AnswerFound (parts_of c.self.inside) c.id.inside.number c.in-Some.held
 found g c =
-    answer_found (parts_of c.self.inside) c.self.invariant.sound c.args.self.now c.id.inside.number c.args.id.now c.self.view_is c.id.view_is
+    answer_found (parts_of c.self.inside) c.self.invariant.sound c.args.self.now c.id.inside.number c.args.id.now c.self.view_is
+    c.id.view_is
     (loaned_kind c.args.self.now c.args.id.now c.requires) c.in-Some.held (sym c.get.ensures ∙ c.in-Some.is)
 
 -- and who sends from its lane
@@ -60,11 +61,13 @@ note_in-note-requires g c =
     let held = c.in-Some.held in
     let f = found g (goal.at.note_in-note-requires g c).In-Some in
     subst (λ ls. IsSomeAnd (slice_get ls held.lane) (λ l. held.slot < length l.messages.held)) (sym c.as_slice.ensures.value)
-    (lane_asked c.self.inside.server_lanes.items held.lane f.lane (λ l. held.slot < length l.messages.held) (λ l. held.slot < length l.messages.held) (λ l h. h)
+    (lane_asked c.self.inside.server_lanes.items held.lane f.lane (λ l. held.slot < length l.messages.held)
+    (λ l. held.slot < length l.messages.held) (λ l h. h)
     (held_within (lane_of held.lane p.server_lanes).messages.held held.slot f.slot))
 
 pub reached_place-reach-requires : goal.reached_place-reach-requires
-reached_place-reach-requires g c = lanes_there (parts_of c.self.inside) c.self.invariant.sound c.self.inside.clients.items c.self.inside.client_lanes.items refl refl
+reached_place-reach-requires g c = lanes_there (parts_of c.self.inside) c.self.invariant.sound c.self.inside.clients.items
+    c.self.inside.client_lanes.items refl refl
 
 pub index-requires : goal.index-requires
 index-requires g c =
@@ -96,7 +99,8 @@ is_refused-requires g c =
     let noted = noted g at.After-note_in-note f in
     let lane = lane_was g at.After-index f in
     subst (λ (l : Lane _ _ _). HasQueue l.messages note.channel c.reached_place-reach.result) lane
-    (queue_asked p c.self.invariant.sound c.id.inside.number held f s.index (server_part s.it) s.there s.sends note noted c.reached_place-reach.result c.reached_place-reach.ensures)
+    (queue_asked p c.self.invariant.sound c.id.inside.number held f s.index
+    (server_part s.it) s.there s.sends note noted c.reached_place-reach.result c.reached_place-reach.ensures)
 
 pub unreachable-requires : goal.unreachable-requires
 unreachable-requires g c =
@@ -106,11 +110,13 @@ unreachable-requires g c =
     let f = found g at.In-Some in
     let servers = c.self.inside.servers.items in
     let s = sending g at.In-Some in
-    let none : None ≡ Some s.index = sym c.in-None-index_of_lane.is ∙ c.index_of_lane.ensures ∙ ap (position (λ (x : ServerPort _). x.port.lane == held.lane)) c.as_slice-in-Some.ensures.value ∙ s.found in cc
+    let none : None ≡ Some s.index = sym c.in-None-index_of_lane.is ∙ c.index_of_lane.ensures
+    ∙ ap (position (λ (x : ServerPort _). x.port.lane == held.lane)) c.as_slice-in-Some.ensures.value ∙ s.found in cc
 
 pub unreachable-requires-in-None : goal.unreachable-requires-in-None
 unreachable-requires-in-None g c =
-    of_kind_there (parts_of c.self.inside) c.args.self.now c.id.inside.number c.args.id.now c.self.view_is c.id.view_is Kind.ResponseMut (λ e. cc) (λ e. cc) c.requires (sym c.get.ensures ∙ c.in-None.is)
+    of_kind_there (parts_of c.self.inside) c.args.self.now c.id.inside.number c.args.id.now c.self.view_is c.id.view_is Kind.ResponseMut
+    (λ e. cc) (λ e. cc) c.requires (sym c.get.ensures ∙ c.in-None.is)
 
 pub returns : goal.returns
 returns g c =
@@ -125,13 +131,17 @@ returns g c =
     let one = same_index g at.In-Some-index_of_lane s in
     let lane = lane_was g at.After-index f in
     let seated = sym c.get.ensures ∙ c.in-Some.is in
-    let kind = of_kind p c.args.self.now c.id.inside.number c.args.id.now c.self.view_is c.id.view_is Kind.ResponseMut (λ e. cc) (λ e. cc) c.requires held seated in
+    let kind = of_kind p c.args.self.now c.id.inside.number c.args.id.now c.self.view_is c.id.view_is Kind.ResponseMut (λ e. cc)
+    (λ e. cc) c.requires held seated in
     let x = c.index-in-Some-index_of_lane.result.now in
     let same : x ≡ s.it = read_at servers s.index s.it x s.at (c.index-in-Some-index_of_lane.ensures ∙ ap (λ i. get_or servers i x) one) in
     let answer = g.K.BackpressureFn.answer in
-    of_sent p c.self.invariant.sound c.id.inside.number held f s.index (server_part s.it) s.there s.sends (λ t j server message. c.is_refused.result ≡ is_response_refused answer t server message) seated kind
+    of_sent p c.self.invariant.sound c.id.inside.number held f s.index (server_part s.it) s.there s.sends
+    (λ t j server message. c.is_refused.result ≡ is_response_refused answer t server message) seated kind
     (c.is_refused.ensures
-    ∙ ap (λ (x : ServerPort _). is_refused_in answer (connected_of x.port).port c.index.result.now.messages p.limits.enable_safe_overflow_for_responses note c.reached_place-reach.result) same
-    ∙ refused_then p c.self.invariant.sound c.id.inside.number held f s.index (server_part s.it) s.there s.sends answer note noted c.reached_place-reach.result c.reached_place-reach.ensures
+    ∙ ap (λ (x : ServerPort _). is_refused_in answer (connected_of x.port).port c.index.result.now.messages
+    p.limits.enable_safe_overflow_for_responses note c.reached_place-reach.result) same
+    ∙ refused_then p c.self.invariant.sound c.id.inside.number held f s.index
+    (server_part s.it) s.there s.sends answer note noted c.reached_place-reach.result c.reached_place-reach.ensures
     c.index.result.now.messages (ap (λ (l : Lane _ _ _). l.messages) lane))
     c.args.self.now c.args.id.now c.self.view_is c.id.view_is

@@ -26,32 +26,39 @@ of_either f is a b = ⊎_elim (λ e. ap f e ∙ a) (λ e. ap f e ∙ b) is
 pub release_request_loan-requires : goal.release_request_loan-requires
 release_request_loan-requires g c =
     subst (λ o. IsSomeAnd o (λ handle. is_loaned_request handle ≡ true)) (sym (shown g (goal.at.release_request_loan-requires g c).In-Some))
-    (of_either (λ (g : Stage). is_loaned_request (handle_in (parts_of c.self.inside) g c.in-Some.held.lane c.in-Some.held.slot)) c.in-RequestMutUninit.is refl refl)
+    (of_either (λ (g : Stage). is_loaned_request (handle_in (parts_of c.self.inside) g c.in-Some.held.lane c.in-Some.held.slot))
+    c.in-RequestMutUninit.is refl refl)
 
 pub release_pending-requires : goal.release_pending-requires
 release_pending-requires g c =
     subst (λ o. IsSomeAnd o (λ handle. is_pending_response handle ≡ true)) (sym (shown g (goal.at.release_pending-requires g c).In-Some))
-    (ap (λ (g : Stage). is_pending_response (handle_in (parts_of c.self.inside) g c.in-Some.held.lane c.in-Some.held.slot)) c.in-PendingResponse.is)
+    (ap (λ (g : Stage). is_pending_response (handle_in (parts_of c.self.inside) g c.in-Some.held.lane c.in-Some.held.slot))
+    c.in-PendingResponse.is)
 
 pub release_active-requires : goal.release_active-requires
 release_active-requires g c =
     subst (λ o. IsSomeAnd o (λ handle. is_active_request handle ≡ true)) (sym (shown g (goal.at.release_active-requires g c).In-Some))
-    (ap (λ (g : Stage). is_active_request (handle_in (parts_of c.self.inside) g c.in-Some.held.lane c.in-Some.held.slot)) c.in-ActiveRequest.is)
+    (ap (λ (g : Stage). is_active_request (handle_in (parts_of c.self.inside) g c.in-Some.held.lane c.in-Some.held.slot))
+    c.in-ActiveRequest.is)
 
 pub release_response_loan-requires : goal.release_response_loan-requires
 release_response_loan-requires g c =
-    subst (λ o. IsSomeAnd o (λ handle. is_loaned_response handle ≡ true)) (sym (shown g (goal.at.release_response_loan-requires g c).In-Some))
-    (of_either (λ (g : Stage). is_loaned_response (handle_in (parts_of c.self.inside) g c.in-Some.held.lane c.in-Some.held.slot)) c.in-ResponseMutUninit.is refl refl)
+    subst (λ o. IsSomeAnd o (λ handle. is_loaned_response handle ≡ true))
+    (sym (shown g (goal.at.release_response_loan-requires g c).In-Some))
+    (of_either (λ (g : Stage). is_loaned_response (handle_in (parts_of c.self.inside) g c.in-Some.held.lane c.in-Some.held.slot))
+    c.in-ResponseMutUninit.is refl refl)
 
 pub release_received-requires : goal.release_received-requires
 release_received-requires g c =
     subst (λ o. IsSomeAnd o (λ handle. is_received_response handle ≡ true)) (sym (shown g (goal.at.release_received-requires g c).In-Some))
-    (ap (λ (g : Stage). is_received_response (handle_in (parts_of c.self.inside) g c.in-Some.held.lane c.in-Some.held.slot)) c.in-Response.is)
+    (ap (λ (g : Stage). is_received_response (handle_in (parts_of c.self.inside) g c.in-Some.held.lane c.in-Some.held.slot))
+    c.in-Response.is)
 
 pub unreachable-requires : goal.unreachable-requires
 unreachable-requires g c =
     let p = parts_of c.self.inside in
-    let none = not_there p c.args.self.now c.id.inside.number c.args.id.now c.self.view_is c.id.view_is (sym c.get.ensures ∙ c.in-None.is) in
+    let none = not_there p c.args.self.now c.id.inside.number c.args.id.now c.self.view_is c.id.view_is
+    (sym c.get.ensures ∙ c.in-None.is) in
     false≢true (subst IsSome none c.requires)
 
 pub returns-in-RequestMutUninit : goal.returns-in-RequestMutUninit

@@ -23,14 +23,16 @@ use Rattle.rr_core.proofs.state.Core.release_active.Goals.{In-Some, After-server
 -- the handle is found in its seat
 found : (g : _) (c : In-Some g) → ActiveFound (parts_of c.self.inside) c.id.inside.number c.in-Some.held
 found g c =
-    active_found (parts_of c.self.inside) c.self.invariant.sound c.args.self.now c.id.inside.number c.args.id.now c.self.view_is c.id.view_is
+    active_found (parts_of c.self.inside) c.self.invariant.sound c.args.self.now c.id.inside.number c.args.id.now c.self.view_is
+    c.id.view_is
     c.requires c.in-Some.held (sym c.get.ensures ∙ c.in-Some.is)
 
 -- its server is there
 serving : (g : _) (c : After-server g) (f : ActiveFound (parts_of c.self.inside) c.id.inside.number c.in-Some.held)
     → Serving c.as_slice.result.now c.server.result (server_place (parts_of c.self.inside) f.server)
 serving g c f =
-    server_of_active (parts_of c.self.inside) c.self.invariant.sound c.as_slice.result.now (ap (map server_part) (sym c.as_slice.ensures.value))
+    server_of_active (parts_of c.self.inside) c.self.invariant.sound c.as_slice.result.now
+    (ap (map server_part) (sym c.as_slice.ensures.value))
     c.id.inside.number c.in-Some.held f c.server.result c.server.ensures
 
 -- and where others send to it
@@ -56,8 +58,10 @@ end_borrow_in-requires-clause-receiver g c =
     let here = subst (λ r. 0 < borrowed_at (lane_of held.lane p.client_lanes).messages r 0) (sym place) f.some in
     lane_asked c.self.inside.client_lanes.items held.lane f.lane
     (λ l. (c.place_of-place.result < length l.messages.queues) × (0 < length (slice_index_or l.messages.queues c.place_of-place.result [])))
-    (λ l. (c.place_of-place.result < length l.messages.queues) × (0 < length (slice_index_or l.messages.queues c.place_of-place.result []))) (λ l h. h)
-    (queue_there (lane_of held.lane p.client_lanes).messages (c.self.invariant.sound.sized.client_lanes held.lane f.lane) c.place_of-place.result 0 here)
+    (λ l. (c.place_of-place.result < length l.messages.queues) × (0 < length
+    (slice_index_or l.messages.queues c.place_of-place.result []))) (λ l h. h)
+    (queue_there (lane_of held.lane p.client_lanes).messages (c.self.invariant.sound.sized.client_lanes held.lane f.lane)
+    c.place_of-place.result 0 here)
 
 pub end_borrow_in-requires-clause-counted : goal.end_borrow_in-requires-clause-counted
 end_borrow_in-requires-clause-counted g c =
@@ -82,7 +86,8 @@ clear_mark-requires g c =
 
 -- the parts after it
 parts : (g : _) (c : goal.After-clear_mark g) → (f : ActiveFound (parts_of c.self.inside) c.id.inside.number c.in-Some.held)
-    × (with_vectors (parts_of c.self.inside) (parts_of c.self.inside).clients (map lane_part c.end_borrow_in.new.lanes.items) (map marks_of c.clear_mark.new.waiting.items) c.remove.new.self c.self.inside.next
+    × (with_vectors (parts_of c.self.inside) (parts_of c.self.inside).clients (map lane_part c.end_borrow_in.new.lanes.items)
+    (map marks_of c.clear_mark.new.waiting.items) c.remove.new.self c.self.inside.next
     ≡ after_active (parts_of c.self.inside) c.self.invariant.sound c.id.inside.number f.seat f.at f.server f.loans f.active)
 parts g c =
     let p = parts_of c.self.inside in
@@ -91,14 +96,17 @@ parts g c =
     let f = found g at.In-Some in
     let place = placed g at.After-place_of-place f (serving g at.After-server f) in (
       f,
-      active_parts p c.self.invariant.sound c.id.inside.number held f c.place_of-place.result place (map lane_part c.end_borrow_in.new.lanes.items) (map marks_of c.clear_mark.new.waiting.items) c.remove.new.self
-          (lanes_then c.self.inside.client_lanes.items held.lane f.lane c.end_borrow_in.new.lanes.items (λ m. borrow_ended m c.place_of-place.result 0 held.slot) c.end_borrow_in.ensures)
+      active_parts p c.self.invariant.sound c.id.inside.number held f c.place_of-place.result place
+          (map lane_part c.end_borrow_in.new.lanes.items) (map marks_of c.clear_mark.new.waiting.items) c.remove.new.self
+          (lanes_then c.self.inside.client_lanes.items held.lane f.lane c.end_borrow_in.new.lanes.items
+          (λ m. borrow_ended m c.place_of-place.result 0 held.slot) c.end_borrow_in.ensures)
           c.clear_mark.ensures c.remove.ensures.gone,
     )
 
 pub unreachable-requires : goal.unreachable-requires
 unreachable-requires g c =
-    handle_there (parts_of c.self.inside) c.args.self.now c.id.inside.number c.args.id.now c.self.view_is c.id.view_is (λ handle. is_active_request handle ≡ true) c.requires (sym c.get.ensures ∙ c.in-None.is)
+    handle_there (parts_of c.self.inside) c.args.self.now c.id.inside.number c.args.id.now c.self.view_is c.id.view_is
+    (λ handle. is_active_request handle ≡ true) c.requires (sym c.get.ensures ∙ c.in-None.is)
 
 pub returns : goal.returns
 returns g c =
@@ -111,6 +119,8 @@ pub invariant_of-self : goal.invariant_of-self
 invariant_of-self g c =
     let r = parts g c in
     record {
-      sound = subst (λ p. IsSound p empty_hand) (sym r.1) (active_sound (parts_of c.self.inside) c.self.invariant.sound c.id.inside.number r.0.seat r.0.at r.0.server r.0.loans r.0.active);
-      reached = subst (λ s. IsReached s) (sym (returns g c)) (after_release_reached c.args.self.now c.args.id.now (subst (λ s. IsReached s) c.self.view_is c.self.invariant.reached));
+      sound = subst (λ p. IsSound p empty_hand) (sym r.1) (active_sound
+          (parts_of c.self.inside) c.self.invariant.sound c.id.inside.number r.0.seat r.0.at r.0.server r.0.loans r.0.active);
+      reached = subst (λ s. IsReached s) (sym (returns g c)) (after_release_reached c.args.self.now c.args.id.now
+          (subst (λ s. IsReached s) c.self.view_is c.self.invariant.reached));
     }

@@ -25,7 +25,8 @@ use Rattle.rr_core.proofs.state.Core.release_pending.Goals.{In-Some, After-end_p
 -- the handle is found in its seat
 found : (g : _) (c : In-Some g) → PendingFound (parts_of c.self.inside) c.id.inside.number c.in-Some.held
 found g c =
-    pending_found (parts_of c.self.inside) c.self.invariant.sound c.args.self.now c.id.inside.number c.args.id.now c.self.view_is c.id.view_is
+    pending_found (parts_of c.self.inside) c.self.invariant.sound c.args.self.now c.id.inside.number c.args.id.now c.self.view_is
+    c.id.view_is
     c.requires c.in-Some.held (sym c.get.ensures ∙ c.in-Some.is)
 
 -- and who sends from its lane
@@ -40,7 +41,8 @@ ended : (g : _) (c : After-end_pending-place g) (s : Sending c.self.inside.clien
 ended g c s =
     let items = c.self.inside.clients.items in
     of_found (λ (x : ClientPort _). x.port.lane == c.in-Some.held.lane) items s.index s.it s.found s.at
-    (λ i x. (c.end_pending-place.result ≡ x.port.place) × (c.end_pending-place.new.clients.items ≡ slice_set items i (with_pending_ended x)))
+    (λ i x. (c.end_pending-place.result ≡ x.port.place) × (c.end_pending-place.new.clients.items ≡ slice_set items i
+    (with_pending_ended x)))
     c.end_pending-place.ensures
 
 pub end_pending-place-requires : goal.end_pending-place-requires
@@ -50,7 +52,8 @@ end_pending-place-requires g c =
     let f = found g (goal.at.end_pending-place-requires g c).In-Some in
     let s = sending g (goal.at.end_pending-place-requires g c).In-Some in
     to_found (λ (x : ClientPort _). x.port.lane == held.lane) c.self.inside.clients.items s.index s.it s.found s.at (λ _ x. 0 < x.pendings)
-    (has_pending p c.self.invariant.sound c.id.inside.number f.seat f.at f.hint f.connections f.pending s.index (client_part s.it) s.there (s.sends ∙ sym (ap (λ (h : Held). h.lane) f.is)))
+    (has_pending p c.self.invariant.sound c.id.inside.number f.seat f.at f.hint f.connections f.pending s.index (client_part s.it) s.there
+    (s.sends ∙ sym (ap (λ (h : Held). h.lane) f.is)))
 
 pub clear_channel-requires : goal.clear_channel-requires
 clear_channel-requires g c =
@@ -60,22 +63,28 @@ clear_channel-requires g c =
     let s = sending g (goal.at.clear_channel-requires g c).In-Some in
     let place = ended g (goal.at.clear_channel-requires g c).After-end_pending-place s in
     let sends : s.it.port.lane ≡ f.seat.value.lane = s.sends ∙ sym (ap (λ (h : Held). h.lane) f.is) in
-    let channel = inside p c.self.invariant.sound c.id.inside.number f.seat f.at f.hint f.connections f.pending s.index (client_part s.it) s.there sends in
+    let channel = inside p c.self.invariant.sound c.id.inside.number f.seat f.at f.hint f.connections f.pending s.index
+    (client_part s.it) s.there sends in
     subst (λ r. Reaches p.server_lanes r held.slot) (sym place.0)
-    (subst (λ (h : Held). Reaches p.server_lanes s.it.port.place h.slot) f.is (reaches p c.self.invariant.sound s.index (client_part s.it) s.there f.seat.value.slot channel))
+    (subst (λ (h : Held). Reaches p.server_lanes s.it.port.place h.slot) f.is
+    (reaches p c.self.invariant.sound s.index (client_part s.it) s.there f.seat.value.slot channel))
 
 pub give_back_in-requires : goal.give_back_in-requires
 give_back_in-requires g c =
     let p = parts_of c.self.inside in
     let held = c.in-Some.held in
     let f = found g (goal.at.give_back_in-requires g c).In-Some in
-    lane_asked c.self.inside.client_lanes.items held.lane f.lane (λ l. 0 < slice_index l.messages.held held.slot) (λ l. 0 < slice_index l.messages.held held.slot) (λ l h. h) f.slot
+    lane_asked c.self.inside.client_lanes.items held.lane f.lane (λ l. 0 < slice_index l.messages.held held.slot)
+    (λ l. 0 < slice_index l.messages.held held.slot) (λ l h. h) f.slot
 
 -- the parts after it
-parts : (g : _) (c : goal.After-give_back_in g) → (f : PendingFound (parts_of c.self.inside) c.id.inside.number c.in-Some.held) × (s : Sending c.self.inside.clients.items c.in-Some.held.lane)
+parts : (g : _) (c : goal.After-give_back_in g) → (f : PendingFound (parts_of c.self.inside) c.id.inside.number c.in-Some.held)
+    × (s : Sending c.self.inside.clients.items c.in-Some.held.lane)
     × (sends : s.it.port.lane ≡ f.seat.value.lane)
-    × (with_all_lanes (parts_of c.self.inside) (map client_part c.end_pending-place.new.clients.items) (map lane_part c.give_back_in.new.lanes.items) (map lane_part c.clear_channel.new.lanes.items) c.remove.new.self
-    ≡ after_pending (parts_of c.self.inside) c.self.invariant.sound c.id.inside.number f.seat f.at f.hint f.connections f.pending s.index (client_part s.it) s.there sends)
+    × (with_all_lanes (parts_of c.self.inside) (map client_part c.end_pending-place.new.clients.items)
+    (map lane_part c.give_back_in.new.lanes.items) (map lane_part c.clear_channel.new.lanes.items) c.remove.new.self
+    ≡ after_pending (parts_of c.self.inside) c.self.invariant.sound c.id.inside.number f.seat f.at f.hint f.connections f.pending s.index
+    (client_part s.it) s.there sends)
 parts g c =
     let p = parts_of c.self.inside in
     let held = c.in-Some.held in
@@ -86,23 +95,28 @@ parts g c =
       f,
       s,
       sends,
-      pending_parts p c.self.invariant.sound c.id.inside.number held f s.index (client_part s.it) s.there sends c.end_pending-place.result ended.0
-          (map client_part c.end_pending-place.new.clients.items) (map lane_part c.give_back_in.new.lanes.items) (map lane_part c.clear_channel.new.lanes.items) c.remove.new.self
+      pending_parts p c.self.invariant.sound c.id.inside.number held f s.index
+          (client_part s.it) s.there sends c.end_pending-place.result ended.0
+          (map client_part c.end_pending-place.new.clients.items) (map lane_part c.give_back_in.new.lanes.items)
+          (map lane_part c.clear_channel.new.lanes.items) c.remove.new.self
           (ap (map client_part) ended.1 ∙ map-set_one client_part c.self.inside.clients.items s.index (with_pending_ended s.it))
-          (lanes_then c.self.inside.client_lanes.items held.lane f.lane c.give_back_in.new.lanes.items (λ m. given_back m held.slot) c.give_back_in.ensures)
+          (lanes_then c.self.inside.client_lanes.items held.lane f.lane c.give_back_in.new.lanes.items
+          (λ m. given_back m held.slot) c.give_back_in.ensures)
           c.clear_channel.ensures
           c.remove.ensures.gone,
     )
 
 pub unreachable-requires : goal.unreachable-requires
 unreachable-requires g c =
-    handle_there (parts_of c.self.inside) c.args.self.now c.id.inside.number c.args.id.now c.self.view_is c.id.view_is (λ handle. is_pending_response handle ≡ true) c.requires (sym c.get.ensures ∙ c.in-None.is)
+    handle_there (parts_of c.self.inside) c.args.self.now c.id.inside.number c.args.id.now c.self.view_is c.id.view_is
+    (λ handle. is_pending_response handle ≡ true) c.requires (sym c.get.ensures ∙ c.in-None.is)
 
 pub returns : goal.returns
 returns g c =
     let r = parts g c in
     ap state_of r.3
-    ∙ pending_view (parts_of c.self.inside) c.self.invariant.sound c.id.inside.number r.0.seat r.0.at r.0.hint r.0.connections r.0.pending r.1.index (client_part r.1.it) r.1.there r.2
+    ∙ pending_view (parts_of c.self.inside) c.self.invariant.sound c.id.inside.number r.0.seat r.0.at r.0.hint r.0.connections r.0.pending
+    r.1.index (client_part r.1.it) r.1.there r.2
     ∙ ap (λ s. after_release s c.id.inside.number) c.self.view_is ∙ ap (after_release c.args.self.now) c.id.view_is
 
 pub invariant_of-self : goal.invariant_of-self
@@ -110,6 +124,8 @@ invariant_of-self g c =
     let r = parts g c in
     record {
       sound = subst (λ p. IsSound p empty_hand) (sym r.3)
-          (pending_sound (parts_of c.self.inside) c.self.invariant.sound c.id.inside.number r.0.seat r.0.at r.0.hint r.0.connections r.0.pending r.1.index (client_part r.1.it) r.1.there r.2);
-      reached = subst (λ s. IsReached s) (sym (returns g c)) (after_release_reached c.args.self.now c.args.id.now (subst (λ s. IsReached s) c.self.view_is c.self.invariant.reached));
+          (pending_sound (parts_of c.self.inside) c.self.invariant.sound c.id.inside.number r.0.seat r.0.at r.0.hint r.0.connections
+          r.0.pending r.1.index (client_part r.1.it) r.1.there r.2);
+      reached = subst (λ s. IsReached s) (sym (returns g c)) (after_release_reached c.args.self.now c.args.id.now
+          (subst (λ s. IsReached s) c.self.view_is c.self.invariant.reached));
     }

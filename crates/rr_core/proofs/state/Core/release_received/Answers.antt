@@ -12,7 +12,8 @@ use Rattle.rr_parts.specs.Releasing.{is_received_response, borrow_ended}
 use Rattle.rr_parts.specs.Sound.{IsSound, empty_hand, response_note}
 use Rattle.rr_parts.specs.Views.{lane_of, state_of, no_response}
 use Rattle.rr_core_laws.proofs.Adding.{with_servers}
-use Rattle.rr_core_laws.proofs.ReceivedFields.{Named, ReceivedFound, note_is, queue_there, received_found, client_of_received, received_parts}
+use Rattle.rr_core_laws.proofs.ReceivedFields.{Named, ReceivedFound, note_is}
+use Rattle.rr_core_laws.proofs.ReceivedFields.{queue_there, received_found, client_of_received, received_parts}
 use Rattle.rr_core_laws.proofs.ReleaseFields.{lane_asked, lanes_then, handle_there}
 use Rattle.rr_core_laws.proofs.ResponseReleased.{after_received, has_received, received_sound, received_view}
 use Rattle.rr_core_laws.proofs.Senders.{of_found}
@@ -25,7 +26,8 @@ use Rattle.rr_core.proofs.state.Core.release_received.Goals.{In-Some, After-note
 -- the handle is found in its seat
 found : (g : _) (c : In-Some g) → ReceivedFound (parts_of c.self.inside) c.id.inside.number c.in-Some.held
 found g c =
-    received_found (parts_of c.self.inside) c.self.invariant.sound c.args.self.now c.id.inside.number c.args.id.now c.self.view_is c.id.view_is
+    received_found (parts_of c.self.inside) c.self.invariant.sound c.args.self.now c.id.inside.number c.args.id.now c.self.view_is
+    c.id.view_is
     c.requires c.in-Some.held (sym c.get.ensures ∙ c.in-Some.is)
 
 pub note_in-note-requires : goal.note_in-note-requires
@@ -34,7 +36,8 @@ note_in-note-requires g c =
     let held = c.in-Some.held in
     let f = found g (goal.at.note_in-note-requires g c).In-Some in
     subst (λ ls. IsSomeAnd (slice_get ls held.lane) (λ l. held.slot < length l.messages.held)) (sym c.as_slice.ensures.value)
-    (lane_asked c.self.inside.server_lanes.items held.lane f.lane (λ l. held.slot < length l.messages.held) (λ l. held.slot < length l.messages.held) (λ l h. h)
+    (lane_asked c.self.inside.server_lanes.items held.lane f.lane (λ l. held.slot < length l.messages.held)
+    (λ l. held.slot < length l.messages.held) (λ l h. h)
     (held_within (lane_of held.lane p.server_lanes).messages.held held.slot f.slot))
 
 -- its note is the one that is kept
@@ -96,7 +99,8 @@ received g c f noted are n =
       channel = channel;
       here = subst (λ q. 0 < borrowed_at messages place q) channel
           (subst (λ r. 0 < borrowed_at messages r (response_note p held.lane held.slot).channel) (sym placed)
-          (subst (λ (h : Held). 0 < borrowed_at (lane_of h.lane p.server_lanes).messages n.it.port.place (response_note p h.lane h.slot).channel)
+          (subst (λ (h : Held). 0 < borrowed_at (lane_of h.lane p.server_lanes).messages n.it.port.place
+          (response_note p h.lane h.slot).channel)
           f.is some));
     }
 
@@ -115,7 +119,8 @@ end_borrow_in-requires-clause-receiver g c =
     lane_asked c.self.inside.server_lanes.items held.lane f.lane
     (λ l. (place < length l.messages.queues) × (channel < length (slice_index_or l.messages.queues place [])))
     (λ l. (place < length l.messages.queues) × (channel < length (slice_index_or l.messages.queues place []))) (λ l h. h)
-    (queue_there (lane_of held.lane (parts_of c.self.inside).server_lanes).messages (c.self.invariant.sound.sized.server_lanes held.lane f.lane)
+    (queue_there (lane_of held.lane (parts_of c.self.inside).server_lanes).messages
+    (c.self.invariant.sound.sized.server_lanes held.lane f.lane)
     place channel r.here)
 
 pub end_borrow_in-requires-clause-counted : goal.end_borrow_in-requires-clause-counted
@@ -133,10 +138,13 @@ end_borrow_in-requires-clause-counted g c =
 
 -- the parts after it
 parts : (g : _) (c : goal.After-end_borrow_in g)
-    → (r : IsReceived (parts_of c.self.inside) c.id.inside.number c.in-Some.held c.as_slice-in-Some.result.now c.note_in-note.result c.place_of-place.result)
-    × (with_servers (parts_of c.self.inside) (parts_of c.self.inside).servers (map lane_part c.end_borrow_in.new.lanes.items) c.remove.new.self
+    → (r : IsReceived (parts_of c.self.inside) c.id.inside.number c.in-Some.held c.as_slice-in-Some.result.now c.note_in-note.result
+    c.place_of-place.result)
+    × (with_servers (parts_of c.self.inside) (parts_of c.self.inside).servers
+    (map lane_part c.end_borrow_in.new.lanes.items) c.remove.new.self
     c.self.inside.next
-    ≡ after_received (parts_of c.self.inside) c.self.invariant.sound c.id.inside.number r.f.seat r.f.at r.f.got r.n.index (client_part r.n.it) r.there r.named)
+    ≡ after_received (parts_of c.self.inside) c.self.invariant.sound c.id.inside.number r.f.seat r.f.at r.f.got r.n.index
+    (client_part r.n.it) r.there r.named)
 parts g c =
     let held = c.in-Some.held in
     let channel = c.note_in-note.result.channel in
@@ -146,7 +154,8 @@ parts g c =
     let clients = at.After-as_slice-in-Some in
     let r = received g at.After-place_of-place f (noted g at.After-note_in-note f) (same_clients g clients) (client g clients) in (
       r,
-      received_parts (parts_of c.self.inside) c.self.invariant.sound c.id.inside.number r.f.seat r.f.at r.f.got r.n.index (client_part r.n.it) r.there r.named
+      received_parts (parts_of c.self.inside) c.self.invariant.sound c.id.inside.number r.f.seat r.f.at r.f.got r.n.index
+          (client_part r.n.it) r.there r.named
           held r.f.is place channel r.placed r.channel (map lane_part c.end_borrow_in.new.lanes.items) c.remove.new.self
           (lanes_then c.self.inside.server_lanes.items held.lane r.f.lane c.end_borrow_in.new.lanes.items
           (λ m. borrow_ended m place channel held.slot) c.end_borrow_in.ensures)
@@ -155,14 +164,16 @@ parts g c =
 
 pub unreachable-requires : goal.unreachable-requires
 unreachable-requires g c =
-    handle_there (parts_of c.self.inside) c.args.self.now c.id.inside.number c.args.id.now c.self.view_is c.id.view_is (λ handle. is_received_response handle ≡ true) c.requires (sym c.get.ensures ∙ c.in-None.is)
+    handle_there (parts_of c.self.inside) c.args.self.now c.id.inside.number c.args.id.now c.self.view_is c.id.view_is
+    (λ handle. is_received_response handle ≡ true) c.requires (sym c.get.ensures ∙ c.in-None.is)
 
 pub returns : goal.returns
 returns g c =
     let r = parts g c in
     let s = r.0 in
     ap state_of r.1
-    ∙ received_view (parts_of c.self.inside) c.self.invariant.sound c.id.inside.number s.f.seat s.f.at s.f.got s.n.index (client_part s.n.it) s.there s.named
+    ∙ received_view (parts_of c.self.inside) c.self.invariant.sound c.id.inside.number s.f.seat s.f.at s.f.got s.n.index
+    (client_part s.n.it) s.there s.named
     ∙ ap (λ s. after_release s c.id.inside.number) c.self.view_is ∙ ap (after_release c.args.self.now) c.id.view_is
 
 pub invariant_of-self : goal.invariant_of-self
@@ -170,6 +181,9 @@ invariant_of-self g c =
     let r = parts g c in
     let s = r.0 in
     record {
-      sound = subst (λ p. IsSound p empty_hand) (sym r.1) (received_sound (parts_of c.self.inside) c.self.invariant.sound c.id.inside.number s.f.seat s.f.at s.f.got s.n.index (client_part s.n.it) s.there s.named);
-      reached = subst (λ s. IsReached s) (sym (returns g c)) (after_release_reached c.args.self.now c.args.id.now (subst (λ s. IsReached s) c.self.view_is c.self.invariant.reached));
+      sound = subst (λ p. IsSound p empty_hand) (sym r.1) (received_sound
+          (parts_of c.self.inside) c.self.invariant.sound c.id.inside.number s.f.seat s.f.at s.f.got s.n.index
+          (client_part s.n.it) s.there s.named);
+      reached = subst (λ s. IsReached s) (sym (returns g c)) (after_release_reached c.args.self.now c.args.id.now
+          (subst (λ s. IsReached s) c.self.view_is c.self.invariant.reached));
     }

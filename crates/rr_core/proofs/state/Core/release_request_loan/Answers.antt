@@ -10,7 +10,8 @@ use Rattle.rr_parts.specs.Sound.{IsSound, empty_hand}
 use Rattle.rr_parts.specs.Views.{state_of}
 use Rattle.rr_core_laws.proofs.Adding.{with_vectors}
 use Rattle.rr_core_laws.proofs.Places.{map-set_one}
-use Rattle.rr_core_laws.proofs.ReleaseFields.{Sending, LoanFound, client_sending, lane_asked, lanes_then, loan_found, handle_there, loan_parts}
+use Rattle.rr_core_laws.proofs.ReleaseFields.{Sending, LoanFound, client_sending, lane_asked}
+use Rattle.rr_core_laws.proofs.ReleaseFields.{lanes_then, loan_found, handle_there, loan_parts}
 use Rattle.rr_core_laws.proofs.RequestReleased.{after_loan, has_loan, released_sound, released_view}
 use Rattle.rr_core_laws.proofs.Senders.{of_found, to_found}
 use Rattle.rr_laws.specs.Reached.{IsReached}
@@ -34,7 +35,8 @@ give_back_in-requires g c =
     let p = parts_of c.self.inside in
     let held = c.in-Some.held in
     let f = found g (goal.at.give_back_in-requires g c).In-Some in
-    lane_asked c.self.inside.client_lanes.items held.lane f.lane (λ l. 0 < slice_index l.messages.held held.slot) (λ l. 0 < slice_index l.messages.held held.slot) (λ l h. h) f.slot
+    lane_asked c.self.inside.client_lanes.items held.lane f.lane (λ l. 0 < slice_index l.messages.held held.slot)
+    (λ l. 0 < slice_index l.messages.held held.slot) (λ l h. h) f.slot
 
 pub end_request_loan-requires : goal.end_request_loan-requires
 end_request_loan-requires g c =
@@ -42,14 +44,19 @@ end_request_loan-requires g c =
     let held = c.in-Some.held in
     let f = found g (goal.at.end_request_loan-requires g c).In-Some in
     let s = sending g (goal.at.end_request_loan-requires g c).In-Some in
-    to_found (λ (x : ClientPort _). x.port.lane == held.lane) c.self.inside.clients.items s.index s.it s.found s.at (λ _ x. 0 < x.port.loans)
-    (has_loan p c.self.invariant.sound c.id.inside.number f.seat f.at f.loan s.index (client_part s.it) s.there (s.sends ∙ sym (ap (λ (h : Held). h.lane) f.is)))
+    to_found (λ (x : ClientPort _). x.port.lane == held.lane) c.self.inside.clients.items s.index s.it s.found s.at
+    (λ _ x. 0 < x.port.loans)
+    (has_loan p c.self.invariant.sound c.id.inside.number f.seat f.at f.loan s.index (client_part s.it) s.there
+    (s.sends ∙ sym (ap (λ (h : Held). h.lane) f.is)))
 
 -- the parts after it
-parts : (g : _) (c : goal.After-end_request_loan g) → (f : LoanFound (parts_of c.self.inside) c.id.inside.number c.in-Some.held) × (s : Sending c.self.inside.clients.items c.in-Some.held.lane)
+parts : (g : _) (c : goal.After-end_request_loan g) → (f : LoanFound (parts_of c.self.inside) c.id.inside.number c.in-Some.held)
+    × (s : Sending c.self.inside.clients.items c.in-Some.held.lane)
     × (sends : s.it.port.lane ≡ f.seat.value.lane)
-    × (with_vectors (parts_of c.self.inside) (map client_part c.end_request_loan.new.clients.items) (map lane_part c.give_back_in.new.lanes.items) (parts_of c.self.inside).waiting c.remove.new.self c.self.inside.next
-    ≡ after_loan (parts_of c.self.inside) c.self.invariant.sound c.id.inside.number f.seat f.at f.loan s.index (client_part s.it) s.there sends)
+    × (with_vectors (parts_of c.self.inside) (map client_part c.end_request_loan.new.clients.items)
+    (map lane_part c.give_back_in.new.lanes.items) (parts_of c.self.inside).waiting c.remove.new.self c.self.inside.next
+    ≡ after_loan (parts_of c.self.inside) c.self.invariant.sound c.id.inside.number f.seat f.at f.loan s.index
+    (client_part s.it) s.there sends)
 parts g c =
     let p = parts_of c.self.inside in
     let held = c.in-Some.held in
@@ -57,32 +64,39 @@ parts g c =
     let s = sending g (goal.at.returns g c).In-Some in
     let sends : s.it.port.lane ≡ f.seat.value.lane = s.sends ∙ sym (ap (λ (h : Held). h.lane) f.is) in
     let clients = of_found (λ (x : ClientPort _). x.port.lane == held.lane) c.self.inside.clients.items s.index s.it s.found s.at
-    (λ i x. c.end_request_loan.new.clients.items ≡ slice_set c.self.inside.clients.items i (with_loan_ended x)) c.end_request_loan.ensures in (
+    (λ i x. c.end_request_loan.new.clients.items ≡ slice_set c.self.inside.clients.items i (with_loan_ended x))
+    c.end_request_loan.ensures in (
       f,
       s,
       sends,
       loan_parts p c.self.invariant.sound c.id.inside.number f.seat f.at f.loan s.index (client_part s.it) s.there sends held f.is
           (map client_part c.end_request_loan.new.clients.items) (map lane_part c.give_back_in.new.lanes.items) c.remove.new.self
           (ap (map client_part) clients ∙ map-set_one client_part c.self.inside.clients.items s.index (with_loan_ended s.it))
-          (lanes_then c.self.inside.client_lanes.items held.lane f.lane c.give_back_in.new.lanes.items (λ m. given_back m held.slot) c.give_back_in.ensures)
+          (lanes_then c.self.inside.client_lanes.items held.lane f.lane c.give_back_in.new.lanes.items
+          (λ m. given_back m held.slot) c.give_back_in.ensures)
           c.remove.ensures.gone,
     )
 
 pub unreachable-requires : goal.unreachable-requires
 unreachable-requires g c =
-    handle_there (parts_of c.self.inside) c.args.self.now c.id.inside.number c.args.id.now c.self.view_is c.id.view_is (λ handle. is_loaned_request handle ≡ true) c.requires (sym c.get.ensures ∙ c.in-None.is)
+    handle_there (parts_of c.self.inside) c.args.self.now c.id.inside.number c.args.id.now c.self.view_is c.id.view_is
+    (λ handle. is_loaned_request handle ≡ true) c.requires (sym c.get.ensures ∙ c.in-None.is)
 
 pub returns : goal.returns
 returns g c =
     let r = parts g c in
     ap state_of r.3
-    ∙ released_view (parts_of c.self.inside) c.self.invariant.sound c.id.inside.number r.0.seat r.0.at r.0.loan r.1.index (client_part r.1.it) r.1.there r.2
+    ∙ released_view (parts_of c.self.inside) c.self.invariant.sound c.id.inside.number r.0.seat r.0.at r.0.loan r.1.index
+    (client_part r.1.it) r.1.there r.2
     ∙ ap (λ s. after_release s c.id.inside.number) c.self.view_is ∙ ap (after_release c.args.self.now) c.id.view_is
 
 pub invariant_of-self : goal.invariant_of-self
 invariant_of-self g c =
     let r = parts g c in
     record {
-      sound = subst (λ p. IsSound p empty_hand) (sym r.3) (released_sound (parts_of c.self.inside) c.self.invariant.sound c.id.inside.number r.0.seat r.0.at r.0.loan r.1.index (client_part r.1.it) r.1.there r.2);
-      reached = subst (λ s. IsReached s) (sym (returns g c)) (after_release_reached c.args.self.now c.args.id.now (subst (λ s. IsReached s) c.self.view_is c.self.invariant.reached));
+      sound = subst (λ p. IsSound p empty_hand) (sym r.3) (released_sound
+          (parts_of c.self.inside) c.self.invariant.sound c.id.inside.number r.0.seat r.0.at r.0.loan r.1.index
+          (client_part r.1.it) r.1.there r.2);
+      reached = subst (λ s. IsReached s) (sym (returns g c)) (after_release_reached c.args.self.now c.args.id.now
+          (subst (λ s. IsReached s) c.self.view_is c.self.invariant.reached));
     }

@@ -25,7 +25,8 @@ use Rattle.rr_core.proofs.state.Core.release_response_loan.Goals.{In-Some}
 -- the handle is found in its seat
 found : (g : _) (c : In-Some g) → AnswerFound (parts_of c.self.inside) c.id.inside.number c.in-Some.held
 found g c =
-    answer_found (parts_of c.self.inside) c.self.invariant.sound c.args.self.now c.id.inside.number c.args.id.now c.self.view_is c.id.view_is
+    answer_found (parts_of c.self.inside) c.self.invariant.sound c.args.self.now c.id.inside.number c.args.id.now c.self.view_is
+    c.id.view_is
     c.requires c.in-Some.held (sym c.get.ensures ∙ c.in-Some.is)
 
 -- and who sends from its lane
@@ -39,7 +40,8 @@ note_in-note-requires g c =
     let held = c.in-Some.held in
     let f = found g (goal.at.note_in-note-requires g c).In-Some in
     subst (λ ls. IsSomeAnd (slice_get ls held.lane) (λ l. held.slot < length l.messages.held)) (sym c.as_slice.ensures.value)
-    (lane_asked c.self.inside.server_lanes.items held.lane f.lane (λ l. held.slot < length l.messages.held) (λ l. held.slot < length l.messages.held) (λ l h. h)
+    (lane_asked c.self.inside.server_lanes.items held.lane f.lane (λ l. held.slot < length l.messages.held)
+    (λ l. held.slot < length l.messages.held) (λ l h. h)
     (held_within (lane_of held.lane p.server_lanes).messages.held held.slot f.slot))
 
 pub give_back_in-requires : goal.give_back_in-requires
@@ -47,7 +49,8 @@ give_back_in-requires g c =
     let p = parts_of c.self.inside in
     let held = c.in-Some.held in
     let f = found g (goal.at.give_back_in-requires g c).In-Some in
-    lane_asked c.self.inside.server_lanes.items held.lane f.lane (λ l. 0 < slice_index l.messages.held held.slot) (λ l. 0 < slice_index l.messages.held held.slot) (λ l h. h) f.slot
+    lane_asked c.self.inside.server_lanes.items held.lane f.lane (λ l. 0 < slice_index l.messages.held held.slot)
+    (λ l. 0 < slice_index l.messages.held held.slot) (λ l h. h) f.slot
 
 pub end_answer-requires-clause-counted : goal.end_answer-requires-clause-counted
 end_answer-requires-clause-counted g c =
@@ -55,11 +58,14 @@ end_answer-requires-clause-counted g c =
     let held = c.in-Some.held in
     let f = found g (goal.at.end_answer-requires-clause-counted g c).In-Some in
     let s = sending g (goal.at.end_answer-requires-clause-counted g c).In-Some in
-    to_found (λ (x : ServerPort _). x.port.lane == held.lane) c.self.inside.servers.items s.index s.it s.found s.at (λ _ x. 0 < x.port.loans)
+    to_found (λ (x : ServerPort _). x.port.lane == held.lane) c.self.inside.servers.items s.index s.it s.found s.at
+    (λ _ x. 0 < x.port.loans)
     (has_loan p c.self.invariant.sound c.id.inside.number held f s.index (server_part s.it) s.there s.sends)
 
 -- the parts after it are sound, and what contracts see
-after : (g : _) (c : goal.After-end_answer g) → let p = parts_of c.self.inside in let q = with_servers p (map server_part c.end_answer.new.servers.items) (map lane_part c.give_back_in.new.lanes.items) c.end_answer.new.table c.self.inside.next in
+after : (g : _) (c : goal.After-end_answer g) → let p = parts_of c.self.inside in let q = with_servers p
+    (map server_part c.end_answer.new.servers.items) (map lane_part c.give_back_in.new.lanes.items) c.end_answer.new.table
+    c.self.inside.next in
     IsSound q empty_hand × (state_of q ≡ after_release (state_of p) c.id.inside.number)
 after g c =
     let p = parts_of c.self.inside in
@@ -67,22 +73,28 @@ after g c =
     let f = found g (goal.at.returns g c).In-Some in
     let s = sending g (goal.at.returns g c).In-Some in
     let note = c.note_in-note.result in
-    let noted = note_is c.self.inside.server_lanes.items c.as_slice.result.now held.lane held.slot note no_response f.lane c.as_slice.ensures.value c.note_in-note.ensures in
+    let noted = note_is c.self.inside.server_lanes.items c.as_slice.result.now held.lane held.slot note no_response f.lane
+    c.as_slice.ensures.value c.note_in-note.ensures in
     let servers = of_found (λ (x : ServerPort _). x.port.lane == held.lane) c.self.inside.servers.items s.index s.it s.found s.at
     (λ i x. c.end_answer.new.servers.items ≡ slice_set c.self.inside.servers.items i (with_answer_ended x)) c.end_answer.ensures.servers in
     let table = of_found (λ (x : ServerPort _). x.port.lane == held.lane) c.self.inside.servers.items s.index s.it s.found s.at
     (λ _ x. (at : Option Place) × IfSome at (IsAskedPlace (map lane_part c.as_slice-in-Some.result.now) note x.port.place)
-    × IsLoanEnded note.active_request (found_under (unseated c.self.inside.table c.args.id.now) note.active_request at) (unseated c.self.inside.table c.args.id.now) c.end_answer.new.table) c.end_answer.ensures.table in
-    let asked = subst (λ ls. IfSome table.0 (IsAskedPlace (map lane_part ls) note s.it.port.place)) c.as_slice-in-Some.ensures.value table.1 in
+    × IsLoanEnded note.active_request (found_under (unseated c.self.inside.table c.args.id.now) note.active_request at)
+    (unseated c.self.inside.table c.args.id.now) c.end_answer.new.table) c.end_answer.ensures.table in
+    let asked = subst (λ ls. IfSome table.0 (IsAskedPlace (map lane_part ls) note s.it.port.place)) c.as_slice-in-Some.ensures.value
+    table.1 in
     answer_parts p c.self.invariant.sound c.id.inside.number held f s.index (server_part s.it) s.there s.sends note noted
     (map server_part c.end_answer.new.servers.items) (map lane_part c.give_back_in.new.lanes.items) c.end_answer.new.table
     (ap (map server_part) servers ∙ map-set_one server_part c.self.inside.servers.items s.index (with_answer_ended s.it))
-    (lanes_then c.self.inside.server_lanes.items held.lane f.lane c.give_back_in.new.lanes.items (λ m. given_back m held.slot) c.give_back_in.ensures)
-    table.0 asked (subst (λ n. IsLoanEnded note.active_request (found_under (unseated c.self.inside.table n) note.active_request table.0) (unseated c.self.inside.table n) c.end_answer.new.table) (sym c.id.view_is) table.2)
+    (lanes_then c.self.inside.server_lanes.items held.lane f.lane c.give_back_in.new.lanes.items
+    (λ m. given_back m held.slot) c.give_back_in.ensures)
+    table.0 asked (subst (λ n. IsLoanEnded note.active_request (found_under (unseated c.self.inside.table n) note.active_request table.0)
+    (unseated c.self.inside.table n) c.end_answer.new.table) (sym c.id.view_is) table.2)
 
 pub unreachable-requires : goal.unreachable-requires
 unreachable-requires g c =
-    handle_there (parts_of c.self.inside) c.args.self.now c.id.inside.number c.args.id.now c.self.view_is c.id.view_is (λ handle. is_loaned_response handle ≡ true) c.requires (sym c.get.ensures ∙ c.in-None.is)
+    handle_there (parts_of c.self.inside) c.args.self.now c.id.inside.number c.args.id.now c.self.view_is c.id.view_is
+    (λ handle. is_loaned_response handle ≡ true) c.requires (sym c.get.ensures ∙ c.in-None.is)
 
 pub returns : goal.returns
 returns g c = (after g c).1 ∙ ap (λ s. after_release s c.id.inside.number) c.self.view_is ∙ ap (after_release c.args.self.now) c.id.view_is
@@ -91,5 +103,6 @@ pub invariant_of-self : goal.invariant_of-self
 invariant_of-self g c =
     record {
       sound = (after g c).0;
-      reached = subst (λ s. IsReached s) (sym (returns g c)) (after_release_reached c.args.self.now c.args.id.now (subst (λ s. IsReached s) c.self.view_is c.self.invariant.reached));
+      reached = subst (λ s. IsReached s) (sym (returns g c)) (after_release_reached c.args.self.now c.args.id.now
+          (subst (λ s. IsReached s) c.self.view_is c.self.invariant.reached));
     }

@@ -14,10 +14,12 @@ spot : (g : _) (c : In-Some g) → (is_of_request c.in-Some.held.stage ≡ true)
     × (c.in-Some.held.lane < length (parts_of c.self.inside).client_lanes)
     × (c.in-Some.held.slot < length (lane_of c.in-Some.held.lane (parts_of c.self.inside).client_lanes).messages.held)
 spot g c =
-    let kind = is_request (parts_of c.self.inside) c.args.self.now c.id.inside.number c.args.id.now c.self.view_is c.id.view_is c.in-Some.held (sym c.get.ensures ∙ c.in-Some.is) c.requires in
+    let kind = is_request (parts_of c.self.inside) c.args.self.now c.id.inside.number c.args.id.now c.self.view_is c.id.view_is
+    c.in-Some.held (sym c.get.ensures ∙ c.in-Some.is) c.requires in
     let spot = request_spot (parts_of c.self.inside) empty_hand c.self.invariant.sound.counted c.id.inside.number c.in-Some.held
     (sym c.get.ensures ∙ c.in-Some.is) kind in
-    let within : c.in-Some.held.lane < length c.self.inside.client_lanes.items = omega (arith, spot.0, length-map c.self.inside.client_lanes.items lane_part) in
+    let within : c.in-Some.held.lane < length c.self.inside.client_lanes.items = omega
+    (arith, spot.0, length-map c.self.inside.client_lanes.items lane_part) in
     (kind, within, spot.0, spot.1)
 
 pub index-requires : goal.index-requires
@@ -28,11 +30,17 @@ index-requires g c =
 pub body-requires : goal.body-requires
 body-requires g c =
     let spot = spot g (goal.at.body-requires g c).In-Some in
-    omega (arith, spot.3, ap (λ l. length l.messages.held) (lane_read c.self.inside.client_lanes.items c.in-Some.held.lane c.index.result.now spot.1 c.index.ensures))
+    omega (
+      arith,
+      spot.3,
+      ap (λ l. length l.messages.held) (lane_read c.self.inside.client_lanes.items c.in-Some.held.lane
+          c.index.result.now spot.1 c.index.ensures),
+    )
 
 pub unreachable-requires : goal.unreachable-requires
 unreachable-requires g c =
-    request_there (parts_of c.self.inside) c.args.self.now c.id.inside.number c.args.id.now c.self.view_is c.id.view_is c.requires (sym c.get.ensures ∙ c.in-None.is)
+    request_there (parts_of c.self.inside) c.args.self.now c.id.inside.number c.args.id.now c.self.view_is c.id.view_is c.requires
+    (sym c.get.ensures ∙ c.in-None.is)
 
 pub returns-clause-asked : goal.returns-clause-asked
 returns-clause-asked g c =
@@ -40,7 +48,8 @@ returns-clause-asked g c =
     let found = sym c.get.ensures ∙ c.in-Some.is in
     let spot = spot g (goal.at.returns-clause-asked g c).In-Some in
     of_request p c.args.self.now c.id.inside.number c.args.id.now c.self.view_is c.id.view_is c.in-Some.held found _ spot.0
-    (ap (λ w. w.asked_len) (sym (content_read c.self.inside.client_lanes.items c.in-Some.held.lane c.index.result.now spot.1 c.index.ensures c.in-Some.held.slot _ c.body.ensures)))
+    (ap (λ w. w.asked_len) (sym (content_read c.self.inside.client_lanes.items c.in-Some.held.lane c.index.result.now spot.1
+    c.index.ensures c.in-Some.held.slot _ c.body.ensures)))
 
 pub returns-clause-elements : goal.returns-clause-elements
 returns-clause-elements g c =
@@ -48,4 +57,5 @@ returns-clause-elements g c =
     let found = sym c.get.ensures ∙ c.in-Some.is in
     let spot = spot g (goal.at.returns-clause-elements g c).In-Some in
     of_request p c.args.self.now c.id.inside.number c.args.id.now c.self.view_is c.id.view_is c.in-Some.held found _ spot.0
-    (ap (λ w. w.elements) (sym (content_read c.self.inside.client_lanes.items c.in-Some.held.lane c.index.result.now spot.1 c.index.ensures c.in-Some.held.slot _ c.body.ensures)))
+    (ap (λ w. w.elements) (sym (content_read c.self.inside.client_lanes.items c.in-Some.held.lane c.index.result.now spot.1 c.index.ensures
+    c.in-Some.held.slot _ c.body.ensures)))

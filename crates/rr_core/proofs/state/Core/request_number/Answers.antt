@@ -19,10 +19,12 @@ spot : (g : _) (c : In-Some g) → (stage_kind c.in-Some.held.stage ≡ Kind.Act
     × (c.in-Some.held.lane < length (parts_of c.self.inside).client_lanes)
     × (c.in-Some.held.slot < length (lane_of c.in-Some.held.lane (parts_of c.self.inside).client_lanes).messages.held)
 spot g c =
-    let kind = is_active (parts_of c.self.inside) c.args.self.now c.id.inside.number c.args.id.now c.self.view_is c.id.view_is c.in-Some.held (sym c.get.ensures ∙ c.in-Some.is) c.requires in
+    let kind = is_active (parts_of c.self.inside) c.args.self.now c.id.inside.number c.args.id.now c.self.view_is c.id.view_is
+    c.in-Some.held (sym c.get.ensures ∙ c.in-Some.is) c.requires in
     let spot = request_spot (parts_of c.self.inside) empty_hand c.self.invariant.sound.counted c.id.inside.number c.in-Some.held
     (sym c.get.ensures ∙ c.in-Some.is) (active_has_request _ kind) in
-    let within : c.in-Some.held.lane < length c.self.inside.client_lanes.items = omega (arith, spot.0, length-map c.self.inside.client_lanes.items lane_part) in
+    let within : c.in-Some.held.lane < length c.self.inside.client_lanes.items = omega
+    (arith, spot.0, length-map c.self.inside.client_lanes.items lane_part) in
     (kind, within, spot.0, spot.1)
 
 pub index-requires : goal.index-requires
@@ -33,17 +35,25 @@ index-requires g c =
 pub note-requires : goal.note-requires
 note-requires g c =
     let spot = spot g (goal.at.note-requires g c).In-Some in
-    omega (arith, spot.3, ap (λ l. length l.messages.held) (lane_read c.self.inside.client_lanes.items c.in-Some.held.lane c.index.result.now spot.1 c.index.ensures))
+    omega (
+      arith,
+      spot.3,
+      ap (λ l. length l.messages.held) (lane_read c.self.inside.client_lanes.items c.in-Some.held.lane
+          c.index.result.now spot.1 c.index.ensures),
+    )
 
 pub unreachable-requires : goal.unreachable-requires
 unreachable-requires g c =
-    active_there (parts_of c.self.inside) c.args.self.now c.id.inside.number c.args.id.now c.self.view_is c.id.view_is c.requires (sym c.get.ensures ∙ c.in-None.is)
+    active_there (parts_of c.self.inside) c.args.self.now c.id.inside.number c.args.id.now c.self.view_is c.id.view_is c.requires
+    (sym c.get.ensures ∙ c.in-None.is)
 
 pub returns : goal.returns
 returns g c =
     let p = parts_of c.self.inside in
     let found = sym c.get.ensures ∙ c.in-Some.is in
     let spot = spot g (goal.at.returns g c).In-Some in
-    let note = note_read c.self.inside.client_lanes.items c.in-Some.held.lane c.index.result.now spot.1 c.index.ensures c.in-Some.held.slot c.note.result c.note.ensures in
-    of_active p c.args.self.now c.id.inside.number c.args.id.now c.self.view_is c.id.view_is c.in-Some.held found (λ number. c.note.result.number ≡ number) spot.0
+    let note = note_read c.self.inside.client_lanes.items c.in-Some.held.lane c.index.result.now spot.1 c.index.ensures c.in-Some.held.slot
+    c.note.result c.note.ensures in
+    of_active p c.args.self.now c.id.inside.number c.args.id.now c.self.view_is c.id.view_is c.in-Some.held found
+    (λ number. c.note.result.number ≡ number) spot.0
     (ap (λ (n : RequestNote). n.number) (sym note))
