@@ -10,7 +10,8 @@ use Rattle.rr_parts.specs.Views.{lane_of}
 use Rattle.rr_core_laws.proofs.Asking.{lane_is}
 use Rattle.rr_core_laws.proofs.NextSender.{looked_at_none, looked_at_empty, looked_at_blocked, empty_of, some_of}
 use Rattle.rr_core.proofs.receive.next_sender.Goals as goal
-use Rattle.rr_core.proofs.receive.next_sender.Goals.{In-loop-lane, After-index, then-has_entries+else-borrowed-most, else-has_entries}
+use Rattle.rr_core.proofs.receive.next_sender.Goals.{After-index-then-has_entries, In-loop-lane}
+use Rattle.rr_core.proofs.receive.next_sender.Goals.{After-index, then-has_entries+else-borrowed-most, else-has_entries}
 
 -- the lane is there
 within : (g : _) (c : In-loop-lane g) → c.loop-lane.lane < length c.args.lanes.now.items
@@ -21,6 +22,19 @@ lane_was : (g : _) (c : After-index g) → c.loop-lane.lane < length c.args.lane
     → lane_of c.loop-lane.lane (map lane_part c.args.lanes.now.items) ≡ lane_part c.index.result.now
 lane_was g c there = lane_is c.args.lanes.now.items c.loop-lane.lane c.index.result.now there c.index.ensures
 
+-- also where it is read again
+lane_again : (g : _) (c : After-index-then-has_entries g) → c.loop-lane.lane < length c.args.lanes.now.items
+    → lane_of c.loop-lane.lane (map lane_part c.args.lanes.now.items) ≡ lane_part c.index-then-has_entries.result.now
+lane_again g c there = lane_is c.args.lanes.now.items c.loop-lane.lane c.index-then-has_entries.result.now there
+    c.index-then-has_entries.ensures
+
+-- it has a queue to the receiver
+reach : (g : _) (c : In-loop-lane g)
+    → (c.args.place < length (lane_of c.loop-lane.lane (map lane_part c.args.lanes.now.items)).messages.queues)
+    × (c.args.channel < length (slice_index_or (lane_of c.loop-lane.lane (map lane_part c.args.lanes.now.items)).messages.queues
+    c.args.place []))
+reach g c = c.requires c.loop-lane.lane (omega (arith, within g c, length-map c.args.lanes.now.items lane_part))
+
 pub index-requires : goal.index-requires
 index-requires g c = omega (arith, within g c, c.args.lanes.now.ok.0)
 
@@ -29,28 +43,47 @@ loop-lane-init g c = looked_at_none (map lane_part c.args.lanes.now.items) c.arg
 
 pub has_entries-requires-clause-receiver : goal.has_entries-requires-clause-receiver
 has_entries-requires-clause-receiver g c =
-    let lanes = c.args.lanes.now.items in
     let at = goal.at.has_entries-requires-clause-receiver g c in
-    let within = within g at.In-loop-lane in
-    let is = lane_was g at.After-index within in
-    omega (
-      arith,
-      (c.requires c.loop-lane.lane (omega (arith, within, length-map lanes lane_part))).0,
-      ap
-          (λ (l : Lane _ _ _). length l.messages.queues) is,
-    )
+    let is = lane_was g at.After-index (within g at.In-loop-lane) in
+    subst (λ (l : Lane _ _ _). c.args.place < length l.messages.queues) is (reach g at.In-loop-lane).0
 
 pub has_entries-requires-clause-channel : goal.has_entries-requires-clause-channel
 has_entries-requires-clause-channel g c =
-    let lanes = c.args.lanes.now.items in
     let at = goal.at.has_entries-requires-clause-channel g c in
+    let is = lane_was g at.After-index (within g at.In-loop-lane) in
+    subst (λ (l : Lane _ _ _). c.args.channel < length (slice_index_or l.messages.queues c.args.place [])) is (reach g at.In-loop-lane).1
+
+pub borrowed-requires-clause-receiver : goal.borrowed-requires-clause-receiver
+borrowed-requires-clause-receiver g c =
+    let at = goal.at.borrowed-requires-clause-receiver g c in
+    let is = lane_again g at.After-index-then-has_entries (within g at.In-loop-lane) in
+    subst (λ (l : Lane _ _ _). c.args.place < length l.messages.queues) is (reach g at.In-loop-lane).0
+
+pub borrowed-requires-clause-channel : goal.borrowed-requires-clause-channel
+borrowed-requires-clause-channel g c =
+    let at = goal.at.borrowed-requires-clause-channel g c in
+    let is = lane_again g at.After-index-then-has_entries (within g at.In-loop-lane) in
+    subst (λ (l : Lane _ _ _). c.args.channel < length (slice_index_or l.messages.queues c.args.place [])) is (reach g at.In-loop-lane).1
+
+pub index-requires-then-has_entries : goal.index-requires-then-has_entries
+index-requires-then-has_entries g c =
+    omega (arith, within g (goal.at.index-requires-then-has_entries g c).In-loop-lane, c.args.lanes.now.ok.0)
+
+pub returns-then-borrowed-most : goal.returns-then-borrowed-most
+returns-then-borrowed-most g c =
+    let at = goal.at.returns-then-borrowed-most g c in
     let within = within g at.In-loop-lane in
     let is = lane_was g at.After-index within in
-    omega (
-      arith,
-      (c.requires c.loop-lane.lane (omega (arith, within, length-map lanes lane_part))).1,
-      ap
-          (λ (l : Lane _ _ _). length (slice_index_or l.messages.queues c.args.place [])) is,
+    let again = lane_again g at.After-index-then-has_entries within in (
+      omega (arith, within, length-map c.args.lanes.now.items lane_part),
+      subst (λ (l : Lane _ _ _). 0 < length (queue_at l.messages c.args.place c.args.channel)) (sym is)
+          (c.has_entries.ensures.0 c.if-has_entries.true),
+      omega (
+        arith,
+        c.if-borrowed-most.true,
+        c.borrowed.ensures,
+        ap (λ (l : Lane _ _ _). borrowed_at l.messages c.args.place c.args.channel) again,
+      ),
     )
 
 pub loop-lane-preserved : goal.loop-lane-preserved
