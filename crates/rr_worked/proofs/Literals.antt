@@ -58,6 +58,12 @@ module _ {X : Type 0} where
   pub empty_numbers : empty {X = X} {R = nat_cmp} ≡ from_sorted []
   empty_numbers = empty_lit nat_cmp
 
+  pub empty_request_keys : empty {X = X} {R = request_key_cmp} ≡ from_sorted []
+  empty_request_keys = empty_lit request_key_cmp
+
+  pub empty_response_keys : empty {X = X} {R = response_key_cmp} ≡ from_sorted []
+  empty_response_keys = empty_lit response_key_cmp
+
   pub insert_numbers : (es : List (ℕ × X)) (key : ℕ) (x : X) → is_sorted nat_cmp es ≡ true → is_sorted nat_cmp (put nat_cmp key x es) ≡ true
       → insert (from_sorted {R = nat_cmp} es) key x ≡ from_sorted (put nat_cmp key x es)
   insert_numbers = insert_lit nat_cmp nat_cmp_total nat_cmp-IsAntisymmetric
@@ -71,10 +77,6 @@ module _ {X : Type 0} where
       → remove (from_sorted {R = nat_cmp} es) key ≡ from_sorted (where_key nat_cmp (λ x. not (eq_by_cmp nat_cmp key x)) es)
   remove_numbers = remove_lit nat_cmp nat_cmp_total nat_cmp-IsAntisymmetric
 
-module _ {X : Type 0} where
-  pub empty_request_keys : empty {X = X} {R = request_key_cmp} ≡ from_sorted []
-  empty_request_keys = empty_lit request_key_cmp
-
 module _ {X : Type 0} (es : List (RequestKey × X)) where
   pub insert_request_keys : (key : RequestKey) (x : X) → is_sorted request_key_cmp es ≡ true → is_sorted request_key_cmp (put request_key_cmp key x es) ≡ true
       → insert (from_sorted {R = request_key_cmp} es) key x ≡ from_sorted (put request_key_cmp key x es)
@@ -87,10 +89,6 @@ module _ {X : Type 0} (es : List (RequestKey × X)) where
   pub remove_request_keys : (key : RequestKey) → is_sorted request_key_cmp es ≡ true → is_sorted request_key_cmp (without request_key_cmp key es) ≡ true
       → remove (from_sorted {R = request_key_cmp} es) key ≡ from_sorted (without request_key_cmp key es)
   remove_request_keys = remove_lit request_key_cmp request_keys_total request_keys_exact es
-
-module _ {X : Type 0} where
-  pub empty_response_keys : empty {X = X} {R = response_key_cmp} ≡ from_sorted []
-  empty_response_keys = empty_lit response_key_cmp
 
 module _ {X : Type 0} (es : List (ResponseKey × X)) where
   pub insert_response_keys : (key : ResponseKey) (x : X) → is_sorted response_key_cmp es ≡ true → is_sorted response_key_cmp (put response_key_cmp key x es) ≡ true
