@@ -7,6 +7,7 @@ use Rattle.rr_table.specs.Seats.{Seat}
 use Rattle.rr_table.proofs.MapLaws.{get-map_values}
 use Rattle.rr_slots.specs.declared.pool.AcquireError.{AcquireError}
 use Rattle.rr_lanes.specs.Lanes.{times, all_entries, used_count}
+use Rattle.rr_table.specs.declared.place.Place.{Place}
 use Rattle.rr_hub.specs.declared.error.LoanError.{LoanError}
 use Rattle.rr_hub.specs.Counts.{live_responses, loaned_responses}
 use Rattle.rr_hub.specs.Limits.{max_loaned_responses}
@@ -155,9 +156,9 @@ module _ {Q QH P PH K : Type 0} (p : Parts Q QH P PH K) (sound : IsSound p empty
 
   -- what a lane that lends nothing tells is want of memory
   pub pool_refusal : (len : ℕ) (error : AcquireError) → is_too_long c.port len ≡ false → is_reached ≡ false
-      → (IsErrOf {T = ℕ} (Err error) AcquireError.Full ↔ (used_count (lane_of c.lane p.server_lanes).messages ≡ length
+      → (IsErrOf {T = Place} (Err error) AcquireError.Full ↔ (used_count (lane_of c.lane p.server_lanes).messages ≡ length
       (lane_of c.lane p.server_lanes).messages.held))
-      → (IsErrOf {T = ℕ} (Err error) AcquireError.NoRoom → (lane_of c.lane p.server_lanes).messages.room < len)
+      → (IsErrOf {T = Place} (Err error) AcquireError.NoRoom → (lane_of c.lane p.server_lanes).messages.room < len)
       → IsLoanRefusal (stored_refusal len) c.port len LoanError.OutOfMemory
   pool_refusal len AcquireError.Full long few full room =
       let own = sound.server_ports.own index c.connected (listed (λ c. c.connected) p.servers index c at) in
@@ -165,7 +166,7 @@ module _ {Q QH P PH K : Type 0} (p : Parts Q QH P PH K) (sound : IsSound p empty
   pool_refusal len AcquireError.NoRoom long few full room =
       let own = sound.server_ports.own index c.connected (listed (λ c. c.connected) p.servers index c at) in
       let other : used_count (lane_of c.lane p.server_lanes).messages ≡ length (lane_of c.lane p.server_lanes).messages.held → ⊥ =
-      λ e. let f : ◌≡◌ {A = Result ℕ AcquireError} (Err AcquireError.NoRoom) (Err AcquireError.Full) = full.1 e in cc in
+      λ e. let f : ◌≡◌ {A = Result Place AcquireError} (Err AcquireError.NoRoom) (Err AcquireError.Full) = full.1 e in cc in
       no_memory (stored_refusal len) c.port len
       (none_due len long few (not_full own.2 (used_le (lane_of c.lane p.server_lanes).messages _) other))
       (omega (arith, room refl, own.3))

@@ -88,7 +88,8 @@ module _ {Q QH P PH K : Type 0} (p : Parts Q QH P PH K) (held : Held) (hand : Ha
 
   -- a count that goes by a port's handles has one less where the dropped handle was counted
   counted_less : (test : Stage → Bool) (old new : Connected K) {was now : ℕ} → was ≡ handles p (is_in_lane test old.lane) (held ∷ hand)
-      → now + mark (is_in_lane test old.lane held) ≡ was → frame_of old ≡ frame_of new → now ≡ handles dropped (is_in_lane test new.lane) hand
+      → now + mark (is_in_lane test old.lane held) ≡ was → frame_of old ≡ frame_of new
+      → now ≡ handles dropped (is_in_lane test new.lane) hand
   counted_less test old new counted less same =
       omega (
         arith,

@@ -55,7 +55,8 @@ module _ {Q QH P PH K : Type 0} (p : Parts Q QH P PH K) where
 
   module _ (sound : IsSound p empty_hand) where
     -- a stored number counts the handles that pass a test, if each passes it by its stage and its lane
-    counted_by : (is_of : Handle Q QH P PH → Bool) (test : Stage → Bool) (lane : ℕ) {stored : ℕ} → stored ≡ handles p (is_in_lane test lane) empty_hand
+    counted_by : (is_of : Handle Q QH P PH → Bool) (test : Stage → Bool) (lane : ℕ) {stored : ℕ}
+        → stored ≡ handles p (is_in_lane test lane) empty_hand
         → ((k : ℕ) (s : Seat Held) → fin_map.get p.table.seats k ≡ Some s → (g : Stage) → s.value.stage ≡ g
         → is_of (handle_in p g s.value.lane s.value.slot) ≡ (test g && s.value.lane == lane))
         → count_by is_of (all_handles (state_of p)) ≡ stored

@@ -195,7 +195,8 @@ module _ {Q QH P PH K : Type 0} (p : Parts Q QH P PH K) (settings : ServerSettin
       → lane_of s.value.lane after.server_lanes ≡ lane_of s.value.lane p.server_lanes
   in_its_lane k s at is = lane_before p.server_lanes last s.value.lane (response_lane p empty_hand sound.counted k s at is)
 
-  in_its_row : (slot : ℕ) {a b : Lane P ResponseNote PH} → a ≡ b → ◌≡◌ {A = Place} (record { row = a.row; index = slot }) (record { row = b.row; index = slot })
+  in_its_row : (slot : ℕ) {a b : Lane P ResponseNote PH} → a ≡ b
+      → ◌≡◌ {A = Place} (record { row = a.row; index = slot }) (record { row = b.row; index = slot })
   in_its_row slot same = ap (λ (l : Lane P ResponseNote PH). record { row = l.row; index = slot }) same
 
   -- a handle's place follows from the same row

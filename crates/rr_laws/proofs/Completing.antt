@@ -181,7 +181,8 @@ module _ {T H K : Type 0} (history : List (Event T H K)) (event : Event T H K) (
       ap (λ xs. xs ++ queued new server p) (received_same history event old new follows comes server p (receives p))
       ∙ ap (λ ys. received_from history server p ++ ys) same ∙ before ∙ sym (sent_same server p sends)
 
-  -- what was received and stands in the list are the first ones that were sent, if entries stay or are gone, and the request received nothing by the event
+  -- what was received and stands in the list are the first ones that were sent, if entries stay or are gone, and the request received
+  -- nothing by the event
   pub first_stays : (server p : ℕ) → received_from (history ++ event ∷ []) server p ≡ received_from history server p
       → (queued new server p ≡ []) ⊎ (queued new server p ≡ queued old server p)
       → IsPrefix (received_from history server p ++ queued old server p) (sent_for history server p) →

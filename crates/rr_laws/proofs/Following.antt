@@ -16,7 +16,8 @@ use Rattle.rr_laws.proofs.Telling.{IsSilent, active_of_some}
 use Rattle.rr_laws.proofs.Coming.{IsLoan, silent_comes, loan_comes}
 use Rattle.rr_laws.proofs.Growing.{EventFits, loaned_below, received_later, responses-grown, loaned_later, all_sent_later, sent_for-grown, received_from-grown, numbers_grow}
 
--- a list of entries after one came: it is as before, or this is the pair of a server and a request for which it came, at the end and perhaps in place of the oldest
+-- a list of entries after one came: it is as before, or this is the pair of a server and a request for which it came, at the end and
+-- perhaps in place of the oldest
 abbrev pub Enters : ℕ → ℕ → ℕ → ℕ → ℕ → List ℕ → List ℕ → Type 0
 Enters server p k other q before after =
     (after ≡ before) ⊎ ((other ≡ server) × (q ≡ p) × ((after ≡ before ++ k ∷ []) ⊎ (after ≡ drop 1 before ++ k ∷ [])))

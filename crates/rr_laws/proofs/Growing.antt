@@ -24,7 +24,8 @@ below_or_not k n = go (nat_lt k n) refl
     go false e = inr (ltb-false k n e)
 
 module _ {T H K : Type 0} where
-  -- an event fits a history whose next number is this, and then is the later one: what it loans and makes active is new, and it names nothing that was not given
+  -- an event fits a history whose next number is this, and then is the later one: what it loans and makes active is new, and it names
+  -- nothing that was not given
   pub record EventFits (history : List (Event T H K)) (next after : ℕ) (event : Event T H K) : Type 0 where
     pub more : next ≤ after
     pub lends_new : (k : ℕ) → k < next → lender_of k event ≡ None

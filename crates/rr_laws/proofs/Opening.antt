@@ -45,7 +45,8 @@ module _ {Q QH P PH : Type 0} where
   from_response_mut (Some other) m e = absurd (cc)
 
 -- what a handle shows, the port that it names, and a fact of both
-opened : {A B : Type 0} (shown : Option A) (port : A → Option B) (R : B → A → Type 0) → IsSomeAnd shown (λ a. IsSomeAnd (port a) (λ b. R b a))
+opened : {A B : Type 0} (shown : Option A) (port : A → Option B) (R : B → A → Type 0)
+    → IsSomeAnd shown (λ a. IsSomeAnd (port a) (λ b. R b a))
     → (b : B) × (a : A) × (shown ≡ Some a) × (port a ≡ Some b) × R b a
 opened shown port R h =
     let a = some_and shown _ h in
@@ -57,16 +58,19 @@ module _ {Q QH P PH K : Type 0} (s : State Q QH P PH K) (n : ℕ) where
   pub open_request_mut : (R : Client K → RequestMessage Q QH → Type 0) → IsRequestMutAnd s n R →
       (client : Client K) × (message : RequestMessage Q QH) × (handle_at s n ≡ Some (RequestMut message))
       × (client_at s message.client ≡ Some client) × R client message
-  open_request_mut R h = let f = opened (request_at s n) (λ m. client_at s m.client) R h in (f.0, f.1, from_request_mut (handle_at s n) f.1 f.2, f.3, f.4)
+  open_request_mut R h = let f = opened (request_at s n) (λ m. client_at s m.client) R h in
+      (f.0, f.1, from_request_mut (handle_at s n) f.1 f.2, f.3, f.4)
 
   -- a response that can be sent, its server, and a fact of both
   pub open_response_mut : (R : Server K → ResponseMessage P PH → Type 0) → IsResponseMutAnd s n R →
       (server : Server K) × (message : ResponseMessage P PH) × (handle_at s n ≡ Some (ResponseMut message))
       × (server_at s message.server ≡ Some server) × R server message
-  open_response_mut R h = let f = opened (response_at s n) (λ m. server_at s m.server) R h in (f.0, f.1, from_response_mut (handle_at s n) f.1 f.2, f.3, f.4)
+  open_response_mut R h = let f = opened (response_at s n) (λ m. server_at s m.server) R h in
+      (f.0, f.1, from_response_mut (handle_at s n) f.1 f.2, f.3, f.4)
 
   -- an active request, its server, and a fact of both
   pub open_active : (R : Server K → Active Q QH → Type 0) → IsActiveAnd s n R →
       (server : Server K) × (active : Active Q QH) × (handle_at s n ≡ Some (ActiveRequest active))
       × (server_at s active.server ≡ Some server) × R server active
-  open_active R h = let f = opened (active_at s n) (λ a. server_at s a.server) R h in (f.0, f.1, from_active (handle_at s n) f.1 f.2, f.3, f.4)
+  open_active R h = let f = opened (active_at s n) (λ a. server_at s a.server) R h in
+      (f.0, f.1, from_active (handle_at s n) f.1 f.2, f.3, f.4)

@@ -50,7 +50,8 @@ module _ {Q QH P PH K : Type 0} where
   WaitsForRoom s server = (s.limits.enable_safe_overflow_for_responses ≡ false)
       × ((c : Server K) → server_at s server ≡ Some c → IsWaiting c)
 
-  -- of the entries for requests only those of this server for this request go on, and from a server that waits for room with the response at the end
+  -- of the entries for requests only those of this server for this request go on, and from a server that waits for room with the
+  -- response at the end
   abbrev pub Appends : State Q QH P PH K → ℕ → ℕ → ℕ → ℕ → ℕ → List ℕ → List ℕ → Type 0
   Appends s server p k other q before after =
       ((other ≡ server) × (q ≡ p) × (WaitsForRoom s server → after ≡ before ++ k ∷ []))

@@ -26,7 +26,8 @@ module _ {T H K : Type 0} where
       (λ server p before after. after ≡ before) old x) (sym same) (settles_same old old (omega arith) refl refl refl refl)
 
   -- a change of a handle that keeps its role
-  pub changed_settles : {Begins : ℕ → ℕ → Type 0} {Ends : ℕ → Type 0} (s : State T H T H K) (n : ℕ) (change : Handle T H T H → Handle T H T H)
+  pub changed_settles : {Begins : ℕ → ℕ → Type 0} {Ends : ℕ → Type 0} (s : State T H T H K) (n : ℕ)
+      (change : Handle T H T H → Handle T H T H)
       → ((h : Handle T H T H) → role_of (change h) ≡ role_of h) →
       Settles Begins Ends (λ server p before after. after ≡ before) s (with_changed s n change)
   changed_settles s n change same = settles_same s (with_changed s n change) (omega arith)
@@ -50,7 +51,8 @@ module _ {T H K : Type 0} where
   written_settles old new n false change same = unsettled old new same
 
   -- a client is created, or not
-  pub creates_client_settles : (s : State T H T H K) (settings : ClientSettings K) (result : Result ℕ ClientCreateError) (new : State T H T H K)
+  pub creates_client_settles : (s : State T H T H K) (settings : ClientSettings K) (result : Result ℕ ClientCreateError)
+      (new : State T H T H K)
       → CreatesClient s settings result new → SettlesQuietly s new
   creates_client_settles s settings (Ok number) new made = subst (λ (x : State T H T H K). SettlesQuietly s x) (sym made.2)
       (settles_same s _ (omega arith) refl refl refl refl)

@@ -5,7 +5,7 @@ use Rattle.std.specs.Ordering.{eq_by_cmp, nat_cmp}
 use Rattle.std.specs.Cmp.{IsTotalOrder, nat_cmp_total}
 use Rattle.std.specs.FinMap.{IsAntisymmetric, nat_cmp-IsAntisymmetric, entries, get, insert, remove, retain_keys, empty, from_sorted, same_entries_map, len-entries, len-empty, entries-from_sorted, entries-insert, get-from_sorted, find, put, is_sorted}
 use Rattle.std.specs.FinMap.Entries.{where_key}
-use Rattle.rr_hub.specs.Keys.{RequestKey, ResponseKey, request_key_cmp, response_key_cmp}
+use Rattle.rr_hub.specs.Keys.{RequestKey, ResponseKey, request_key_cmp as by_request, response_key_cmp as by_response}
 use Rattle.rr_hub.proofs.EntriesLaws.{entries-retain_keys, entries-remove}
 use Rattle.rr_hub.proofs.KeyLaws.{request_keys_total, response_keys_total, request_keys_exact, response_keys_exact}
 
@@ -58,11 +58,11 @@ module _ {X : Type 0} where
   pub empty_numbers : empty {X = X} {R = nat_cmp} ≡ from_sorted []
   empty_numbers = empty_lit nat_cmp
 
-  pub empty_request_keys : empty {X = X} {R = request_key_cmp} ≡ from_sorted []
-  empty_request_keys = empty_lit request_key_cmp
+  pub empty_request_keys : empty {X = X} {R = by_request} ≡ from_sorted []
+  empty_request_keys = empty_lit by_request
 
-  pub empty_response_keys : empty {X = X} {R = response_key_cmp} ≡ from_sorted []
-  empty_response_keys = empty_lit response_key_cmp
+  pub empty_response_keys : empty {X = X} {R = by_response} ≡ from_sorted []
+  empty_response_keys = empty_lit by_response
 
   pub insert_numbers : (es : List (ℕ × X)) (key : ℕ) (x : X) → is_sorted nat_cmp es ≡ true → is_sorted nat_cmp (put nat_cmp key x es) ≡ true
       → insert (from_sorted {R = nat_cmp} es) key x ≡ from_sorted (put nat_cmp key x es)
@@ -77,31 +77,31 @@ module _ {X : Type 0} where
       → remove (from_sorted {R = nat_cmp} es) key ≡ from_sorted (where_key nat_cmp (λ x. not (eq_by_cmp nat_cmp key x)) es)
   remove_numbers = remove_lit nat_cmp nat_cmp_total nat_cmp-IsAntisymmetric
 
-module _ {X : Type 0} (es : List (RequestKey × X)) where
-  pub insert_request_keys : (key : RequestKey) (x : X) → is_sorted request_key_cmp es ≡ true → is_sorted request_key_cmp (put request_key_cmp key x es) ≡ true
-      → insert (from_sorted {R = request_key_cmp} es) key x ≡ from_sorted (put request_key_cmp key x es)
-  insert_request_keys = insert_lit request_key_cmp request_keys_total request_keys_exact es
+module _ {X : Type 0} (es : List (RequestKey × X)) (sorted : is_sorted by_request es ≡ true) where
+  pub insert_request_keys : (key : RequestKey) (x : X) → is_sorted by_request (put by_request key x es) ≡ true
+      → insert (from_sorted {R = by_request} es) key x ≡ from_sorted (put by_request key x es)
+  insert_request_keys key x = insert_lit by_request request_keys_total request_keys_exact es key x sorted
 
-  pub retain_request_keys : (p : RequestKey → Bool) → is_sorted request_key_cmp es ≡ true → is_sorted request_key_cmp (where_key request_key_cmp p es) ≡ true
-      → retain_keys (from_sorted {R = request_key_cmp} es) p ≡ from_sorted (where_key request_key_cmp p es)
-  retain_request_keys = retain_lit request_key_cmp request_keys_total request_keys_exact es
+  pub retain_request_keys : (p : RequestKey → Bool) → is_sorted by_request (where_key by_request p es) ≡ true
+      → retain_keys (from_sorted {R = by_request} es) p ≡ from_sorted (where_key by_request p es)
+  retain_request_keys p = retain_lit by_request request_keys_total request_keys_exact es p sorted
 
-  pub remove_request_keys : (key : RequestKey) → is_sorted request_key_cmp es ≡ true → is_sorted request_key_cmp (without request_key_cmp key es) ≡ true
-      → remove (from_sorted {R = request_key_cmp} es) key ≡ from_sorted (without request_key_cmp key es)
-  remove_request_keys = remove_lit request_key_cmp request_keys_total request_keys_exact es
+  pub remove_request_keys : (key : RequestKey) → is_sorted by_request (without by_request key es) ≡ true
+      → remove (from_sorted {R = by_request} es) key ≡ from_sorted (without by_request key es)
+  remove_request_keys key = remove_lit by_request request_keys_total request_keys_exact es key sorted
 
-module _ {X : Type 0} (es : List (ResponseKey × X)) where
-  pub insert_response_keys : (key : ResponseKey) (x : X) → is_sorted response_key_cmp es ≡ true → is_sorted response_key_cmp (put response_key_cmp key x es) ≡ true
-      → insert (from_sorted {R = response_key_cmp} es) key x ≡ from_sorted (put response_key_cmp key x es)
-  insert_response_keys = insert_lit response_key_cmp response_keys_total response_keys_exact es
+module _ {X : Type 0} (es : List (ResponseKey × X)) (sorted : is_sorted by_response es ≡ true) where
+  pub insert_response_keys : (key : ResponseKey) (x : X) → is_sorted by_response (put by_response key x es) ≡ true
+      → insert (from_sorted {R = by_response} es) key x ≡ from_sorted (put by_response key x es)
+  insert_response_keys key x = insert_lit by_response response_keys_total response_keys_exact es key x sorted
 
-  pub retain_response_keys : (p : ResponseKey → Bool) → is_sorted response_key_cmp es ≡ true → is_sorted response_key_cmp (where_key response_key_cmp p es) ≡ true
-      → retain_keys (from_sorted {R = response_key_cmp} es) p ≡ from_sorted (where_key response_key_cmp p es)
-  retain_response_keys = retain_lit response_key_cmp response_keys_total response_keys_exact es
+  pub retain_response_keys : (p : ResponseKey → Bool) → is_sorted by_response (where_key by_response p es) ≡ true
+      → retain_keys (from_sorted {R = by_response} es) p ≡ from_sorted (where_key by_response p es)
+  retain_response_keys p = retain_lit by_response response_keys_total response_keys_exact es p sorted
 
-  pub remove_response_keys : (key : ResponseKey) → is_sorted response_key_cmp es ≡ true → is_sorted response_key_cmp (without response_key_cmp key es) ≡ true
-      → remove (from_sorted {R = response_key_cmp} es) key ≡ from_sorted (without response_key_cmp key es)
-  remove_response_keys = remove_lit response_key_cmp response_keys_total response_keys_exact es
+  pub remove_response_keys : (key : ResponseKey) → is_sorted by_response (without by_response key es) ≡ true
+      → remove (from_sorted {R = by_response} es) key ≡ from_sorted (without by_response key es)
+  remove_response_keys key = remove_lit by_response response_keys_total response_keys_exact es key sorted
 
 -- the rules for the three kinds of key
 pub ruleset literals = (

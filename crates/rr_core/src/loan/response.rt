@@ -11,6 +11,7 @@ ghost use Rattle.rr_parts.specs.Answering.{IsActiveOfOne, active_held, answer_no
 ghost use Rattle.rr_laws.specs.Unreduced.{ServerHasPool};
 
 use crate::handle_id::HandleId;
+use crate::loan::loan_from;
 use crate::state::Core;
 use rr_hub::{BackpressureFn, LoanError};
 use rr_parts::{Held, RequestNote, ResponseNote, ServerPort, Stage, index_of};
@@ -61,13 +62,9 @@ impl<QB: Body, QH: Default + Drop, PB: Body, PH: Default + Drop, K: Backpressure
         let number = self.next;
         let request = self.client_lanes[asked.lane].messages.note(asked.slot);
         let note = asked.response_note(number, active.number, request);
-        match self.server_lanes[lane]
-            .messages
-            .loan(len, note, PH::default())
-        {
-            Ok(slot) => {
-                let row = self.server_lanes[lane].row;
-                let hint = Place { row, index: slot };
+        match loan_from(&mut self.server_lanes, lane, len, note, PH::default()) {
+            Ok(hint) => {
+                let slot = hint.index;
                 self.table
                     .set(active.number, active.hint, asked.with_one_loan());
                 let stage = Stage::ResponseMutUninit;

@@ -1,29 +1,26 @@
-use Rattle.std.proofs.Common.{◌≡◌, ◌<◌, ◌≤◌, ◌+◌, ◌^◌, ℕ, true, false, None, Some, Err, length, get_or, map, refl, sym, ap, ◌∙◌, subst, arith, Ok}
+use Rattle.std.proofs.Common.{◌≡◌, ◌<◌, ◌≤◌, ◌+◌, ◌^◌, None, Some, length, map, refl, sym, ap, ◌∙◌, subst, arith, Ok}
 use Rattle.std.specs.List.{position}
-use Rattle.std.specs.Prelude.{◌==◌, ◌↔◌, IsErrOf, slice_get, slice_index, slice_index_or, slice_set}
+use Rattle.std.specs.Prelude.{◌==◌, slice_get, slice_index_or, slice_set}
 use Rattle.std.proofs.lemmas.Bool.{eqb-true}
-use Rattle.std.proofs.lemmas.List.{get_or-set_same, set-get_or}
 use Rattle.std.proofs.lemmas.Option.{slice_get_within, get_or_from_slice_get}
 use Rattle.rr_table.specs.Seats.{seated}
-use Rattle.rr_slots.specs.declared.pool.AcquireError.{AcquireError}
-use Rattle.rr_lanes.specs.Lanes.{times, all_entries, loaned, used_count}
+use Rattle.rr_lanes.specs.Lanes.{loaned, used_count}
 use Rattle.rr_hub.specs.declared.error.LoanError.{LoanError}
 use Rattle.rr_hub.specs.declared.kind.Kind.TheVariants as kind
-use Rattle.rr_hub.specs.Loans.{is_too_long, request_loan_refusal}
+use Rattle.rr_hub.specs.Loans.{request_loan_refusal}
 use Rattle.rr_hub.specs.Queries.{kind_at}
 use Rattle.rr_hub.specs.State.{client_at, numbers_left}
 use Rattle.rr_parts.specs.declared.held.Stage.TheVariants as stage
 use Rattle.rr_parts.specs.declared.note.RequestNote.{RequestNote}
 use Rattle.rr_parts.specs.declared.port.ClientPort.{ClientPort}
-use Rattle.rr_parts.specs.declared.port.OwnedLane.{OwnedLane}
 use Rattle.rr_core.specs.Inside.{parts_of}
 use Rattle.rr_parts.specs.Ports.{client_part, lane_part}
-use Rattle.rr_parts.specs.Loaning.{loan_note, loan_place, with_messages, with_request_loan}
-use Rattle.rr_parts.specs.Parts.{ClientPart, Lane}
+use Rattle.rr_parts.specs.Loaning.{loan_note, with_messages, with_request_loan}
+use Rattle.rr_parts.specs.Parts.{ClientPart}
 use Rattle.rr_parts.specs.Sound.{IsSound, empty_hand}
 use Rattle.rr_parts.specs.Views.{state_of, client_of, lane_of}
 use Rattle.rr_core_laws.proofs.Adding.{with_vectors, same_vectors}
-use Rattle.rr_core_laws.proofs.Asking.{in_row, client_seen, no_client_seen, standing_at, read_at, due_refusal, lane_is, lanes_many, loans_fit, not_full, no_error}
+use Rattle.rr_core_laws.proofs.Asking.{in_row, client_seen, no_client_seen, standing_at, read_at, due_refusal, lanes_many, loans_fit, not_full, no_error}
 use Rattle.rr_core_laws.proofs.Entries.{used_le}
 use Rattle.rr_core_laws.proofs.HandleCounts.{listed}
 use Rattle.rr_core_laws.proofs.LoanSound.{loan_sound}
@@ -35,7 +32,7 @@ use Rattle.rr_laws.specs.Reached.{IsReached}
 use Rattle.rr_laws.proofs.Loaning.{loans_request_reached}
 use Rattle.rr_laws.proofs.Memory.{request_finds_memory}
 use Rattle.rr_core.specs.Reaching.{IsCore}
-use Rattle.rr_core.proofs.state.Core.loan_request.Goals.{After-index, After-index_mut, After-insert-arg-1}
+use Rattle.rr_core.proofs.state.Core.loan_request.Goals.{After-index}
 use Rattle.rr_core.proofs.state.Core.loan_request.Goals as goal
 
 pub unreachable-requires : goal.unreachable-requires
@@ -96,11 +93,6 @@ own g c =
 there : (g : _) (c : After-index g) → c.index.result.now.port.lane < length c.self.inside.client_lanes.items
 there g c = lanes_many c.self.inside.client_lanes.items c.index.result.now.port.lane (own g c).0
 
--- and is the one from which was loaned
-old : (g : _) (c : After-index_mut g) → c.index.result.now.port.lane < length c.self.inside.client_lanes.items
-    → lane_of c.index.result.now.port.lane (parts_of c.self.inside).client_lanes ≡ lane_part c.index_mut.result.now
-old g c h = lane_is c.self.inside.client_lanes.items c.index.result.now.port.lane c.index_mut.result.now h c.index_mut.ensures.value
-
 pub returns-then-is_too_long-clause-loans : goal.returns-then-is_too_long-clause-loans
 returns-then-is_too_long-clause-loans g c =
     let p = parts_of c.self.inside in
@@ -125,47 +117,25 @@ returns-then-self-port-clause-loans g c =
 pub index-requires-2 : goal.index-requires-2
 index-requires-2 g c = inside g (goal.at.index-requires-2 g c).After-index
 
-pub index_mut-requires : goal.index_mut-requires
-index_mut-requires g c = omega (arith, there g (goal.at.index_mut-requires g c).After-index, c.self.inside.client_lanes.ok.0)
-
-pub index-requires-in-Ok : goal.index-requires-in-Ok
-index-requires-in-Ok g c = omega (arith, there g (goal.at.index-requires-in-Ok g c).After-index, c.self.inside.client_lanes.ok.0)
-
--- what is known of the slot that was loaned, in a lane that is there
-row : (g : _) (c : After-insert-arg-1 g) → c.index.result.now.port.lane < length c.self.inside.client_lanes.items
-    → c.index-in-Ok.result.now.row ≡ (lane_of c.index.result.now.port.lane (parts_of c.self.inside).client_lanes).row
-row g c h =
-    let lanes = c.self.inside.client_lanes.items in
-    let lane = c.index.result.now.port.lane in
-    ap (λ (x : OwnedLane _ _ _ _). x.row) (c.index-in-Ok.ensures ∙ get_or-set_same lanes lane _ _ h)
-    ∙ sym (ap (λ (l : Lane _ _ _). l.row) (lane_is lanes lane c.index_mut.result.now h c.index_mut.ensures.value))
+pub loan_from-requires-clause-lane : goal.loan_from-requires-clause-lane
+loan_from-requires-clause-lane g c = there g (goal.at.loan_from-requires-clause-lane g c).After-index
 
 pub insert-requires-clause-place : goal.insert-requires-clause-place
 insert-requires-clause-place g c =
-    let first = (goal.at.insert-requires-clause-place g c).After-index in
-    let is = old g (goal.at.insert-requires-clause-place g c).After-index_mut (there g first) in
-    let rows = c.self.invariant.sound.seated.client_rows c.index.result.now.port.lane (own g first).0 in
-    let row_is = row g (goal.at.insert-requires-clause-place g c).After-insert-arg-1 (there g first) in
-    let slots = ap (λ (l : Lane _ _ _). length l.messages.held) is in
-    let free : c.in-Ok.slot < length c.index_mut.result.now.messages.held = slice_get_within _ c.in-Ok.slot 0 c.in-Ok.ensures.free in (
-      omega (arith, rows.0, row_is),
-      in_row _ _ _ _ (omega (arith, free, slots))
-          (ap (λ r. slice_index_or c.self.inside.table.rows r 0) row_is ∙ rows.1),
+    let has = own g (goal.at.insert-requires-clause-place g c).After-index in
+    let rows = c.self.invariant.sound.seated.client_rows c.index.result.now.port.lane has.0 in (
+      omega (arith, rows.0, c.in-Ok.ensures.row),
+      in_row _ _ _ _ (slice_get_within _ c.in-Ok.hint.index 0 c.in-Ok.ensures.free)
+          (ap (λ r. slice_index_or c.self.inside.table.rows r 0) c.in-Ok.ensures.row ∙ rows.1),
     )
 
 pub insert-requires-clause-vacant : goal.insert-requires-clause-vacant
 insert-requires-clause-vacant g c k s e at =
-    let p = parts_of c.self.inside in
-    let first = (goal.at.insert-requires-clause-vacant g c).After-index in
-    let is = old g (goal.at.insert-requires-clause-vacant g c).After-index_mut (there g first) in
-    let lane = c.index.result.now.port.lane in
-    let slots = ap (λ (l : Lane _ _ _). length l.messages.held) is in
-    let none : slice_index (lane_of lane p.client_lanes).messages.held c.in-Ok.slot ≡ 0 =
-    ap (λ (l : Lane _ _ _). slice_index l.messages.held c.in-Ok.slot) is ∙ get_or_from_slice_get _ c.in-Ok.slot 0 0 c.in-Ok.ensures.free in
-    own_vacant p c.self.invariant.sound lane c.in-Ok.slot (own g first).0
-    (omega (arith, slots, slice_get_within _ c.in-Ok.slot 0 c.in-Ok.ensures.free))
-    none k s e (at ∙ ap (λ r. record { row = r; index = c.in-Ok.slot })
-    (row g (goal.at.insert-requires-clause-vacant g c).After-insert-arg-1 (there g first)))
+    let has = own g (goal.at.insert-requires-clause-vacant g c).After-index in
+    own_vacant (parts_of c.self.inside) c.self.invariant.sound c.index.result.now.port.lane c.in-Ok.hint.index has.0
+    (slice_get_within _ c.in-Ok.hint.index 0 c.in-Ok.ensures.free)
+    (get_or_from_slice_get _ c.in-Ok.hint.index 0 0 c.in-Ok.ensures.free) k s e
+    (at ∙ ap (λ r. record { row = r; index = c.in-Ok.hint.index }) c.in-Ok.ensures.row)
 
 pub insert-requires-clause-fresh : goal.insert-requires-clause-fresh
 insert-requires-clause-fresh g c = c.self.invariant.sound.numbered.fresh c.self.inside.next (omega arith)
@@ -198,28 +168,20 @@ overflow_add-port-in-Ok g c =
       ap (λ (x : ClientPort _). x.loans_made) again,
     )
 
--- what is known of the slot that was loaned: nothing held it, and the client's pool and loans had room
-lent : (g : _) (c : goal.After-new g)
-    → (slice_get (lane_of c.index.result.now.port.lane (parts_of c.self.inside).client_lanes).messages.held c.in-Ok.slot ≡ Some 0)
-    × (times c.in-Ok.slot (all_entries (lane_of c.index.result.now.port.lane (parts_of c.self.inside).client_lanes).messages.queues) ≡ 0)
-    × (request_loan_refusal (state_of (parts_of c.self.inside)) (client_of (client_part c.index.result.now)) c.args.len ≡ None)
-lent g c =
+-- the client's pool and its loans had room
+unrefused : (g : _) (c : goal.After-new g)
+    → request_loan_refusal (state_of (parts_of c.self.inside)) (client_of (client_part c.index.result.now)) c.args.len ≡ None
+unrefused g c =
     let p = parts_of c.self.inside in
     let at = goal.at.returns-in-Ok-clause-loans g c in
     let f = found g at.After-index in
     let sound = c.self.invariant.sound in
-    let is = old g at.After-index_mut (there g at.After-index) in
     let m = (lane_of c.index.result.now.port.lane p.client_lanes).messages in
     let used : used_count m < c.index.result.now.port.pool_size = not_full (own g at.After-index).1 (used_le m _)
-    (λ full. no_error (c.in-Ok.ensures.full.1
-    (sym (ap (λ (l : Lane _ _ _). used_count l.messages) is) ∙ full ∙ ap (λ (l : Lane _ _ _). length l.messages.held) is))) in (
-      ap (λ (l : Lane _ _ _). slice_get l.messages.held c.in-Ok.slot) is ∙ c.in-Ok.ensures.free,
-      ap (λ (l : Lane _ _ _). times c.in-Ok.slot (all_entries l.messages.queues)) is ∙ c.in-Ok.ensures.unused,
-      refusal_stored p sound c.in-Some.index (client_part c.index.result.now) f.1 c.args.len
-          ∙ none_due p sound c.in-Some.index (client_part c.index.result.now) f.1 c.args.len
-          (sym c.is_too_long.ensures ∙ c.if-is_too_long.false)
-          (omega (arith, c.if-self-port.false)) used,
-    )
+    (λ full. no_error (c.in-Ok.ensures.full.1 full)) in
+    refusal_stored p sound c.in-Some.index (client_part c.index.result.now) f.1 c.args.len
+    ∙ none_due p sound c.in-Some.index (client_part c.index.result.now) f.1 c.args.len (sym c.is_too_long.ensures ∙ c.if-is_too_long.false)
+    (omega (arith, c.if-self-port.false)) used
 
 -- the parts after it
 parts : (g : _) (c : goal.After-new g)
@@ -230,47 +192,37 @@ parts : (g : _) (c : goal.After-new g)
       loans_made = c.index_mut-port.result.now.loans_made + 1;
       pendings = c.index_mut-port.result.now.pendings;
     })))
-    (map lane_part (slice_set c.self.inside.client_lanes.items c.index.result.now.port.lane
-    (record { owner = c.index_mut.result.now.owner; row = c.index_mut.result.now.row; messages = c.loan.new.self })))
-    (parts_of c.self.inside).waiting c.insert.new.self (c.self.inside.next + 1)
-    ≡ with_request_loan (parts_of c.self.inside) c.in-Some.index (client_part c.index.result.now) c.in-Ok.slot c.args.len c.default.result
+    (map lane_part c.loan_from.new.lanes.items) (parts_of c.self.inside).waiting c.insert.new.self (c.self.inside.next + 1)
+    ≡ with_request_loan (parts_of c.self.inside) c.in-Some.index
+    (client_part c.index.result.now) c.in-Ok.hint.index c.args.len c.default.result
 parts g c =
     let p = parts_of c.self.inside in
     let items = c.self.inside.clients.items in
-    let lanes = c.self.inside.client_lanes.items in
     let i = c.in-Some.index in
-    let at = goal.at.returns-in-Ok-clause-loans g c in
-    let f = found g at.After-index in
-    let here = there g at.After-index in
-    let is = old g at.After-index_mut here in
+    let f = found g (goal.at.returns-in-Ok-clause-loans g c).After-index in
     let port = c.index.result.now in
     let client = client_part port in
+    let slot = c.in-Ok.hint.index in
     let again = read_at items i port c.index_mut-port.result.now f.0 c.index_mut-port.ensures.value in
     let second = read_at items i port c.index-2.result.now f.0 c.index-2.ensures in
     let note : RequestNote = record { number = p.next; client = c.args.client; request_id = c.index-2.result.now.loans_made } in
     let noted : note ≡ loan_note p client =
     ap (λ n. record { number = p.next; client = n; request_id = c.index-2.result.now.loans_made }) (sym f.3)
     ∙ ap (λ (x : ClientPort _). record { number = p.next; client = port.port.id; request_id = x.loans_made }) second in
-    let changed : c.loan.new.self ≡ loaned (lane_of client.lane p.client_lanes).messages c.in-Ok.slot c.args.len
-    (loan_note p client) c.default.result =
-    c.in-Ok.ensures.ok
-    ∙ ap (λ (l : Lane _ _ _). loaned l.messages c.in-Ok.slot c.args.len note c.default.result) (sym is)
-    ∙ ap (λ n. loaned (lane_of client.lane p.client_lanes).messages c.in-Ok.slot c.args.len n c.default.result) noted in
-    same_vectors p (with_request_loan p i client c.in-Ok.slot c.args.len c.default.result) _ _ p.waiting c.insert.new.self (p.next + 1)
+    same_vectors p (with_request_loan p i client slot c.args.len c.default.result) _ _ p.waiting c.insert.new.self (p.next + 1)
     (map-set_one client_part items i _
     ∙ ap (λ (x : ClientPort _). slice_set p.clients i (client_part (record {
       port = record x.port { loans = x.port.loans + 1 };
       loans_made = x.loans_made + 1;
       pendings = x.pendings;
     }))) again)
-    (map-set_one lane_part lanes client.lane _
-    ∙ ap (λ m. slice_set p.client_lanes client.lane (with_messages (lane_part c.index_mut.result.now) m)) changed
-    ∙ ap (λ x. slice_set p.client_lanes client.lane (with_messages x
-    (loaned (lane_of client.lane p.client_lanes).messages c.in-Ok.slot c.args.len (loan_note p client) c.default.result))) (sym is))
+    (c.in-Ok.ensures.ok
+    ∙ ap (λ n. slice_set p.client_lanes client.lane (with_messages (lane_of client.lane p.client_lanes)
+    (loaned (lane_of client.lane p.client_lanes).messages slot c.args.len n c.default.result))) noted)
     refl
     (c.insert.ensures
-    ∙ ap (λ r. seated p.table p.next (record { row = r; index = c.in-Ok.slot })
-    (record { stage = stage.RequestMutUninit; lane = client.lane; slot = c.in-Ok.slot })) (row g at.After-insert-arg-1 here))
+    ∙ ap (λ r. seated p.table p.next (record { row = r; index = slot })
+    (record { stage = stage.RequestMutUninit; lane = client.lane; slot = slot })) c.in-Ok.ensures.row)
     refl refl
 
 -- a number is left
@@ -279,55 +231,41 @@ left g c = let some = subst (λ s. 0 < numbers_left s) (sym c.self.view_is) c.re
 
 -- nothing changed
 unchanged : (g : _) (c : goal.In-Err g)
-    → with_vectors (parts_of c.self.inside) (parts_of c.self.inside).clients
-    (map lane_part (slice_set c.self.inside.client_lanes.items c.index.result.now.port.lane
-    (record { owner = c.index_mut.result.now.owner; row = c.index_mut.result.now.row; messages = c.loan.new.self })))
-    (parts_of c.self.inside).waiting (parts_of c.self.inside).table c.self.inside.next ≡ parts_of c.self.inside
-unchanged g c =
-    let p = parts_of c.self.inside in
-    let lanes = c.self.inside.client_lanes.items in
-    same_vectors p p p.clients _ p.waiting p.table p.next refl
-    (ap (map lane_part)
-    (ap (λ m. slice_set lanes c.index.result.now.port.lane (record c.index_mut.result.now { messages = m })) c.in-Err.ensures.err
-    ∙ ap (slice_set lanes c.index.result.now.port.lane) c.index_mut.ensures.value
-    ∙ set-get_or lanes c.index.result.now.port.lane c.index_mut.result.now))
-    refl refl refl refl
+    → with_vectors (parts_of c.self.inside) (parts_of c.self.inside).clients (map lane_part c.loan_from.new.lanes.items)
+    (parts_of c.self.inside).waiting
+    (parts_of c.self.inside).table c.self.inside.next ≡ parts_of c.self.inside
+unchanged g c = let p = parts_of c.self.inside in same_vectors p p p.clients _ p.waiting p.table p.next refl c.in-Err.ensures.err refl refl
+    refl refl
 
 pub returns-in-Ok-clause-loans : goal.returns-in-Ok-clause-loans
 returns-in-Ok-clause-loans g c =
-    let p = parts_of c.self.inside in
     let f = found g (goal.at.returns-in-Ok-clause-loans g c).After-index in
-    let l = lent g c in
-    lends p c.self.invariant.sound c.in-Some.index (client_part c.index.result.now) f.1 _ c.args.client c.args.len c.in-Ok.slot _
-    c.default.result
-    f.2 l.2 c.default.ensures l.0 l.1 c.args.self.now _ c.self.view_is c.new.ensures (ap state_of (parts g c))
+    lends (parts_of c.self.inside) c.self.invariant.sound c.in-Some.index (client_part c.index.result.now) f.1 _ c.args.client c.args.len
+    c.in-Ok.hint.index _ c.default.result f.2 (unrefused g c) c.default.ensures c.in-Ok.ensures.free c.in-Ok.ensures.unused c.args.self.now
+    _
+    c.self.view_is c.new.ensures (ap state_of (parts g c))
 
 pub returns-in-Err-clause-loans : goal.returns-in-Err-clause-loans
 returns-in-Err-clause-loans g c =
     let p = parts_of c.self.inside in
-    let at = goal.at.returns-in-Err-clause-loans g c in
-    let f = found g at.After-index in
-    let is = old g at.After-index_mut (there g at.After-index) in
+    let f = found g (goal.at.returns-in-Err-clause-loans g c).After-index in
     let client = client_part c.index.result.now in
     let long = sym c.is_too_long.ensures ∙ c.if-is_too_long.false in
     let few : client.loans < p.limits.max_loaned_requests = omega (arith, c.if-self-port.false) in
     refuses p c.self.invariant.sound c.in-Some.index client f.1 c.args.client c.args.len LoanError.OutOfMemory f.2
-    (pool_refusal p c.self.invariant.sound c.in-Some.index client f.1 c.args.len c.in-Err.field-0 long few
-    (let R : Lane _ _ _ → Type 0 = λ l. IsErrOf {T = ℕ} (Err c.in-Err.field-0) AcquireError.Full ↔
-    (used_count l.messages ≡ length l.messages.held) in subst R (sym is) c.in-Err.ensures.full)
-    (let R : Lane _ _ _ → Type 0 = λ l. IsErrOf {T = ℕ} (Err c.in-Err.field-0) AcquireError.NoRoom → l.messages.room < c.args.len in
-    subst R (sym is) c.in-Err.ensures.no_room))
+    (pool_refusal p c.self.invariant.sound c.in-Some.index client f.1 c.args.len c.in-Err.field-0 long few c.in-Err.ensures.full
+    c.in-Err.ensures.no_room)
     c.args.self.now _ c.self.view_is (ap state_of (unchanged g c) ∙ c.self.view_is)
 
 pub invariant_of-self : goal.invariant_of-self
 invariant_of-self g c =
     let p = parts_of c.self.inside in
     let f = found g (goal.at.invariant_of-self g c).After-index in
-    let l = lent g c in
     record {
       sound = subst (λ p. IsSound p empty_hand) (sym (parts g c))
           (loan_sound p c.self.invariant.sound c.in-Some.index
-          (client_part c.index.result.now) f.1 c.in-Ok.slot c.args.len c.default.result l.0 l.1 (left g c));
+          (client_part c.index.result.now) f.1 c.in-Ok.hint.index c.args.len c.default.result
+          c.in-Ok.ensures.free c.in-Ok.ensures.unused (left g c));
       reached = loans_request_reached c.args.self.now (subst (λ s. IsReached s) c.self.view_is c.self.invariant.reached)
           g.QH.Default.is_default c.args.client c.args.len (Ok c.new.result) _ (returns-in-Ok-clause-loans g c);
     }

@@ -20,45 +20,36 @@ shown g c =
     shown_there (parts_of c.self.inside) c.args.self.now c.id.inside.number c.args.id.now c.self.view_is c.id.view_is c.in-Some.held
     (sym c.get.ensures ∙ c.in-Some.is)
 
--- what is asked of its handle
-asked : (g : _) (c : In-Some g) (test : Handle _ _ _ _ → Bool)
-    → test (handle_in (parts_of c.self.inside) c.in-Some.held.stage c.in-Some.held.lane c.in-Some.held.slot) ≡ true
+-- what is true of the handle that a stage makes is true of it, where it has this stage, or one of two
+asked : (g : _) (c : In-Some g) (test : Handle _ _ _ _ → Bool) {s : Stage} → c.in-Some.held.stage ≡ s
+    → test (handle_in (parts_of c.self.inside) s c.in-Some.held.lane c.in-Some.held.slot) ≡ true
     → IsSomeAnd (handle_at c.args.self.now c.args.id.now) (λ handle. test handle ≡ true)
-asked g c test holds = subst (λ o. IsSomeAnd o (λ handle. test handle ≡ true)) (sym (shown g c)) holds
+asked g c test is holds =
+    subst (λ o. IsSomeAnd o (λ handle. test handle ≡ true)) (sym (shown g c))
+    (ap (λ s. test (handle_in (parts_of c.self.inside) s c.in-Some.held.lane c.in-Some.held.slot)) is ∙ holds)
 
--- what a loan of either stage is
-of_either : {a b c : Stage} (f : Stage → Bool) → (c ≡ a) ⊎ (c ≡ b) → f a ≡ true → f b ≡ true → f c ≡ true
-of_either f is a b = ⊎_elim (λ e. ap f e ∙ a) (λ e. ap f e ∙ b) is
+either : (g : _) (c : In-Some g) (test : Handle _ _ _ _ → Bool) {s t : Stage} → (c.in-Some.held.stage ≡ s) ⊎ (c.in-Some.held.stage ≡ t)
+    → test (handle_in (parts_of c.self.inside) s c.in-Some.held.lane c.in-Some.held.slot) ≡ true
+    → test (handle_in (parts_of c.self.inside) t c.in-Some.held.lane c.in-Some.held.slot) ≡ true
+    → IsSomeAnd (handle_at c.args.self.now c.args.id.now) (λ handle. test handle ≡ true)
+either g c test is first second = ⊎_elim (λ e. asked g c test e first) (λ e. asked g c test e second) is
 
 pub release_request_loan-requires : goal.release_request_loan-requires
-release_request_loan-requires g c =
-    asked g (goal.at.release_request_loan-requires g c).In-Some is_loaned_request
-    (of_either (λ (g : Stage). is_loaned_request (handle_in (parts_of c.self.inside) g c.in-Some.held.lane c.in-Some.held.slot))
-    c.in-RequestMutUninit.is refl refl)
+release_request_loan-requires g c = either g (goal.at.release_request_loan-requires g c).In-Some is_loaned_request c.in-RequestMutUninit.is
+    refl refl
 
 pub release_pending-requires : goal.release_pending-requires
-release_pending-requires g c =
-    asked g (goal.at.release_pending-requires g c).In-Some is_pending_response
-    (ap (λ (g : Stage). is_pending_response (handle_in (parts_of c.self.inside) g c.in-Some.held.lane c.in-Some.held.slot))
-    c.in-PendingResponse.is)
+release_pending-requires g c = asked g (goal.at.release_pending-requires g c).In-Some is_pending_response c.in-PendingResponse.is refl
 
 pub release_active-requires : goal.release_active-requires
-release_active-requires g c =
-    asked g (goal.at.release_active-requires g c).In-Some is_active_request
-    (ap (λ (g : Stage). is_active_request (handle_in (parts_of c.self.inside) g c.in-Some.held.lane c.in-Some.held.slot))
-    c.in-ActiveRequest.is)
+release_active-requires g c = asked g (goal.at.release_active-requires g c).In-Some is_active_request c.in-ActiveRequest.is refl
 
 pub release_response_loan-requires : goal.release_response_loan-requires
-release_response_loan-requires g c =
-    asked g (goal.at.release_response_loan-requires g c).In-Some is_loaned_response
-    (of_either (λ (g : Stage). is_loaned_response (handle_in (parts_of c.self.inside) g c.in-Some.held.lane c.in-Some.held.slot))
-    c.in-ResponseMutUninit.is refl refl)
+release_response_loan-requires g c = either g (goal.at.release_response_loan-requires g c).In-Some is_loaned_response
+    c.in-ResponseMutUninit.is refl refl
 
 pub release_received-requires : goal.release_received-requires
-release_received-requires g c =
-    asked g (goal.at.release_received-requires g c).In-Some is_received_response
-    (ap (λ (g : Stage). is_received_response (handle_in (parts_of c.self.inside) g c.in-Some.held.lane c.in-Some.held.slot))
-    c.in-Response.is)
+release_received-requires g c = asked g (goal.at.release_received-requires g c).In-Some is_received_response c.in-Response.is refl
 
 pub unreachable-requires : goal.unreachable-requires
 unreachable-requires g c =
