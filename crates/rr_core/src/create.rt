@@ -132,7 +132,7 @@ fn row_len(slots: usize, servers: usize) -> Result<usize, AllocError>
     }
 }
 
-/// Where a client's requests stand: the lane from which it sends, and the marks beside it.
+/// What a client sends from: its lane, the marks of its slots, and the length of its row in the table.
 #[derive(Drop)]
 struct ClientStore<B: Body, H: Default + Drop> {
     messages: Lane<B, RequestNote, H>,
@@ -140,8 +140,8 @@ struct ClientStore<B: Body, H: Default + Drop> {
     row_len: usize,
 }
 
-/// The store of a client with so many slots, each with room for `room` elements, a length that the body's family takes. `Err`
-/// if memory was refused.
+/// Makes the store of a client: `slots` slots, each with room for `room` elements, a length that the body's family takes.
+/// Returns `AllocError` if memory was refused.
 fn client_store<B: Body, H: Default + Drop>(
     alloc: Global,
     limits: &Limits,
@@ -169,7 +169,7 @@ fn client_store<B: Body, H: Default + Drop>(
     })
 }
 
-/// Adds a client with its store. `Err` if memory was refused; the lists and the table are unchanged then.
+/// Adds a client with its store. Returns `AllocError` if memory was refused; the lists and the table are unchanged then.
 fn insert_client<B: Body, H: Default + Drop, K: Drop>(
     alloc: Global,
     clients: &mut Vec<ClientPort<K>>,
@@ -203,8 +203,8 @@ fn insert_client<B: Body, H: Default + Drop, K: Drop>(
     Ok(())
 }
 
-/// Adds a port, the lane from which it sends, and a row of the table for its messages. `Err` if memory was refused; the lists
-/// and the table are unchanged then.
+/// Adds a port, the lane from which it sends, and a row of the table for its messages. Returns `AllocError` if memory was
+/// refused; the lists and the table are unchanged then.
 pub(crate) fn insert_port<P: Drop, B: Body, N: Copy, H: Drop>(
     alloc: Global,
     ports: &mut Vec<P>,
