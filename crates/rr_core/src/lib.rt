@@ -4,6 +4,7 @@
 mod create;
 mod handle_id;
 mod loan;
+mod making;
 mod query;
 mod receive;
 mod release;

@@ -1,18 +1,10 @@
-//! A hub's core, and how it is made.
-ghost use Rattle.std.specs.Prelude.{◌≡◌, None};
-ghost use Rattle.rr_hub.specs.Creation.{CreatesHub};
-ghost use Rattle.rr_hub.specs.Queries.{kind_at};
-ghost use Rattle.rr_hub.specs.State.{numbers_left};
-
-use rr_hub::{BackpressureFn, HubCreateError, Limits, UniqueNodeId};
+//! What a hub's core keeps, and what contracts see of it.
+use rr_hub::{BackpressureFn, Limits, UniqueNodeId};
 use rr_parts::{ClientPort, Held, OwnedLane, RequestNote, ResponseNote, ServerPort};
 use rr_slots::Body;
 use rr_table::Table;
 use std::alloc::Global;
 use std::marker::Model;
-
-/// How many numbers a hub gives: 2^62.
-pub(crate) const NUMBERS: u64 = 4611686018427387904;
 
 /// All ports, handles and messages of a service. Contracts see the state of the message machine.
 ///
@@ -51,50 +43,4 @@ impl<QB: Body, QH: Default + Drop, PB: Body, PH: Default + Drop, K: Backpressure
     ghost view = { λ c. state_of (parts_of c) };
 
     ghost invariant = { λ c. IsCore (parts_of c) };
-}
-
-impl<QB: Body, QH: Default + Drop, PB: Body, PH: Default + Drop, K: BackpressureFn> Core<
-    QB,
-    QH,
-    PB,
-    PH,
-    K,
-> {
-    /// A hub without ports. `ZeroLimit` and `LimitsTooLarge` as `Limits::refusal` tells; making it takes no memory.
-    pub fn new(alloc: Global, limits: Limits, node_id: UniqueNodeId) -> Result<Self, HubCreateError>
-        ensures { CreatesHub limits node_id.0 result }
-    {
-        match limits.refusal() {
-            Some(refusal) => Err(refusal),
-            None => Ok(Core {
-                alloc,
-                limits,
-                node_id,
-                next: 0,
-                clients: Vec::new(alloc),
-                servers: Vec::new(alloc),
-                client_lanes: Vec::new(alloc),
-                server_lanes: Vec::new(alloc),
-                waiting: Vec::new(alloc),
-                table: Table::new(alloc),
-                spare_request_header: QH::default(),
-                spare_response_header: PH::default(),
-            }),
-        }
-    }
-
-    /// How many numbers the hub can still give.
-    pub fn numbers_left(&self) -> u64
-        ensures { result ≡ numbers_left self.now }
-    {
-        NUMBERS - self.next
-    }
-
-    /// The number that is given next, if one is left. It names nothing yet.
-    pub fn next_number(&self) -> u64
-        ensures number { result ≡ self.now.next }
-        ensures free { kind_at self.now result ≡ None }
-    {
-        self.next
-    }
 }
