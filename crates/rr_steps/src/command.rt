@@ -1,11 +1,12 @@
 //! What a runner can be asked.
 use rr_hub::{ClientSettings, ServerSettings};
+use std::alloc::AllocError;
 
 /// One call of a port or of a handle. The first number names which one.
 ///
 /// `T` is the type of an element, `H` that of a user header, and `K` that of a backpressure handler. Our own: iceoryx2 has
 /// the calls alone.
-#[derive(Clone, Copy, Debug, PartialEq, Eq)]
+#[derive(Copy, Debug, PartialEq, Eq)]
 pub enum Command<T, H, K> {
     /// Creates a client.
     CreateClient(ClientSettings<K>),
@@ -58,4 +59,16 @@ pub enum Command<T, H, K> {
     UpdateConnections(u64),
     /// Releases a port value or a handle.
     Release(u64),
+}
+
+impl<T: Copy, H: Copy, K: Copy> Clone for Command<T, H, K> {
+    ghost use Rattle.std.specs.Prelude.{◌≡◌, ⊤};
+
+    ghost is_clone = { λ command copy. copy ≡ command };
+
+    ghost is_infallible = { λ _. ⊤ };
+
+    fn clone(&self) -> Result<Self, AllocError> {
+        Ok(*self)
+    }
 }
