@@ -48,18 +48,27 @@ pub fn serve<R: BufRead + Drop, W: Write, F: Write>(
     }
 }
 
-/// Makes the hub that the first line tells, and carries out the others.
+/// Reads a script, and carries it out.
 fn script<R: BufRead + Drop, W: Write>(
     alloc: Global,
     input: R,
     output: &mut W,
 ) -> Result<(), Stop> {
     let mut lines = Lines::new(alloc, input)?;
+    play(alloc, &mut lines, output)
+}
+
+/// Makes the hub that the first line tells, and carries out the others.
+fn play<R: BufRead + Drop, W: Write>(
+    alloc: Global,
+    lines: &mut Lines<R>,
+    output: &mut W,
+) -> Result<(), Stop> {
     match lines.read()? {
-        Some(Line::Hub(limits)) => {
-            let mut runner = hub(alloc, limits, output)?;
-            commands(alloc, &mut runner, &mut lines, output)
-        }
+        Some(Line::Hub(limits)) => match hub(alloc, limits, output) {
+            Ok(mut runner) => commands(alloc, &mut runner, lines, output),
+            Err(stop) => Err(stop),
+        },
         Some(Line::Command(_)) => Err(lines.bad_line()),
         None => Ok(()),
     }
@@ -68,14 +77,22 @@ fn script<R: BufRead + Drop, W: Write>(
 /// Makes a hub, and tells it.
 fn hub<W: Write>(alloc: Global, limits: Limits, output: &mut W) -> Result<ScriptRunner, Stop> {
     match Runner::new(alloc, limits, UniqueNodeId(0)) {
-        Ok(runner) => match writeln!(output, "done") {
-            Ok(()) => Ok(runner),
-            Err(_) => Err(Stop::WriteFault),
-        },
-        Err(error) => match writeln!(output, "error {}", hub_error(error)) {
-            Ok(()) => Err(Stop::Refused),
-            Err(_) => Err(Stop::WriteFault),
-        },
+        Ok(runner) => {
+            tell(output, "done", "")?;
+            Ok(runner)
+        }
+        Err(error) => {
+            tell(output, "error ", hub_error(error))?;
+            Err(Stop::Refused)
+        }
+    }
+}
+
+/// Writes a line of two parts.
+fn tell<W: Write>(output: &mut W, first: &str, second: &str) -> Result<(), Stop> {
+    match writeln!(output, "{first}{second}") {
+        Ok(()) => Ok(()),
+        Err(_) => Err(Stop::WriteFault),
     }
 }
 

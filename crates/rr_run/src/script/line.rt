@@ -44,21 +44,27 @@ pub(crate) fn line_of(text: &str) -> Option<Line> {
 
 /// The command with this first word.
 fn command(name: &str, words: &mut Words) -> Option<ScriptCommand> {
-    let command = match name {
-        "client" => Command::CreateClient(client(words)?),
-        "server" => Command::CreateServer(server(words)?),
-        "loan" => Command::Loan(words.number()?, words.count()?),
-        "copy" => Command::SendCopy(words.number()?, words.number()?),
-        "push" => Command::Push(words.number()?, words.number()?),
-        "init" => Command::AssumeInit(words.number()?),
-        "send" => Command::Send(words.number()?),
-        "recv" => Command::Receive(words.number()?),
-        "data" => Command::Payload(words.number()?),
-        "conn" => Command::IsConnected(words.number()?),
-        "drop" => Command::Release(words.number()?),
-        _ => return None,
-    };
-    Some(command)
+    match name {
+        "client" => Some(Command::CreateClient(client(words)?)),
+        "server" => Some(Command::CreateServer(server(words)?)),
+        _ => call(name, words.number()?, words),
+    }
+}
+
+/// The command with this first word, on the port or handle with a number.
+fn call(name: &str, number: u64, words: &mut Words) -> Option<ScriptCommand> {
+    match name {
+        "loan" => Some(Command::Loan(number, words.count()?)),
+        "copy" => Some(Command::SendCopy(number, words.number()?)),
+        "push" => Some(Command::Push(number, words.number()?)),
+        "init" => Some(Command::AssumeInit(number)),
+        "send" => Some(Command::Send(number)),
+        "recv" => Some(Command::Receive(number)),
+        "data" => Some(Command::Payload(number)),
+        "conn" => Some(Command::IsConnected(number)),
+        "drop" => Some(Command::Release(number)),
+        _ => None,
+    }
 }
 
 /// The limits of a hub of the typed family.
@@ -66,25 +72,21 @@ fn limits(words: &mut Words) -> Option<Limits> {
     if words.take()? != "typed" {
         return None;
     }
-    let max_clients = words.count()?;
-    let max_servers = words.count()?;
-    let max_loaned_requests = words.count()?;
-    let max_active_requests_per_client = words.count()?;
-    let max_response_buffer_size = words.count()?;
-    let max_borrowed_responses_per_pending_response = words.count()?;
+    let counts = words.counts::<6>()?;
     let (requests, responses, forgets) = flags(words.take()?)?;
+    let buffers = words.counts::<2>()?;
     Some(Limits {
-        max_clients,
-        max_servers,
-        max_loaned_requests,
-        max_active_requests_per_client,
-        max_response_buffer_size,
-        max_borrowed_responses_per_pending_response,
+        max_clients: counts[0],
+        max_servers: counts[1],
+        max_loaned_requests: counts[2],
+        max_active_requests_per_client: counts[3],
+        max_response_buffer_size: counts[4],
+        max_borrowed_responses_per_pending_response: counts[5],
         enable_safe_overflow_for_requests: requests,
         enable_safe_overflow_for_responses: responses,
         enable_fire_and_forget_requests: forgets,
-        client_expired_connection_buffer: words.count()?,
-        server_expired_connection_buffer: words.count()?,
+        client_expired_connection_buffer: buffers[0],
+        server_expired_connection_buffer: buffers[1],
     })
 }
 
@@ -103,24 +105,45 @@ fn flags(word: &str) -> Option<(bool, bool, bool)> {
     }
 }
 
-/// How a client is created.
-fn client(words: &mut Words) -> Option<ClientSettings<NoHandler>> {
-    Some(ClientSettings {
+/// What a client and a server are both created with.
+#[derive(Clone, Copy)]
+struct PortWords {
+    strategy: BackpressureStrategy,
+    initial_max_slice_len: usize,
+    allocation_strategy: AllocationStrategy,
+    pool: Option<usize>,
+}
+
+/// What a port is created with.
+fn port(words: &mut Words) -> Option<PortWords> {
+    Some(PortWords {
         strategy: strategy(words.take()?)?,
         initial_max_slice_len: words.count()?,
         allocation_strategy: allocation(words.take()?)?,
         pool: pool(words.take()?)?,
+    })
+}
+
+/// How a client is created.
+fn client(words: &mut Words) -> Option<ClientSettings<NoHandler>> {
+    let port = port(words)?;
+    Some(ClientSettings {
+        strategy: port.strategy,
+        initial_max_slice_len: port.initial_max_slice_len,
+        allocation_strategy: port.allocation_strategy,
+        pool: port.pool,
         handler: None,
     })
 }
 
 /// How a server is created.
 fn server(words: &mut Words) -> Option<ServerSettings<NoHandler>> {
+    let port = port(words)?;
     Some(ServerSettings {
-        strategy: strategy(words.take()?)?,
-        initial_max_slice_len: words.count()?,
-        allocation_strategy: allocation(words.take()?)?,
-        pool: pool(words.take()?)?,
+        strategy: port.strategy,
+        initial_max_slice_len: port.initial_max_slice_len,
+        allocation_strategy: port.allocation_strategy,
+        pool: port.pool,
         handler: None,
         loans: words.count()?,
     })

@@ -1,7 +1,7 @@
 //! The text of a reply.
 use rr_hub::{
     BackpressureStrategy, ClientCreateError, ConnectionFailure, HubCreateError, LoanError,
-    ReceiveError, RequestSendError, SendError, ServerCreateError,
+    ReceiveError, RequestHeader, RequestSendError, ResponseHeader, SendError, ServerCreateError,
 };
 use rr_steps::Reply;
 use std::io::{self, Write};
@@ -9,50 +9,71 @@ use std::io::{self, Write};
 /// Writes a reply and a line feed.
 pub(crate) fn write_reply<W: Write>(out: &mut W, reply: &Reply<u64, u64>) -> io::Result<()> {
     match reply {
-        Reply::Created(number) => writeln!(out, "created {number}"),
-        Reply::ClientError(error) => writeln!(out, "error {}", client_error(*error)),
-        Reply::ServerError(error) => writeln!(out, "error {}", server_error(*error)),
-        Reply::Loaned(number) => writeln!(out, "loaned {number}"),
-        Reply::LoanError(error) => writeln!(out, "error {}", loan_error(*error)),
         Reply::Pending(number, queues) => writeln!(out, "pending {number} {queues}"),
-        Reply::RequestError(error) => write_request_error(out, *error),
-        Reply::Sent(number) => writeln!(out, "sent {number}"),
-        Reply::SendError(error) => write_send_error(out, *error),
         Reply::Active(number, request) => writeln!(out, "active {number} {request}"),
-        Reply::Response(number) => writeln!(out, "response {number}"),
-        Reply::Nothing => writeln!(out, "none"),
-        Reply::ReceiveError(error) => write_receive_error(out, *error),
-        Reply::Done => writeln!(out, "done"),
-        Reply::Flag(flag) => writeln!(out, "{flag}"),
         Reply::Payload(elements) => write_elements(out, elements.as_slice()),
-        other => write_other(out, other),
+        Reply::RequestHeader(header) => write_request_header(out, header),
+        Reply::ResponseHeader(header) => write_response_header(out, header),
+        other => write_short(out, other),
     }
 }
 
-/// The rest of the replies.
-fn write_other<W: Write>(out: &mut W, reply: &Reply<u64, u64>) -> io::Result<()> {
-    match reply {
-        Reply::Count(count) => writeln!(out, "count {count}"),
-        Reply::RequestHeader(header) => writeln!(
-            out,
-            "request-header {} {} {} {}",
-            header.client_id.0, header.request_id, header.number_of_elements, header.node_id.0
-        ),
-        Reply::ResponseHeader(header) => writeln!(
-            out,
-            "response-header {} {} {} {}",
-            header.server_id.0, header.request_id, header.number_of_elements, header.node_id.0
-        ),
-        Reply::UserHeader(header) => writeln!(out, "user {header}"),
-        Reply::Id(number) => writeln!(out, "id {number}"),
-        Reply::Strategy(BackpressureStrategy::RetryUntilDelivered) => writeln!(out, "retry"),
-        Reply::Strategy(BackpressureStrategy::DiscardData) => writeln!(out, "discard"),
-        Reply::Unknown => writeln!(out, "refused Unknown"),
-        Reply::WrongKind => writeln!(out, "refused WrongKind"),
-        Reply::NumbersExhausted => writeln!(out, "refused NumbersExhausted"),
-        Reply::Incomplete => writeln!(out, "refused Incomplete"),
-        _ => writeln!(out, "refused NoMemory"),
+/// Writes a reply that is an error, a name with a number, or a word.
+fn write_short<W: Write>(out: &mut W, reply: &Reply<u64, u64>) -> io::Result<()> {
+    if let Some(error) = error_text(reply) {
+        return writeln!(out, "error {}{}{}", error.call, error.cause, error.name);
     }
+    match numbered(reply) {
+        Some((name, number)) => writeln!(out, "{name} {number}"),
+        None => writeln!(out, "{}", word(reply)),
+    }
+}
+
+/// The name and the number of a reply that has one number.
+fn numbered(reply: &Reply<u64, u64>) -> Option<(&'static str, u64)> {
+    match reply {
+        Reply::Created(number) => Some(("created", *number)),
+        Reply::Loaned(number) => Some(("loaned", *number)),
+        Reply::Sent(number) => Some(("sent", *number)),
+        Reply::Response(number) => Some(("response", *number)),
+        Reply::Count(count) => Some(("count", *count as u64)),
+        Reply::UserHeader(header) => Some(("user", *header)),
+        Reply::Id(number) => Some(("id", *number)),
+        _ => None,
+    }
+}
+
+/// The text of a reply that has no number.
+fn word(reply: &Reply<u64, u64>) -> &'static str {
+    match reply {
+        Reply::Nothing => "none",
+        Reply::Done => "done",
+        Reply::Flag(true) => "true",
+        Reply::Flag(false) => "false",
+        Reply::Strategy(BackpressureStrategy::RetryUntilDelivered) => "retry",
+        Reply::Strategy(BackpressureStrategy::DiscardData) => "discard",
+        Reply::Unknown => "refused Unknown",
+        Reply::WrongKind => "refused WrongKind",
+        Reply::NumbersExhausted => "refused NumbersExhausted",
+        Reply::Incomplete => "refused Incomplete",
+        _ => "refused NoMemory",
+    }
+}
+
+fn write_request_header<W: Write>(out: &mut W, header: &RequestHeader) -> io::Result<()> {
+    writeln!(
+        out,
+        "request-header {} {} {} {}",
+        header.client_id.0, header.request_id, header.number_of_elements, header.node_id.0
+    )
+}
+
+fn write_response_header<W: Write>(out: &mut W, header: &ResponseHeader) -> io::Result<()> {
+    writeln!(
+        out,
+        "response-header {} {} {} {}",
+        header.server_id.0, header.request_id, header.number_of_elements, header.node_id.0
+    )
 }
 
 /// The elements, each after a space.
@@ -64,43 +85,61 @@ fn write_elements<W: Write>(out: &mut W, elements: &[u64]) -> io::Result<()> {
     writeln!(out)
 }
 
-fn write_request_error<W: Write>(out: &mut W, error: RequestSendError) -> io::Result<()> {
-    match error {
-        RequestSendError::ExceedsMaxActiveRequests => {
-            writeln!(out, "error ExceedsMaxActiveRequests")
-        }
-        RequestSendError::SendError(SendError::LoanError(error)) => {
-            writeln!(out, "error SendError LoanError {}", loan_error(error))
-        }
-        RequestSendError::SendError(SendError::ConnectionError(error)) => {
-            writeln!(
-                out,
-                "error SendError ConnectionError {}",
-                connection_failure(error)
-            )
-        }
-        RequestSendError::SendError(SendError::UnableToDeliver) => {
-            writeln!(out, "error SendError UnableToDeliver")
-        }
+/// The text of an error, in three parts: of which call inside a send it came, why, and its name. The first two end with a
+/// space, or are empty.
+#[derive(Clone, Copy)]
+struct ErrorText {
+    call: &'static str,
+    cause: &'static str,
+    name: &'static str,
+}
+
+/// An error that is told by its name alone.
+fn plain(name: &'static str) -> ErrorText {
+    ErrorText {
+        call: "",
+        cause: "",
+        name,
     }
 }
 
-fn write_send_error<W: Write>(out: &mut W, error: SendError) -> io::Result<()> {
-    match error {
-        SendError::LoanError(error) => writeln!(out, "error LoanError {}", loan_error(error)),
-        SendError::ConnectionError(error) => {
-            writeln!(out, "error ConnectionError {}", connection_failure(error))
-        }
-        SendError::UnableToDeliver => writeln!(out, "error UnableToDeliver"),
+/// The text of a reply that is an error.
+fn error_text(reply: &Reply<u64, u64>) -> Option<ErrorText> {
+    match reply {
+        Reply::ClientError(error) => Some(plain(client_error(*error))),
+        Reply::ServerError(error) => Some(plain(server_error(*error))),
+        Reply::LoanError(error) => Some(plain(loan_error(*error))),
+        Reply::RequestError(error) => Some(request_error(*error)),
+        Reply::SendError(error) => Some(send_error("", *error)),
+        Reply::ReceiveError(error) => Some(receive_error(*error)),
+        _ => None,
     }
 }
 
-fn write_receive_error<W: Write>(out: &mut W, error: ReceiveError) -> io::Result<()> {
+fn request_error(error: RequestSendError) -> ErrorText {
     match error {
-        ReceiveError::ExceedsMaxBorrows => writeln!(out, "error ExceedsMaxBorrows"),
-        ReceiveError::ConnectionFailure(error) => {
-            writeln!(out, "error ConnectionFailure {}", connection_failure(error))
-        }
+        RequestSendError::ExceedsMaxActiveRequests => plain("ExceedsMaxActiveRequests"),
+        RequestSendError::SendError(error) => send_error("SendError ", error),
+    }
+}
+
+fn send_error(call: &'static str, error: SendError) -> ErrorText {
+    let (cause, name) = match error {
+        SendError::LoanError(error) => ("LoanError ", loan_error(error)),
+        SendError::ConnectionError(error) => ("ConnectionError ", connection_failure(error)),
+        SendError::UnableToDeliver => ("", "UnableToDeliver"),
+    };
+    ErrorText { call, cause, name }
+}
+
+fn receive_error(error: ReceiveError) -> ErrorText {
+    match error {
+        ReceiveError::ExceedsMaxBorrows => plain("ExceedsMaxBorrows"),
+        ReceiveError::ConnectionFailure(error) => ErrorText {
+            call: "",
+            cause: "ConnectionFailure ",
+            name: connection_failure(error),
+        },
     }
 }
 

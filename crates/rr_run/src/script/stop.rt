@@ -33,11 +33,19 @@ impl Stop {
     pub(crate) fn tell<W: Write>(self, faults: &mut W) -> io::Result<()> {
         match self {
             Stop::BadLine(number) => writeln!(faults, "bad line {number}"),
-            Stop::ReadFault => writeln!(faults, "read fault"),
-            Stop::WriteFault => writeln!(faults, "write fault"),
-            Stop::Usage => writeln!(faults, "usage: rr script or rr threads K or rr least N"),
-            Stop::Refused => writeln!(faults, "refused"),
-            Stop::NoMemory => writeln!(faults, "no memory"),
+            stop => writeln!(faults, "{}", stop.text()),
+        }
+    }
+
+    /// What it reads as, without a line's number.
+    fn text(self) -> &'static str {
+        match self {
+            Stop::BadLine(_) => "bad line",
+            Stop::ReadFault => "read fault",
+            Stop::WriteFault => "write fault",
+            Stop::Usage => "usage: rr script or rr threads K or rr least N",
+            Stop::Refused => "refused",
+            Stop::NoMemory => "no memory",
         }
     }
 }

@@ -41,6 +41,15 @@ impl<'a> Words<'a> {
         usize::try_from(self.number()?).ok()
     }
 
+    /// The next words as so many counts.
+    pub(crate) fn counts<const N: usize>(&mut self) -> Option<[usize; N]> {
+        let mut counts = [0; N];
+        for index in 0..N {
+            counts[index] = self.count()?;
+        }
+        Some(counts)
+    }
+
     /// Whether no word is left.
     pub(crate) fn is_done(&mut self) -> bool {
         self.take().is_none()
