@@ -1,8 +1,8 @@
 -- The fields of a core as parts.
 use Rattle.std.specs.Prelude.{map}
 use Rattle.rr_core.specs.declared.state.Core.TheInside.{Inside}
-use Rattle.rr_parts.specs.Parts.{Parts}
-use Rattle.rr_parts.specs.Ports.{client_part, server_part, lane_part, marks_of}
+use Rattle.rr_store.specs.Parts.{Parts}
+use Rattle.rr_store.specs.Ports.{client_part, server_part, lane_part, marks_of}
 
 -- the whole
 abbrev pub parts_of : {QB QH PB PH K Q P : Type 0} → Inside QB QH PB PH K Q P → Parts Q QH P PH K

@@ -1,3 +1,3 @@
 pub mod Inside
 pub mod Reaching
-pub use Rattle.rr_parts.specs.Writing
+pub use Rattle.rr_store.specs.Writing

@@ -1,6 +1,5 @@
 //! What a core tells of its ports and handles. No query changes it.
-ghost use Rattle.std.specs.Prelude.{◌≡◌, ℕ, ◌+◌, ◌<◌, ◌==◌, ◌&&◌, false, nat_lt, length, Some, IsSome, IsSomeAnd, option_and_then, slice_get, slice_index_or};
-ghost use Rattle.std.specs.List.{list_any};
+ghost use Rattle.std.specs.Prelude.{◌≡◌, false, nat_lt, length, Some, IsSome, IsSomeAnd, option_and_then};
 ghost use Rattle.rr_hub.specs.Counts.{is_alive};
 ghost use Rattle.rr_hub.specs.Messages.{request_in, response_in};
 ghost use Rattle.rr_hub.specs.Queries.{kind_at};
@@ -9,8 +8,8 @@ ghost use Rattle.rr_hub.specs.State.{handle_at, pending_at, active_at};
 use crate::handle_id::HandleId;
 use crate::state::Core;
 use rr_hub::{BackpressureFn, Kind};
-use rr_parts::{ClientPort, ServerPort};
 use rr_slots::Body;
+use rr_store::query::{is_any_marked, is_client_held, is_server_held};
 use rr_table::Place;
 
 impl<QB: Body, QH: Default + Drop, PB: Body, PH: Default + Drop, K: BackpressureFn> Core<
@@ -119,31 +118,4 @@ impl<QB: Body, QH: Default + Drop, PB: Body, PH: Default + Drop, K: Backpressure
             None => unreachable!(),
         }
     }
-}
-
-/// Whether one of the clients has this number and lives by value.
-fn is_client_held<K: Drop>(clients: &[ClientPort<K>], number: u64) -> bool
-    ensures { result ≡ list_any (λ c. c.port.id == number && c.port.is_held) clients.now }
-{
-    clients.iter().any(|client| client.port.is_held_as(number))
-}
-
-/// Whether one of the servers has this number and lives by value.
-fn is_server_held<K: Drop>(servers: &[ServerPort<K>], number: u64) -> bool
-    ensures { result ≡ list_any (λ s. s.port.id == number && s.port.is_held) servers.now }
-{
-    servers.iter().any(|server| server.port.is_held_as(number))
-}
-
-/// Whether one of the servers has a mark, where the marks by place begin at an index.
-fn is_any_marked<K: Drop>(servers: &[ServerPort<K>], marks: &[bool], start: usize) -> bool
-    requires { (i : ℕ) (s : ServerPort K) → slice_get servers.now i ≡ Some s → start + s.port.place < length marks.now }
-    ensures { result ≡ list_any (λ s. slice_index_or marks.now (start + s.port.place) false) servers.now }
-{
-    for server in servers {
-        if marks[start + server.port.place] {
-            return true;
-        }
-    }
-    false
 }

@@ -1,16 +1,15 @@
 //! Receiving responses, and from which sender a receiver takes next.
-ghost use Rattle.std.specs.Prelude.{◌≡◌, Some, map};
+ghost use Rattle.std.specs.Prelude.{◌≡◌, Some};
 ghost use Rattle.rr_hub.specs.declared.kind.Kind.TheVariants as kind;
 ghost use Rattle.rr_hub.specs.Queries.{kind_at};
 ghost use Rattle.rr_hub.specs.Receives.{ReceivesResponse};
-ghost use Rattle.rr_parts.specs.Ports.{lane_part};
-ghost use Rattle.rr_parts.specs.Receiving.{IsNextSender, Reaches};
 
 use crate::handle_id::HandleId;
 use crate::state::Core;
 use rr_hub::{BackpressureFn, ReceiveError};
-use rr_parts::{Held, OwnedLane, Stage, index_of_lane};
 use rr_slots::Body;
+use rr_store::receive::next_sender;
+use rr_store::{Held, Stage, index_of_lane};
 use rr_table::Place;
 
 mod request;
@@ -55,31 +54,4 @@ impl<QB: Body, QH: Default + Drop, PB: Body, PH: Default + Drop, K: Backpressure
             Err(error) => Err(error),
         }
     }
-}
-
-/// Some lane from which a message waits for a receiver on a channel, of which it may have `most` from each.
-///
-/// `None` if no message waits, `ExceedsMaxBorrows` if messages wait alone where the receiver has so many.
-pub(crate) fn next_sender<B: Body, N: Copy, H: Drop>(
-    lanes: &Vec<OwnedLane<B, N, H>>,
-    place: usize,
-    channel: usize,
-    most: usize,
-) -> Result<Option<usize>, ReceiveError>
-    requires { Reaches (map lane_part lanes.now.items) place channel }
-    ensures { IsNextSender (map lane_part lanes.now.items) place channel most result }
-{
-    let mut is_blocked = false;
-    for lane in 0..lanes.len() {
-        if lanes[lane].messages.has_entries(place, channel) {
-            if lanes[lane].messages.borrowed(place, channel) < most {
-                return Ok(Some(lane));
-            }
-            is_blocked = true;
-        }
-    }
-    if is_blocked {
-        return Err(ReceiveError::ExceedsMaxBorrows);
-    }
-    Ok(None)
 }

@@ -1,7 +1,7 @@
 //! What a hub's core keeps, and what contracts see of it.
 use rr_hub::{BackpressureFn, Limits, UniqueNodeId};
-use rr_parts::{ClientPort, Held, OwnedLane, RequestNote, ResponseNote, ServerPort};
 use rr_slots::Body;
+use rr_store::{ClientPort, Held, OwnedLane, RequestNote, ResponseNote, ServerPort};
 use rr_table::Table;
 use std::alloc::Global;
 use std::marker::Model;
@@ -32,7 +32,7 @@ impl<QB: Body, QH: Default + Drop, PB: Body, PH: Default + Drop, K: Backpressure
     for Core<QB, QH, PB, PH, K> {
     ghost use Rattle.rr_hub.specs.State.{State};
     ghost use Rattle.rr_hub.specs.Codes.{state_code};
-    ghost use Rattle.rr_parts.specs.Views.{state_of};
+    ghost use Rattle.rr_store.specs.Views.{state_of};
     ghost use Rattle.rr_core.specs.Inside.{parts_of};
     ghost use Rattle.rr_core.specs.Reaching.{IsCore};
 

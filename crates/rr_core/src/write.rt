@@ -1,18 +1,17 @@
 //! Writing what a loaned message says, before it is sent.
-ghost use Rattle.std.specs.Prelude.{◌≡◌, ◌<◌, ◌⊎◌, not, true, length, Some, IsSomeAnd, if◌then◌else◌, option_and_then, slice_get, slice_set};
-ghost use Rattle.rr_slots.specs.Pools.{appended};
-ghost use Rattle.rr_lanes.specs.Lanes.{content_at, with_changed_at};
+ghost use Rattle.std.specs.Prelude.{◌≡◌, ◌⊎◌, not, true, Some, IsSomeAnd, if◌then◌else◌, option_and_then};
 ghost use Rattle.rr_hub.specs.Messages.{request_in, response_in};
 ghost use Rattle.rr_hub.specs.Queries.{kind_at};
 ghost use Rattle.rr_hub.specs.State.{handle_at, with_changed};
 ghost use Rattle.rr_hub.specs.Writing.{is_complete, with_element, with_request_content, with_response_content, after_init};
-ghost use Rattle.rr_parts.specs.Writing.{is_ready, is_written, with_messages};
+ghost use Rattle.rr_store.specs.Writing.{is_ready};
 
 use crate::handle_id::HandleId;
 use crate::state::Core;
 use rr_hub::{BackpressureFn, Kind};
-use rr_parts::{Held, OwnedLane};
 use rr_slots::Body;
+use rr_store::Held;
+use rr_store::write::push_in;
 
 impl<QB: Body, QH: Default + Drop, PB: Body, PH: Default + Drop, K: BackpressureFn> Core<
     QB,
@@ -69,22 +68,4 @@ impl<QB: Body, QH: Default + Drop, PB: Body, PH: Default + Drop, K: Backpressure
             None => unreachable!(),
         }
     }
-}
-
-/// Appends an element to what stands in a slot of a lane, unless it is complete, and tells whether it did.
-fn push_in<B: Body, N: Copy, H: Drop>(
-    lanes: &mut Vec<OwnedLane<B, N, H>>,
-    lane: usize,
-    slot: usize,
-    item: B::Item,
-) -> bool
-    requires { IsSomeAnd (slice_get lanes.old.items lane) (λ l. slot < length l.messages.held) }
-    ensures told { IsSomeAnd (slice_get lanes.old.items lane) (λ l. result ≡ not (is_written (content_at l.messages slot))) }
-    ensures pushed { IsSomeAnd (slice_get lanes.old.items lane) (λ l. lanes.new.items ≡ (if result then slice_set lanes.old.items lane (with_messages l (with_changed_at l.messages slot (appended item))) else lanes.old.items)) }
-{
-    if lanes[lane].messages.body(slot).is_complete() {
-        return false;
-    }
-    lanes[lane].messages.push(slot, item);
-    true
 }

@@ -1,16 +1,16 @@
 //! Creating servers.
-ghost use Rattle.std.specs.Prelude.{◌≡◌, None, true, false, IsTrue, IfOk, OnOk, OnErr};
+ghost use Rattle.std.specs.Prelude.{◌≡◌, None, IsTrue, IfOk, OnOk, OnErr};
 ghost use Rattle.rr_slots.specs.Families.{takes_len};
-ghost use Rattle.rr_hub.specs.Creation.{CreatesServer, server_refusal, with_server, loans_of};
-ghost use Rattle.rr_hub.specs.Limits.{hub_refusal, is_too_large, worst_case_responses};
-ghost use Rattle.rr_parts.specs.Ports.{connected_of};
+ghost use Rattle.rr_hub.specs.Creation.{CreatesServer, server_refusal, with_server};
+ghost use Rattle.rr_hub.specs.Limits.{worst_case_responses};
 
-use crate::create::{free_place, insert_port, pool_size, worst_case_requests};
 use crate::state::Core;
-use rr_hub::{BackpressureFn, Limits, ServerCreateError, ServerSettings};
+use rr_hub::{BackpressureFn, ServerCreateError, ServerSettings};
 use rr_lanes::{Lane, LaneSize};
-use rr_parts::{Port, ResponseNote, ServerPort};
 use rr_slots::Body;
+use rr_store::create::server::{server_port, worst_case_responses};
+use rr_store::create::{free_place, insert_port, pool_size, worst_case_requests};
+use rr_store::{ResponseNote, ServerPort};
 use std::alloc::AllocError;
 
 /// What is noted of no response.
@@ -102,41 +102,5 @@ impl<QB: Body, QH: Default + Drop, PB: Body, PH: Default + Drop, K: Backpressure
         )?;
         self.next += 1;
         Ok(number)
-    }
-}
-
-/// The most responses of a server that can live at one time, where the limits make a hub and a `usize` counts them.
-fn worst_case_responses(limits: &Limits, loans: usize) -> usize
-    requires hub { hub_refusal limits.now ≡ None }
-    requires counts { is_too_large (worst_case_responses limits.now loans) ≡ false }
-    ensures { result ≡ worst_case_responses limits.now loans }
-{
-    match limits.worst_case_responses(loans) {
-        Some(slots) => slots,
-        None => unreachable!(),
-    }
-}
-
-/// A server's port.
-fn server_port<K: Drop>(
-    id: u64,
-    settings: ServerSettings<K>,
-    pool_size: usize,
-    lane: usize,
-    place: usize,
-) -> Port<K>
-    ensures { connected_of result ≡ record { port = record { id = id; strategy = settings.strategy; handler = settings.handler; allocation_strategy = settings.allocation_strategy; initial_max_slice_len = settings.initial_max_slice_len; pool_size = pool_size; is_held = true }; lane = lane; place = place; loans = 0 } }
-{
-    Port {
-        id,
-        strategy: settings.strategy,
-        handler: settings.handler,
-        allocation_strategy: settings.allocation_strategy,
-        initial_max_slice_len: settings.initial_max_slice_len,
-        pool_size,
-        is_held: true,
-        lane,
-        place,
-        loans: 0,
     }
 }

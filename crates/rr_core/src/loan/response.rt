@@ -1,33 +1,19 @@
 //! Loans of responses.
-ghost use Rattle.std.specs.Prelude.{◌≡◌, ◌≢◌, ◌==◌, ◌<◌, ◌+◌, ◌^◌, Some, Err, IsTrue};
-ghost use Rattle.std.specs.List.{position};
+ghost use Rattle.std.specs.Prelude.{◌≡◌, ◌≢◌, ◌<◌, Some, Err, IsTrue};
 ghost use Rattle.rr_slots.specs.Families.{takes_len};
-ghost use Rattle.rr_table.specs.Seats.{value_at};
 ghost use Rattle.rr_hub.specs.declared.kind.Kind.TheVariants as kind;
 ghost use Rattle.rr_hub.specs.Loans.{LoansResponse};
 ghost use Rattle.rr_hub.specs.Queries.{kind_at};
 ghost use Rattle.rr_hub.specs.State.{numbers_left};
-ghost use Rattle.rr_parts.specs.Answering.{IsActiveOfOne, active_held, answer_note_of};
 ghost use Rattle.rr_laws.specs.Unreduced.{ServerHasPool};
 
 use crate::handle_id::HandleId;
-use crate::loan::loan_from;
 use crate::state::Core;
 use rr_hub::{BackpressureFn, LoanError};
-use rr_parts::{Held, RequestNote, ResponseNote, ServerPort, Stage, index_of};
 use rr_slots::Body;
-use rr_table::{Place, Table};
-
-/// An active request that was looked up: its server, where that stands, how many responses it has on loan from it, and
-/// the request's lane and slot.
-#[derive(Clone, Copy)]
-pub(crate) struct Asked {
-    server: u64,
-    index: usize,
-    loans: usize,
-    lane: usize,
-    slot: usize,
-}
+use rr_store::loan::loan_from;
+use rr_store::loan::response::asked_from;
+use rr_store::{Held, Stage};
 
 impl<QB: Body, QH: Default + Drop, PB: Body, PH: Default + Drop, K: BackpressureFn> Core<
     QB,
@@ -75,65 +61,5 @@ impl<QB: Body, QH: Default + Drop, PB: Body, PH: Default + Drop, K: Backpressure
             }
             Err(_) => Err(LoanError::OutOfMemory),
         }
-    }
-}
-
-impl Asked {
-    /// What is noted of a response with this number that is loaned from it, to its request.
-    fn response_note(self, number: u64, active_request: u64, request: RequestNote) -> ResponseNote
-        ensures { result ≡ answer_note_of self.server active_request request self.slot number }
-    {
-        ResponseNote {
-            number,
-            server: self.server,
-            active_request,
-            request: request.number,
-            request_id: request.request_id,
-            client: request.client,
-            channel: self.slot,
-        }
-    }
-
-    /// Its handle with one more response on loan.
-    fn with_one_loan(self) -> Held
-        requires { self.loans + 1 < 2 ^ 64 }
-        ensures { result ≡ active_held self.server self.lane self.slot (self.loans + 1) }
-    {
-        Held {
-            stage: Stage::ActiveRequest(self.server, self.loans + 1),
-            lane: self.lane,
-            slot: self.slot,
-        }
-    }
-}
-
-/// The active request under a number, of which one of the servers is the server.
-fn asked_from<K: Drop>(
-    table: &Table<Held>,
-    servers: &Vec<ServerPort<K>>,
-    number: u64,
-    hint: Place,
-) -> Asked
-    requires { IsActiveOfOne table.now servers.now.items number }
-    ensures held { value_at table.now number ≡ Some (active_held result.server result.lane result.slot result.loans) }
-    ensures server { position (λ s. s.port.id == result.server) servers.now.items ≡ Some result.index }
-{
-    let held = match table.get(number, hint) {
-        Some(held) => held,
-        None => unreachable!(),
-    };
-    let (server, loans) = match held.stage.active() {
-        Some(active) => active,
-        None => unreachable!(),
-    };
-    match index_of(servers.as_slice(), server) {
-        Some(index) => Asked {
-            server,
-            index,
-            loans,
-            lane: held.lane,
-            slot: held.slot,
-        },
-        None => unreachable!(),
     }
 }

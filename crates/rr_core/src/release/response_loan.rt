@@ -6,16 +6,17 @@ ghost use Rattle.rr_hub.specs.Releases.{after_release};
 ghost use Rattle.rr_hub.specs.State.{handle_at};
 ghost use Rattle.rr_table.specs.Seats.{unseated};
 ghost use Rattle.rr_table.specs.declared.place.Place as place;
-ghost use Rattle.rr_parts.specs.Ending.{IsAskedPlace, IsLoanEnded, found_under, with_answer_ended};
-ghost use Rattle.rr_parts.specs.Ports.{lane_part};
-ghost use Rattle.rr_parts.specs.Releasing.{is_loaned_response};
+ghost use Rattle.rr_store.specs.Ending.{IsAskedPlace, IsLoanEnded, found_under, with_answer_ended};
+ghost use Rattle.rr_store.specs.Ports.{lane_part};
+ghost use Rattle.rr_store.specs.Releasing.{is_loaned_response};
 
 use crate::handle_id::HandleId;
-use crate::release::{give_back_in, note_in};
 use crate::state::Core;
 use rr_hub::BackpressureFn;
-use rr_parts::{Held, OwnedLane, ResponseNote, ServerPort, Stage, index_of_lane};
 use rr_slots::Body;
+use rr_store::release::response_loan::{asked_place, end_loan_from, end_response_loan};
+use rr_store::release::{give_back_in, note_in};
+use rr_store::{Held, OwnedLane, ResponseNote, ServerPort};
 use rr_table::{Place, Table};
 
 impl<QB: Body, QH: Default + Drop, PB: Body, PH: Default + Drop, K: BackpressureFn> Core<
@@ -68,66 +69,4 @@ pub(crate) fn end_answer<K: Drop, B: Body, N: Copy, H: Drop>(
     let place = end_response_loan(servers, lane);
     let at = asked_place(lanes, note, place);
     end_loan_from(table, note.active_request, at, id.hint);
-}
-
-/// Counts one response less on loan for the server that sends in a lane, and answers where others send to it.
-fn end_response_loan<K: Drop>(servers: &mut Vec<ServerPort<K>>, lane: usize) -> usize
-    requires { IsSomeAnd (position (λ s. s.port.lane == lane) servers.old.items) (λ i. IsSomeAnd (slice_get servers.old.items i) (λ s. 0 < s.port.loans)) }
-    ensures place { IsSomeAnd (position (λ s. s.port.lane == lane) servers.old.items) (λ i. IsSomeAnd (slice_get servers.old.items i) (λ s. result ≡ s.port.place)) }
-    ensures counted { IsSomeAnd (position (λ s. s.port.lane == lane) servers.old.items) (λ i. IsSomeAnd (slice_get servers.old.items i) (λ s. servers.new.items ≡ slice_set servers.old.items i (with_answer_ended s))) }
-{
-    match index_of_lane(servers.as_slice(), lane) {
-        Some(index) => {
-            let place = servers[index].port.place;
-            servers[index].port.loans -= 1;
-            place
-        }
-        None => unreachable!(),
-    }
-}
-
-/// Where the active request of a response stands, if it stands, by the place of its server. `None` if its client has no lane,
-/// or if no row has so many places.
-fn asked_place<B: Body, N: Copy, H: Drop>(
-    lanes: &[OwnedLane<B, N, H>],
-    note: ResponseNote,
-    place: usize,
-) -> Option<Place>
-    ensures { IfSome result (IsAskedPlace (map lane_part lanes.now) note place) }
-{
-    let lane = &lanes[index_of_owner(lanes, note.client)?];
-    let row = lane.row;
-    let first = place.checked_add(1)?.checked_mul(lane.messages.slots())?;
-    let index = first.checked_add(note.channel)?;
-    Some(Place { row, index })
-}
-
-/// Where among the lanes the one stands from which the port with a number sends.
-fn index_of_owner<B: Body, N: Copy, H: Drop>(
-    lanes: &[OwnedLane<B, N, H>],
-    owner: u64,
-) -> Option<usize>
-    ensures { result ≡ position (λ l. l.owner == owner) lanes.now }
-{
-    lanes.iter().position(|lane| lane.owner == owner)
-}
-
-/// Counts one response less on loan from an active request, if one stands under the number. It looks in one place alone,
-/// where one is told.
-fn end_loan_from(table: &mut Table<Held>, number: u64, at: Option<Place>, hint: Place)
-    ensures { IsLoanEnded number (found_under table.old number at) table.old table.new }
-{
-    let found = match at {
-        Some(place) => table.get_at(number, place),
-        None => table.get(number, hint),
-    };
-    if let Some(held) = found {
-        if let Some((server, loans)) = held.stage.active() {
-            let stage = Stage::ActiveRequest(server, loans.saturating_sub(1));
-            let hint = at.unwrap_or(hint);
-            let lane = held.lane;
-            let slot = held.slot;
-            table.set(number, hint, Held { stage, lane, slot });
-        }
-    }
 }

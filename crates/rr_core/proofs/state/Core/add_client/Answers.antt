@@ -1,19 +1,19 @@
 use Rattle.std.proofs.Common.{◌≡◌, ◌≢◌, ◌<◌, ◌+◌, ◌*◌, ℕ, false, [], ◌∷◌, ◌++◌, length, map, replicate, refl, sym, ap, ◌∙◌, subst, arith}
 use Rattle.std.specs.Prelude.{Some, slice_get}
 use Rattle.std.proofs.lemmas.List.{map-append, length-map}
-use Rattle.rr_parts.specs.Parts.{ClientPart}
+use Rattle.rr_store.specs.Parts.{ClientPart}
 use Rattle.rr_core.specs.Inside.{parts_of}
-use Rattle.rr_parts.specs.Ports.{connected_of, client_part, lane_part, marks_of}
+use Rattle.rr_store.specs.Ports.{connected_of, client_part, lane_part, marks_of}
 use Rattle.rr_hub.specs.Creation.{pool_size_of, with_client}
 use Rattle.rr_table.specs.Seats.{with_row}
-use Rattle.rr_parts.specs.declared.port.ClientPort.{ClientPort}
-use Rattle.rr_parts.specs.declared.port.OwnedLane.{OwnedLane}
-use Rattle.rr_parts.specs.Creating.{IsNew, client_port, with_client_part}
-use Rattle.rr_parts.specs.Views.{state_of, no_request}
-use Rattle.rr_core_laws.proofs.Adding.{on_err_any, fewer, not_refused, mapped, with_vectors, same_vectors}
-use Rattle.rr_parts.specs.Sound.{IsSound, empty_hand}
-use Rattle.rr_core_laws.proofs.ClientSound.{client_sound}
-use Rattle.rr_core_laws.proofs.ClientView.{client_view}
+use Rattle.rr_store.specs.declared.port.ClientPort.{ClientPort}
+use Rattle.rr_store.specs.declared.port.OwnedLane.{OwnedLane}
+use Rattle.rr_store.specs.Creating.{IsNew, client_port, with_client_part}
+use Rattle.rr_store.specs.Views.{state_of, no_request}
+use Rattle.rr_store.proofs.Adding.{on_err_any, fewer, not_refused, mapped, with_vectors, same_vectors}
+use Rattle.rr_store.specs.Sound.{IsSound, empty_hand}
+use Rattle.rr_store.proofs.ClientSound.{client_sound}
+use Rattle.rr_store.proofs.ClientView.{client_view}
 use Rattle.rr_laws.specs.Reached.{IsReached}
 use Rattle.rr_laws.proofs.Creating.{with_client_reached}
 use Rattle.rr_core.specs.Reaching.{IsCore}

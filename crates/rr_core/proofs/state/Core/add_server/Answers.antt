@@ -5,17 +5,17 @@ use Rattle.std.proofs.Math.Nat.{max_comm}
 use Rattle.rr_table.specs.Seats.{with_row}
 use Rattle.rr_hub.specs.Limits.{worst_case_requests, worst_case_responses, is_too_large}
 use Rattle.rr_hub.specs.Creation.{pool_size_of, with_server, loans_of}
-use Rattle.rr_parts.specs.declared.port.ServerPort.{ServerPort}
-use Rattle.rr_parts.specs.declared.port.OwnedLane.{OwnedLane}
-use Rattle.rr_parts.specs.Parts.{ServerPart}
+use Rattle.rr_store.specs.declared.port.ServerPort.{ServerPort}
+use Rattle.rr_store.specs.declared.port.OwnedLane.{OwnedLane}
+use Rattle.rr_store.specs.Parts.{ServerPart}
 use Rattle.rr_core.specs.Inside.{parts_of}
-use Rattle.rr_parts.specs.Ports.{connected_of, server_part, lane_part}
-use Rattle.rr_parts.specs.Creating.{IsNew, server_port, with_server_part}
-use Rattle.rr_parts.specs.Views.{state_of, no_response}
-use Rattle.rr_parts.specs.Sound.{IsSound, empty_hand}
-use Rattle.rr_core_laws.proofs.Adding.{on_err_any, fewer_servers, server_not_refused, mapped, with_servers, same_servers}
-use Rattle.rr_core_laws.proofs.ServerSound.{server_sound}
-use Rattle.rr_core_laws.proofs.ServerView.{server_view}
+use Rattle.rr_store.specs.Ports.{connected_of, server_part, lane_part}
+use Rattle.rr_store.specs.Creating.{IsNew, server_port, with_server_part}
+use Rattle.rr_store.specs.Views.{state_of, no_response}
+use Rattle.rr_store.specs.Sound.{IsSound, empty_hand}
+use Rattle.rr_store.proofs.Adding.{on_err_any, fewer_servers, server_not_refused, mapped, with_servers, same_servers}
+use Rattle.rr_store.proofs.ServerSound.{server_sound}
+use Rattle.rr_store.proofs.ServerView.{server_view}
 use Rattle.rr_laws.specs.Reached.{IsReached}
 use Rattle.rr_laws.proofs.Creating.{with_server_reached}
 use Rattle.rr_core.specs.Reaching.{IsCore}

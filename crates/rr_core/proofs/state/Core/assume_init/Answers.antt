@@ -3,13 +3,13 @@ use Rattle.std.specs.Prelude.{◌⊎◌}
 use Rattle.rr_hub.specs.declared.kind.Kind.{Kind}
 use Rattle.rr_hub.specs.State.{with_changed}
 use Rattle.rr_hub.specs.Writing.{after_init}
-use Rattle.rr_parts.specs.declared.held.Stage.TheVariants as stage
+use Rattle.rr_store.specs.declared.held.Stage.TheVariants as stage
 use Rattle.rr_core.specs.Inside.{parts_of}
-use Rattle.rr_parts.specs.Sound.{empty_hand}
-use Rattle.rr_core_laws.proofs.Looking.{seat_under}
-use Rattle.rr_core_laws.proofs.Connected.{of_kind, of_kind_there}
-use Rattle.rr_core_laws.proofs.Pushing.{request_mut_stage, response_mut_stage}
-use Rattle.rr_core_laws.proofs.Initialising.{initialised_sound, initialised_view}
+use Rattle.rr_store.specs.Sound.{empty_hand}
+use Rattle.rr_store.proofs.Looking.{seat_under}
+use Rattle.rr_store.proofs.Connected.{of_kind, of_kind_there}
+use Rattle.rr_store.proofs.Pushing.{request_mut_stage, response_mut_stage}
+use Rattle.rr_store.proofs.Initialising.{initialised_sound, initialised_view}
 use Rattle.rr_laws.specs.Reached.{IsReached}
 use Rattle.rr_laws.proofs.Changing.{init_reached}
 use Rattle.rr_core.proofs.state.Core.assume_init.Goals as goal

@@ -3,16 +3,16 @@ use Rattle.std.specs.Prelude.{slice_index, Ok}
 use Rattle.rr_lanes.specs.Lanes.{uses}
 use Rattle.rr_hub.specs.declared.kind.Kind.{Kind}
 use Rattle.rr_core.specs.Inside.{parts_of}
-use Rattle.rr_parts.specs.Ports.{client_part, lane_part, marks_of}
-use Rattle.rr_parts.specs.Parts.{Lane}
-use Rattle.rr_parts.specs.Sending.{HasQueues}
-use Rattle.rr_parts.specs.Sound.{IsSound, empty_hand}
-use Rattle.rr_parts.specs.Views.{state_of}
-use Rattle.rr_core_laws.proofs.Adding.{with_vectors}
-use Rattle.rr_core_laws.proofs.Asking.{lane_is, lanes_many}
-use Rattle.rr_core_laws.proofs.Connected.{of_kind_there}
-use Rattle.rr_core_laws.proofs.ReleaseFields.{lane_asked}
-use Rattle.rr_core_laws.proofs.RequestFields.{spot, queues_of, takes, marks, counts, counted, after, after_sound, fields, shows}
+use Rattle.rr_store.specs.Ports.{client_part, lane_part, marks_of}
+use Rattle.rr_store.specs.Parts.{Lane}
+use Rattle.rr_store.specs.Sending.{HasQueues}
+use Rattle.rr_store.specs.Sound.{IsSound, empty_hand}
+use Rattle.rr_store.specs.Views.{state_of}
+use Rattle.rr_store.proofs.Adding.{with_vectors}
+use Rattle.rr_store.proofs.Asking.{lane_is, lanes_many}
+use Rattle.rr_store.proofs.Connected.{of_kind_there}
+use Rattle.rr_store.proofs.ReleaseFields.{lane_asked}
+use Rattle.rr_store.proofs.RequestFields.{spot, queues_of, takes, marks, counts, counted, after, after_sound, fields, shows}
 use Rattle.rr_laws.specs.Reached.{IsReached}
 use Rattle.rr_laws.proofs.Sending.{sends_request_reached, sends_unrefused}
 use Rattle.rr_core.proofs.state.Core.deliver_request.Goals as goal

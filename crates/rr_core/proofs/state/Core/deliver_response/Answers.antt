@@ -6,25 +6,25 @@ use Rattle.rr_lanes.specs.Lanes.{uses}
 use Rattle.rr_hub.specs.declared.kind.Kind.{Kind}
 use Rattle.rr_hub.specs.Releases.{after_release}
 use Rattle.rr_hub.specs.Sends.{with_response_put}
-use Rattle.rr_parts.specs.declared.port.ServerPort.{ServerPort}
-use Rattle.rr_parts.specs.Delivering.{HasQueue, delivered}
-use Rattle.rr_parts.specs.Ending.{IsAskedPlace, IsLoanEnded, found_under, with_answer_ended}
+use Rattle.rr_store.specs.declared.port.ServerPort.{ServerPort}
+use Rattle.rr_store.specs.Delivering.{HasQueue, delivered}
+use Rattle.rr_store.specs.Ending.{IsAskedPlace, IsLoanEnded, found_under, with_answer_ended}
 use Rattle.rr_core.specs.Inside.{parts_of}
-use Rattle.rr_parts.specs.Loaning.{with_messages}
-use Rattle.rr_parts.specs.Ports.{server_part, lane_part}
-use Rattle.rr_parts.specs.Releasing.{given_back}
-use Rattle.rr_parts.specs.Sound.{response_note, IsSound, empty_hand}
-use Rattle.rr_parts.specs.Views.{lane_of, state_of, no_response, response_at}
-use Rattle.rr_core_laws.proofs.Adding.{with_servers}
-use Rattle.rr_core_laws.proofs.AnswerFields.{AnswerFound, Sending, server_sending, answer_found, has_loan}
-use Rattle.rr_core_laws.proofs.AnswerSent.{has_capacity, sent_parts}
-use Rattle.rr_core_laws.proofs.Connected.{of_kind, of_kind_there}
-use Rattle.rr_core_laws.proofs.Places.{map-set_one}
-use Rattle.rr_core_laws.proofs.ReceivedFields.{note_is}
-use Rattle.rr_core_laws.proofs.ReleaseFields.{lane_asked, lanes_then}
-use Rattle.rr_core_laws.proofs.Senders.{of_found, to_found}
-use Rattle.rr_core_laws.proofs.SentFields.{loaned_kind, lanes_there, queue_asked, slot_asked, held_then, of_sent}
-use Rattle.rr_core_laws.proofs.Shown.{held_within}
+use Rattle.rr_store.specs.Loaning.{with_messages}
+use Rattle.rr_store.specs.Ports.{server_part, lane_part}
+use Rattle.rr_store.specs.Releasing.{given_back}
+use Rattle.rr_store.specs.Sound.{response_note, IsSound, empty_hand}
+use Rattle.rr_store.specs.Views.{lane_of, state_of, no_response, response_at}
+use Rattle.rr_store.proofs.Adding.{with_servers}
+use Rattle.rr_store.proofs.AnswerFields.{AnswerFound, Sending, server_sending, answer_found, has_loan}
+use Rattle.rr_store.proofs.AnswerSent.{has_capacity, sent_parts}
+use Rattle.rr_store.proofs.Connected.{of_kind, of_kind_there}
+use Rattle.rr_store.proofs.Places.{map-set_one}
+use Rattle.rr_store.proofs.ReceivedFields.{note_is}
+use Rattle.rr_store.proofs.ReleaseFields.{lane_asked, lanes_then}
+use Rattle.rr_store.proofs.Senders.{of_found, to_found}
+use Rattle.rr_store.proofs.SentFields.{loaned_kind, lanes_there, queue_asked, slot_asked, held_then, of_sent}
+use Rattle.rr_store.proofs.Shown.{held_within}
 use Rattle.rr_laws.specs.Reached.{IsReached}
 use Rattle.rr_laws.proofs.Sending.{response_put_reached}
 use Rattle.rr_laws.proofs.Leaving.{after_release_reached}

@@ -2,15 +2,15 @@ use Rattle.std.proofs.Common.{◌≡◌, ◌<◌, length, false, sym, ap, ◌∙
 use Rattle.std.proofs.lemmas.List.{length-map}
 use Rattle.rr_hub.specs.Counts.{is_alive}
 use Rattle.rr_hub.specs.declared.kind.Kind.{Kind}
-use Rattle.rr_parts.specs.declared.note.RequestNote.{RequestNote}
+use Rattle.rr_store.specs.declared.note.RequestNote.{RequestNote}
 use Rattle.rr_core.specs.Inside.{parts_of}
-use Rattle.rr_parts.specs.Ports.{lane_part}
-use Rattle.rr_parts.specs.Kinds.{stage_kind}
-use Rattle.rr_parts.specs.Sound.{empty_hand}
-use Rattle.rr_parts.specs.Views.{lane_of}
-use Rattle.rr_core_laws.proofs.Shown.{lane_read, request_spot}
-use Rattle.rr_core_laws.proofs.Connected.{of_kind, of_kind_there, of_active, active_has_request}
-use Rattle.rr_core_laws.proofs.Alive.{note_read, used, alive_here, alive_not}
+use Rattle.rr_store.specs.Ports.{lane_part}
+use Rattle.rr_store.specs.Kinds.{stage_kind}
+use Rattle.rr_store.specs.Sound.{empty_hand}
+use Rattle.rr_store.specs.Views.{lane_of}
+use Rattle.rr_store.proofs.Shown.{lane_read, request_spot}
+use Rattle.rr_store.proofs.Connected.{of_kind, of_kind_there, of_active, active_has_request}
+use Rattle.rr_store.proofs.Alive.{note_read, used, alive_here, alive_not}
 use Rattle.rr_core.proofs.state.Core.is_active_connected.Goals as goal
 use Rattle.rr_core.proofs.state.Core.is_active_connected.Goals.{In-Some}
 

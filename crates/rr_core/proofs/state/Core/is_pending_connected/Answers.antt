@@ -2,13 +2,13 @@ use Rattle.std.proofs.Common.{◌≡◌, ◌<◌, length, sym, ap, refl, ◌∙�
 use Rattle.std.specs.Prelude.{nat_lt}
 use Rattle.std.proofs.lemmas.List.{length-map}
 use Rattle.rr_core.specs.Inside.{parts_of}
-use Rattle.rr_parts.specs.Ports.{marks_of}
-use Rattle.rr_parts.specs.Kinds.{stage_kind}
-use Rattle.rr_parts.specs.Sound.{empty_hand}
-use Rattle.rr_parts.specs.Views.{lane_of}
-use Rattle.rr_core_laws.proofs.Shown.{request_spot}
-use Rattle.rr_core_laws.proofs.Connected.{of_kind, of_kind_there, of_pending, pending_has_request}
-use Rattle.rr_core_laws.proofs.Connected.{server_place_within, mark_within, marks_before, marks_read, waiting_seen}
+use Rattle.rr_store.specs.Ports.{marks_of}
+use Rattle.rr_store.specs.Kinds.{stage_kind}
+use Rattle.rr_store.specs.Sound.{empty_hand}
+use Rattle.rr_store.specs.Views.{lane_of}
+use Rattle.rr_store.proofs.Shown.{request_spot}
+use Rattle.rr_store.proofs.Connected.{of_kind, of_kind_there, of_pending, pending_has_request}
+use Rattle.rr_store.proofs.Connected.{server_place_within, mark_within, marks_before, marks_read, waiting_seen}
 use Rattle.rr_hub.specs.declared.kind.Kind.{Kind}
 use Rattle.rr_core.proofs.state.Core.is_pending_connected.Goals as goal
 use Rattle.rr_core.proofs.state.Core.is_pending_connected.Goals.{In-Some}

@@ -4,20 +4,20 @@ use Rattle.std.specs.List.{position}
 use Rattle.std.proofs.lemmas.Option.{slice_get_within}
 use Rattle.rr_hub.specs.declared.kind.Kind.{Kind}
 use Rattle.rr_hub.specs.Sends.{is_response_refused}
-use Rattle.rr_parts.specs.declared.port.ServerPort.{ServerPort}
-use Rattle.rr_parts.specs.Delivering.{HasQueue, is_refused_in}
+use Rattle.rr_store.specs.declared.port.ServerPort.{ServerPort}
+use Rattle.rr_store.specs.Delivering.{HasQueue, is_refused_in}
 use Rattle.rr_core.specs.Inside.{parts_of}
-use Rattle.rr_parts.specs.Ports.{lane_part, connected_of, server_part}
-use Rattle.rr_parts.specs.Parts.{Lane}
-use Rattle.rr_parts.specs.Sound.{response_note}
-use Rattle.rr_parts.specs.Views.{lane_of, no_response}
-use Rattle.rr_core_laws.proofs.AnswerFields.{AnswerFound, Sending, server_sending, answer_found}
-use Rattle.rr_core_laws.proofs.Asking.{lane_is, lanes_many, read_at}
-use Rattle.rr_core_laws.proofs.Connected.{of_kind, of_kind_there}
-use Rattle.rr_core_laws.proofs.ReceivedFields.{note_is}
-use Rattle.rr_core_laws.proofs.ReleaseFields.{lane_asked}
-use Rattle.rr_core_laws.proofs.SentFields.{loaned_kind, lanes_there, queue_asked, refused_then, of_sent}
-use Rattle.rr_core_laws.proofs.Shown.{held_within}
+use Rattle.rr_store.specs.Ports.{lane_part, connected_of, server_part}
+use Rattle.rr_store.specs.Parts.{Lane}
+use Rattle.rr_store.specs.Sound.{response_note}
+use Rattle.rr_store.specs.Views.{lane_of, no_response}
+use Rattle.rr_store.proofs.AnswerFields.{AnswerFound, Sending, server_sending, answer_found}
+use Rattle.rr_store.proofs.Asking.{lane_is, lanes_many, read_at}
+use Rattle.rr_store.proofs.Connected.{of_kind, of_kind_there}
+use Rattle.rr_store.proofs.ReceivedFields.{note_is}
+use Rattle.rr_store.proofs.ReleaseFields.{lane_asked}
+use Rattle.rr_store.proofs.SentFields.{loaned_kind, lanes_there, queue_asked, refused_then, of_sent}
+use Rattle.rr_store.proofs.Shown.{held_within}
 use Rattle.rr_core.proofs.state.Core.is_response_refused.Goals as goal
 use Rattle.rr_core.proofs.state.Core.is_response_refused.Goals.{In-Some, After-note_in-note, After-index, In-Some-index_of_lane}
 

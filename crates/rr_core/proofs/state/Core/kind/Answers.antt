@@ -1,8 +1,8 @@
 use Rattle.std.proofs.Common.{option_map, Some, sym, ap, ◌∙◌}
 use Rattle.rr_hub.specs.Queries.{kind_at, kind_of}
 use Rattle.rr_core.specs.Inside.{parts_of}
-use Rattle.rr_parts.specs.Views.{state_of}
-use Rattle.rr_core_laws.proofs.Looking.{client_seen, server_seen, kind_client, kind_server, kind_handle, kind_shown, nothing_shown}
+use Rattle.rr_store.specs.Views.{state_of}
+use Rattle.rr_store.proofs.Looking.{client_seen, server_seen, kind_client, kind_server, kind_handle, kind_shown, nothing_shown}
 use Rattle.rr_core.proofs.state.Core.kind.Goals as goal
 
 pub returns-then-is_client_held : goal.returns-then-is_client_held

@@ -10,24 +10,24 @@ use Rattle.rr_hub.specs.declared.kind.Kind.TheVariants as kind
 use Rattle.rr_hub.specs.Loans.{request_loan_refusal}
 use Rattle.rr_hub.specs.Queries.{kind_at}
 use Rattle.rr_hub.specs.State.{client_at, numbers_left}
-use Rattle.rr_parts.specs.declared.held.Stage.TheVariants as stage
-use Rattle.rr_parts.specs.declared.note.RequestNote.{RequestNote}
-use Rattle.rr_parts.specs.declared.port.ClientPort.{ClientPort}
+use Rattle.rr_store.specs.declared.held.Stage.TheVariants as stage
+use Rattle.rr_store.specs.declared.note.RequestNote.{RequestNote}
+use Rattle.rr_store.specs.declared.port.ClientPort.{ClientPort}
 use Rattle.rr_core.specs.Inside.{parts_of}
-use Rattle.rr_parts.specs.Ports.{client_part, lane_part}
-use Rattle.rr_parts.specs.Loaning.{loan_note, with_messages, with_request_loan}
-use Rattle.rr_parts.specs.Parts.{ClientPart}
-use Rattle.rr_parts.specs.Sound.{IsSound, empty_hand}
-use Rattle.rr_parts.specs.Views.{state_of, client_of, lane_of}
-use Rattle.rr_core_laws.proofs.Adding.{with_vectors, same_vectors}
-use Rattle.rr_core_laws.proofs.Asking.{in_row, client_seen, no_client_seen, standing_at, read_at, due_refusal, lanes_many, loans_fit, not_full, no_error}
-use Rattle.rr_core_laws.proofs.Entries.{used_le}
-use Rattle.rr_core_laws.proofs.HandleCounts.{listed}
-use Rattle.rr_core_laws.proofs.LoanSound.{loan_sound}
-use Rattle.rr_core_laws.proofs.LoanRefusals.{refusal_stored, refuses, lends, first_due, second_due, none_due, pool_refusal}
-use Rattle.rr_core_laws.proofs.Numbers.{client_there}
-use Rattle.rr_core_laws.proofs.Places.{standing_nowhere, map-set_one}
-use Rattle.rr_core_laws.proofs.Vacant.{own_vacant}
+use Rattle.rr_store.specs.Ports.{client_part, lane_part}
+use Rattle.rr_store.specs.Loaning.{loan_note, with_messages, with_request_loan}
+use Rattle.rr_store.specs.Parts.{ClientPart}
+use Rattle.rr_store.specs.Sound.{IsSound, empty_hand}
+use Rattle.rr_store.specs.Views.{state_of, client_of, lane_of}
+use Rattle.rr_store.proofs.Adding.{with_vectors, same_vectors}
+use Rattle.rr_store.proofs.Asking.{in_row, client_seen, no_client_seen, standing_at, read_at, due_refusal, lanes_many, loans_fit, not_full, no_error}
+use Rattle.rr_store.proofs.Entries.{used_le}
+use Rattle.rr_store.proofs.HandleCounts.{listed}
+use Rattle.rr_store.proofs.LoanSound.{loan_sound}
+use Rattle.rr_store.proofs.LoanRefusals.{refusal_stored, refuses, lends, first_due, second_due, none_due, pool_refusal}
+use Rattle.rr_store.proofs.Numbers.{client_there}
+use Rattle.rr_store.proofs.Places.{standing_nowhere, map-set_one}
+use Rattle.rr_store.proofs.Vacant.{own_vacant}
 use Rattle.rr_laws.specs.Reached.{IsReached}
 use Rattle.rr_laws.proofs.Loaning.{loans_request_reached}
 use Rattle.rr_laws.proofs.Memory.{request_finds_memory}

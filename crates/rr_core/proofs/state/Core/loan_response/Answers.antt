@@ -12,30 +12,30 @@ use Rattle.rr_hub.specs.declared.error.LoanError.{LoanError}
 use Rattle.rr_hub.specs.Limits.{max_loaned_responses}
 use Rattle.rr_hub.specs.Loans.{is_too_long}
 use Rattle.rr_hub.specs.State.{numbers_left}
-use Rattle.rr_parts.specs.declared.held.Held.{Held}
-use Rattle.rr_parts.specs.declared.held.Stage.TheVariants as stage
-use Rattle.rr_parts.specs.declared.port.OwnedLane.{OwnedLane}
-use Rattle.rr_parts.specs.declared.port.ServerPort.{ServerPort}
-use Rattle.rr_parts.specs.Answering.{active_held, answer_note, answer_note_of, answer_place, with_response_loan}
+use Rattle.rr_store.specs.declared.held.Held.{Held}
+use Rattle.rr_store.specs.declared.held.Stage.TheVariants as stage
+use Rattle.rr_store.specs.declared.port.OwnedLane.{OwnedLane}
+use Rattle.rr_store.specs.declared.port.ServerPort.{ServerPort}
+use Rattle.rr_store.specs.Answering.{active_held, answer_note, answer_note_of, answer_place, with_response_loan}
 use Rattle.rr_core.specs.Inside.{parts_of}
-use Rattle.rr_parts.specs.Ports.{server_part, lane_part}
-use Rattle.rr_parts.specs.Loaning.{with_messages}
-use Rattle.rr_parts.specs.Parts.{Parts, Lane}
-use Rattle.rr_parts.specs.Sound.{IsSound, empty_hand, request_note}
-use Rattle.rr_parts.specs.Views.{lane_of, no_request, state_of}
-use Rattle.rr_core_laws.proofs.Adding.{with_servers, same_servers}
-use Rattle.rr_core_laws.proofs.AnswerRefusals.{stored_refusal, refuses, lends, first_due, second_due, none_due, pool_refusal}
-use Rattle.rr_core_laws.proofs.AnswerSeated.{answer_sound}
-use Rattle.rr_core_laws.proofs.Answerable.{Found, found, active_of_one, answers_fit, loans_from_fit}
-use Rattle.rr_core_laws.proofs.Asking.{read_at, due_refusal, lane_is, lanes_many, not_full, no_error}
-use Rattle.rr_core_laws.proofs.Entries.{used_le}
-use Rattle.rr_core_laws.proofs.Places.{map-set_one}
-use Rattle.rr_core_laws.proofs.Vacant.{response_vacant}
+use Rattle.rr_store.specs.Ports.{server_part, lane_part}
+use Rattle.rr_store.specs.Loaning.{with_messages}
+use Rattle.rr_store.specs.Parts.{Parts, Lane}
+use Rattle.rr_store.specs.Sound.{IsSound, empty_hand, request_note}
+use Rattle.rr_store.specs.Views.{lane_of, no_request, state_of}
+use Rattle.rr_store.proofs.Adding.{with_servers, same_servers}
+use Rattle.rr_store.proofs.AnswerRefusals.{stored_refusal, refuses, lends, first_due, second_due, none_due, pool_refusal}
+use Rattle.rr_store.proofs.AnswerSeated.{answer_sound}
+use Rattle.rr_store.proofs.Answerable.{Found, found, active_of_one, answers_fit, loans_from_fit}
+use Rattle.rr_store.proofs.Asking.{read_at, due_refusal, lane_is, lanes_many, not_full, no_error}
+use Rattle.rr_store.proofs.Entries.{used_le}
+use Rattle.rr_store.proofs.Places.{map-set_one}
+use Rattle.rr_store.proofs.Vacant.{response_vacant}
 use Rattle.rr_laws.specs.Reached.{IsReached}
 use Rattle.rr_laws.proofs.Loaning.{loans_response_reached}
 use Rattle.rr_laws.proofs.Memory.{response_finds_memory}
 use Rattle.rr_core.specs.Reaching.{IsCore}
-use Rattle.rr_core.specs.declared.loan.response.Asked.{Asked}
+use Rattle.rr_store.specs.declared.loan.response.Asked.{Asked}
 use Rattle.rr_core.proofs.state.Core.loan_response.Goals.{In-Ok, After-asked_from-asked, After-index-port, After-is_too_long, After-is_at_loan_limit, After-set}
 use Rattle.rr_core.proofs.state.Core.loan_response.Answers.Facts.{IsAsked, asked, same, there, length_told, limit_told, told}
 use Rattle.rr_core.proofs.state.Core.loan_response.Goals as goal

@@ -1,7 +1,7 @@
 use Rattle.std.proofs.Common.{◌≡◌, sym, ap, ◌∙◌, map, subst}
 use Rattle.std.specs.Prelude.{None}
 use Rattle.rr_hub.specs.Limits.{hub_refusal}
-use Rattle.rr_core_laws.proofs.StartLaws.{start_sound, start_view}
+use Rattle.rr_store.proofs.StartLaws.{start_sound, start_view}
 use Rattle.rr_laws.specs.Reached.{IsReached}
 use Rattle.rr_laws.proofs.Creating.{empty_hub_reached}
 use Rattle.rr_core.proofs.state.Core.new.Goals as goal

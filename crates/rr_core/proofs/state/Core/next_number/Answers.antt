@@ -1,8 +1,8 @@
 use Rattle.std.proofs.Common.{sym, ap, ◌∙◌}
 use Rattle.rr_hub.specs.Queries.{kind_at}
 use Rattle.rr_core.specs.Inside.{parts_of}
-use Rattle.rr_parts.specs.Sound.{empty_hand}
-use Rattle.rr_core_laws.proofs.NextNumber.{next_names_nothing}
+use Rattle.rr_store.specs.Sound.{empty_hand}
+use Rattle.rr_store.proofs.NextNumber.{next_names_nothing}
 use Rattle.rr_core.proofs.state.Core.next_number.Goals as goal
 
 pub returns-clause-number : goal.returns-clause-number

@@ -6,16 +6,16 @@ use Rattle.rr_hub.specs.declared.kind.Kind.{Kind}
 use Rattle.rr_hub.specs.State.{with_changed}
 use Rattle.rr_hub.specs.Writing.{with_element, with_request_content}
 use Rattle.rr_core.specs.Inside.{parts_of}
-use Rattle.rr_parts.specs.Sound.{IsSound, empty_hand, is_of_request}
-use Rattle.rr_parts.specs.declared.held.Stage.TheVariants as stage
-use Rattle.rr_parts.specs.Ports.{lane_part}
-use Rattle.rr_parts.specs.Views.{state_of, lane_of}
-use Rattle.rr_parts.specs.Writing.{is_written, with_messages}
-use Rattle.rr_core_laws.proofs.Shown.{of_request, request_spot}
-use Rattle.rr_core_laws.proofs.Connected.{of_kind, of_kind_there}
-use Rattle.rr_core_laws.proofs.Unseen.{with_slot}
-use Rattle.rr_core_laws.proofs.WrittenView.{stored_lane, lanes_written}
-use Rattle.rr_core_laws.proofs.Pushing.{request_mut_stage, pushed_request_sound, pushed_request_view}
+use Rattle.rr_store.specs.Sound.{IsSound, empty_hand, is_of_request}
+use Rattle.rr_store.specs.declared.held.Stage.TheVariants as stage
+use Rattle.rr_store.specs.Ports.{lane_part}
+use Rattle.rr_store.specs.Views.{state_of, lane_of}
+use Rattle.rr_store.specs.Writing.{is_written, with_messages}
+use Rattle.rr_store.proofs.Shown.{of_request, request_spot}
+use Rattle.rr_store.proofs.Connected.{of_kind, of_kind_there}
+use Rattle.rr_store.proofs.Unseen.{with_slot}
+use Rattle.rr_store.proofs.WrittenView.{stored_lane, lanes_written}
+use Rattle.rr_store.proofs.Pushing.{request_mut_stage, pushed_request_sound, pushed_request_view}
 use Rattle.rr_laws.specs.Reached.{IsReached}
 use Rattle.rr_laws.proofs.Changing.{request_content_role, push_reached}
 use Rattle.rr_core.proofs.state.Core.push_request.Goals.{In-Some, After-push_in}

@@ -14,27 +14,27 @@ use Rattle.rr_hub.specs.declared.limits.Limits.{Limits}
 use Rattle.rr_hub.specs.Queries.{kind_at}
 use Rattle.rr_hub.specs.Receives.{ReceivesUnskimmed}
 use Rattle.rr_hub.specs.State.{numbers_left}
-use Rattle.rr_parts.specs.declared.port.ServerPort.{ServerPort}
-use Rattle.rr_parts.specs.Answering.{active_held}
+use Rattle.rr_store.specs.declared.port.ServerPort.{ServerPort}
+use Rattle.rr_store.specs.Answering.{active_held}
 use Rattle.rr_core.specs.Inside.{parts_of}
-use Rattle.rr_parts.specs.Ports.{server_part, lane_part}
-use Rattle.rr_parts.specs.Loaning.{with_messages}
-use Rattle.rr_parts.specs.Parts.{Parts, ServerPart, Lane}
-use Rattle.rr_parts.specs.Receiving.{IsNextSender, Reaches, queue_from}
-use Rattle.rr_parts.specs.Skimming.{with_received_request}
-use Rattle.rr_parts.specs.Sound.{IsSound, empty_hand, active_place, server_place}
-use Rattle.rr_parts.specs.Views.{state_of, lane_of}
-use Rattle.rr_core_laws.proofs.ActiveVacant.{within_row, active_vacant}
-use Rattle.rr_core_laws.proofs.Adding.{with_vectors, same_vectors}
-use Rattle.rr_core_laws.proofs.Asking.{standing_at, read_at, lane_is, lanes_many, no_server_seen, requests_fit}
-use Rattle.rr_core_laws.proofs.HandleCounts.{listed}
-use Rattle.rr_core_laws.proofs.Numbers.{server_there}
-use Rattle.rr_core_laws.proofs.Places.{Standing, standing_nowhere, map-set_one}
-use Rattle.rr_core_laws.proofs.Ready.{IsReady, ready_skimmed, ready_as_is, its_limits, its_next, its_server}
-use Rattle.rr_core_laws.proofs.Ready.{waited, answered, its_self, its_place, own_place, server_reaches}
-use Rattle.rr_core_laws.proofs.RequestReceivable.{receives_one, receives_none, receives_error}
-use Rattle.rr_core_laws.proofs.TakenSeated.{received_request_sound}
-use Rattle.rr_core_laws.proofs.Senders.{of_set, to_set}
+use Rattle.rr_store.specs.Ports.{server_part, lane_part}
+use Rattle.rr_store.specs.Loaning.{with_messages}
+use Rattle.rr_store.specs.Parts.{Parts, ServerPart, Lane}
+use Rattle.rr_store.specs.Receiving.{IsNextSender, Reaches, queue_from}
+use Rattle.rr_store.specs.Skimming.{with_received_request}
+use Rattle.rr_store.specs.Sound.{IsSound, empty_hand, active_place, server_place}
+use Rattle.rr_store.specs.Views.{state_of, lane_of}
+use Rattle.rr_store.proofs.ActiveVacant.{within_row, active_vacant}
+use Rattle.rr_store.proofs.Adding.{with_vectors, same_vectors}
+use Rattle.rr_store.proofs.Asking.{standing_at, read_at, lane_is, lanes_many, no_server_seen, requests_fit}
+use Rattle.rr_store.proofs.HandleCounts.{listed}
+use Rattle.rr_store.proofs.Numbers.{server_there}
+use Rattle.rr_store.proofs.Places.{Standing, standing_nowhere, map-set_one}
+use Rattle.rr_store.proofs.Ready.{IsReady, ready_skimmed, ready_as_is, its_limits, its_next, its_server}
+use Rattle.rr_store.proofs.Ready.{waited, answered, its_self, its_place, own_place, server_reaches}
+use Rattle.rr_store.proofs.RequestReceivable.{receives_one, receives_none, receives_error}
+use Rattle.rr_store.proofs.TakenSeated.{received_request_sound}
+use Rattle.rr_store.proofs.Senders.{of_set, to_set}
 use Rattle.rr_laws.specs.Reached.{IsReached}
 use Rattle.rr_laws.proofs.Receiving.{receives_request_reached}
 use Rattle.rr_core.proofs.state.Core.receive_request.Goals as goal

@@ -9,28 +9,28 @@ use Rattle.std.proofs.lemmas.Option.{slice_get_within, get_or_from_slice_get}
 use Rattle.rr_table.specs.Seats.{seated}
 use Rattle.rr_lanes.specs.Lanes.{Messages, times, all_entries, queue_at, borrowed_at, taken}
 use Rattle.rr_hub.specs.declared.kind.Kind.TheVariants as kind
-use Rattle.rr_parts.specs.declared.note.ResponseNote.{ResponseNote}
-use Rattle.rr_parts.specs.declared.port.ClientPort.{ClientPort}
-use Rattle.rr_parts.specs.declared.port.OwnedLane.{OwnedLane}
+use Rattle.rr_store.specs.declared.note.ResponseNote.{ResponseNote}
+use Rattle.rr_store.specs.declared.port.ClientPort.{ClientPort}
+use Rattle.rr_store.specs.declared.port.OwnedLane.{OwnedLane}
 use Rattle.rr_core.specs.Inside.{parts_of}
-use Rattle.rr_parts.specs.Ports.{client_part, lane_part}
-use Rattle.rr_parts.specs.Loaning.{with_messages}
-use Rattle.rr_parts.specs.Kinds.{stage_kind}
-use Rattle.rr_parts.specs.Parts.{Parts, ClientPart, Connected, Lane}
-use Rattle.rr_parts.specs.Receiving.{IsNextSender, Reaches, queue_from, received_held, with_received_response}
-use Rattle.rr_parts.specs.Sound.{IsSound, empty_hand, response_note, response_place}
-use Rattle.rr_parts.specs.Views.{state_of, lane_of, no_response}
-use Rattle.rr_core_laws.proofs.Adding.{mapped, with_servers, same_servers}
-use Rattle.rr_core_laws.proofs.Entries.{found_none}
-use Rattle.rr_core_laws.proofs.Asking.{standing_at, read_at, lane_is, lanes_many, borrows_fit}
-use Rattle.rr_core_laws.proofs.Connected.{of_kind, of_kind_there, pending_has_request}
-use Rattle.rr_core_laws.proofs.HandleCounts.{listed}
-use Rattle.rr_core_laws.proofs.Places.{Standing, standing_nowhere, map-set_one}
-use Rattle.rr_core_laws.proofs.Queues.{times_queue}
-use Rattle.rr_core_laws.proofs.Receivable.{IsAsking, asking, reaches, receives, receives_nothing, by_error}
-use Rattle.rr_core_laws.proofs.Seating.{entry_waits, not_held, no_handle, received_sound}
-use Rattle.rr_core_laws.proofs.Shown.{request_spot}
-use Rattle.rr_core_laws.proofs.Vacant.{response_vacant}
+use Rattle.rr_store.specs.Ports.{client_part, lane_part}
+use Rattle.rr_store.specs.Loaning.{with_messages}
+use Rattle.rr_store.specs.Kinds.{stage_kind}
+use Rattle.rr_store.specs.Parts.{Parts, ClientPart, Connected, Lane}
+use Rattle.rr_store.specs.Receiving.{IsNextSender, Reaches, queue_from, received_held, with_received_response}
+use Rattle.rr_store.specs.Sound.{IsSound, empty_hand, response_note, response_place}
+use Rattle.rr_store.specs.Views.{state_of, lane_of, no_response}
+use Rattle.rr_store.proofs.Adding.{mapped, with_servers, same_servers}
+use Rattle.rr_store.proofs.Entries.{found_none}
+use Rattle.rr_store.proofs.Asking.{standing_at, read_at, lane_is, lanes_many, borrows_fit}
+use Rattle.rr_store.proofs.Connected.{of_kind, of_kind_there, pending_has_request}
+use Rattle.rr_store.proofs.HandleCounts.{listed}
+use Rattle.rr_store.proofs.Places.{Standing, standing_nowhere, map-set_one}
+use Rattle.rr_store.proofs.Queues.{times_queue}
+use Rattle.rr_store.proofs.Receivable.{IsAsking, asking, reaches, receives, receives_nothing, by_error}
+use Rattle.rr_store.proofs.Seating.{entry_waits, not_held, no_handle, received_sound}
+use Rattle.rr_store.proofs.Shown.{request_spot}
+use Rattle.rr_store.proofs.Vacant.{response_vacant}
 use Rattle.rr_laws.specs.Reached.{IsReached}
 use Rattle.rr_laws.proofs.Receiving.{receives_response_reached}
 use Rattle.rr_core.proofs.state.Core.receive_response.Goals as goal

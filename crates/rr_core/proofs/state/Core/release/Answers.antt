@@ -3,12 +3,12 @@ use Rattle.std.specs.Prelude.{IsSome, IsSomeAnd}
 use Rattle.std.proofs.lemmas.Bool.{false≢true}
 use Rattle.rr_hub.specs.Messages.{Handle}
 use Rattle.rr_hub.specs.State.{handle_at}
-use Rattle.rr_parts.specs.declared.held.Stage.{Stage}
-use Rattle.rr_parts.specs.Clearing.{is_pending_response}
+use Rattle.rr_store.specs.declared.held.Stage.{Stage}
+use Rattle.rr_store.specs.Clearing.{is_pending_response}
 use Rattle.rr_core.specs.Inside.{parts_of}
-use Rattle.rr_parts.specs.Releasing.{is_loaned_request, is_loaned_response, is_received_response, is_active_request}
-use Rattle.rr_parts.specs.Views.{handle_in}
-use Rattle.rr_core_laws.proofs.Shown.{shown_there, not_there}
+use Rattle.rr_store.specs.Releasing.{is_loaned_request, is_loaned_response, is_received_response, is_active_request}
+use Rattle.rr_store.specs.Views.{handle_in}
+use Rattle.rr_store.proofs.Shown.{shown_there, not_there}
 use Rattle.rr_core.proofs.state.Core.release.Goals as goal
 use Rattle.rr_core.proofs.state.Core.release.Goals.{In-Some}
 

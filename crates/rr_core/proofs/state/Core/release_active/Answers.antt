@@ -2,19 +2,19 @@ use Rattle.std.proofs.Common.{◌≡◌, ◌<◌, true, length, map, refl, sym, 
 use Rattle.std.specs.Prelude.{◌==◌, [], IsSome, slice_index, slice_index_or}
 use Rattle.rr_lanes.specs.Lanes.{borrowed_at}
 use Rattle.rr_hub.specs.Releases.{after_release}
-use Rattle.rr_parts.specs.declared.port.ServerPort.{ServerPort}
+use Rattle.rr_store.specs.declared.port.ServerPort.{ServerPort}
 use Rattle.rr_core.specs.Inside.{parts_of}
-use Rattle.rr_parts.specs.Ports.{server_part, lane_part, marks_of}
-use Rattle.rr_parts.specs.Releasing.{is_active_request, borrow_ended}
-use Rattle.rr_parts.specs.Sound.{IsSound, empty_hand, server_place}
-use Rattle.rr_parts.specs.Views.{lane_of, state_of}
-use Rattle.rr_core_laws.proofs.ActiveFields.{Serving, ActiveFound, active_found, server_of_active, marks_asked, active_parts}
-use Rattle.rr_core_laws.proofs.ActiveReleased.{after_active, active_sound}
-use Rattle.rr_core_laws.proofs.ActiveView.{active_view}
-use Rattle.rr_core_laws.proofs.Adding.{with_vectors}
-use Rattle.rr_core_laws.proofs.ReceivedFields.{queue_there}
-use Rattle.rr_core_laws.proofs.ReleaseFields.{lane_asked, lanes_then, handle_there}
-use Rattle.rr_core_laws.proofs.Senders.{of_found}
+use Rattle.rr_store.specs.Ports.{server_part, lane_part, marks_of}
+use Rattle.rr_store.specs.Releasing.{is_active_request, borrow_ended}
+use Rattle.rr_store.specs.Sound.{IsSound, empty_hand, server_place}
+use Rattle.rr_store.specs.Views.{lane_of, state_of}
+use Rattle.rr_store.proofs.ActiveFields.{Serving, ActiveFound, active_found, server_of_active, marks_asked, active_parts}
+use Rattle.rr_store.proofs.ActiveReleased.{after_active, active_sound}
+use Rattle.rr_store.proofs.ActiveView.{active_view}
+use Rattle.rr_store.proofs.Adding.{with_vectors}
+use Rattle.rr_store.proofs.ReceivedFields.{queue_there}
+use Rattle.rr_store.proofs.ReleaseFields.{lane_asked, lanes_then, handle_there}
+use Rattle.rr_store.proofs.Senders.{of_found}
 use Rattle.rr_laws.specs.Reached.{IsReached}
 use Rattle.rr_laws.proofs.Leaving.{after_release_reached}
 use Rattle.rr_core.proofs.state.Core.release_active.Goals as goal

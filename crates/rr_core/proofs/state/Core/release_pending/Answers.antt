@@ -1,22 +1,22 @@
 use Rattle.std.proofs.Common.{◌≡◌, ◌<◌, true, map, refl, sym, ap, ◌∙◌, subst}
 use Rattle.std.specs.Prelude.{◌==◌, slice_index, slice_set}
 use Rattle.rr_hub.specs.Releases.{after_release}
-use Rattle.rr_parts.specs.declared.held.Held.{Held}
-use Rattle.rr_parts.specs.declared.port.ClientPort.{ClientPort}
-use Rattle.rr_parts.specs.Clearing.{is_pending_response, with_pending_ended}
+use Rattle.rr_store.specs.declared.held.Held.{Held}
+use Rattle.rr_store.specs.declared.port.ClientPort.{ClientPort}
+use Rattle.rr_store.specs.Clearing.{is_pending_response, with_pending_ended}
 use Rattle.rr_core.specs.Inside.{parts_of}
-use Rattle.rr_parts.specs.Ports.{client_part, lane_part}
-use Rattle.rr_parts.specs.Releasing.{given_back}
-use Rattle.rr_parts.specs.Sound.{IsSound, empty_hand}
-use Rattle.rr_parts.specs.Views.{state_of}
-use Rattle.rr_core_laws.proofs.PendingFields.{PendingFound, pending_found, pending_parts, with_all_lanes}
-use Rattle.rr_core_laws.proofs.PendingReleased.{after_pending, has_pending, pending_sound, inside}
-use Rattle.rr_core_laws.proofs.PendingView.{pending_view}
-use Rattle.rr_core_laws.proofs.Places.{map-set_one}
-use Rattle.rr_core_laws.proofs.Receivable.{reaches}
-use Rattle.rr_core_laws.proofs.ReleaseFields.{Sending, client_sending, lane_asked, lanes_then, handle_there}
-use Rattle.rr_core_laws.proofs.Senders.{of_found, to_found}
-use Rattle.rr_parts.specs.Receiving.{Reaches}
+use Rattle.rr_store.specs.Ports.{client_part, lane_part}
+use Rattle.rr_store.specs.Releasing.{given_back}
+use Rattle.rr_store.specs.Sound.{IsSound, empty_hand}
+use Rattle.rr_store.specs.Views.{state_of}
+use Rattle.rr_store.proofs.PendingFields.{PendingFound, pending_found, pending_parts, with_all_lanes}
+use Rattle.rr_store.proofs.PendingReleased.{after_pending, has_pending, pending_sound, inside}
+use Rattle.rr_store.proofs.PendingView.{pending_view}
+use Rattle.rr_store.proofs.Places.{map-set_one}
+use Rattle.rr_store.proofs.Receivable.{reaches}
+use Rattle.rr_store.proofs.ReleaseFields.{Sending, client_sending, lane_asked, lanes_then, handle_there}
+use Rattle.rr_store.proofs.Senders.{of_found, to_found}
+use Rattle.rr_store.specs.Receiving.{Reaches}
 use Rattle.rr_laws.specs.Reached.{IsReached}
 use Rattle.rr_laws.proofs.Leaving.{after_release_reached}
 use Rattle.rr_core.proofs.state.Core.release_pending.Goals as goal

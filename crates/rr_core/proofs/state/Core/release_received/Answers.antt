@@ -2,22 +2,22 @@ use Rattle.std.proofs.Common.{◌≡◌, ◌<◌, true, Some, length, map, refl,
 use Rattle.std.specs.Prelude.{◌==◌, [], IsSome, IsSomeAnd, slice_get, slice_index, slice_index_or}
 use Rattle.rr_lanes.specs.Lanes.{borrowed_at}
 use Rattle.rr_hub.specs.Releases.{after_release}
-use Rattle.rr_parts.specs.declared.held.Held.{Held}
-use Rattle.rr_parts.specs.declared.note.ResponseNote.{ResponseNote}
-use Rattle.rr_parts.specs.declared.port.ClientPort.{ClientPort}
-use Rattle.rr_parts.specs.Parts.{Parts}
+use Rattle.rr_store.specs.declared.held.Held.{Held}
+use Rattle.rr_store.specs.declared.note.ResponseNote.{ResponseNote}
+use Rattle.rr_store.specs.declared.port.ClientPort.{ClientPort}
+use Rattle.rr_store.specs.Parts.{Parts}
 use Rattle.rr_core.specs.Inside.{parts_of}
-use Rattle.rr_parts.specs.Ports.{client_part, lane_part}
-use Rattle.rr_parts.specs.Releasing.{is_received_response, borrow_ended}
-use Rattle.rr_parts.specs.Sound.{IsSound, empty_hand, response_note}
-use Rattle.rr_parts.specs.Views.{lane_of, state_of, no_response}
-use Rattle.rr_core_laws.proofs.Adding.{with_servers}
-use Rattle.rr_core_laws.proofs.ReceivedFields.{Named, ReceivedFound, note_is}
-use Rattle.rr_core_laws.proofs.ReceivedFields.{queue_there, received_found, client_of_received, received_parts}
-use Rattle.rr_core_laws.proofs.ReleaseFields.{lane_asked, lanes_then, handle_there}
-use Rattle.rr_core_laws.proofs.ResponseReleased.{after_received, has_received, received_sound, received_view}
-use Rattle.rr_core_laws.proofs.Senders.{of_found}
-use Rattle.rr_core_laws.proofs.Shown.{held_within}
+use Rattle.rr_store.specs.Ports.{client_part, lane_part}
+use Rattle.rr_store.specs.Releasing.{is_received_response, borrow_ended}
+use Rattle.rr_store.specs.Sound.{IsSound, empty_hand, response_note}
+use Rattle.rr_store.specs.Views.{lane_of, state_of, no_response}
+use Rattle.rr_store.proofs.Adding.{with_servers}
+use Rattle.rr_store.proofs.ReceivedFields.{Named, ReceivedFound, note_is}
+use Rattle.rr_store.proofs.ReceivedFields.{queue_there, received_found, client_of_received, received_parts}
+use Rattle.rr_store.proofs.ReleaseFields.{lane_asked, lanes_then, handle_there}
+use Rattle.rr_store.proofs.ResponseReleased.{after_received, has_received, received_sound, received_view}
+use Rattle.rr_store.proofs.Senders.{of_found}
+use Rattle.rr_store.proofs.Shown.{held_within}
 use Rattle.rr_laws.specs.Reached.{IsReached}
 use Rattle.rr_laws.proofs.Leaving.{after_release_reached}
 use Rattle.rr_core.proofs.state.Core.release_received.Goals as goal

@@ -1,19 +1,19 @@
 use Rattle.std.proofs.Common.{◌≡◌, ◌<◌, true, map, refl, sym, ap, ◌∙◌, subst}
 use Rattle.std.specs.Prelude.{◌==◌, slice_index, slice_set}
 use Rattle.rr_hub.specs.Releases.{after_release}
-use Rattle.rr_parts.specs.declared.held.Held.{Held}
-use Rattle.rr_parts.specs.declared.port.ClientPort.{ClientPort}
+use Rattle.rr_store.specs.declared.held.Held.{Held}
+use Rattle.rr_store.specs.declared.port.ClientPort.{ClientPort}
 use Rattle.rr_core.specs.Inside.{parts_of}
-use Rattle.rr_parts.specs.Ports.{client_part, lane_part}
-use Rattle.rr_parts.specs.Releasing.{is_loaned_request, given_back, with_loan_ended}
-use Rattle.rr_parts.specs.Sound.{IsSound, empty_hand}
-use Rattle.rr_parts.specs.Views.{state_of}
-use Rattle.rr_core_laws.proofs.Adding.{with_vectors}
-use Rattle.rr_core_laws.proofs.Places.{map-set_one}
-use Rattle.rr_core_laws.proofs.ReleaseFields.{Sending, LoanFound, client_sending, lane_asked}
-use Rattle.rr_core_laws.proofs.ReleaseFields.{lanes_then, loan_found, handle_there, loan_parts}
-use Rattle.rr_core_laws.proofs.RequestReleased.{after_loan, has_loan, released_sound, released_view}
-use Rattle.rr_core_laws.proofs.Senders.{of_found, to_found}
+use Rattle.rr_store.specs.Ports.{client_part, lane_part}
+use Rattle.rr_store.specs.Releasing.{is_loaned_request, given_back, with_loan_ended}
+use Rattle.rr_store.specs.Sound.{IsSound, empty_hand}
+use Rattle.rr_store.specs.Views.{state_of}
+use Rattle.rr_store.proofs.Adding.{with_vectors}
+use Rattle.rr_store.proofs.Places.{map-set_one}
+use Rattle.rr_store.proofs.ReleaseFields.{Sending, LoanFound, client_sending, lane_asked}
+use Rattle.rr_store.proofs.ReleaseFields.{lanes_then, loan_found, handle_there, loan_parts}
+use Rattle.rr_store.proofs.RequestReleased.{after_loan, has_loan, released_sound, released_view}
+use Rattle.rr_store.proofs.Senders.{of_found, to_found}
 use Rattle.rr_laws.specs.Reached.{IsReached}
 use Rattle.rr_laws.proofs.Leaving.{after_release_reached}
 use Rattle.rr_core.proofs.state.Core.release_request_loan.Goals as goal

@@ -3,20 +3,20 @@ use Rattle.std.specs.Prelude.{◌==◌, IfSome, IsSomeAnd, slice_get, slice_inde
 use Rattle.rr_table.specs.Seats.{unseated}
 use Rattle.rr_table.specs.declared.place.Place.{Place}
 use Rattle.rr_hub.specs.Releases.{after_release}
-use Rattle.rr_parts.specs.declared.port.ServerPort.{ServerPort}
-use Rattle.rr_parts.specs.Ending.{IsAskedPlace, IsLoanEnded, found_under, with_answer_ended}
+use Rattle.rr_store.specs.declared.port.ServerPort.{ServerPort}
+use Rattle.rr_store.specs.Ending.{IsAskedPlace, IsLoanEnded, found_under, with_answer_ended}
 use Rattle.rr_core.specs.Inside.{parts_of}
-use Rattle.rr_parts.specs.Ports.{server_part, lane_part}
-use Rattle.rr_parts.specs.Releasing.{is_loaned_response, given_back}
-use Rattle.rr_parts.specs.Sound.{IsSound, empty_hand}
-use Rattle.rr_parts.specs.Views.{lane_of, state_of, no_response}
-use Rattle.rr_core_laws.proofs.Adding.{with_servers}
-use Rattle.rr_core_laws.proofs.AnswerFields.{AnswerFound, Sending, server_sending, answer_found, answer_parts, has_loan}
-use Rattle.rr_core_laws.proofs.Places.{map-set_one}
-use Rattle.rr_core_laws.proofs.ReceivedFields.{note_is}
-use Rattle.rr_core_laws.proofs.ReleaseFields.{lane_asked, lanes_then, handle_there}
-use Rattle.rr_core_laws.proofs.Senders.{of_found, to_found}
-use Rattle.rr_core_laws.proofs.Shown.{held_within}
+use Rattle.rr_store.specs.Ports.{server_part, lane_part}
+use Rattle.rr_store.specs.Releasing.{is_loaned_response, given_back}
+use Rattle.rr_store.specs.Sound.{IsSound, empty_hand}
+use Rattle.rr_store.specs.Views.{lane_of, state_of, no_response}
+use Rattle.rr_store.proofs.Adding.{with_servers}
+use Rattle.rr_store.proofs.AnswerFields.{AnswerFound, Sending, server_sending, answer_found, answer_parts, has_loan}
+use Rattle.rr_store.proofs.Places.{map-set_one}
+use Rattle.rr_store.proofs.ReceivedFields.{note_is}
+use Rattle.rr_store.proofs.ReleaseFields.{lane_asked, lanes_then, handle_there}
+use Rattle.rr_store.proofs.Senders.{of_found, to_found}
+use Rattle.rr_store.proofs.Shown.{held_within}
 use Rattle.rr_laws.specs.Reached.{IsReached}
 use Rattle.rr_laws.proofs.Leaving.{after_release_reached}
 use Rattle.rr_core.proofs.state.Core.release_response_loan.Goals as goal

@@ -1,10 +1,10 @@
 use Rattle.std.proofs.Common.{◌≡◌, true, ◌<◌, length, sym, ap, ◌∙◌, arith}
 use Rattle.std.proofs.lemmas.List.{length-map}
 use Rattle.rr_core.specs.Inside.{parts_of}
-use Rattle.rr_parts.specs.Ports.{lane_part}
-use Rattle.rr_parts.specs.Sound.{empty_hand, is_of_request}
-use Rattle.rr_parts.specs.Views.{lane_of}
-use Rattle.rr_core_laws.proofs.Shown.{lane_read, content_read, request_there, is_request, of_request, request_spot}
+use Rattle.rr_store.specs.Ports.{lane_part}
+use Rattle.rr_store.specs.Sound.{empty_hand, is_of_request}
+use Rattle.rr_store.specs.Views.{lane_of}
+use Rattle.rr_store.proofs.Shown.{lane_read, content_read, request_there, is_request, of_request, request_spot}
 use Rattle.rr_core.proofs.state.Core.request_body.Goals as goal
 use Rattle.rr_core.proofs.state.Core.request_body.Goals.{In-Some}
 

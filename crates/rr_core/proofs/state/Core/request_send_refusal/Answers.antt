@@ -7,14 +7,14 @@ use Rattle.rr_hub.specs.declared.error.SendError.{SendError}
 use Rattle.rr_hub.specs.declared.kind.Kind.{Kind}
 use Rattle.rr_hub.specs.Sends.{request_send_refusal}
 use Rattle.rr_hub.specs.State.{IsRequestMutAnd}
-use Rattle.rr_parts.specs.declared.port.ClientPort.{ClientPort}
+use Rattle.rr_store.specs.declared.port.ClientPort.{ClientPort}
 use Rattle.rr_core.specs.Inside.{parts_of}
-use Rattle.rr_parts.specs.Parts.{Lane}
-use Rattle.rr_parts.specs.Ports.{lane_part}
-use Rattle.rr_parts.specs.Views.{lane_of}
-use Rattle.rr_core_laws.proofs.Asking.{standing_at, lane_is, lanes_many}
-use Rattle.rr_core_laws.proofs.Connected.{of_kind_there}
-use Rattle.rr_core_laws.proofs.RequestFields.{spot, client, read_client, queues_of, too_many, not_too_many}
+use Rattle.rr_store.specs.Parts.{Lane}
+use Rattle.rr_store.specs.Ports.{lane_part}
+use Rattle.rr_store.specs.Views.{lane_of}
+use Rattle.rr_store.proofs.Asking.{standing_at, lane_is, lanes_many}
+use Rattle.rr_store.proofs.Connected.{of_kind_there}
+use Rattle.rr_store.proofs.RequestFields.{spot, client, read_client, queues_of, too_many, not_too_many}
 use Rattle.rr_core.proofs.state.Core.request_send_refusal.Goals.{In-Some, After-index, After-index-2, After-is_refused}
 use Rattle.rr_core.proofs.state.Core.request_send_refusal.Goals as goal
 

@@ -4,13 +4,13 @@ use Rattle.std.specs.Prelude.{◌||◌, IfSome}
 use Rattle.rr_table.specs.Seats.{seated}
 use Rattle.rr_hub.specs.Limits.{max_loaned_responses}
 use Rattle.rr_hub.specs.Loans.{is_too_long}
-use Rattle.rr_parts.specs.declared.port.ServerPort.{ServerPort}
+use Rattle.rr_store.specs.declared.port.ServerPort.{ServerPort}
 use Rattle.rr_core.specs.Inside.{parts_of}
-use Rattle.rr_parts.specs.Ports.{server_part}
-use Rattle.rr_parts.specs.Parts.{Parts}
-use Rattle.rr_core_laws.proofs.Answerable.{Found, found}
-use Rattle.rr_core_laws.proofs.Asking.{read_at, lanes_many}
-use Rattle.rr_core.specs.declared.loan.response.Asked.{Asked}
+use Rattle.rr_store.specs.Ports.{server_part}
+use Rattle.rr_store.specs.Parts.{Parts}
+use Rattle.rr_store.proofs.Answerable.{Found, found}
+use Rattle.rr_store.proofs.Asking.{read_at, lanes_many}
+use Rattle.rr_store.specs.declared.loan.response.Asked.{Asked}
 use Rattle.rr_core.proofs.state.Core.loan_response.Goals.{After-asked_from-asked, After-index-port, After-is_too_long, After-is_at_loan_limit, After-set}
 
 -- the active request that was looked up, and its server

@@ -2,11 +2,11 @@
 use Rattle.std.proofs.Common.{◌≡◌, ◌<◌, ◌≤◌, ◌+◌, ◌*◌, ◌^◌, ℕ, Some, length, find, sym, ap, ◌∙◌}
 use Rattle.std.specs.Prelude.{◌==◌, slice_get}
 use Rattle.rr_table.specs.declared.place.Place.{Place}
-use Rattle.rr_parts.specs.Parts.{Parts, ServerPart}
-use Rattle.rr_parts.specs.Receiving.{queue_from}
-use Rattle.rr_parts.specs.Sound.{active_place, server_place}
-use Rattle.rr_parts.specs.Views.{lane_of}
-use Rattle.rr_core_laws.proofs.Ready.{IsReady}
+use Rattle.rr_store.specs.Parts.{Parts, ServerPart}
+use Rattle.rr_store.specs.Receiving.{queue_from}
+use Rattle.rr_store.specs.Sound.{active_place, server_place}
+use Rattle.rr_store.specs.Views.{lane_of}
+use Rattle.rr_store.proofs.Ready.{IsReady}
 
 -- a core after the skim, and the server in it
 pub record IsServing {Q QH P PH K : Type 0} (p q : Parts Q QH P PH K) (c : ServerPart K) (i n : ℕ) : Type 0 where

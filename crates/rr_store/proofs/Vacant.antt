@@ -1,0 +1,93 @@
+-- No handle stands where a new one is to stand.
+use Rattle.std.proofs.Common.{◌≡◌, ◌<◌, ◌+◌, ◌*◌, ℕ, true, Some, length, refl, sym, ap, ◌∙◌, mul-add, arith}
+use Rattle.std.specs.Prelude.{slice_index}
+use Rattle.std.specs.FinMap as fin_map
+use Rattle.std.proofs.Math.Nat.{mul_comm}
+use Rattle.std.proofs.lemmas.Bool.{eq-eqb}
+use Rattle.rr_table.specs.Seats.{Seat}
+use Rattle.rr_table.specs.declared.place.Place.{Place}
+use Rattle.rr_table.proofs.MapLaws.{tally-at}
+use Rattle.rr_store.specs.declared.held.Held.{Held}
+use Rattle.rr_store.specs.declared.held.Stage.{Stage}
+use Rattle.rr_store.specs.declared.held.Stage.TheVariants as stage
+use Rattle.rr_store.specs.Parts.{Parts}
+use Rattle.rr_store.specs.Views.{lane_of}
+use Rattle.rr_store.specs.Sound.{IsSound, empty_hand, is_of_request, is_of_response, has_request_at, has_response_at, own_place, response_place, place_at, server_place}
+use Rattle.rr_store.proofs.Agreeing.{request_lane, response_lane}
+
+module _ {Q QH P PH K : Type 0} (p : Parts Q QH P PH K) (sound : IsSound p empty_hand) (lane slot : ℕ) where
+  -- a slot without a handle has none in its own place
+  pub own_vacant : lane < length p.client_lanes → slot < length (lane_of lane p.client_lanes).messages.held
+      → slice_index (lane_of lane p.client_lanes).messages.held slot ≡ 0
+      → (k : ℕ) (s : Seat Held) → fin_map.get p.table.seats k ≡ Some s → s.place ≡ own_place p lane slot → ⊥
+  own_vacant there within none k s at is = go s.value.stage refl (sym (sound.seated.placed k s at) ∙ is)
+    where
+      of_request : is_of_request s.value.stage ≡ true → (lane_of s.value.lane p.client_lanes).row ≡ (lane_of lane p.client_lanes).row
+          → s.value.slot ≡ slot → ⊥
+      of_request kind row e =
+          let same = sound.seated.client_rows_apart s.value.lane lane (request_lane p empty_hand sound.counted k s at kind) there row in
+          let here : has_request_at lane slot s ≡ true = rw kind (rw (eq-eqb s.value.lane lane same) (eq-eqb s.value.slot slot e)) in
+          omega (arith, tally-at (has_request_at lane slot) p.table.seats k s at here, sound.counted.requests lane slot, none)
+
+      of_response : is_of_response s.value.stage ≡ true → (lane_of s.value.lane p.server_lanes).row ≡ (lane_of lane p.client_lanes).row → ⊥
+      of_response kind row = sound.seated.rows_apart lane s.value.lane there (response_lane p empty_hand sound.counted k s at kind)
+          (sym row)
+
+      past : (n : ℕ) → (lane_of s.value.lane p.client_lanes).row ≡ (lane_of lane p.client_lanes).row → is_of_request s.value.stage ≡ true
+          → (n + 1) * length (lane_of s.value.lane p.client_lanes).messages.held + s.value.slot ≡ slot → ⊥
+      past n row kind e =
+          let same = sound.seated.client_rows_apart s.value.lane lane (request_lane p empty_hand sound.counted k s at kind) there row in
+          let slots = length (lane_of s.value.lane p.client_lanes).messages.held in
+          omega (
+            arith,
+            within,
+            e,
+            ap (λ l. length (lane_of l p.client_lanes).messages.held) same,
+            mul_comm (n + 1) slots,
+            mul-add slots n 1,
+          )
+
+      row_of : {a b : Place} → a ≡ b → a.row ≡ b.row
+      row_of e = ap (λ (x : Place). x.row) e
+
+      index_of : {a b : Place} → a ≡ b → a.index ≡ b.index
+      index_of e = ap (λ (x : Place). x.index) e
+
+      go : (g : Stage) → s.value.stage ≡ g → place_at p g s.value.lane s.value.slot ≡ own_place p lane slot → ⊥
+      go stage.RequestMutUninit e f = of_request (ap is_of_request e) (row_of f) (index_of f)
+      go stage.RequestMut e f = of_request (ap is_of_request e) (row_of f) (index_of f)
+      go (stage.PendingResponse hint connections) e f = of_request (ap is_of_request e) (row_of f) (index_of f)
+      go (stage.ActiveRequest server loans) e f = past (server_place p server) (row_of f) (ap is_of_request e) (index_of f)
+      go stage.ResponseMutUninit e f = of_response (ap is_of_response e) (row_of f)
+      go stage.ResponseMut e f = of_response (ap is_of_response e) (row_of f)
+      go stage.Response e f = of_response (ap is_of_response e) (row_of f)
+
+  -- the same of a response's place
+  pub response_vacant : lane < length p.server_lanes → slice_index (lane_of lane p.server_lanes).messages.held slot ≡ 0
+      → (k : ℕ) (s : Seat Held) → fin_map.get p.table.seats k ≡ Some s → s.place ≡ response_place p lane slot → ⊥
+  response_vacant there none k s at is = go s.value.stage refl (sym (sound.seated.placed k s at) ∙ is)
+    where
+      of_request : is_of_request s.value.stage ≡ true → (lane_of s.value.lane p.client_lanes).row ≡ (lane_of lane p.server_lanes).row → ⊥
+      of_request kind row = sound.seated.rows_apart s.value.lane lane (request_lane p empty_hand sound.counted k s at kind) there row
+
+      of_response : is_of_response s.value.stage ≡ true → (lane_of s.value.lane p.server_lanes).row ≡ (lane_of lane p.server_lanes).row
+          → s.value.slot ≡ slot → ⊥
+      of_response kind row e =
+          let same = sound.seated.server_rows_apart s.value.lane lane (response_lane p empty_hand sound.counted k s at kind) there row in
+          let here : has_response_at lane slot s ≡ true = rw kind (rw (eq-eqb s.value.lane lane same) (eq-eqb s.value.slot slot e)) in
+          omega (arith, tally-at (has_response_at lane slot) p.table.seats k s at here, sound.counted.responses lane slot, none)
+
+      row_of : {a b : Place} → a ≡ b → a.row ≡ b.row
+      row_of e = ap (λ (x : Place). x.row) e
+
+      index_of : {a b : Place} → a ≡ b → a.index ≡ b.index
+      index_of e = ap (λ (x : Place). x.index) e
+
+      go : (g : Stage) → s.value.stage ≡ g → place_at p g s.value.lane s.value.slot ≡ response_place p lane slot → ⊥
+      go stage.RequestMutUninit e f = of_request (ap is_of_request e) (row_of f)
+      go stage.RequestMut e f = of_request (ap is_of_request e) (row_of f)
+      go (stage.PendingResponse hint connections) e f = of_request (ap is_of_request e) (row_of f)
+      go (stage.ActiveRequest server loans) e f = of_request (ap is_of_request e) (row_of f)
+      go stage.ResponseMutUninit e f = of_response (ap is_of_response e) (row_of f) (index_of f)
+      go stage.ResponseMut e f = of_response (ap is_of_response e) (row_of f) (index_of f)
+      go stage.Response e f = of_response (ap is_of_response e) (row_of f) (index_of f)

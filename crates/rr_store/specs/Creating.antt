@@ -1,0 +1,70 @@
+-- The parts of a core after a port was created.
+use Rattle.std.specs.Prelude.{◌≡◌, ℕ, ◌+◌, ◌*◌, true, false, [], ◌∷◌, ◌++◌, length, replicate}
+use Rattle.rr_table.specs.Seats.{with_row}
+use Rattle.rr_lanes.specs.Lanes.{Messages}
+use Rattle.rr_hub.specs.declared.settings.ClientSettings.{ClientSettings}
+use Rattle.rr_hub.specs.declared.settings.ServerSettings.{ServerSettings}
+use Rattle.rr_hub.specs.Limits.{worst_case_requests, worst_case_responses}
+use Rattle.rr_hub.specs.Ports.{Port}
+use Rattle.rr_hub.specs.Creation.{pool_size_of, loans_of}
+use Rattle.rr_store.specs.declared.note.RequestNote.{RequestNote}
+use Rattle.rr_store.specs.declared.note.ResponseNote.{ResponseNote}
+use Rattle.rr_store.specs.Parts.{Parts}
+
+-- a lane from which nothing was sent
+pub record IsNew {T N H : Type 0} (slots room receivers channels capacity : ℕ) (note : N) (m : Messages T N H) : Type 0 where
+  pub contents : length m.contents ≡ slots
+  pub notes : m.notes ≡ replicate slots note
+  pub user_headers : length m.user_headers ≡ slots
+  pub held : m.held ≡ replicate slots 0
+  pub queues : m.queues ≡ replicate receivers (replicate channels [])
+  pub borrowed : m.borrowed ≡ replicate receivers (replicate channels 0)
+  pub capacity_is : m.capacity ≡ capacity
+  pub room_is : m.room ≡ room
+
+module _ {Q QH P PH K : Type 0} (p : Parts Q QH P PH K) where
+  -- the port of a client with these settings, and of a server
+  abbrev pub client_port : ClientSettings K → Port K
+  client_port settings =
+      record {
+        id = p.next;
+        strategy = settings.strategy;
+        handler = settings.handler;
+        allocation_strategy = settings.allocation_strategy;
+        initial_max_slice_len = settings.initial_max_slice_len;
+        pool_size = pool_size_of (worst_case_requests p.limits) settings.pool;
+        is_held = true;
+      }
+
+  abbrev pub server_port : ServerSettings K → Port K
+  server_port settings =
+      record {
+        id = p.next;
+        strategy = settings.strategy;
+        handler = settings.handler;
+        allocation_strategy = settings.allocation_strategy;
+        initial_max_slice_len = settings.initial_max_slice_len;
+        pool_size = pool_size_of (worst_case_responses p.limits (loans_of settings)) settings.pool;
+        is_held = true;
+      }
+
+  -- a client sends from a new lane, and is sent to in this place
+  abbrev pub with_client_part : ClientSettings K → ℕ → Messages Q RequestNote QH → Parts Q QH P PH K
+  with_client_part settings place messages =
+      record p {
+        next = p.next + 1;
+        clients = p.clients ++ record { connected = record { port = client_port settings; lane = length p.client_lanes; place = place; loans = 0 }; loans_made = 0; pendings = 0 } ∷ [];
+        client_lanes = p.client_lanes ++ record { owner = p.next; row = length p.table.rows; messages = messages } ∷ [];
+        waiting = p.waiting ++ replicate ((client_port settings).pool_size * p.limits.max_servers) false ∷ [];
+        table = with_row p.table ((p.limits.max_servers + 1) * (client_port settings).pool_size);
+      }
+
+  -- a server does
+  abbrev pub with_server_part : ServerSettings K → ℕ → Messages P ResponseNote PH → Parts Q QH P PH K
+  with_server_part settings place messages =
+      record p {
+        next = p.next + 1;
+        servers = p.servers ++ record { connected = record { port = server_port settings; lane = length p.server_lanes; place = place; loans = 0 }; max_loaned_responses_per_request = loans_of settings } ∷ [];
+        server_lanes = p.server_lanes ++ record { owner = p.next; row = length p.table.rows; messages = messages } ∷ [];
+        table = with_row p.table (server_port settings).pool_size;
+      }

@@ -1,0 +1,14 @@
+-- What a handle's stage tells of the handle.
+use Rattle.rr_hub.specs.declared.kind.Kind.{Kind}
+use Rattle.rr_store.specs.declared.held.Stage.{Stage}
+use Rattle.rr_store.specs.declared.held.Stage.TheVariants as stage
+
+-- the kind of a handle in this stage
+abbrev pub stage_kind : Stage → Kind
+stage_kind stage.RequestMutUninit = Kind.RequestMutUninit
+stage_kind stage.RequestMut = Kind.RequestMut
+stage_kind (stage.PendingResponse hint connections) = Kind.PendingResponse
+stage_kind (stage.ActiveRequest server loans) = Kind.ActiveRequest
+stage_kind stage.ResponseMutUninit = Kind.ResponseMutUninit
+stage_kind stage.ResponseMut = Kind.ResponseMut
+stage_kind stage.Response = Kind.Response

@@ -1,0 +1,43 @@
+-- Ports and lanes as parts.
+use Rattle.std.specs.Prelude.{Bool, List, map, Vec}
+use Rattle.std.specs.Global.{Global}
+use Rattle.rr_store.specs.declared.port.Port.{Port as PortField}
+use Rattle.rr_store.specs.declared.port.ClientPort.{ClientPort}
+use Rattle.rr_store.specs.declared.port.ServerPort.{ServerPort}
+use Rattle.rr_store.specs.declared.port.OwnedLane.{OwnedLane}
+use Rattle.rr_store.specs.Parts.{Connected, ClientPart, ServerPart, Lane}
+
+module _ {K : Type 0} where
+  -- a connected port
+  abbrev pub connected_of : PortField K → Connected K
+  connected_of p =
+      record {
+        port = record {
+          id = p.id;
+          strategy = p.strategy;
+          handler = p.handler;
+          allocation_strategy = p.allocation_strategy;
+          initial_max_slice_len = p.initial_max_slice_len;
+          pool_size = p.pool_size;
+          is_held = p.is_held;
+        };
+        lane = p.lane;
+        place = p.place;
+        loans = p.loans;
+      }
+
+  -- a connected client
+  abbrev pub client_part : ClientPort K → ClientPart K
+  client_part c = record { connected = connected_of c.port; loans_made = c.loans_made; pendings = c.pendings }
+
+  -- a connected server
+  abbrev pub server_part : ServerPort K → ServerPart K
+  server_part s = record { connected = connected_of s.port; max_loaned_responses_per_request = s.max_loaned_responses_per_request }
+
+-- a lane
+abbrev pub lane_part : {B N H T : Type 0} → OwnedLane B N H T → Lane T N H
+lane_part l = record { owner = l.owner; row = l.row; messages = l.messages }
+
+-- a row of marks
+abbrev pub marks_of : Vec Bool Global → List Bool
+marks_of marks = marks.items

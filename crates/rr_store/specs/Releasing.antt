@@ -1,0 +1,56 @@
+-- What a release takes away, and from which part.
+use Rattle.std.specs.Prelude.{ℕ, ◌-◌, Bool, true, false, slice_index}
+use Rattle.rr_lanes.specs.Lanes.{Messages, borrowed_at, with_held, with_borrowed}
+use Rattle.rr_hub.specs.Messages.{Handle, RequestMutUninit, RequestMut, ActiveRequest, ResponseMutUninit, ResponseMut, Response}
+use Rattle.rr_store.specs.declared.held.Stage.{Stage}
+use Rattle.rr_store.specs.declared.held.Stage.TheVariants as stage
+use Rattle.rr_store.specs.declared.port.ClientPort.{ClientPort}
+use Rattle.rr_store.specs.Parts.{ClientPart, ServerPart}
+
+-- a request on loan
+abbrev pub is_loaned_request : {Q QH P PH : Type 0} → Handle Q QH P PH → Bool
+is_loaned_request (RequestMutUninit m) = true
+is_loaned_request (RequestMut m) = true
+is_loaned_request _ = false
+
+-- a response that was received
+abbrev pub is_received_response : {Q QH P PH : Type 0} → Handle Q QH P PH → Bool
+is_received_response (Response m) = true
+is_received_response _ = false
+
+-- a response on loan
+abbrev pub is_loaned_response : {Q QH P PH : Type 0} → Handle Q QH P PH → Bool
+is_loaned_response (ResponseMutUninit m) = true
+is_loaned_response (ResponseMut m) = true
+is_loaned_response _ = false
+
+-- a request that a server received
+abbrev pub is_active_request : {Q QH P PH : Type 0} → Handle Q QH P PH → Bool
+is_active_request (ActiveRequest a) = true
+is_active_request _ = false
+
+-- the server that received an active request
+abbrev pub server_of_stage : Stage → ℕ
+server_of_stage (stage.ActiveRequest server loans) = server
+server_of_stage _ = 0
+
+-- a slot is held once less
+abbrev pub given_back : {T N H : Type 0} → Messages T N H → ℕ → Messages T N H
+given_back m slot = with_held m slot (slice_index m.held slot - 1)
+
+-- and a receiver has one less from a channel
+abbrev pub borrow_ended : {T N H : Type 0} → Messages T N H → ℕ → ℕ → ℕ → Messages T N H
+borrow_ended m receiver channel slot = given_back (with_borrowed m receiver channel (borrowed_at m receiver channel - 1)) slot
+
+module _ {K : Type 0} where
+  -- a client with one request less on loan
+  abbrev pub with_loan_ended : ClientPort K → ClientPort K
+  with_loan_ended c = record c { port = record c.port { loans = c.port.loans - 1 } }
+
+  -- the same of its part
+  abbrev pub without_loan : ClientPart K → ClientPart K
+  without_loan c = record c { connected = record c.connected { loans = c.loans - 1 } }
+
+  -- a server's part with one response less on loan
+  abbrev pub without_answer : ServerPart K → ServerPart K
+  without_answer s = record s { connected = record s.connected { loans = s.loans - 1 } }

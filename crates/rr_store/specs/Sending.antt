@@ -1,0 +1,93 @@
+-- Which queues a request is put into, and the parts of a core after it was sent.
+use Rattle.std.specs.Prelude.{◌≡◌, ◌<◌, ◌≤◌, ℕ, ◌+◌, ◌-◌, ◌*◌, Bool, true, false, not, ◌&&◌, List, [], length, drop, map, fold, Some, slice_get, slice_set, slice_index, slice_index_or}
+use Rattle.rr_table.specs.Seats.{seated}
+use Rattle.rr_table.specs.declared.place.Place.{Place}
+use Rattle.rr_lanes.specs.Lanes.{Messages, at_two, set_two, queue_at, put, uses}
+use Rattle.rr_hub.specs.declared.settings.BackpressureAction.{BackpressureAction}
+use Rattle.rr_hub.specs.Backpressure.{discards}
+use Rattle.rr_hub.specs.Ports.{Port}
+use Rattle.rr_hub.specs.Sends.{is_blocked}
+use Rattle.rr_store.specs.declared.held.Held.{Held}
+use Rattle.rr_store.specs.declared.held.Stage.TheVariants as stage
+use Rattle.rr_store.specs.declared.port.ClientPort.{ClientPort}
+use Rattle.rr_store.specs.declared.port.ServerPort.{ServerPort}
+use Rattle.rr_store.specs.Loaning.{with_messages}
+use Rattle.rr_store.specs.Parts.{ClientPart, Parts}
+use Rattle.rr_store.specs.Views.{lane_of}
+
+module _ {T N H : Type 0} where
+  -- whether the queue to a receiver's first channel can take no more, and drops nothing for it
+  abbrev pub is_blocked_at : Bool → Messages T N H → ℕ → Bool
+  is_blocked_at overflow m place = is_blocked overflow m.capacity (queue_at m place 0)
+
+  -- whether it is, and the sender doesn't pass it over
+  abbrev pub is_refused_at : {K : Type 0} → (K → ℕ → ℕ → BackpressureAction) → Port K → Bool → Messages T N H → ServerPort K → Bool
+  is_refused_at answer port overflow m s = is_blocked_at overflow m s.port.place && not (discards answer port s.port.id)
+
+  -- each server has a queue
+  abbrev pub HasQueues : {K : Type 0} → Messages T N H → List (ServerPort K) → Type 0
+  HasQueues m servers = (i : ℕ) (s : ServerPort _) → slice_get servers i ≡ Some s → (s.port.place < length m.queues) × (0 < length (slice_index_or m.queues s.port.place []))
+
+-- where servers are sent to
+abbrev pub places_of : {K : Type 0} → List (ServerPort K) → List ℕ
+places_of servers = map (λ s. s.port.place) servers
+
+-- the queues after a slot was put into the first one of each of these receivers
+abbrev pub put_queues : Bool → ℕ → ℕ → List (List (List ℕ)) → List ℕ → List (List (List ℕ))
+put_queues overflow capacity slot queues places = fold (λ qs place. set_two qs place 0 (put overflow capacity (at_two [] qs place 0) slot)) queues places
+
+-- what one port sends from, after it
+abbrev pub with_puts : {T N H : Type 0} → Bool → ℕ → Messages T N H → List ℕ → Messages T N H
+with_puts overflow slot m places = record m { queues = put_queues overflow m.capacity slot m.queues places }
+
+-- of some servers the first ones have the slot, and the others complete the queues
+pub record IsPutting {T N H K : Type 0} (overflow : Bool) (slot : ℕ) (before now : Messages T N H) (servers : List (ServerPort K)) (i : ℕ) : Type 0 where
+  pub rest : with_puts overflow slot now (places_of (drop i servers)) ≡ with_puts overflow slot before (places_of servers)
+  pub queues : HasQueues now servers
+  pub capacity : now.capacity ≡ before.capacity
+  pub held : slice_index now.held slot ≡ slice_index before.held slot
+  pub used : uses now slot ≤ uses before slot + i
+
+-- a row of marks after these were set
+abbrev pub with_marks : List Bool → List ℕ → List Bool
+with_marks marks indices = fold (λ ms index. slice_set ms index true) marks indices
+
+module _ {K : Type 0} where
+  -- a client with one request less on loan, which waits for responses
+  abbrev pub with_sent : ClientPort K → ClientPort K
+  with_sent c = record c { port = record c.port { loans = c.port.loans - 1 }; pendings = c.pendings + 1 }
+
+  -- the same of its part
+  abbrev pub with_one_sent : ClientPart K → ClientPart K
+  with_one_sent c = record c { connected = record c.connected { loans = c.loans - 1 }; pendings = c.pendings + 1 }
+
+-- the handle of a request that can be sent, and the one after so many queues took it
+abbrev pub request_held : ℕ → ℕ → Held
+request_held lane slot = record { stage = stage.RequestMut; lane = lane; slot = slot }
+
+abbrev pub pending_held : ℕ → ℕ → ℕ → Held
+pending_held lane slot connections = record { stage = stage.PendingResponse false connections; lane = lane; slot = slot }
+
+module _ {Q QH P PH K : Type 0} (p : Parts Q QH P PH K) where
+  -- where connected servers are sent to
+  abbrev pub server_places : List ℕ
+  server_places = map (λ s. s.place) p.servers
+
+  -- the marks of a slot for connected servers
+  abbrev pub server_marks : ℕ → List ℕ
+  server_marks slot = map (λ s. slot * p.limits.max_servers + s.place) p.servers
+
+  -- a request in this slot came to all connected servers; the client that stands at an index counts it as sent, and it has no handle
+  abbrev pub with_request_in_queues : ℕ → ClientPart K → ℕ → ℕ → Parts Q QH P PH K
+  with_request_in_queues index c lane slot =
+      record p {
+        clients = slice_set p.clients index (with_one_sent c);
+        client_lanes = slice_set p.client_lanes lane
+            (with_messages (lane_of lane p.client_lanes) (with_puts p.limits.enable_safe_overflow_for_requests slot (lane_of lane p.client_lanes).messages server_places));
+        waiting = slice_set p.waiting lane (with_marks (slice_index_or p.waiting lane []) (server_marks slot));
+      }
+
+  -- and its handle is a pending response
+  abbrev pub with_request_sent : ℕ → ClientPart K → ℕ → ℕ → ℕ → ℕ → Place → Parts Q QH P PH K
+  with_request_sent index c n lane slot connections place =
+      let q = with_request_in_queues index c lane slot in record q { table = seated p.table n place (pending_held lane slot connections) }

@@ -1,0 +1,29 @@
+-- What writing does to a lane that is stored and to the stage of a handle, and when a message can be sent.
+use Rattle.std.specs.Prelude.{◌==◌, Bool, false, length}
+use Rattle.rr_slots.specs.Pools.{Written}
+use Rattle.rr_lanes.specs.Lanes.{Messages}
+use Rattle.rr_hub.specs.Messages.{Handle, RequestMutUninit, ResponseMutUninit}
+use Rattle.rr_hub.specs.Writing.{is_complete}
+use Rattle.rr_store.specs.declared.held.Stage.{Stage}
+use Rattle.rr_store.specs.declared.held.Stage.TheVariants as stage
+use Rattle.rr_store.specs.declared.port.OwnedLane.{OwnedLane}
+
+-- whether as many elements were written as are asked for
+abbrev pub is_written : {T : Type 0} → Written T → Bool
+is_written w = length w.elements == w.asked_len
+
+-- a lane of the same port, with other messages
+abbrev pub with_messages : {B T N H : Type 0} → OwnedLane B N H T → Messages T N H → OwnedLane B N H T
+with_messages lane messages = record lane { messages = messages }
+
+-- the stage once a message that was being written can be sent; other stages stay
+abbrev pub initialised : Stage → Stage
+initialised stage.RequestMutUninit = stage.RequestMut
+initialised stage.ResponseMutUninit = stage.ResponseMut
+initialised g = g
+
+-- whether a handle's message is being written, and complete
+abbrev pub is_ready : {Q QH P PH : Type 0} → Handle Q QH P PH → Bool
+is_ready (RequestMutUninit m) = is_complete m.content
+is_ready (ResponseMutUninit m) = is_complete m.content
+is_ready _ = false

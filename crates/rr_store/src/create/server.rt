@@ -1,0 +1,43 @@
+//! Creating servers.
+ghost use Rattle.std.specs.Prelude.{◌≡◌, None, true, false};
+ghost use Rattle.rr_hub.specs.Limits.{hub_refusal, is_too_large, worst_case_responses};
+ghost use Rattle.rr_store.specs.Ports.{connected_of};
+
+use crate::Port;
+use rr_hub::{Limits, ServerSettings};
+
+/// The most responses of a server that can live at one time, where the limits make a hub and a `usize` counts them.
+pub fn worst_case_responses(limits: &Limits, loans: usize) -> usize
+    requires hub { hub_refusal limits.now ≡ None }
+    requires counts { is_too_large (worst_case_responses limits.now loans) ≡ false }
+    ensures { result ≡ worst_case_responses limits.now loans }
+{
+    match limits.worst_case_responses(loans) {
+        Some(slots) => slots,
+        None => unreachable!(),
+    }
+}
+
+/// A server's port.
+pub fn server_port<K: Drop>(
+    id: u64,
+    settings: ServerSettings<K>,
+    pool_size: usize,
+    lane: usize,
+    place: usize,
+) -> Port<K>
+    ensures { connected_of result ≡ record { port = record { id = id; strategy = settings.strategy; handler = settings.handler; allocation_strategy = settings.allocation_strategy; initial_max_slice_len = settings.initial_max_slice_len; pool_size = pool_size; is_held = true }; lane = lane; place = place; loans = 0 } }
+{
+    Port {
+        id,
+        strategy: settings.strategy,
+        handler: settings.handler,
+        allocation_strategy: settings.allocation_strategy,
+        initial_max_slice_len: settings.initial_max_slice_len,
+        pool_size,
+        is_held: true,
+        lane,
+        place,
+        loans: 0,
+    }
+}

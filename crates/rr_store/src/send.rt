@@ -1,0 +1,3 @@
+//! Sends.
+pub mod request;
+pub mod response;
