@@ -1,25 +1,22 @@
-//! What the ports of a service agree on: limits, settings, ids, headers, errors and kinds. Its `specs/` hold the message machine.
+//! A hub's core: all ports, handles and messages of a service, each call a step of the message machine.
 #![tactic(auto)]
 
-mod backpressure;
-mod error;
-mod identifiers;
-mod kind;
-mod limits;
-mod request_header;
-mod response_header;
-mod settings;
+mod create;
+mod handle_id;
+mod loan;
+mod making;
+mod query;
+mod receive;
+mod release;
+mod send;
+mod state;
+mod write;
 
-pub use backpressure::{BackpressureFn, BackpressureInfo};
-pub use error::{
-    ClientCreateError, ConnectionFailure, HubCreateError, LoanError, ReceiveError,
-    RequestSendError, SendError, ServerCreateError,
+pub use handle_id::HandleId;
+pub use rr_protocol::{
+    AllocationStrategy, BackpressureAction, BackpressureFn, BackpressureInfo, BackpressureStrategy,
+    ClientCreateError, ClientSettings, ConnectionFailure, HubCreateError, Kind, Limits, LoanError,
+    ReceiveError, RequestHeader, RequestSendError, ResponseHeader, SendError, ServerCreateError,
+    ServerSettings, UniqueClientId, UniqueNodeId, UniqueServerId,
 };
-pub use identifiers::{UniqueClientId, UniqueNodeId, UniqueServerId};
-pub use kind::Kind;
-pub use limits::Limits;
-pub use request_header::RequestHeader;
-pub use response_header::ResponseHeader;
-pub use settings::{
-    AllocationStrategy, BackpressureAction, BackpressureStrategy, ClientSettings, ServerSettings,
-};
+pub use state::Core;

@@ -4,19 +4,19 @@ use Rattle.std.specs.Prelude.{◌&&◌, count_by, filter_map, is_some}
 use Rattle.std.specs.FinMap.{get}
 use Rattle.std.proofs.lemmas.List.{append-nil}
 use Rattle.rr_slots.specs.declared.family.Family.{Family}
-use Rattle.rr_hub.specs.declared.limits.Limits.{Limits}
-use Rattle.rr_hub.specs.declared.settings.BackpressureAction.{BackpressureAction}
-use Rattle.rr_hub.specs.Limits.{hub_refusal}
-use Rattle.rr_hub.specs.Keys.{RequestKey, request_key_cmp}
-use Rattle.rr_hub.specs.Messages.{RequestMessage, PendingResponse}
-use Rattle.rr_hub.specs.Ports.{Server}
-use Rattle.rr_hub.specs.State.{State, empty_hub, server_at, handle_at, pending_at, is_server_held}
-use Rattle.rr_hub.specs.Receives.{ReceivesRequest, ReceivesResponse}
-use Rattle.rr_hub.proofs.ListsLaws.{at-no_lists}
-use Rattle.rr_steps.specs.declared.command.Command.{Command}
-use Rattle.rr_steps.specs.declared.reply.Reply.{Reply}
-use Rattle.rr_steps.specs.Run.{Run}
-use Rattle.rr_steps.specs.AnswerRule.{Event, received_by, sent_by, is_answer, received_from, sent_for, ReceivesWithoutGap, ReceivesAll, KeepsAnswerRule}
+use Rattle.rr_protocol.specs.declared.limits.Limits.{Limits}
+use Rattle.rr_protocol.specs.declared.settings.BackpressureAction.{BackpressureAction}
+use Rattle.rr_protocol.specs.Limits.{hub_refusal}
+use Rattle.rr_protocol.specs.Keys.{RequestKey, request_key_cmp}
+use Rattle.rr_protocol.specs.Messages.{RequestMessage, PendingResponse}
+use Rattle.rr_protocol.specs.Ports.{Server}
+use Rattle.rr_protocol.specs.State.{State, empty_hub, server_at, handle_at, pending_at, is_server_value}
+use Rattle.rr_protocol.specs.Receives.{ReceivesRequest, ReceivesResponse}
+use Rattle.rr_protocol.proofs.ListsLaws.{at-no_lists}
+use Rattle.rr_commands.specs.declared.command.Command.{Command}
+use Rattle.rr_commands.specs.declared.reply.Reply.{Reply}
+use Rattle.rr_commands.specs.Run.{Run}
+use Rattle.rr_commands.specs.AnswerRule.{Event, received_by, sent_by, is_answer, received_from, sent_for, ReceivesWithoutGap, ReceivesAll, KeepsAnswerRule}
 use Rattle.rr_laws.specs.Roles.{SentRequest, roles_of, question_of}
 use Rattle.rr_laws.specs.Reached.{IsReached}
 use Rattle.rr_laws.specs.Apart.{IsApart}
@@ -24,7 +24,7 @@ use Rattle.rr_laws.specs.Left.{IsLeftFit}
 use Rattle.rr_laws.specs.Following.{queued, WasReceived, Follows}
 use Rattle.rr_laws.specs.Settling.{listed}
 use Rattle.rr_laws.specs.Completing.{Completes}
-use Rattle.rr_table.proofs.ListFacts.{any_found, any_weaker}
+use Rattle.rr_maps.proofs.ListFacts.{any_found, any_weaker}
 use Rattle.rr_laws.proofs.RoleLaws.{role_at}
 use Rattle.rr_laws.proofs.Opening.{some_and, from_pending}
 use Rattle.rr_laws.proofs.Counts.{and_first}
@@ -75,58 +75,58 @@ unasked_same history server p not =
     ∙ sym (filter_never (is_answer history server p) never (filter_map sent_by history))
 
 -- a server whose value lives is connected
-pub held_connected : {Q QH P PH K : Type 0} (s : State Q QH P PH K) (n : ℕ) → is_server_held s n ≡ true → (c : Server K)
+pub held_connected : {Q QH P PH K : Type 0} (s : State Q QH P PH K) (n : ℕ) → is_server_value s n ≡ true → (c : Server K)
     × (server_at s n ≡ Some c)
 held_connected {Q} {QH} {P} {PH} {K} s n held =
     go (server_at s n) refl (any_found (λ (c : Server K). eqb c.id n) s.servers
-    ∙ any_weaker (λ (c : Server K). eqb c.id n && c.is_held) (λ c. eqb c.id n)
-    (λ c h. and_first (eqb c.id n) c.is_held h) s.servers held)
+    ∙ any_weaker (λ (c : Server K). eqb c.id n && c.has_value) (λ c. eqb c.id n)
+    (λ c h. and_first (eqb c.id n) c.has_value h) s.servers held)
   where
     go : (o : Option (Server K)) → server_at s n ≡ o → is_some o ≡ true → (c : Server K) × (server_at s n ≡ Some c)
     go None is some = absurd (false_is_true some)
     go (Some c) is some = (c, is)
 
-module _ {T H K : Type 0} (answer : K → ℕ → ℕ → BackpressureAction) (IsDefaultElement : T → Type 0) (IsDefaultHeader : H → Type 0)
+module _ {T H K : Type 0} (action : K → ℕ → ℕ → BackpressureAction) (IsDefaultElement : T → Type 0) (IsDefaultHeader : H → Type 0)
     (family : Family) where
   -- whatever is run, a request has received all that does not stand in a list
   pub run_completes : (before : List (Event T H K)) (old : State T H T H K) → IsReached old → IsApart old → IsLeftFit old
       → Follows before old → Completes before old → (events : List (Event T H K)) (new : State T H T H K) →
-      Run answer IsDefaultElement IsDefaultHeader family old (map (λ e. e.0) events) (map (λ e. e.1) events) new
+      Run action IsDefaultElement IsDefaultHeader family old (map (λ e. e.0) events) (map (λ e. e.1) events) new
       → Follows (before ++ events) new × Completes (before ++ events) new
   run_completes before old fits apart left follows completes [] new run =
       subst (λ (x : State T H T H K). Follows (before ++ []) x × Completes (before ++ []) x) (sym run)
       (subst (λ h. Follows h old × Completes h old) (sym (append-nil before)) (follows, completes))
   run_completes before old fits apart left follows completes (event ∷ events) new run =
       let mid : State T H T H K = run.0 in
-      let mid_fits = step_reached answer IsDefaultElement IsDefaultHeader family old fits event.0 event.1 mid run.1 in
-      let mid_apart = step_apart answer IsDefaultElement IsDefaultHeader family old fits apart event.0 event.1 mid run.1 in
-      let mid_left = step_left answer IsDefaultElement IsDefaultHeader family old fits left event.0 event.1 mid run.1 in
-      let mid_follows = step_follows answer IsDefaultElement IsDefaultHeader family before old fits apart follows event.0 event.1 mid
+      let mid_fits = step_reached action IsDefaultElement IsDefaultHeader family old fits event.0 event.1 mid run.1 in
+      let mid_apart = step_apart action IsDefaultElement IsDefaultHeader family old fits apart event.0 event.1 mid run.1 in
+      let mid_left = step_left action IsDefaultElement IsDefaultHeader family old fits left event.0 event.1 mid run.1 in
+      let mid_follows = step_follows action IsDefaultElement IsDefaultHeader family before old fits apart follows event.0 event.1 mid
       mid_apart run.1 in
-      let limits = step_keeps_limits answer IsDefaultElement IsDefaultHeader family old event.0 event.1 mid run.1 in
-      let mid_completes = step_completes answer IsDefaultElement IsDefaultHeader family before old fits apart left follows completes event.0
+      let limits = step_keeps_limits action IsDefaultElement IsDefaultHeader family old event.0 event.1 mid run.1 in
+      let mid_completes = step_completes action IsDefaultElement IsDefaultHeader family before old fits apart left follows completes event.0
       event.1 mid mid_apart (mid_follows, limits) run.1 in
       subst (λ h. Follows h new × Completes h new) (append_assoc before (event ∷ []) events)
       (run_completes (before ++ event ∷ []) mid mid_fits mid_apart mid_left mid_follows mid_completes events new run.2)
 
   module _ (limits : Limits) (node_id : ℕ) (makes_hub : hub_refusal limits ≡ None) where
     completes_from_empty : (history : List (Event T H K)) (s : State T H T H K)
-        → Run answer IsDefaultElement IsDefaultHeader family (empty_hub limits node_id) (map (λ e. e.0) history) (map (λ e. e.1) history) s
+        → Run action IsDefaultElement IsDefaultHeader family (empty_hub limits node_id) (map (λ e. e.0) history) (map (λ e. e.1) history) s
         → Completes history s
     completes_from_empty history s run =
         (run_completes [] (empty_hub limits node_id) (empty_hub_reached limits node_id makes_hub) (empty_hub_apart T H T H K limits node_id)
-        (left_from_empty answer IsDefaultElement IsDefaultHeader family limits node_id makes_hub [] [] (empty_hub limits node_id) refl)
+        (left_from_empty action IsDefaultElement IsDefaultHeader family limits node_id makes_hub [] [] (empty_hub limits node_id) refl)
         (empty_follows limits node_id) (empty_completes limits node_id) history s run).1
 
     keeps_limits : (history : List (Event T H K)) (s : State T H T H K)
-        → Run answer IsDefaultElement IsDefaultHeader family (empty_hub limits node_id) (map (λ e. e.0) history) (map (λ e. e.1) history) s
+        → Run action IsDefaultElement IsDefaultHeader family (empty_hub limits node_id) (map (λ e. e.0) history) (map (λ e. e.1) history) s
         → s.limits ≡ limits
-    keeps_limits history s run = run_keeps_limits answer IsDefaultElement IsDefaultHeader family (empty_hub limits node_id)
+    keeps_limits history s run = run_keeps_limits action IsDefaultElement IsDefaultHeader family (empty_hub limits node_id)
         (map (λ e. e.0) history) (map (λ e. e.1) history) s run
 
     -- what is received from a server that waits for room has no gap
     pub receives_without_gap : limits.enable_safe_overflow_for_responses ≡ false → (history : List (Event T H K)) (s : State T H T H K) →
-        Run answer IsDefaultElement IsDefaultHeader family (empty_hub limits node_id) (map (λ e. e.0) history) (map (λ e. e.1) history) s
+        Run action IsDefaultElement IsDefaultHeader family (empty_hub limits node_id) (map (λ e. e.0) history) (map (λ e. e.1) history) s
         → ReceivesWithoutGap history
     receives_without_gap no_overflow history s run server p made =
         prefix_front (received_from history server p) (queued s server p) (sent_for history server p)
@@ -135,12 +135,12 @@ module _ {T H K : Type 0} (answer : K → ℕ → ℕ → BackpressureAction) (I
 
     -- where nothing is received, all that such a server sent was, if it was not released
     pub receives_all : limits.enable_safe_overflow_for_responses ≡ false → (history : List (Event T H K)) (s : State T H T H K) →
-        Run answer IsDefaultElement IsDefaultHeader family (empty_hub limits node_id) (map (λ e. e.0) history) (map (λ e. e.1) history) s
+        Run action IsDefaultElement IsDefaultHeader family (empty_hub limits node_id) (map (λ e. e.0) history) (map (λ e. e.1) history) s
         → ReceivesAll history
     receives_all no_overflow history s run before after server p is made kept =
-        let at = run_at answer IsDefaultElement IsDefaultHeader family before (Command.Receive p, Reply.Nothing) after
+        let at = run_at action IsDefaultElement IsDefaultHeader family before (Command.Receive p, Reply.Nothing) after
         (empty_hub limits node_id) s
-        (subst (λ h. Run answer IsDefaultElement IsDefaultHeader family (empty_hub limits node_id) (map (λ e. e.0) h) (map (λ e. e.1) h) s)
+        (subst (λ h. Run action IsDefaultElement IsDefaultHeader family (empty_hub limits node_id) (map (λ e. e.0) h) (map (λ e. e.1) h) s)
         is run) in
         let mid : State T H T H K = at.0 in
         let completes = completes_from_empty before mid at.2 in
@@ -159,7 +159,7 @@ module _ {T H K : Type 0} (answer : K → ℕ → ℕ → BackpressureAction) (I
         (question_of o.0.message) waits refl ∙ ap (map (λ m. m.number)) (o.2.0 server) in
         sym (append-nil (received_from before server p)) ∙ ap (λ xs. received_from before server p ++ xs) (sym nothing)
         ∙ completes.whole still server p made ((question_of o.0.message, waits), connected))
-        (step_acts answer IsDefaultElement IsDefaultHeader family mid (Command.Receive p) Reply.Nothing at.1 refl at.3)
+        (step_acts action IsDefaultElement IsDefaultHeader family mid (Command.Receive p) Reply.Nothing at.1 refl at.3)
       where
         a_server : (o : Option (Server K)) {o' : Option (Server K)} → o' ≡ o → is_some o' ≡ true → ((c : Server K) → o' ≡ Some c → ⊥) → ⊥
         a_server None is some not = absurd (false_is_true (sym (ap is_some is) ∙ some))
@@ -167,14 +167,14 @@ module _ {T H K : Type 0} (answer : K → ℕ → ℕ → BackpressureAction) (I
 
     -- the answer rule
     pub keeps_answer_rule : (history : List (Event T H K)) (s : State T H T H K)
-        → Run answer IsDefaultElement IsDefaultHeader family (empty_hub limits node_id) (map (λ e. e.0) history) (map (λ e. e.1) history) s
+        → Run action IsDefaultElement IsDefaultHeader family (empty_hub limits node_id) (map (λ e. e.0) history) (map (λ e. e.1) history) s
         →
         KeepsAnswerRule limits history
     keeps_answer_rule history s run =
         record {
-          answers = answers_the_request answer IsDefaultElement IsDefaultHeader family limits node_id makes_hub history s run;
-          once = receives_once answer IsDefaultElement IsDefaultHeader family limits node_id makes_hub history s run;
-          in_order = receives_in_order answer IsDefaultElement IsDefaultHeader family limits node_id makes_hub history s run;
+          answers = answers_the_request action IsDefaultElement IsDefaultHeader family limits node_id makes_hub history s run;
+          once = receives_once action IsDefaultElement IsDefaultHeader family limits node_id makes_hub history s run;
+          in_order = receives_in_order action IsDefaultElement IsDefaultHeader family limits node_id makes_hub history s run;
           without_gap = λ no_overflow. receives_without_gap no_overflow history s run;
           all = λ no_overflow. receives_all no_overflow history s run;
         }

@@ -1,12 +1,12 @@
 -- Requests and responses stay apart through receives, and as messages change in what they say.
 use Rattle.std.proofs.Common.{◌≡◌, ℕ, List, [], ◌∷◌, Option, Some, None, Result, Ok, Err, refl, sym, subst}
 use Rattle.std.specs.FinMap.{insert}
-use Rattle.rr_hub.specs.declared.error.ReceiveError.{ReceiveError}
-use Rattle.rr_hub.specs.Lists.{with_at}
-use Rattle.rr_hub.specs.Keys.{RequestKey, ResponseKey, request_key}
-use Rattle.rr_hub.specs.Messages.{RequestMessage, ResponseMessage, Handle, ActiveRequest, Response, response_key}
-use Rattle.rr_hub.specs.State.{State, pending_at, with_changed}
-use Rattle.rr_hub.specs.Receives.{TakesRequest, Skims, ReceivesUnskimmed, ReceivesRequest, TakesResponse, ReceivesResponse}
+use Rattle.rr_protocol.specs.declared.error.ReceiveError.{ReceiveError}
+use Rattle.rr_protocol.specs.Lists.{with_at}
+use Rattle.rr_protocol.specs.Keys.{RequestKey, ResponseKey, request_key}
+use Rattle.rr_protocol.specs.Messages.{RequestMessage, ResponseMessage, Handle, ActiveRequest, Response, response_key}
+use Rattle.rr_protocol.specs.State.{State, pending_at, with_changed}
+use Rattle.rr_protocol.specs.Receives.{TakesRequest, Skims, ReceivesUnskimmed, ReceivesRequest, TakesResponse, ReceivesResponse}
 use Rattle.rr_laws.specs.Roles.{ReceivedResponse, role_of, roles_of, answer_of}
 use Rattle.rr_laws.specs.Reached.{IsReached}
 use Rattle.rr_laws.specs.Apart.{AreApart, IsApart}

@@ -5,25 +5,25 @@ use Rattle.std.specs.List.{list_any}
 use Rattle.std.specs.Option.{option_map_or}
 use Rattle.std.specs.FinMap.{get, insert, remove, entries}
 use Rattle.std.proofs.lemmas.Bool.{cases_eq, eq-eqb}
-use Rattle.rr_table.proofs.MapLaws.{get-insert_same, get-insert_other}
-use Rattle.rr_hub.specs.declared.settings.BackpressureAction.{BackpressureAction}
-use Rattle.rr_hub.specs.declared.error.LoanError.{LoanError}
-use Rattle.rr_hub.specs.declared.error.RequestSendError.{RequestSendError}
-use Rattle.rr_hub.specs.declared.error.SendError.{SendError}
-use Rattle.rr_hub.specs.Lists.{at, with_at}
-use Rattle.rr_hub.specs.Keys.{ResponseKey}
-use Rattle.rr_hub.specs.Messages.{ResponseMessage, Handle, RequestMutUninit, RequestMut, PendingResponse, ActiveRequest, ResponseMutUninit, ResponseMut, Response, port_of}
-use Rattle.rr_hub.specs.Ports.{Client}
-use Rattle.rr_hub.specs.State.{State, client_at, handle_at, all_handles}
-use Rattle.rr_hub.specs.Counts.{is_alive, holds_channel}
-use Rattle.rr_hub.specs.Loans.{IsFreeChannel, with_loaned_request, LoansRequest, LoansResponse}
-use Rattle.rr_hub.specs.Sends.{put, with_response_put, SendsRequest, SendsResponse}
-use Rattle.rr_hub.specs.Releases.{without_unused_port, without_port_value, after_handle_gone, after_release}
+use Rattle.rr_maps.proofs.MapLaws.{get-insert_same, get-insert_other}
+use Rattle.rr_protocol.specs.declared.settings.BackpressureAction.{BackpressureAction}
+use Rattle.rr_protocol.specs.declared.error.LoanError.{LoanError}
+use Rattle.rr_protocol.specs.declared.error.RequestSendError.{RequestSendError}
+use Rattle.rr_protocol.specs.declared.error.SendError.{SendError}
+use Rattle.rr_protocol.specs.Lists.{at, with_at}
+use Rattle.rr_protocol.specs.Keys.{ResponseKey}
+use Rattle.rr_protocol.specs.Messages.{ResponseMessage, Handle, RequestMutUninit, RequestMut, PendingResponse, ActiveRequest, ResponseMutUninit, ResponseMut, Response, port_of}
+use Rattle.rr_protocol.specs.Ports.{Client}
+use Rattle.rr_protocol.specs.State.{State, client_at, handle_at, all_handles}
+use Rattle.rr_protocol.specs.Counts.{is_alive, holds_channel}
+use Rattle.rr_protocol.specs.Loans.{IsFreeChannel, with_loaned_request, LoansRequest, LoansResponse}
+use Rattle.rr_protocol.specs.Sends.{put, with_response_put, SendsRequest, SendsResponse}
+use Rattle.rr_protocol.specs.Releases.{without_unused_port, without_port_value, after_handle_gone, after_release}
 use Rattle.rr_laws.specs.Roles.{Question, Role, LoanedRequest, SentRequest, LoanedResponse, Roles, role_of, roles_of, question_of, answer_of, asking, asking_at}
 use Rattle.rr_laws.specs.Reached.{IsReached}
 use Rattle.rr_laws.specs.Apart.{ResponsesApart, AreApart, IsApart}
-use Rattle.rr_table.proofs.ListFacts.{any-map}
-use Rattle.rr_table.proofs.MapFacts.{any_value}
+use Rattle.rr_maps.proofs.ListFacts.{any-map}
+use Rattle.rr_maps.proofs.MapFacts.{any_value}
 use Rattle.rr_laws.proofs.LiveRequests.{both_true}
 use Rattle.rr_laws.proofs.RoleLaws.{role_at, handle_of, roles-insert, roles-remove}
 use Rattle.rr_laws.proofs.Opening.{some_and, open_request_mut, open_response_mut, open_active}
@@ -132,10 +132,10 @@ module _ {Q QH P PH K : Type 0} where
       (sym (open_active s n _ loans).4.1) apart
 
   -- after a request was sent, or refused
-  pub sends_request_apart : (answer : K → ℕ → ℕ → BackpressureAction) (s : State Q QH P PH K) → IsReached s → IsApart s
+  pub sends_request_apart : (action : K → ℕ → ℕ → BackpressureAction) (s : State Q QH P PH K) → IsReached s → IsApart s
       → (n : ℕ) (result : Result ℕ RequestSendError) (new : State Q QH P PH K) →
-      SendsRequest answer s n result new → IsApart new
-  sends_request_apart answer s fits apart n (Ok connections) new sends =
+      SendsRequest action s n result new → IsApart new
+  sends_request_apart action s fits apart n (Ok connections) new sends =
       let o = open_request_mut s n _ sends in
       let roles = roles_of s.handles in
       let q = question_of o.1 in
@@ -145,7 +145,7 @@ module _ {Q QH P PH K : Type 0} where
       (stay_apart s.limits roles (insert roles n (SentRequest q)) s.next s.responses s.responses fits.response_lists
       (asks_nothing_new_with roles n (SentRequest q) (λ p e. ap (option_and_then asking) here ∙ e))
       (names_nothing_new_at roles n s.next (LoanedRequest q) (SentRequest q) here) (no_fewer s.responses) apart))
-  sends_request_apart answer s fits apart n (Err error) new sends = subst (λ (x : State Q QH P PH K). IsApart x)
+  sends_request_apart action s fits apart n (Err error) new sends = subst (λ (x : State Q QH P PH K). IsApart x)
       (sym (open_request_mut s n _ sends).4.1) (after_release_apart s n fits apart)
 
   -- a response went to the list that it reaches, and its handle is gone
@@ -194,10 +194,10 @@ module _ {Q QH P PH K : Type 0} where
       (without_unused_port (without_port_value s n) n)) e
 
   -- after a response was sent, or refused
-  pub sends_response_apart : {U : Type 0} (answer : K → ℕ → ℕ → BackpressureAction) (s : State Q QH P PH K) → IsReached s → IsApart s
+  pub sends_response_apart : {U : Type 0} (action : K → ℕ → ℕ → BackpressureAction) (s : State Q QH P PH K) → IsReached s → IsApart s
       → (n : ℕ) (result : Result U SendError) (new : State Q QH P PH K) →
-      SendsResponse answer s n result new → IsApart new
-  sends_response_apart answer s fits apart n (Ok u) new sends =
+      SendsResponse action s n result new → IsApart new
+  sends_response_apart action s fits apart n (Ok u) new sends =
       let o = open_response_mut s n _ sends in
       let lists = with_response_put s o.1 in
       let mid : State Q QH P PH K = record s { responses = lists } in
@@ -205,5 +205,5 @@ module _ {Q QH P PH K : Type 0} where
       subst (λ (x : State Q QH P PH K). IsApart x) (sym (o.4.1 ∙ released mid n (ResponseMut o.1) o.2))
       (unused_port_apart (record mid { handles = remove mid.handles n }) o.1.server
       (handle_gone_reached mid mid_fits n (ResponseMut o.1) o.2) (response_gone_apart s fits apart n o.1 o.2))
-  sends_response_apart answer s fits apart n (Err error) new sends = subst (λ (x : State Q QH P PH K). IsApart x)
+  sends_response_apart action s fits apart n (Err error) new sends = subst (λ (x : State Q QH P PH K). IsApart x)
       (sym (open_response_mut s n _ sends).4.2) (after_release_apart s n fits apart)

@@ -1,31 +1,31 @@
 -- Each step keeps requests and responses apart.
 use Rattle.std.proofs.Common.{◌≡◌, ℕ, Bool, true, false, cond, List, [], ◌∷◌, Option, Some, None, MatchOption, Result, Ok, Err, sym, ap, ◌∙◌, subst, ⊎_elim, eqb, option_and_then, arith}
 use Rattle.std.specs.Prelude.{count_by}
-use Rattle.rr_table.proofs.MapLaws.{map_values-empty}
-use Rattle.rr_hub.specs.Lists.{no_lists}
-use Rattle.rr_hub.specs.Keys.{ResponseKey, response_key_cmp}
-use Rattle.rr_hub.specs.Messages.{ResponseMessage}
-use Rattle.rr_hub.proofs.ListsLaws.{at-no_lists}
+use Rattle.rr_maps.proofs.MapLaws.{map_values-empty}
+use Rattle.rr_protocol.specs.Lists.{no_lists}
+use Rattle.rr_protocol.specs.Keys.{ResponseKey, response_key_cmp}
+use Rattle.rr_protocol.specs.Messages.{ResponseMessage}
+use Rattle.rr_protocol.proofs.ListsLaws.{at-no_lists}
 use Rattle.std.specs.Ordering.{nat_cmp}
 use Rattle.std.specs.FinMap.{get-empty}
 use Rattle.rr_slots.specs.declared.family.Family.{Family}
-use Rattle.rr_hub.specs.declared.limits.Limits.{Limits}
-use Rattle.rr_hub.specs.declared.settings.BackpressureAction.{BackpressureAction}
-use Rattle.rr_hub.specs.declared.settings.ClientSettings.{ClientSettings}
-use Rattle.rr_hub.specs.declared.settings.ServerSettings.{ServerSettings}
-use Rattle.rr_hub.specs.declared.error.ClientCreateError.{ClientCreateError}
-use Rattle.rr_hub.specs.declared.error.ServerCreateError.{ServerCreateError}
-use Rattle.rr_hub.specs.declared.error.LoanError.{LoanError}
-use Rattle.rr_hub.specs.Limits.{hub_refusal}
-use Rattle.rr_hub.specs.Messages.{Content, with_hint}
-use Rattle.rr_hub.specs.Writing.{with_element, with_element_at, with_elements, with_user_header, with_request_content, with_response_content, after_init}
-use Rattle.rr_hub.specs.State.{State, empty_hub, handle_at}
-use Rattle.rr_hub.specs.Creation.{CreatesClient, CreatesServer}
-use Rattle.rr_steps.specs.declared.command.Command.{Command}
-use Rattle.rr_steps.specs.declared.reply.Reply.{Reply}
-use Rattle.rr_steps.specs.Refusals.{refusal}
-use Rattle.rr_steps.specs.Step.{client_settings, server_settings, with_content, with_complete, Loans, Acts, Step}
-use Rattle.rr_steps.specs.Run.{Run}
+use Rattle.rr_protocol.specs.declared.limits.Limits.{Limits}
+use Rattle.rr_protocol.specs.declared.settings.BackpressureAction.{BackpressureAction}
+use Rattle.rr_protocol.specs.declared.settings.ClientSettings.{ClientSettings}
+use Rattle.rr_protocol.specs.declared.settings.ServerSettings.{ServerSettings}
+use Rattle.rr_protocol.specs.declared.error.ClientCreateError.{ClientCreateError}
+use Rattle.rr_protocol.specs.declared.error.ServerCreateError.{ServerCreateError}
+use Rattle.rr_protocol.specs.declared.error.LoanError.{LoanError}
+use Rattle.rr_protocol.specs.Limits.{hub_refusal}
+use Rattle.rr_protocol.specs.Messages.{Content, with_hint}
+use Rattle.rr_protocol.specs.Writing.{with_element, with_element_at, with_elements, with_user_header, with_request_content, with_response_content, after_init}
+use Rattle.rr_protocol.specs.State.{State, empty_hub, handle_at}
+use Rattle.rr_protocol.specs.Creation.{CreatesClient, CreatesServer}
+use Rattle.rr_commands.specs.declared.command.Command.{Command}
+use Rattle.rr_commands.specs.declared.reply.Reply.{Reply}
+use Rattle.rr_commands.specs.Refusals.{refusal}
+use Rattle.rr_commands.specs.Step.{client_settings, server_settings, with_content, with_complete, Loans, Acts, Step}
+use Rattle.rr_commands.specs.Run.{Run}
 use Rattle.rr_laws.specs.Roles.{role_of, asking}
 use Rattle.rr_laws.specs.Reached.{IsReached}
 use Rattle.rr_laws.specs.Apart.{standing, AreApart, IsApart}
@@ -85,10 +85,10 @@ module _ {T H K : Type 0} where
   written old new n true change same apart = same_apart (with_content old n change) new same (content_apart old n change apart)
   written old new n false change same apart = same_apart old new same apart
 
-module _ {T H K : Type 0} (answer : K → ℕ → ℕ → BackpressureAction) (IsDefaultElement : T → Type 0) (IsDefaultHeader : H → Type 0)
+module _ {T H K : Type 0} (action : K → ℕ → ℕ → BackpressureAction) (IsDefaultElement : T → Type 0) (IsDefaultHeader : H → Type 0)
     (family : Family) where
   loans_apart : (old : State T H T H K) → IsReached old → IsApart old → (n len : ℕ) (result : Result ℕ LoanError) (new : State T H T H K) →
-      Loans answer IsDefaultElement IsDefaultHeader family old n len result new → IsApart new
+      Loans action IsDefaultElement IsDefaultHeader family old n len result new → IsApart new
   loans_apart old fits apart n len result new loans =
       ⊎_elim (loans_request_apart IsDefaultHeader old fits apart n len result new)
       (loans_response_apart IsDefaultHeader old fits apart n len result new) loans
@@ -96,7 +96,7 @@ module _ {T H K : Type 0} (answer : K → ℕ → ℕ → BackpressureAction) (I
   -- after any command that acts
   pub acts_apart : (old : State T H T H K) → IsReached old → IsApart old
       → (command : Command T H K) (reply : Reply T H) (new : State T H T H K) →
-      Acts answer IsDefaultElement IsDefaultHeader family old command reply new → IsApart new
+      Acts action IsDefaultElement IsDefaultHeader family old command reply new → IsApart new
   acts_apart old fits apart (Command.CreateClient settings) (Reply.Created n) new acts = creates_client_apart old apart
       (client_settings family settings) (Ok n) new acts
   acts_apart old fits apart (Command.CreateClient settings) (Reply.ClientError e) new acts = creates_client_apart old apart
@@ -115,26 +115,26 @@ module _ {T H K : Type 0} (answer : K → ℕ → ℕ → BackpressureAction) (I
   acts_apart old fits apart (Command.LoanDefault n len) (Reply.LoanError e) new acts = loans_apart old fits apart n len (Err e) new acts
   acts_apart old fits apart (Command.LoanDefault n len) Reply.NoMemory new acts = same_apart old new acts apart
   acts_apart old fits apart (Command.SendCopy n v) (Reply.Pending k connections) new acts =
-      sends_request_apart answer (with_complete acts.0 k (v ∷ []))
+      sends_request_apart action (with_complete acts.0 k (v ∷ []))
       (complete_reached acts.0 k (v ∷ []) (loans_request_reached old fits IsDefaultHeader n 1 (Ok k) acts.0 acts.1))
       (complete_apart acts.0 k (v ∷ []) (loans_request_apart IsDefaultHeader old fits apart n 1 (Ok k) acts.0 acts.1)) k
       (Ok connections) new acts.2
   acts_apart old fits apart (Command.SendCopy n v) (Reply.RequestError e) new acts =
       ⊎_elim
       (λ loan. loans_request_apart IsDefaultHeader old fits apart n 1 (Err loan.0) new loan.1)
-      (λ send. sends_request_apart answer (with_complete send.0 send.1 (v ∷ []))
+      (λ send. sends_request_apart action (with_complete send.0 send.1 (v ∷ []))
       (complete_reached send.0 send.1 (v ∷ []) (loans_request_reached old fits IsDefaultHeader n 1 (Ok send.1) send.0 send.2))
       (complete_apart send.0 send.1 (v ∷ []) (loans_request_apart IsDefaultHeader old fits apart n 1 (Ok send.1) send.0 send.2)) send.1
       (Err e) new send.3)
       acts
   acts_apart old fits apart (Command.SendCopy n v) (Reply.Sent k) new acts =
-      sends_response_apart answer (with_complete acts.0 k (v ∷ []))
+      sends_response_apart action (with_complete acts.0 k (v ∷ []))
       (complete_reached acts.0 k (v ∷ []) (loans_response_reached old fits IsDefaultHeader n 1 (Ok k) acts.0 acts.1))
       (complete_apart acts.0 k (v ∷ []) (loans_response_apart IsDefaultHeader old fits apart n 1 (Ok k) acts.0 acts.1)) k (Ok k) new acts.2
   acts_apart old fits apart (Command.SendCopy n v) (Reply.SendError e) new acts =
       ⊎_elim
       (λ loan. loans_response_apart IsDefaultHeader old fits apart n 1 (Err loan.0) new loan.1)
-      (λ send. sends_response_apart {U = ℕ} answer (with_complete send.0 send.1 (v ∷ []))
+      (λ send. sends_response_apart {U = ℕ} action (with_complete send.0 send.1 (v ∷ []))
       (complete_reached send.0 send.1 (v ∷ []) (loans_response_reached old fits IsDefaultHeader n 1 (Ok send.1) send.0 send.2))
       (complete_apart send.0 send.1 (v ∷ []) (loans_response_apart IsDefaultHeader old fits apart n 1 (Ok send.1) send.0 send.2)) send.1
       (Err e) new send.3)
@@ -149,11 +149,11 @@ module _ {T H K : Type 0} (answer : K → ℕ → ℕ → BackpressureAction) (I
   acts_apart old fits apart (Command.AssumeInit n) Reply.Done new acts = same_apart _ new acts
       (changed_apart old n after_init init_role apart)
   acts_apart old fits apart (Command.IsDeliverable n) (Reply.Flag b) new acts = same_apart old new acts.1 apart
-  acts_apart old fits apart (Command.Send n) (Reply.Pending k connections) new acts = sends_request_apart answer old fits apart n
+  acts_apart old fits apart (Command.Send n) (Reply.Pending k connections) new acts = sends_request_apart action old fits apart n
       (Ok connections) new acts.1
-  acts_apart old fits apart (Command.Send n) (Reply.RequestError e) new acts = sends_request_apart answer old fits apart n (Err e) new acts
-  acts_apart old fits apart (Command.Send n) (Reply.Sent k) new acts = sends_response_apart answer old fits apart n (Ok k) new acts.1
-  acts_apart old fits apart (Command.Send n) (Reply.SendError e) new acts = sends_response_apart {U = ℕ} answer old fits apart n
+  acts_apart old fits apart (Command.Send n) (Reply.RequestError e) new acts = sends_request_apart action old fits apart n (Err e) new acts
+  acts_apart old fits apart (Command.Send n) (Reply.Sent k) new acts = sends_response_apart action old fits apart n (Ok k) new acts.1
+  acts_apart old fits apart (Command.Send n) (Reply.SendError e) new acts = sends_response_apart {U = ℕ} action old fits apart n
       (Err e) new acts
   acts_apart old fits apart (Command.Receive n) (Reply.Active a r) new acts = receives_request_apart old fits apart n
       (Ok (Some a)) new acts.0
@@ -183,10 +183,10 @@ module _ {T H K : Type 0} (answer : K → ℕ → ℕ → BackpressureAction) (I
   -- after any step
   pub step_apart : (old : State T H T H K) → IsReached old → IsApart old
       → (command : Command T H K) (reply : Reply T H) (new : State T H T H K) →
-      Step answer IsDefaultElement IsDefaultHeader family old command reply new → IsApart new
+      Step action IsDefaultElement IsDefaultHeader family old command reply new → IsApart new
   step_apart old fits apart command reply new step = go (refusal family old command) step
     where
-      go : (o : Option (Reply T H)) → MatchOption o (Acts answer IsDefaultElement IsDefaultHeader family old command reply new)
+      go : (o : Option (Reply T H)) → MatchOption o (Acts action IsDefaultElement IsDefaultHeader family old command reply new)
           (λ refused. (reply ≡ refused) × (new ≡ old)) → IsApart new
       go None step = acts_apart old fits apart command reply new step
       go (Some refused) step = same_apart old new step.1 apart
@@ -194,10 +194,10 @@ module _ {T H K : Type 0} (answer : K → ℕ → ℕ → BackpressureAction) (I
   -- whatever is run, requests and responses stay apart
   pub run_apart : (old : State T H T H K) → IsReached old → IsApart old
       → (commands : List (Command T H K)) (replies : List (Reply T H)) (new : State T H T H K) →
-      Run answer IsDefaultElement IsDefaultHeader family old commands replies new → IsApart new
+      Run action IsDefaultElement IsDefaultHeader family old commands replies new → IsApart new
   run_apart old fits apart [] [] new run = same_apart old new run apart
   run_apart old fits apart (command ∷ commands) (reply ∷ replies) new run =
-      run_apart run.0 (step_reached answer IsDefaultElement IsDefaultHeader family old fits command reply run.0 run.1)
+      run_apart run.0 (step_reached action IsDefaultElement IsDefaultHeader family old fits command reply run.0 run.1)
       (step_apart old fits apart command reply run.0 run.1) commands replies new run.2
   run_apart old fits apart [] (reply ∷ replies) new run = absurd run
   run_apart old fits apart (command ∷ commands) [] new run = absurd run
@@ -205,11 +205,11 @@ module _ {T H K : Type 0} (answer : K → ℕ → ℕ → BackpressureAction) (I
   -- what holds of every state that a run reaches from the empty hub
   pub run_from_empty : (limits : Limits) (node_id : ℕ) → hub_refusal limits ≡ None
       → (commands : List (Command T H K)) (replies : List (Reply T H)) (s : State T H T H K) →
-      Run answer IsDefaultElement IsDefaultHeader family (empty_hub limits node_id) commands replies s → IsReached s × IsApart s
+      Run action IsDefaultElement IsDefaultHeader family (empty_hub limits node_id) commands replies s → IsReached s × IsApart s
       × (s.limits ≡ limits)
   run_from_empty limits node_id makes_hub commands replies s run =
       let start = empty_hub_reached limits node_id makes_hub in (
-        run_reached answer IsDefaultElement IsDefaultHeader family (empty_hub limits node_id) start commands replies s run,
+        run_reached action IsDefaultElement IsDefaultHeader family (empty_hub limits node_id) start commands replies s run,
         run_apart (empty_hub limits node_id) start (empty_hub_apart T H T H K limits node_id) commands replies s run,
-        run_keeps_limits answer IsDefaultElement IsDefaultHeader family (empty_hub limits node_id) commands replies s run,
+        run_keeps_limits action IsDefaultElement IsDefaultHeader family (empty_hub limits node_id) commands replies s run,
       )

@@ -1,7 +1,7 @@
 -- In a reached state a port's live messages are at most the worst case.
 use Rattle.std.proofs.Common.{ℕ, ◌+◌, ◌≤◌, subst, arith}
-use Rattle.rr_hub.specs.declared.limits.Limits.{Limits}
-use Rattle.rr_hub.specs.State.{State, empty_hub}
+use Rattle.rr_protocol.specs.declared.limits.Limits.{Limits}
+use Rattle.rr_protocol.specs.State.{State, empty_hub}
 use Rattle.rr_laws.specs.Reached.{IsReached}
 use Rattle.rr_laws.specs.Bound.{HoldsOfRuns, BoundsRequests, BoundsResponses}
 use Rattle.rr_laws.proofs.Creating.{empty_hub_reached}
@@ -29,7 +29,7 @@ module _ {T H K : Type 0} (IsDefaultElement : T → Type 0) (IsDefaultHeader : H
   -- what holds of a reached state by its own limits holds of every run
   pub of_runs : (R : Limits → State T H T H K → Type 0) → ((s : State T H T H K) → IsReached s → R s.limits s)
       → HoldsOfRuns IsDefaultElement IsDefaultHeader R
-  of_runs R holds limits node_id makes_hub answer family commands replies s run =
-      subst (λ l. R l s) (run_keeps_limits answer IsDefaultElement IsDefaultHeader family (empty_hub limits node_id) commands replies s run)
-      (holds s (run_reached answer IsDefaultElement IsDefaultHeader family (empty_hub limits node_id)
+  of_runs R holds limits node_id makes_hub action family commands replies s run =
+      subst (λ l. R l s) (run_keeps_limits action IsDefaultElement IsDefaultHeader family (empty_hub limits node_id) commands replies s run)
+      (holds s (run_reached action IsDefaultElement IsDefaultHeader family (empty_hub limits node_id)
       (empty_hub_reached limits node_id makes_hub) commands replies s run))

@@ -1,10 +1,10 @@
 -- A hub fits after a handle changed in what its message says.
 use Rattle.std.proofs.Common.{◌≡◌, ℕ, Bool, true, false, cond, List, Option, refl, sym, ◌∙◌, subst}
 use Rattle.std.specs.Prelude.{IsSomeAnd}
-use Rattle.rr_hub.specs.Messages.{Content, Handle, RequestMutUninit, RequestMut, PendingResponse, ActiveRequest, ResponseMutUninit, ResponseMut, Response, with_hint}
-use Rattle.rr_hub.specs.Writing.{with_elements, with_request_content, with_response_content, after_init}
-use Rattle.rr_hub.specs.State.{State, with_changed}
-use Rattle.rr_steps.specs.Step.{with_content, with_complete}
+use Rattle.rr_protocol.specs.Messages.{Content, Handle, RequestMutUninit, RequestMut, PendingResponse, ActiveRequest, ResponseMutUninit, ResponseMut, Response, with_hint}
+use Rattle.rr_protocol.specs.Writing.{with_elements, with_request_content, with_response_content, after_init}
+use Rattle.rr_protocol.specs.State.{State, with_changed}
+use Rattle.rr_commands.specs.Step.{with_content, with_complete}
 use Rattle.rr_laws.specs.Roles.{role_of}
 use Rattle.rr_laws.specs.Reached.{Fits, IsReached}
 use Rattle.rr_laws.proofs.RoleLaws.{roles-changed}

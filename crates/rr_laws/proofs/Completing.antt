@@ -4,9 +4,9 @@ use Rattle.std.specs.Prelude.{◌⊎◌, ◌||◌, filter, filter_map, is_some}
 use Rattle.std.specs.List.{list_any, cons_option}
 use Rattle.std.proofs.lemmas.List.{append-nil}
 use Rattle.std.proofs.lemmas.List.Folds.{list_any-append}
-use Rattle.rr_hub.specs.Ports.{Server}
-use Rattle.rr_hub.specs.State.{State, server_at, is_server_held}
-use Rattle.rr_steps.specs.AnswerRule.{Event, IsSubsequence, IsPrefix, is_active_of, sent_by, received_by, lender_of, creates_waiting, is_release, is_answer, sent_for, received_from}
+use Rattle.rr_protocol.specs.Ports.{Server}
+use Rattle.rr_protocol.specs.State.{State, server_at, is_server_value}
+use Rattle.rr_commands.specs.AnswerRule.{Event, IsSubsequence, IsPrefix, is_active_of, sent_by, received_by, lender_of, creates_waiting, is_release, is_answer, sent_for, received_from}
 use Rattle.rr_laws.specs.Reached.{IsReached}
 use Rattle.rr_laws.specs.Following.{queued, WasReceived, Follows}
 use Rattle.rr_laws.specs.Settling.{IsServing, IsNew, IsWaiting, Settles}
@@ -100,7 +100,7 @@ module _ {T H K : Type 0} {Begins : ℕ → ℕ → Type 0} {Ends : ℕ → Type
   -- what is to be said of an event: what it makes active, which server it creates, which it ends, and of the lists
   pub completes_on : ((a server p : ℕ) → is_active_of server a p event ≡ true → IsUnderWay new server p) →
       ((n : ℕ) → creates_waiting n event ≡ true → (old.next ≤ n) × (n < new.next)
-      × ((c : Server K) → server_at new n ≡ Some c → IsWaiting c) × (is_server_held new n ≡ true)) →
+      × ((c : Server K) → server_at new n ≡ Some c → IsWaiting c) × (is_server_value new n ≡ true)) →
       ((n : ℕ) → Ends n → is_release n event ≡ true) →
       (new.limits.enable_safe_overflow_for_responses ≡ false → (server p : ℕ) → creates_waiting server event ≡ true
       → received_from (history ++ event ∷ []) server p ++ queued new server p ≡ sent_for (history ++ event ∷ []) server p) →

@@ -4,11 +4,11 @@ use Rattle.std.specs.Prelude.{◌⊎◌, filter}
 use Rattle.std.specs.List.{list_any, cons_option}
 use Rattle.std.proofs.lemmas.Bool.{cases_eq}
 use Rattle.std.proofs.lemmas.List.{append-nil}
-use Rattle.rr_hub.specs.Ports.{Server}
-use Rattle.rr_hub.specs.State.{State, server_at, is_server_held}
-use Rattle.rr_steps.specs.declared.command.Command.{Command}
-use Rattle.rr_steps.specs.declared.reply.Reply.{Reply}
-use Rattle.rr_steps.specs.AnswerRule.{Event, IsPrefix, is_active_of, sent_by, received_by, creates_waiting, is_release, is_answer, sent_for, received_from}
+use Rattle.rr_protocol.specs.Ports.{Server}
+use Rattle.rr_protocol.specs.State.{State, server_at, is_server_value}
+use Rattle.rr_commands.specs.declared.command.Command.{Command}
+use Rattle.rr_commands.specs.declared.reply.Reply.{Reply}
+use Rattle.rr_commands.specs.AnswerRule.{Event, IsPrefix, is_active_of, sent_by, received_by, creates_waiting, is_release, is_answer, sent_for, received_from}
 use Rattle.rr_laws.specs.Reached.{IsReached}
 use Rattle.rr_laws.specs.Following.{queued, Moves, WasSent, Follows}
 use Rattle.rr_laws.specs.Settling.{IsServing, IsNew, IsWaiting, Settles}
@@ -35,7 +35,7 @@ module _ {T H K : Type 0} (history : List (Event T H K)) (event : Event T H K) (
       sent_by event ≡ None → ((p : ℕ) → received_by p event ≡ None)
       → ((a server p : ℕ) → is_active_of server a p event ≡ true → IsUnderWay new server p) →
       ((n : ℕ) → creates_waiting n event ≡ true → (old.next ≤ n) × (n < new.next)
-      × ((c : Server K) → server_at new n ≡ Some c → IsWaiting c) × (is_server_held new n ≡ true)) →
+      × ((c : Server K) → server_at new n ≡ Some c → IsWaiting c) × (is_server_value new n ≡ true)) →
       ((n : ℕ) → Ends n → is_release n event ≡ true) → Completes (history ++ event ∷ []) new
   completes_quietly settles moves sends receives active creates ends =
       completes_on history event old new fits completes settles limits active creates ends

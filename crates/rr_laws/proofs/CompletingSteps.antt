@@ -3,26 +3,26 @@ use Rattle.std.proofs.Common.{◌≡◌, ℕ, ◌<◌, true, false, eqb, List, [
 use Rattle.std.specs.Prelude.{find, IsSomeAnd}
 use Rattle.std.proofs.lemmas.Bool.{eq-eqb, eqb-true}
 use Rattle.rr_slots.specs.declared.family.Family.{Family}
-use Rattle.rr_hub.specs.declared.settings.BackpressureAction.{BackpressureAction}
-use Rattle.rr_hub.specs.declared.settings.ServerSettings.{ServerSettings}
-use Rattle.rr_hub.specs.declared.error.LoanError.{LoanError}
-use Rattle.rr_hub.specs.declared.error.RequestSendError.{RequestSendError}
-use Rattle.rr_hub.specs.declared.error.SendError.{SendError}
-use Rattle.rr_hub.specs.declared.error.ReceiveError.{ReceiveError}
-use Rattle.rr_hub.specs.Messages.{with_hint}
-use Rattle.rr_hub.specs.Writing.{with_element, with_element_at, with_user_header, after_init}
-use Rattle.rr_hub.specs.Ports.{Server}
-use Rattle.rr_hub.specs.State.{State, client_at, active_at, pending_at, handle_at}
-use Rattle.rr_hub.specs.Creation.{CreatesServer}
-use Rattle.rr_hub.specs.Loans.{LoansRequest, LoansResponse}
-use Rattle.rr_hub.specs.Sends.{SendsRequest, SendsResponse}
-use Rattle.rr_hub.specs.Receives.{ReceivesRequest, ReceivesResponse}
-use Rattle.rr_hub.specs.Releases.{after_release}
-use Rattle.rr_steps.specs.declared.command.Command.{Command}
-use Rattle.rr_steps.specs.declared.reply.Reply.{Reply}
-use Rattle.rr_steps.specs.Refusals.{refusal}
-use Rattle.rr_steps.specs.Step.{client_settings, server_settings, with_complete, Loans, Acts, Step}
-use Rattle.rr_steps.specs.AnswerRule.{Event, creates_waiting}
+use Rattle.rr_protocol.specs.declared.settings.BackpressureAction.{BackpressureAction}
+use Rattle.rr_protocol.specs.declared.settings.ServerSettings.{ServerSettings}
+use Rattle.rr_protocol.specs.declared.error.LoanError.{LoanError}
+use Rattle.rr_protocol.specs.declared.error.RequestSendError.{RequestSendError}
+use Rattle.rr_protocol.specs.declared.error.SendError.{SendError}
+use Rattle.rr_protocol.specs.declared.error.ReceiveError.{ReceiveError}
+use Rattle.rr_protocol.specs.Messages.{with_hint}
+use Rattle.rr_protocol.specs.Writing.{with_element, with_element_at, with_user_header, after_init}
+use Rattle.rr_protocol.specs.Ports.{Server}
+use Rattle.rr_protocol.specs.State.{State, client_at, active_at, pending_at, handle_at}
+use Rattle.rr_protocol.specs.Creation.{CreatesServer}
+use Rattle.rr_protocol.specs.Loans.{LoansRequest, LoansResponse}
+use Rattle.rr_protocol.specs.Sends.{SendsRequest, SendsResponse}
+use Rattle.rr_protocol.specs.Receives.{ReceivesRequest, ReceivesResponse}
+use Rattle.rr_protocol.specs.Releases.{after_release}
+use Rattle.rr_commands.specs.declared.command.Command.{Command}
+use Rattle.rr_commands.specs.declared.reply.Reply.{Reply}
+use Rattle.rr_commands.specs.Refusals.{refusal}
+use Rattle.rr_commands.specs.Step.{client_settings, server_settings, with_complete, Loans, Acts, Step}
+use Rattle.rr_commands.specs.AnswerRule.{Event, creates_waiting}
 use Rattle.rr_laws.specs.Reached.{IsReached}
 use Rattle.rr_laws.specs.Apart.{IsApart}
 use Rattle.rr_laws.specs.Left.{IsLeftFit}
@@ -55,7 +55,7 @@ use Rattle.rr_laws.proofs.SettlingServers.{new_server_settles, received_listed, 
 use Rattle.rr_laws.proofs.CompletingEvents.{completes_quietly, completes_sent, completes_responded}
 use Rattle.rr_laws.proofs.SettlingWrites.{SettlesQuietly, unsettled, changed_settles, complete_settles, written_settles, creates_client_settles}
 
-module _ {T H K : Type 0} (answer : K → ℕ → ℕ → BackpressureAction) (IsDefaultElement : T → Type 0) (IsDefaultHeader : H → Type 0)
+module _ {T H K : Type 0} (action : K → ℕ → ℕ → BackpressureAction) (IsDefaultElement : T → Type 0) (IsDefaultHeader : H → Type 0)
     (family : Family) (history : List (Event T H K)) (old : State T H T H K)
     (fits : IsReached old) (apart : IsApart old) (left : IsLeftFit old) (follows : Follows history old)
     (completes : Completes history old) where
@@ -115,7 +115,7 @@ module _ {T H K : Type 0} (answer : K → ℕ → ℕ → BackpressureAction) (I
 
   -- a loan
   loan : (command : Command T H K) (reply : Reply T H) (n len k : ℕ) (mid : State T H T H K) → IsLoan (command, reply) n k
-      → ((n : ℕ) → creates_waiting n (command, reply) ≡ false) → Loans answer IsDefaultElement IsDefaultHeader family old n len (Ok k) mid →
+      → ((n : ℕ) → creates_waiting n (command, reply) ≡ false) → Loans action IsDefaultElement IsDefaultHeader family old n len (Ok k) mid →
       (new : State T H T H K) → MovesQuietly mid new → Settles (IsNew old) (λ n. ⊥) (λ server p before after. after ≡ before) mid new
       → Steps command reply new → Completes (history ++ (command, reply) ∷ []) new
   loan command reply n len k mid is plain loans new moves settles steps = ⊎_elim
@@ -140,7 +140,7 @@ module _ {T H K : Type 0} (answer : K → ℕ → ℕ → BackpressureAction) (I
 
   -- a loan that is refused
   refused_settles : (n len : ℕ) (error : LoanError) (new : State T H T H K)
-      → Loans answer IsDefaultElement IsDefaultHeader family old n len (Err error) new → SettlesQuietly old new
+      → Loans action IsDefaultElement IsDefaultHeader family old n len (Err error) new → SettlesQuietly old new
   refused_settles n len error new loans = ⊎_elim
       (λ (request : LoansRequest IsDefaultHeader old n len (Err error) new). unsettled old new (some_and (client_at old n) _ request).2.1)
       (λ (response : LoansResponse IsDefaultHeader old n len (Err error) new). unsettled old new (open_active old n _ response).4.1)
@@ -149,21 +149,21 @@ module _ {T H K : Type 0} (answer : K → ℕ → ℕ → BackpressureAction) (I
   -- after a loan that is refused
   not_loaned : (command : Command T H K) (reply : Reply T H) (n len : ℕ) (error : LoanError) (new : State T H T H K)
       → IsSilent (command, reply) → ((n : ℕ) → creates_waiting n (command, reply) ≡ false) → Steps command reply new →
-      Loans answer IsDefaultElement IsDefaultHeader family old n len (Err error) new → Completes (history ++ (command, reply) ∷ []) new
+      Loans action IsDefaultElement IsDefaultHeader family old n len (Err error) new → Completes (history ++ (command, reply) ∷ []) new
   not_loaned command reply n len error new quiet plain steps loans =
-      quietly command reply new quiet plain steps (refused_loan answer IsDefaultElement IsDefaultHeader family history old fits apart
+      quietly command reply new quiet plain steps (refused_loan action IsDefaultElement IsDefaultHeader family history old fits apart
       follows n len error new loans) (refused_settles n len error new loans)
 
   -- a send of a request at once, also one that is refused
   copied_request_settles : (n k : ℕ) (v : T) (mid new : State T H T H K) (result : Result ℕ RequestSendError)
-      → LoansRequest IsDefaultHeader old n 1 (Ok k) mid → SendsRequest answer (with_complete mid k (v ∷ [])) k result new
+      → LoansRequest IsDefaultHeader old n 1 (Ok k) mid → SendsRequest action (with_complete mid k (v ∷ [])) k result new
       → SettlesQuietly old new
   copied_request_settles n k v mid new result loans sends =
       let complete = with_complete mid k (v ∷ []) in
       let number : k ≡ old.next = (loaned_request_moves {Gains = λ j role. ⊥} IsDefaultHeader old fits n 1 k mid loans).1 in
       then_settles old mid new (loaned_request_settles IsDefaultHeader old fits n 1 k mid loans)
       (then_settles mid complete new (complete_settles mid k (v ∷ []))
-      (sent_request_settles answer complete
+      (sent_request_settles action complete
       (complete_reached mid k (v ∷ []) (loans_request_reached old fits IsDefaultHeader n 1 (Ok k) mid loans))
       (complete_apart mid k (v ∷ []) (loans_request_apart IsDefaultHeader old fits apart n 1 (Ok k) mid loans))
       (loans_request_left IsDefaultHeader old left n 1 (Ok k) mid loans) k result new sends
@@ -179,37 +179,37 @@ module _ {T H K : Type 0} (answer : K → ℕ → ℕ → BackpressureAction) (I
 
   -- a loan of a response for a send at once that is refused
   not_copied_settles : (n k : ℕ) (v : T) (e : SendError) (mid new : State T H T H K) → LoansResponse IsDefaultHeader old n 1 (Ok k) mid
-      → SendsResponse {U = ℕ} answer (with_complete mid k (v ∷ [])) k (Err e) new → SettlesQuietly old new
+      → SendsResponse {U = ℕ} action (with_complete mid k (v ∷ [])) k (Err e) new → SettlesQuietly old new
   not_copied_settles n k v e mid new loans sends =
       let complete = with_complete mid k (v ∷ []) in
-      let holds = loaned_response_complete answer IsDefaultElement IsDefaultHeader family history old fits apart follows n k mid v loans in
+      let holds = loaned_response_complete action IsDefaultElement IsDefaultHeader family history old fits apart follows n k mid v loans in
       then_settles old complete new (complete_response_settles n k v mid loans)
-      (unsent_response_settles ℕ answer complete holds.0 holds.1
+      (unsent_response_settles ℕ action complete holds.0 holds.1
       (loans_response_left IsDefaultHeader old left n 1 (Ok k) mid loans) k e new sends)
 
   -- a send of a response that was on loan
-  sent : (n : ℕ) (new : State T H T H K) → Steps (Command.Send n) (Reply.Sent n) new → SendsResponse {U = ℕ} answer old n (Ok n) new
+  sent : (n : ℕ) (new : State T H T H K) → Steps (Command.Send n) (Reply.Sent n) new → SendsResponse {U = ℕ} action old n (Ok n) new
       → Completes (history ++ (Command.Send n, Reply.Sent n) ∷ []) new
   sent n new steps sends =
-      let now = sent_now answer IsDefaultElement IsDefaultHeader family history old fits apart follows n n new sends in
+      let now = sent_now action IsDefaultElement IsDefaultHeader family history old fits apart follows n n new sends in
       let m = now.0 in
-      let settled = sent_response_settles answer old fits apart left n n new sends m now.1 in
+      let settled = sent_response_settles action old fits apart left n n new sends m now.1 in
       completes_sent history (Command.Send n, Reply.Sent n) old new fits completes steps.1 follows steps.0 now.2.comes old m.server
       m.request n now.2.send now.2.sent (λ k. refl) (λ s a q. refl) settled.0 settled.1 (λ serves. serves)
       (λ made no_overflow. (no_overflow, completes.waits m.server made))
 
   -- a loan of a response and the send of it
   copied : (n k : ℕ) (v : T) (mid new : State T H T H K) → Steps (Command.SendCopy n v) (Reply.Sent k) new
-      → LoansResponse IsDefaultHeader old n 1 (Ok k) mid → SendsResponse {U = ℕ} answer (with_complete mid k (v ∷ [])) k (Ok k) new →
+      → LoansResponse IsDefaultHeader old n 1 (Ok k) mid → SendsResponse {U = ℕ} action (with_complete mid k (v ∷ [])) k (Ok k) new →
       Completes (history ++ (Command.SendCopy n v, Reply.Sent k) ∷ []) new
   copied n k v mid new steps loans sends =
       let complete = with_complete mid k (v ∷ []) in
-      let now = copied_now answer IsDefaultElement IsDefaultHeader family history old fits apart follows n k v mid new loans sends in
+      let now = copied_now action IsDefaultElement IsDefaultHeader family history old fits apart follows n k v mid new loans sends in
       let m = now.0 in
-      let holds = loaned_response_complete answer IsDefaultElement IsDefaultHeader family history old fits apart follows n k mid v loans in
-      let settled = sent_response_settles {Begins = λ s q. ⊥} {Ends = λ j. ⊥} answer complete holds.0 holds.1
+      let holds = loaned_response_complete action IsDefaultElement IsDefaultHeader family history old fits apart follows n k mid v loans in
+      let settled = sent_response_settles {Begins = λ s q. ⊥} {Ends = λ j. ⊥} action complete holds.0 holds.1
       (loans_response_left IsDefaultHeader old left n 1 (Ok k) mid loans) k k new sends m now.1 in
-      let gone = (sent_response_moves answer complete holds.0 holds.1 k k new sends).3 in
+      let gone = (sent_response_moves action complete holds.0 holds.1 k k new sends).3 in
       let before = complete_response_settles {Begins = λ s q. ⊥} n k v mid loans in
       let opened = open_active old n _ loans in
       let limits : mid.limits ≡ old.limits = ap (λ (x : State T H T H K). x.limits) opened.4.2.2 in
@@ -267,7 +267,7 @@ module _ {T H K : Type 0} (answer : K → ℕ → ℕ → BackpressureAction) (I
 
   -- after any command that acts
   pub acts_complete : (command : Command T H K) (reply : Reply T H) (new : State T H T H K) → IsApart new → Steps command reply new
-      → Acts answer IsDefaultElement IsDefaultHeader family old command reply new → Completes (history ++ (command, reply) ∷ []) new
+      → Acts action IsDefaultElement IsDefaultHeader family old command reply new → Completes (history ++ (command, reply) ∷ []) new
   acts_complete (Command.CreateClient settings) (Reply.Created n) new after steps acts =
       quietly _ _ new (silent _ _ refl) (λ k. refl) steps (creates_client_quietly old (client_settings family settings) (Ok n) new acts)
       (creates_client_settles old (client_settings family settings) (Ok n) new acts)
@@ -306,13 +306,13 @@ module _ {T H K : Type 0} (answer : K → ℕ → ℕ → BackpressureAction) (I
       (λ k. refl) steps acts
   acts_complete (Command.LoanDefault n len) Reply.NoMemory new after steps acts = kept _ _ new refl (λ k. refl) steps acts
   acts_complete (Command.SendCopy n v) (Reply.Pending k connections) new after steps acts =
-      quietly _ _ new (silent _ _ refl) (λ k. refl) steps (copied_request answer IsDefaultElement IsDefaultHeader family history old fits
+      quietly _ _ new (silent _ _ refl) (λ k. refl) steps (copied_request action IsDefaultElement IsDefaultHeader family history old fits
       apart follows n k v acts.0 new (Ok connections) acts.1 acts.2)
       (copied_request_settles n k v acts.0 new (Ok connections) acts.1 acts.2)
   acts_complete (Command.SendCopy n v) (Reply.RequestError e) new after steps acts = ⊎_elim
       (λ loaned. not_loaned _ _ n 1 loaned.0 new (silent _ _ refl) (λ k. refl) steps (inl loaned.1))
       (λ send. quietly _ _ new (silent _ _ refl) (λ k. refl) steps
-      (copied_request answer IsDefaultElement IsDefaultHeader family history old fits apart follows n send.1 v send.0 new
+      (copied_request action IsDefaultElement IsDefaultHeader family history old fits apart follows n send.1 v send.0 new
       (Err e) send.2 send.3)
       (copied_request_settles n send.1 v send.0 new (Err e) send.2 send.3))
       acts
@@ -320,7 +320,7 @@ module _ {T H K : Type 0} (answer : K → ℕ → ℕ → BackpressureAction) (I
   acts_complete (Command.SendCopy n v) (Reply.SendError e) new after steps acts = ⊎_elim
       (λ loaned. not_loaned _ _ n 1 loaned.0 new (silent _ _ refl) (λ k. refl) steps (inr loaned.1))
       (λ send. quietly _ _ new (silent _ _ refl) (λ k. refl) steps
-      (not_copied answer IsDefaultElement IsDefaultHeader family history old fits apart follows n send.1 v e send.0 new send.2 send.3)
+      (not_copied action IsDefaultElement IsDefaultHeader family history old fits apart follows n send.1 v e send.0 new send.2 send.3)
       (not_copied_settles n send.1 v e send.0 new send.2 send.3))
       acts
   acts_complete (Command.SendCopy n v) Reply.NoMemory new after steps acts = kept _ _ new refl (λ k. refl) steps acts
@@ -339,17 +339,17 @@ module _ {T H K : Type 0} (answer : K → ℕ → ℕ → BackpressureAction) (I
       (subst (λ (x : State T H T H K). SettlesQuietly old x) (sym acts) (changed_settles old n after_init init_role))
   acts_complete (Command.IsDeliverable n) (Reply.Flag b) new after steps acts = kept _ _ new refl (λ k. refl) steps acts.1
   acts_complete (Command.Send n) (Reply.Pending k connections) new after steps acts =
-      quietly _ _ new (silent _ _ refl) (λ k. refl) steps (sent_request_quietly answer old fits apart n (Ok connections) new acts.1)
-      (sent_request_settles answer old fits apart left n (Ok connections) new acts.1 (λ server q e. inr (inr (q, e))))
+      quietly _ _ new (silent _ _ refl) (λ k. refl) steps (sent_request_quietly action old fits apart n (Ok connections) new acts.1)
+      (sent_request_settles action old fits apart left n (Ok connections) new acts.1 (λ server q e. inr (inr (q, e))))
   acts_complete (Command.Send n) (Reply.RequestError e) new after steps acts =
-      quietly _ _ new (silent _ _ refl) (λ k. refl) steps (sent_request_quietly answer old fits apart n (Err e) new acts)
-      (sent_request_settles answer old fits apart left n (Err e) new acts (λ server q e. inr (inr (q, e))))
+      quietly _ _ new (silent _ _ refl) (λ k. refl) steps (sent_request_quietly action old fits apart n (Err e) new acts)
+      (sent_request_settles action old fits apart left n (Err e) new acts (λ server q e. inr (inr (q, e))))
   acts_complete (Command.Send n) (Reply.Sent k) new after steps acts =
-      subst (λ j. Steps (Command.Send n) (Reply.Sent j) new → SendsResponse {U = ℕ} answer old n (Ok j) new
+      subst (λ j. Steps (Command.Send n) (Reply.Sent j) new → SendsResponse {U = ℕ} action old n (Ok j) new
       → Completes (history ++ (Command.Send n, Reply.Sent j) ∷ []) new) (sym acts.0) (sent n new) steps acts.1
   acts_complete (Command.Send n) (Reply.SendError e) new after steps acts =
-      quietly _ _ new (silent _ _ refl) (λ k. refl) steps (unsent_response_moves ℕ answer old fits n e new acts).0
-      (unsent_response_settles ℕ answer old fits apart left n e new acts)
+      quietly _ _ new (silent _ _ refl) (λ k. refl) steps (unsent_response_moves ℕ action old fits n e new acts).0
+      (unsent_response_settles ℕ action old fits apart left n e new acts)
   acts_complete (Command.Receive n) (Reply.Active a r) new after steps acts = received n a r new steps acts.0 acts.1
   acts_complete (Command.Receive n) (Reply.Response k) new after steps acts = responded n k new after steps acts
   acts_complete (Command.Receive n) Reply.Nothing new after steps acts = ⊎_elim
@@ -386,11 +386,11 @@ module _ {T H K : Type 0} (answer : K → ℕ → ℕ → BackpressureAction) (I
 
   -- after any step
   pub step_completes : (command : Command T H K) (reply : Reply T H) (new : State T H T H K) → IsApart new → Steps command reply new
-      → Step answer IsDefaultElement IsDefaultHeader family old command reply new → Completes (history ++ (command, reply) ∷ []) new
+      → Step action IsDefaultElement IsDefaultHeader family old command reply new → Completes (history ++ (command, reply) ∷ []) new
   step_completes command reply new after steps step = go (refusal family old command) refl step
     where
       go : (o : Option (Reply T H)) → refusal family old command ≡ o
-          → MatchOption o (Acts answer IsDefaultElement IsDefaultHeader family old command reply new)
+          → MatchOption o (Acts action IsDefaultElement IsDefaultHeader family old command reply new)
           (λ refused. (reply ≡ refused) × (new ≡ old)) → Completes (history ++ (command, reply) ∷ []) new
       go None due step = acts_complete command reply new after steps step
       go (Some refused) due step =

@@ -4,14 +4,14 @@ use Rattle.std.specs.Prelude.{◌≢◌, find, filter, is_some}
 use Rattle.std.specs.List.{AllByRecursion}
 use Rattle.std.specs.FinMap.{get}
 use Rattle.std.proofs.lemmas.Bool.{ne_eqb, eqb-true}
-use Rattle.rr_hub.specs.declared.limits.Limits.{Limits}
-use Rattle.rr_hub.specs.Lists.{Lists, at}
-use Rattle.rr_hub.specs.Keys.{RequestKey, request_key_cmp}
-use Rattle.rr_hub.specs.Messages.{RequestMessage}
-use Rattle.rr_hub.specs.Ports.{Client, Server}
+use Rattle.rr_protocol.specs.declared.limits.Limits.{Limits}
+use Rattle.rr_protocol.specs.Lists.{Lists, at}
+use Rattle.rr_protocol.specs.Keys.{RequestKey, request_key_cmp}
+use Rattle.rr_protocol.specs.Messages.{RequestMessage}
+use Rattle.rr_protocol.specs.Ports.{Client, Server}
 use Rattle.rr_laws.specs.Roles.{Role, LoanedRequest, SentRequest, ReceivedRequest, LoanedResponse, ReceivedResponse, Roles}
 use Rattle.rr_laws.specs.Reached.{has_client, has_server, has_port, HandlesFit, RequestFits, RequestsFit}
-use Rattle.rr_table.proofs.ListFacts.{all_each, all_found, passes_found, find-append, find-gone, find-changed}
+use Rattle.rr_maps.proofs.ListFacts.{all_each, all_found, passes_found, find-append, find-gone, find-changed}
 
 module _ {X : Type 0} (id : X → ℕ) where
   -- who was there is there after one more came

@@ -3,11 +3,11 @@ use Rattle.std.proofs.Common.{◌≡◌, ℕ, ◌+◌, ◌<◌, ◌≤◌, Bool,
 use Rattle.std.specs.Prelude.{find}
 use Rattle.std.specs.FinMap.{insert, remove}
 use Rattle.std.proofs.lemmas.Bool.{eqb-true}
-use Rattle.rr_table.specs.Maps.{mark, tally}
-use Rattle.rr_hub.specs.declared.limits.Limits.{Limits}
-use Rattle.rr_hub.specs.Limits.{max_loaned_responses}
-use Rattle.rr_hub.specs.Keys.{RequestKey, ResponseKey, request_key}
-use Rattle.rr_hub.specs.Ports.{Server}
+use Rattle.rr_maps.specs.Maps.{mark, tally}
+use Rattle.rr_protocol.specs.declared.limits.Limits.{Limits}
+use Rattle.rr_protocol.specs.Limits.{max_loaned_responses}
+use Rattle.rr_protocol.specs.Keys.{RequestKey, ResponseKey, request_key}
+use Rattle.rr_protocol.specs.Ports.{Server}
 use Rattle.rr_laws.specs.Roles.{Question, Answer, LoanedRequest, SentRequest, ReceivedRequest, LoanedResponse, ReceivedResponse, Roles, loans_request, waits, holds_request, loans_response, holds_response}
 use Rattle.rr_laws.specs.Reached.{CountsFit}
 use Rattle.rr_laws.proofs.RoleLaws.{tally-more, tally-less}

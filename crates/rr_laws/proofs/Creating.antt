@@ -4,26 +4,26 @@ use Rattle.std.specs.Prelude.{◌⊎◌, find, is_some}
 use Rattle.std.specs.FinMap.{get, get-empty, empty}
 use Rattle.std.specs.Ordering.{nat_cmp}
 use Rattle.std.specs.Cmp.{nat_cmp_total}
-use Rattle.rr_hub.specs.declared.error.ClientCreateError.{ClientCreateError}
-use Rattle.rr_hub.specs.declared.error.ServerCreateError.{ServerCreateError}
+use Rattle.rr_protocol.specs.declared.error.ClientCreateError.{ClientCreateError}
+use Rattle.rr_protocol.specs.declared.error.ServerCreateError.{ServerCreateError}
 use Rattle.std.proofs.lemmas.List.{length-append}
 use Rattle.std.proofs.lemmas.Bool.{eqb-true, ne_eqb}
-use Rattle.rr_table.specs.Maps.{tally}
-use Rattle.rr_table.proofs.MapLaws.{tally-empty, map_values-empty}
-use Rattle.rr_hub.specs.declared.limits.Limits.{Limits}
-use Rattle.rr_hub.specs.declared.settings.ClientSettings.{ClientSettings}
-use Rattle.rr_hub.specs.declared.settings.ServerSettings.{ServerSettings}
-use Rattle.rr_hub.specs.Limits.{worst_case_requests, worst_case_responses, hub_refusal}
-use Rattle.rr_hub.specs.Lists.{no_lists}
-use Rattle.rr_hub.specs.Ports.{Client, Server}
-use Rattle.rr_hub.specs.State.{State, empty_hub}
-use Rattle.rr_hub.specs.Creation.{pool_size_of, loans_of, client_refusal, with_client, CreatesClient, server_refusal, with_server, CreatesServer}
-use Rattle.rr_hub.proofs.ListsLaws.{at-no_lists}
+use Rattle.rr_maps.specs.Maps.{tally}
+use Rattle.rr_maps.proofs.MapLaws.{tally-empty, map_values-empty}
+use Rattle.rr_protocol.specs.declared.limits.Limits.{Limits}
+use Rattle.rr_protocol.specs.declared.settings.ClientSettings.{ClientSettings}
+use Rattle.rr_protocol.specs.declared.settings.ServerSettings.{ServerSettings}
+use Rattle.rr_protocol.specs.Limits.{worst_case_requests, worst_case_responses, hub_refusal}
+use Rattle.rr_protocol.specs.Lists.{no_lists}
+use Rattle.rr_protocol.specs.Ports.{Client, Server}
+use Rattle.rr_protocol.specs.State.{State, empty_hub}
+use Rattle.rr_protocol.specs.Creation.{pool_size_of, loans_of, client_refusal, with_client, CreatesClient, server_refusal, with_server, CreatesServer}
+use Rattle.rr_protocol.proofs.ListsLaws.{at-no_lists}
 use Rattle.rr_laws.specs.Roles.{Role, LoanedRequest, SentRequest, ReceivedRequest, LoanedResponse, ReceivedResponse, role_of, roles_of, loans_response}
 use Rattle.rr_laws.specs.Reached.{has_port, Fits, IsReached}
-use Rattle.rr_table.proofs.ListFacts.{all_append, find-append}
-use Rattle.rr_table.proofs.MapFacts.{all_entries}
-use Rattle.rr_table.proofs.Counting.{count-none}
+use Rattle.rr_maps.proofs.ListFacts.{all_append, find-append}
+use Rattle.rr_maps.proofs.MapFacts.{all_entries}
+use Rattle.rr_maps.proofs.Counting.{count-none}
 use Rattle.rr_laws.proofs.Staying.{role_stays, requests_stay, responses_stay, ports_with_more}
 use Rattle.rr_laws.proofs.Connected.{has-append, has_below, port_number, port_stays, handles_with_ports, requests_with_servers}
 use Rattle.rr_laws.proofs.Tests.{not_due, below_of_test, positive}
@@ -64,7 +64,7 @@ module _ {Q QH P PH K : Type 0} where
 -- a pool's size is never above the worst case
 pub pool_size_le : (worst : ℕ) (pool : Option ℕ) → 0 < worst → pool_size_of worst pool ≤ worst
 pool_size_le worst None some = omega arith
-pool_size_le worst (Some answer) some = omega arith
+pool_size_le worst (Some size) some = omega arith
 
 module _ {Q QH P PH K : Type 0} (s : State Q QH P PH K) (fits : IsReached s) where
   more : s.next ≤ s.next + 1
@@ -88,7 +88,7 @@ module _ {Q QH P PH K : Type 0} (s : State Q QH P PH K) (fits : IsReached s) whe
           allocation_strategy = settings.allocation_strategy;
           initial_max_slice_len = settings.initial_max_slice_len;
           pool_size = pool_size_of (worst_case_requests s.limits) settings.pool;
-          is_held = true;
+          has_value = true;
         };
         loans_made = 0;
       } in
@@ -140,7 +140,7 @@ module _ {Q QH P PH K : Type 0} (s : State Q QH P PH K) (fits : IsReached s) whe
           allocation_strategy = settings.allocation_strategy;
           initial_max_slice_len = settings.initial_max_slice_len;
           pool_size = pool_size_of (worst_case_responses s.limits (loans_of settings)) settings.pool;
-          is_held = true;
+          has_value = true;
         };
         max_loaned_responses_per_request = loans_of settings;
       }

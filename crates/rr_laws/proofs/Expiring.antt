@@ -4,12 +4,12 @@ use Rattle.std.specs.Prelude.{fold}
 use Rattle.std.specs.List.{list_any}
 use Rattle.std.specs.Ordering.{nat_cmp}
 use Rattle.std.specs.FinMap as fin_map
-use Rattle.rr_hub.specs.Lists.{Lists, at, with_at}
-use Rattle.rr_hub.specs.Keys.{RequestKey, ResponseKey, request_key_cmp, response_key_cmp}
-use Rattle.rr_hub.specs.Messages.{RequestMessage, ResponseMessage}
-use Rattle.rr_hub.specs.State.{State}
-use Rattle.rr_hub.specs.Releases.{outdated_senders, kept_senders, has_responses_from, has_requests_from, room_for_expired_clients, with_expired_client, with_expired_server}
-use Rattle.rr_hub.proofs.KeyLaws.{request_keys_total, request_keys_exact, response_keys_total, response_keys_exact}
+use Rattle.rr_protocol.specs.Lists.{Lists, at, with_at}
+use Rattle.rr_protocol.specs.Keys.{RequestKey, ResponseKey, request_key_cmp, response_key_cmp}
+use Rattle.rr_protocol.specs.Messages.{RequestMessage, ResponseMessage}
+use Rattle.rr_protocol.specs.State.{State}
+use Rattle.rr_protocol.specs.Releases.{outdated_senders, kept_senders, has_responses_from, has_requests_from, room_for_expired_clients, with_expired_client, with_expired_server}
+use Rattle.rr_protocol.proofs.KeyLaws.{request_keys_total, request_keys_exact, response_keys_total, response_keys_exact}
 use Rattle.rr_laws.specs.Roles.{roles_of}
 use Rattle.rr_laws.specs.Reached.{RequestsFit, ResponsesFit, Fits, IsReached}
 use Rattle.rr_laws.proofs.Staying.{requests_shrink, responses_shrink}

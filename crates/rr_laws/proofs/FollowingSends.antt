@@ -5,13 +5,13 @@ use Rattle.std.specs.List.{AllByRecursion, cons_option}
 use Rattle.std.specs.FinMap.{get}
 use Rattle.std.proofs.lemmas.Bool.{cases_eq, eq-eqb, ne_eqb}
 use Rattle.std.proofs.lemmas.List.{append-nil}
-use Rattle.rr_hub.specs.State.{State}
-use Rattle.rr_steps.specs.declared.command.Command.{Command}
-use Rattle.rr_steps.specs.declared.reply.Reply.{Reply}
-use Rattle.rr_steps.specs.AnswerRule.{Event, IsSubsequence, is_answer, sent_for, received_from}
+use Rattle.rr_protocol.specs.State.{State}
+use Rattle.rr_commands.specs.declared.command.Command.{Command}
+use Rattle.rr_commands.specs.declared.reply.Reply.{Reply}
+use Rattle.rr_commands.specs.AnswerRule.{Event, IsSubsequence, is_answer, sent_for, received_from}
 use Rattle.rr_laws.specs.Roles.{Question, ReceivedRequest, LoanedResponse, Answer, roles_of}
 use Rattle.rr_laws.specs.Following.{queued, Moves, WasReceived, WasSent, Follows}
-use Rattle.rr_table.proofs.ListFacts.{all_append, all_drop}
+use Rattle.rr_maps.proofs.ListFacts.{all_append, all_drop}
 use Rattle.rr_laws.proofs.Occurring.{subsequence_then, subsequence_of, subsequence_dropped}
 use Rattle.rr_laws.proofs.Growing.{EventFits, loaned_below, loaned_answers, loaned_answers_one, received_now, all_sent_later, answer-grown, sent_for-grown, received_from-grown}
 use Rattle.rr_laws.proofs.Coming.{said_of_another, IsSend, received_comes, responded_comes}

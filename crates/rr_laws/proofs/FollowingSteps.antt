@@ -4,25 +4,25 @@ use Rattle.std.specs.Prelude.{◌⊎◌, ◌≢◌}
 use Rattle.std.specs.FinMap.{get}
 use Rattle.std.proofs.lemmas.Bool.{eq-eqb}
 use Rattle.rr_slots.specs.declared.family.Family.{Family}
-use Rattle.rr_hub.specs.declared.settings.BackpressureAction.{BackpressureAction}
-use Rattle.rr_hub.specs.declared.settings.ClientSettings.{ClientSettings}
-use Rattle.rr_hub.specs.declared.settings.ServerSettings.{ServerSettings}
-use Rattle.rr_hub.specs.declared.error.ClientCreateError.{ClientCreateError}
-use Rattle.rr_hub.specs.declared.error.ServerCreateError.{ServerCreateError}
-use Rattle.rr_hub.specs.declared.error.LoanError.{LoanError}
-use Rattle.rr_hub.specs.declared.error.RequestSendError.{RequestSendError}
-use Rattle.rr_hub.specs.declared.error.SendError.{SendError}
-use Rattle.rr_hub.specs.Messages.{Content, ResponseMessage, Handle, ResponseMut, with_hint}
-use Rattle.rr_hub.specs.Writing.{with_element, with_element_at, with_user_header, with_elements, with_request_content, with_response_content, after_init}
-use Rattle.rr_hub.specs.State.{State, client_at, handle_at, with_changed}
-use Rattle.rr_hub.specs.Creation.{CreatesClient, CreatesServer}
-use Rattle.rr_hub.specs.Loans.{LoansRequest, LoansResponse}
-use Rattle.rr_hub.specs.Sends.{SendsRequest, SendsResponse}
-use Rattle.rr_steps.specs.declared.command.Command.{Command}
-use Rattle.rr_steps.specs.declared.reply.Reply.{Reply}
-use Rattle.rr_steps.specs.Refusals.{refusal}
-use Rattle.rr_steps.specs.Step.{client_settings, server_settings, with_content, with_complete, Loans, Acts, Step}
-use Rattle.rr_steps.specs.AnswerRule.{Event, is_active, is_loan, is_sent, is_sent_copy}
+use Rattle.rr_protocol.specs.declared.settings.BackpressureAction.{BackpressureAction}
+use Rattle.rr_protocol.specs.declared.settings.ClientSettings.{ClientSettings}
+use Rattle.rr_protocol.specs.declared.settings.ServerSettings.{ServerSettings}
+use Rattle.rr_protocol.specs.declared.error.ClientCreateError.{ClientCreateError}
+use Rattle.rr_protocol.specs.declared.error.ServerCreateError.{ServerCreateError}
+use Rattle.rr_protocol.specs.declared.error.LoanError.{LoanError}
+use Rattle.rr_protocol.specs.declared.error.RequestSendError.{RequestSendError}
+use Rattle.rr_protocol.specs.declared.error.SendError.{SendError}
+use Rattle.rr_protocol.specs.Messages.{Content, ResponseMessage, Handle, ResponseMut, with_hint}
+use Rattle.rr_protocol.specs.Writing.{with_element, with_element_at, with_user_header, with_elements, with_request_content, with_response_content, after_init}
+use Rattle.rr_protocol.specs.State.{State, client_at, handle_at, with_changed}
+use Rattle.rr_protocol.specs.Creation.{CreatesClient, CreatesServer}
+use Rattle.rr_protocol.specs.Loans.{LoansRequest, LoansResponse}
+use Rattle.rr_protocol.specs.Sends.{SendsRequest, SendsResponse}
+use Rattle.rr_commands.specs.declared.command.Command.{Command}
+use Rattle.rr_commands.specs.declared.reply.Reply.{Reply}
+use Rattle.rr_commands.specs.Refusals.{refusal}
+use Rattle.rr_commands.specs.Step.{client_settings, server_settings, with_content, with_complete, Loans, Acts, Step}
+use Rattle.rr_commands.specs.AnswerRule.{Event, is_active, is_loan, is_sent, is_sent_copy}
 use Rattle.rr_laws.specs.Roles.{Role, LoanedResponse, Answer, role_of, roles_of, answer_of}
 use Rattle.rr_laws.specs.Reached.{IsReached}
 use Rattle.rr_laws.specs.Apart.{IsApart}
@@ -115,7 +115,7 @@ module _ {T H K : Type 0} where
             ∙ loaned_response_same IsDefault old fits n 1 k mid loans server p) (moves.entries server p);
       }
 
-module _ {T H K : Type 0} (answer : K → ℕ → ℕ → BackpressureAction) (IsDefaultElement : T → Type 0) (IsDefaultHeader : H → Type 0)
+module _ {T H K : Type 0} (action : K → ℕ → ℕ → BackpressureAction) (IsDefaultElement : T → Type 0) (IsDefaultHeader : H → Type 0)
     (family : Family) (history : List (Event T H K)) (old : State T H T H K)
     (fits : IsReached old) (apart : IsApart old) (follows : Follows history old) where
   -- after an event that tells nothing
@@ -125,7 +125,7 @@ module _ {T H K : Type 0} (answer : K → ℕ → ℕ → BackpressureAction) (I
 
   -- a loan of a request or of a response
   loan : (event : Event T H K) (n len k : ℕ) (mid : State T H T H K) → IsLoan event n k
-      → Loans answer IsDefaultElement IsDefaultHeader family old n len (Ok k) mid → (new : State T H T H K) → MovesQuietly mid new
+      → Loans action IsDefaultElement IsDefaultHeader family old n len (Ok k) mid → (new : State T H T H K) → MovesQuietly mid new
       → Follows (history ++ event ∷ []) new
   loan event n len k mid is loans new then = ⊎_elim
       (λ request.
@@ -140,7 +140,7 @@ module _ {T H K : Type 0} (answer : K → ℕ → ℕ → BackpressureAction) (I
 
   -- a loan that is refused
   pub refused_loan : (n len : ℕ) (error : LoanError) (new : State T H T H K)
-      → Loans answer IsDefaultElement IsDefaultHeader family old n len (Err error) new → MovesQuietly old new
+      → Loans action IsDefaultElement IsDefaultHeader family old n len (Err error) new → MovesQuietly old new
   refused_loan n len error new loans = ⊎_elim
       (λ (request : LoansRequest IsDefaultHeader old n len (Err error) new). unmoved old new (some_and (client_at old n) _ request).2.1)
       (λ (response : LoansResponse IsDefaultHeader old n len (Err error) new). unmoved old new (open_active old n _ response).4.1)
@@ -159,11 +159,11 @@ module _ {T H K : Type 0} (answer : K → ℕ → ℕ → BackpressureAction) (I
   sends event new server p k now = follows_sent history event old new follows server p k now.send now.comes now.sent now.moves
 
   -- a response that was on loan
-  pub sent_now : (n : ℕ) {U : Type 0} (u : U) (new : State T H T H K) → SendsResponse answer old n (Ok u) new →
+  pub sent_now : (n : ℕ) {U : Type 0} (u : U) (new : State T H T H K) → SendsResponse action old n (Ok u) new →
       (m : ResponseMessage T H) × (handle_at old n ≡ Some (ResponseMut m))
       × SendsNow (Command.Send n, Reply.Sent n) new m.server m.request n
   sent_now n u new sends =
-      let s = sent_response_moves answer old fits apart n u new sends in
+      let s = sent_response_moves action old fits apart n u new sends in
       let m = s.0 in
       let here = role_at old.handles n (ResponseMut m) s.1 in
       let was = follows.loaned n (answer_of m) here in (
@@ -192,13 +192,13 @@ module _ {T H K : Type 0} (answer : K → ℕ → ℕ → BackpressureAction) (I
 
   -- a response that is loaned and sent at once
   pub copied_now : (n k : ℕ) (v : T) (mid new : State T H T H K) → LoansResponse IsDefaultHeader old n 1 (Ok k) mid
-      → SendsResponse answer (with_complete mid k (v ∷ [])) k (Ok k) new →
+      → SendsResponse action (with_complete mid k (v ∷ [])) k (Ok k) new →
       (m : ResponseMessage T H) × (handle_at (with_complete mid k (v ∷ [])) k ≡ Some (ResponseMut m))
       × SendsNow (Command.SendCopy n v, Reply.Sent k) new m.server m.request k
   copied_now n k v mid new loans sends =
       let complete = with_complete mid k (v ∷ []) in
       let holds = loaned_response_complete n k mid v loans in
-      let s = sent_response_moves answer complete holds.0 holds.1 k k new sends in
+      let s = sent_response_moves action complete holds.0 holds.1 k k new sends in
       let m = s.0 in
       let loaned = loaned_response_moves IsDefaultHeader old fits history follows.held n 1 k mid loans in
       let is : k ≡ old.next = loaned.1 in
@@ -231,27 +231,27 @@ module _ {T H K : Type 0} (answer : K → ℕ → ℕ → BackpressureAction) (I
 
   -- a send at once that is refused
   pub not_copied : (n k : ℕ) (v : T) (e : SendError) (mid new : State T H T H K) → LoansResponse IsDefaultHeader old n 1 (Ok k) mid
-      → SendsResponse {U = ℕ} answer (with_complete mid k (v ∷ [])) k (Err e) new → MovesQuietly old new
+      → SendsResponse {U = ℕ} action (with_complete mid k (v ∷ [])) k (Err e) new → MovesQuietly old new
   not_copied n k v e mid new loans sends =
       let holds = loaned_response_complete n k mid v loans in
-      let s = unsent_response_moves ℕ answer (with_complete mid k (v ∷ [])) holds.0 k e new sends in
+      let s = unsent_response_moves ℕ action (with_complete mid k (v ∷ [])) holds.0 k e new sends in
       copy_moves history IsDefaultHeader old fits follows n k mid new (v ∷ []) loans s.0 s.1
 
   -- a send of a request at once, also one that is refused
   pub copied_request : (n k : ℕ) (v : T) (mid new : State T H T H K) (result : Result ℕ RequestSendError)
-      → LoansRequest IsDefaultHeader old n 1 (Ok k) mid → SendsRequest answer (with_complete mid k (v ∷ [])) k result new
+      → LoansRequest IsDefaultHeader old n 1 (Ok k) mid → SendsRequest action (with_complete mid k (v ∷ [])) k result new
       → MovesQuietly old new
   copied_request n k v mid new result loans sends =
       let complete = with_complete mid k (v ∷ []) in
       let moved = loaned_request_moves {Gains = λ j role. ⊥} IsDefaultHeader old fits n 1 k mid loans in
       then_quietly old mid new moved.0 (then_quietly mid complete new (complete_quietly mid k (v ∷ []))
-      (sent_request_quietly answer complete
+      (sent_request_quietly action complete
       (complete_reached mid k (v ∷ []) (loans_request_reached old fits IsDefaultHeader n 1 (Ok k) mid loans))
       (complete_apart mid k (v ∷ []) (loans_request_apart IsDefaultHeader old fits apart n 1 (Ok k) mid loans)) k result new sends))
 
   -- after any command that acts
   pub acts_follow : (command : Command T H K) (reply : Reply T H) (new : State T H T H K) → IsApart new
-      → Acts answer IsDefaultElement IsDefaultHeader family old command reply new → Follows (history ++ (command, reply) ∷ []) new
+      → Acts action IsDefaultElement IsDefaultHeader family old command reply new → Follows (history ++ (command, reply) ∷ []) new
   acts_follow (Command.CreateClient settings) (Reply.Created n) new after acts = quietly _ _ new (silent _ _ refl)
       (creates_client_quietly old (client_settings family settings) (Ok n) new acts)
   acts_follow (Command.CreateClient settings) (Reply.ClientError e) new after acts = quietly _ _ new (silent _ _ refl)
@@ -309,15 +309,15 @@ module _ {T H K : Type 0} (answer : K → ℕ → ℕ → BackpressureAction) (I
       (subst (λ (x : State T H T H K). MovesQuietly old x) (sym acts) (changed_quietly old n after_init init_role))
   acts_follow (Command.IsDeliverable n) (Reply.Flag b) new after acts = quietly _ _ new (silent _ _ refl) (unmoved old new acts.1)
   acts_follow (Command.Send n) (Reply.Pending k connections) new after acts = quietly _ _ new (silent _ _ refl)
-      (sent_request_quietly answer old fits apart n (Ok connections) new acts.1)
+      (sent_request_quietly action old fits apart n (Ok connections) new acts.1)
   acts_follow (Command.Send n) (Reply.RequestError e) new after acts = quietly _ _ new (silent _ _ refl)
-      (sent_request_quietly answer old fits apart n (Err e) new acts)
+      (sent_request_quietly action old fits apart n (Err e) new acts)
   acts_follow (Command.Send n) (Reply.Sent k) new after acts =
       let now = sent_now n k new acts.1 in
       subst (λ j. Follows (history ++ (Command.Send n, Reply.Sent j) ∷ []) new) (sym acts.0)
       (sends _ new now.0.server now.0.request n now.2)
   acts_follow (Command.Send n) (Reply.SendError e) new after acts = quietly _ _ new (silent _ _ refl)
-      (unsent_response_moves ℕ answer old fits n e new acts).0
+      (unsent_response_moves ℕ action old fits n e new acts).0
   acts_follow (Command.Receive n) (Reply.Active a r) new after acts =
       let moved = received_request_moves old n a r new acts.0 acts.1 in
       follows_received history old new follows n a r moved.1 moved.2 moved.0
@@ -350,11 +350,11 @@ module _ {T H K : Type 0} (answer : K → ℕ → ℕ → BackpressureAction) (I
 
   -- after any step
   pub step_follows : (command : Command T H K) (reply : Reply T H) (new : State T H T H K) → IsApart new
-      → Step answer IsDefaultElement IsDefaultHeader family old command reply new → Follows (history ++ (command, reply) ∷ []) new
+      → Step action IsDefaultElement IsDefaultHeader family old command reply new → Follows (history ++ (command, reply) ∷ []) new
   step_follows command reply new after step = go (refusal family old command) refl step
     where
       go : (o : Option (Reply T H)) → refusal family old command ≡ o
-          → MatchOption o (Acts answer IsDefaultElement IsDefaultHeader family old command reply new)
+          → MatchOption o (Acts action IsDefaultElement IsDefaultHeader family old command reply new)
           (λ refused. (reply ≡ refused) × (new ≡ old)) → Follows (history ++ (command, reply) ∷ []) new
       go None due step = acts_follow command reply new after step
       go (Some refused) due step = quietly command reply new

@@ -7,21 +7,21 @@ use Rattle.std.specs.FinMap as fin_map
 use Rattle.std.specs.FinMap.{get, entries}
 use Rattle.std.proofs.lemmas.Bool.{eq-eqb, eqb-false}
 use Rattle.std.proofs.lemmas.List.{length-map}
-use Rattle.rr_table.specs.Maps.{tally}
-use Rattle.rr_hub.specs.Limits.{max_loaned_responses}
-use Rattle.rr_hub.specs.Lists.{at, with_at}
-use Rattle.rr_hub.specs.Keys.{RequestKey}
-use Rattle.rr_hub.specs.Messages.{Handle, RequestMutUninit, RequestMut, PendingResponse, ActiveRequest, ResponseMutUninit, ResponseMut, Response, port_of}
-use Rattle.rr_hub.specs.Ports.{Port, Client, Server}
-use Rattle.rr_hub.specs.State.{State, all_handles, client_at, handle_at, is_client_held, is_server_held}
-use Rattle.rr_hub.specs.Counts.{is_in_use}
-use Rattle.rr_hub.specs.Releases.{without_value, without_server, after_client_left, after_server_left, without_unused_port, without_port_value, map_handles, after_release, after_handle_gone}
-use Rattle.rr_hub.proofs.KeyLaws.{request_keys_total, request_keys_exact}
-use Rattle.rr_hub.proofs.ListsLaws.{at-retain_keys}
+use Rattle.rr_maps.specs.Maps.{tally}
+use Rattle.rr_protocol.specs.Limits.{max_loaned_responses}
+use Rattle.rr_protocol.specs.Lists.{at, with_at}
+use Rattle.rr_protocol.specs.Keys.{RequestKey}
+use Rattle.rr_protocol.specs.Messages.{Handle, RequestMutUninit, RequestMut, PendingResponse, ActiveRequest, ResponseMutUninit, ResponseMut, Response, port_of}
+use Rattle.rr_protocol.specs.Ports.{Port, Client, Server}
+use Rattle.rr_protocol.specs.State.{State, all_handles, client_at, handle_at, is_client_value, is_server_value}
+use Rattle.rr_protocol.specs.Counts.{is_in_use}
+use Rattle.rr_protocol.specs.Releases.{without_value, without_server, after_client_left, after_server_left, without_unused_port, without_port_value, map_handles, after_release, after_handle_gone}
+use Rattle.rr_protocol.proofs.KeyLaws.{request_keys_total, request_keys_exact}
+use Rattle.rr_protocol.proofs.ListsLaws.{at-retain_keys}
 use Rattle.rr_laws.specs.Roles.{Role, role_of, roles_of, loans_response}
 use Rattle.rr_laws.specs.Reached.{RequestFits, RequestsFit, Fits, IsReached}
-use Rattle.rr_table.proofs.MapFacts.{any_value}
-use Rattle.rr_table.proofs.ListFacts.{any-map, all_filter, all_map, length-filter_le, find-gone, find-changed}
+use Rattle.rr_maps.proofs.MapFacts.{any_value}
+use Rattle.rr_maps.proofs.ListFacts.{any-map, all_filter, all_map, length-filter_le, find-gone, find-changed}
 use Rattle.rr_laws.proofs.RoleLaws.{handle_of, roles-map_handles}
 use Rattle.rr_laws.proofs.Connected.{port_number, port_stays, has-gone, has-changed, handles_with_ports, request_with_servers, requests_with_servers}
 use Rattle.rr_laws.proofs.Releasing.{without_server-role, handle_gone_reached}
@@ -46,11 +46,11 @@ module _ {Q QH P PH : Type 0} where
 module _ {K : Type 0} (n : ℕ) where
   -- a port without its value has its number
   pub without_value_id : (port : Port K) → (without_value n port).id ≡ port.id
-  without_value_id port = elim (eqb port.id n) as (λ b. (cond b (record port { is_held = false }) port).id ≡ port.id)
+  without_value_id port = elim (eqb port.id n) as (λ b. (cond b (record port { has_value = false }) port).id ≡ port.id)
       [ true ↦ refl | false ↦ refl ]
 
   without_value_pool : (port : Port K) → (without_value n port).pool_size ≡ port.pool_size
-  without_value_pool port = elim (eqb port.id n) as (λ b. (cond b (record port { is_held = false }) port).pool_size ≡ port.pool_size)
+  without_value_pool port = elim (eqb port.id n) as (λ b. (cond b (record port { has_value = false }) port).pool_size ≡ port.pool_size)
       [ true ↦ refl | false ↦ refl ]
 
   client_without : Client K → Client K
@@ -73,7 +73,7 @@ module _ {Q QH P PH K : Type 0} where
       let found : list_any (λ x. eqb (port_of x) port) (all_handles s) ≡ true =
       any-map (λ (x : ℕ × Handle Q QH P PH). x.1) (λ x. eqb (port_of x) port) (entries s.handles)
       ∙ any_value (λ x. eqb (port_of x) port) s.handles n h.0 h.1 (eq-eqb _ _ its) in
-      absurd (let t : true ≡ false = sym found ∙ or_no (is_client_held s port || is_server_held s port) _ unused in cc)
+      absurd (let t : true ≡ false = sym found ∙ or_no (is_client_value s port || is_server_value s port) _ unused in cc)
 
   client_left_fits : (s : State Q QH P PH K) (client : ℕ) → IsReached s → is_in_use s client ≡ false →
       Fits s.limits (filter (λ c. not (eqb c.id client)) s.clients) s.servers (roles_of s.handles) s.requests

@@ -6,14 +6,14 @@ use Rattle.std.specs.Ordering.{nat_cmp}
 use Rattle.std.specs.Cmp.{nat_cmp_total}
 use Rattle.std.specs.FinMap.{nat_cmp-IsAntisymmetric}
 use Rattle.std.proofs.lemmas.Bool.{eq-eqb, ne_eqb, eqb-true}
-use Rattle.rr_hub.specs.declared.limits.Limits.{Limits}
-use Rattle.rr_hub.specs.Lists.{Lists, at, with_at}
-use Rattle.rr_hub.specs.Ports.{Client, Server}
-use Rattle.rr_hub.specs.State.{State}
-use Rattle.rr_hub.specs.Releases.{has_responses_from, has_requests_from, kept_senders, room_for_expired_clients, with_expired_client, with_expired_server}
+use Rattle.rr_protocol.specs.declared.limits.Limits.{Limits}
+use Rattle.rr_protocol.specs.Lists.{Lists, at, with_at}
+use Rattle.rr_protocol.specs.Ports.{Client, Server}
+use Rattle.rr_protocol.specs.State.{State}
+use Rattle.rr_protocol.specs.Releases.{has_responses_from, has_requests_from, kept_senders, room_for_expired_clients, with_expired_client, with_expired_server}
 use Rattle.rr_laws.specs.Reached.{has_server, PortsFit}
 use Rattle.rr_laws.specs.Left.{IsGone, LeftFit}
-use Rattle.rr_table.proofs.ListFacts.{all_each, all_append, all_drop, find-append, find-gone, find-changed}
+use Rattle.rr_maps.proofs.ListFacts.{all_each, all_append, all_drop, find-append, find-gone, find-changed}
 use Rattle.rr_laws.proofs.Connected.{has_below}
 use Rattle.rr_laws.proofs.Putting.{each_list_with}
 

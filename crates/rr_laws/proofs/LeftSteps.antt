@@ -6,25 +6,25 @@ use Rattle.std.specs.Option.{option_map_or}
 use Rattle.std.specs.Cmp.{nat_cmp_total}
 use Rattle.std.specs.FinMap as fin_map
 use Rattle.std.specs.FinMap.{nat_cmp-IsAntisymmetric, remove}
-use Rattle.rr_hub.specs.declared.settings.BackpressureAction.{BackpressureAction}
-use Rattle.rr_hub.specs.declared.error.LoanError.{LoanError}
-use Rattle.rr_hub.specs.declared.error.RequestSendError.{RequestSendError}
-use Rattle.rr_hub.specs.declared.error.SendError.{SendError}
-use Rattle.rr_hub.specs.declared.error.ReceiveError.{ReceiveError}
-use Rattle.rr_hub.specs.Lists.{at, with_at}
-use Rattle.rr_hub.specs.Keys.{RequestKey, request_key}
-use Rattle.rr_hub.specs.Messages.{RequestMessage, Handle, RequestMutUninit, RequestMut, PendingResponse, ActiveRequest, ResponseMutUninit, ResponseMut, Response, response_key, port_of}
-use Rattle.rr_hub.specs.Ports.{Client, Server}
-use Rattle.rr_hub.specs.State.{State, client_at, handle_at, pending_at}
-use Rattle.rr_hub.specs.Counts.{is_in_use}
-use Rattle.rr_hub.specs.Loans.{with_loan_counted, LoansRequest, LoansResponse}
-use Rattle.rr_hub.specs.Sends.{with_response_put, SendsRequest, SendsResponse}
-use Rattle.rr_hub.specs.Receives.{TakesRequest, Skims, ReceivesUnskimmed, ReceivesRequest, ReceivesResponse}
-use Rattle.rr_hub.specs.Releases.{after_client_left, after_server_left, without_unused_port, without_port_value, without_value, after_handle_gone, after_release}
+use Rattle.rr_protocol.specs.declared.settings.BackpressureAction.{BackpressureAction}
+use Rattle.rr_protocol.specs.declared.error.LoanError.{LoanError}
+use Rattle.rr_protocol.specs.declared.error.RequestSendError.{RequestSendError}
+use Rattle.rr_protocol.specs.declared.error.SendError.{SendError}
+use Rattle.rr_protocol.specs.declared.error.ReceiveError.{ReceiveError}
+use Rattle.rr_protocol.specs.Lists.{at, with_at}
+use Rattle.rr_protocol.specs.Keys.{RequestKey, request_key}
+use Rattle.rr_protocol.specs.Messages.{RequestMessage, Handle, RequestMutUninit, RequestMut, PendingResponse, ActiveRequest, ResponseMutUninit, ResponseMut, Response, response_key, port_of}
+use Rattle.rr_protocol.specs.Ports.{Client, Server}
+use Rattle.rr_protocol.specs.State.{State, client_at, handle_at, pending_at}
+use Rattle.rr_protocol.specs.Counts.{is_in_use}
+use Rattle.rr_protocol.specs.Loans.{with_loan_counted, LoansRequest, LoansResponse}
+use Rattle.rr_protocol.specs.Sends.{with_response_put, SendsRequest, SendsResponse}
+use Rattle.rr_protocol.specs.Receives.{TakesRequest, Skims, ReceivesUnskimmed, ReceivesRequest, ReceivesResponse}
+use Rattle.rr_protocol.specs.Releases.{after_client_left, after_server_left, without_unused_port, without_port_value, without_value, after_handle_gone, after_release}
 use Rattle.rr_laws.specs.Roles.{Role, LoanedRequest, SentRequest, ReceivedRequest, LoanedResponse, ReceivedResponse, role_of}
 use Rattle.rr_laws.specs.Reached.{has_client, has_port, IsReached}
 use Rattle.rr_laws.specs.Left.{IsGone, LeftFit, IsLeftFit}
-use Rattle.rr_table.proofs.ListFacts.{all_each, all_filter}
+use Rattle.rr_maps.proofs.ListFacts.{all_each, all_filter}
 use Rattle.rr_laws.proofs.RoleLaws.{role_at}
 use Rattle.rr_laws.proofs.Opening.{some_and, open_request_mut, open_response_mut, open_active}
 use Rattle.rr_laws.proofs.Connected.{has_below, port_number}
@@ -182,25 +182,25 @@ module _ {Q QH P PH K : Type 0} where
   given s fits n h e = (fits.handles n (role_of h) (role_at s.handles n h e)).below
 
   -- after a request was sent, or refused
-  pub sends_request_left : (answer : K → ℕ → ℕ → BackpressureAction) (s : State Q QH P PH K) → IsReached s → IsLeftFit s
+  pub sends_request_left : (action : K → ℕ → ℕ → BackpressureAction) (s : State Q QH P PH K) → IsReached s → IsLeftFit s
       → (n : ℕ) (result : Result ℕ RequestSendError) (new : State Q QH P PH K) →
-      SendsRequest answer s n result new → IsLeftFit new
-  sends_request_left answer s fits left n (Ok connections) new sends = subst (λ (x : State Q QH P PH K). IsLeftFit x)
+      SendsRequest action s n result new → IsLeftFit new
+  sends_request_left action s fits left n (Ok connections) new sends = subst (λ (x : State Q QH P PH K). IsLeftFit x)
       (sym (open_request_mut s n _ sends).4.2) left
-  sends_request_left answer s fits left n (Err error) new sends =
+  sends_request_left action s fits left n (Err error) new sends =
       let o = open_request_mut s n _ sends in
       subst (λ (x : State Q QH P PH K). IsLeftFit x) (sym o.4.1) (after_release_left s n fits left (given s fits n (RequestMut o.1) o.2))
 
   -- after a response was sent, or refused
-  pub sends_response_left : {U : Type 0} (answer : K → ℕ → ℕ → BackpressureAction) (s : State Q QH P PH K) → IsReached s → IsLeftFit s
+  pub sends_response_left : {U : Type 0} (action : K → ℕ → ℕ → BackpressureAction) (s : State Q QH P PH K) → IsReached s → IsLeftFit s
       → (n : ℕ) (result : Result U SendError) (new : State Q QH P PH K) →
-      SendsResponse answer s n result new → IsLeftFit new
-  sends_response_left answer s fits left n (Ok u) new sends =
+      SendsResponse action s n result new → IsLeftFit new
+  sends_response_left action s fits left n (Ok u) new sends =
       let o = open_response_mut s n _ sends in
       subst (λ (x : State Q QH P PH K). IsLeftFit x) (sym o.4.1)
       (after_release_left (record s { responses = with_response_put s o.1 }) n (response_put_reached s fits n o.1 o.2) left
       (given s fits n (ResponseMut o.1) o.2))
-  sends_response_left answer s fits left n (Err error) new sends =
+  sends_response_left action s fits left n (Err error) new sends =
       let o = open_response_mut s n _ sends in
       subst (λ (x : State Q QH P PH K). IsLeftFit x) (sym o.4.2) (after_release_left s n fits left (given s fits n (ResponseMut o.1) o.2))
 

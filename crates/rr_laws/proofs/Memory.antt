@@ -4,23 +4,23 @@ use Rattle.std.specs.Prelude.{◌≢◌, ◌⊎◌, nat_le, not, ◌&&◌, ◌==
 use Rattle.std.specs.Option.{option_map_or}
 use Rattle.std.proofs.lemmas.Bool.{leb-true, leb-false}
 use Rattle.rr_slots.specs.declared.family.Family.{Family}
-use Rattle.rr_hub.specs.declared.kind.Kind.{Kind}
-use Rattle.rr_hub.specs.declared.settings.BackpressureAction.{BackpressureAction}
-use Rattle.rr_hub.specs.declared.error.LoanError.{LoanError}
-use Rattle.rr_hub.specs.declared.error.LoanError.TheVariants.{OutOfMemory, ExceedsMaxLoans, ExceedsMaxLoanSize}
-use Rattle.rr_hub.specs.declared.error.SendError.{SendError}
-use Rattle.rr_hub.specs.declared.error.RequestSendError.{RequestSendError}
-use Rattle.rr_hub.specs.Limits.{max_loaned_responses}
-use Rattle.rr_hub.specs.Ports.{Port, Client, Server}
-use Rattle.rr_hub.specs.State.{State, client_at, server_at, active_at, numbers_left}
-use Rattle.rr_hub.specs.Counts.{live_requests, live_responses, loaned_requests, loaned_responses, loaned_responses_from, pending_responses}
-use Rattle.rr_hub.specs.Loans.{is_too_long, IsLoanRefusal, LoansRequest, LoansResponse}
-use Rattle.rr_hub.specs.Sends.{is_request_refused, SendsRequest, SendsResponse}
-use Rattle.rr_hub.specs.Queries.{kind_at}
-use Rattle.rr_steps.specs.declared.command.Command.{Command}
-use Rattle.rr_steps.specs.declared.reply.Reply.{Reply}
-use Rattle.rr_steps.specs.Refusals.{has_call, has_length, needs_number, is_incomplete, refusal_of_kind, refusal, number_in}
-use Rattle.rr_steps.specs.Step.{with_complete, Loans, Acts}
+use Rattle.rr_protocol.specs.declared.kind.Kind.{Kind}
+use Rattle.rr_protocol.specs.declared.settings.BackpressureAction.{BackpressureAction}
+use Rattle.rr_protocol.specs.declared.error.LoanError.{LoanError}
+use Rattle.rr_protocol.specs.declared.error.LoanError.TheVariants.{OutOfMemory, ExceedsMaxLoans, ExceedsMaxLoanSize}
+use Rattle.rr_protocol.specs.declared.error.SendError.{SendError}
+use Rattle.rr_protocol.specs.declared.error.RequestSendError.{RequestSendError}
+use Rattle.rr_protocol.specs.Limits.{max_loaned_responses}
+use Rattle.rr_protocol.specs.Ports.{Port, Client, Server}
+use Rattle.rr_protocol.specs.State.{State, client_at, server_at, active_at, numbers_left}
+use Rattle.rr_protocol.specs.Counts.{live_requests, live_responses, loaned_requests, loaned_responses, loaned_responses_from, pending_responses}
+use Rattle.rr_protocol.specs.Loans.{is_too_long, IsLoanRefusal, LoansRequest, LoansResponse}
+use Rattle.rr_protocol.specs.Sends.{is_request_refused, SendsRequest, SendsResponse}
+use Rattle.rr_protocol.specs.Queries.{kind_at}
+use Rattle.rr_commands.specs.declared.command.Command.{Command}
+use Rattle.rr_commands.specs.declared.reply.Reply.{Reply}
+use Rattle.rr_commands.specs.Refusals.{has_call, has_length, needs_number, is_incomplete, refusal_of_kind, refusal, number_in}
+use Rattle.rr_commands.specs.Step.{with_complete, Loans, Acts}
 use Rattle.rr_laws.specs.Reached.{IsReached}
 use Rattle.rr_laws.specs.Unreduced.{asked_in, is_out_of_memory, ClientHasPool, ServerHasPool, HasPool, FindsMemory}
 use Rattle.rr_laws.proofs.Opening.{some_and, open_request_mut, open_response_mut}
@@ -122,12 +122,12 @@ module _ {T H K : Type 0} (family : Family) (s : State T H T H K) (command : Com
 
 module _ {Q QH P PH K : Type 0} where
   -- no refused send tells of memory
-  request_send_error : (answer : K → ℕ → ℕ → BackpressureAction) (s : State Q QH P PH K) (n : ℕ) (e : RequestSendError)
-      (new : State Q QH P PH K) → SendsRequest answer s n (Err e) new →
+  request_send_error : (action : K → ℕ → ℕ → BackpressureAction) (s : State Q QH P PH K) (n : ℕ) (e : RequestSendError)
+      (new : State Q QH P PH K) → SendsRequest action s n (Err e) new →
       (e ≡ RequestSendError.ExceedsMaxActiveRequests) ⊎ (e ≡ RequestSendError.SendError SendError.UnableToDeliver)
-  request_send_error answer s n e new sends =
+  request_send_error action s n e new sends =
       let o = open_request_mut s n _ sends in
-      go (nat_le s.limits.max_active_requests_per_client (pending_responses s (o.0).id)) (is_request_refused answer s o.0 o.1) o.4.0
+      go (nat_le s.limits.max_active_requests_per_client (pending_responses s (o.0).id)) (is_request_refused action s o.0 o.1) o.4.0
     where
       go : (many refused : Bool) → (if many then Some RequestSendError.ExceedsMaxActiveRequests else if refused then Some
           (RequestSendError.SendError SendError.UnableToDeliver) else None) ≡ Some e →
@@ -136,12 +136,12 @@ module _ {Q QH P PH K : Type 0} where
       go false true f = inr (let g : RequestSendError.SendError SendError.UnableToDeliver ≡ e = (cc) in sym g)
       go false false f = absurd (cc)
 
-  response_send_error : (answer : K → ℕ → ℕ → BackpressureAction) (s : State Q QH P PH K) (n : ℕ) (e : SendError) (new : State Q QH P PH K)
-      → SendsResponse {U = ℕ} answer s n (Err e) new →
+  response_send_error : (action : K → ℕ → ℕ → BackpressureAction) (s : State Q QH P PH K) (n : ℕ) (e : SendError) (new : State Q QH P PH K)
+      → SendsResponse {U = ℕ} action s n (Err e) new →
       e ≡ SendError.UnableToDeliver
-  response_send_error answer s n e new sends = (open_response_mut s n _ sends).4.1
+  response_send_error action s n e new sends = (open_response_mut s n _ sends).4.1
 
-module _ {T H K : Type 0} (answer : K → ℕ → ℕ → BackpressureAction) (IsDefaultElement : T → Type 0) (IsDefaultHeader : H → Type 0)
+module _ {T H K : Type 0} (action : K → ℕ → ℕ → BackpressureAction) (IsDefaultElement : T → Type 0) (IsDefaultHeader : H → Type 0)
     (family : Family) (s : State T H T H K) (fits : IsReached s) (n len : ℕ) (pool : HasPool s.limits s n len) where
   request_loan_error : (e : LoanError) (new : State T H T H K) → LoansRequest IsDefaultHeader s n len (Err e) new → e ≢ OutOfMemory
   request_loan_error e new loans same = request_finds_memory s fits IsDefaultHeader n len new pool.0
@@ -151,7 +151,7 @@ module _ {T H K : Type 0} (answer : K → ℕ → ℕ → BackpressureAction) (I
   response_loan_error e new loans same = response_finds_memory s fits IsDefaultHeader n len new pool.1
       (subst (λ x. LoansResponse IsDefaultHeader s n len (Err x) new) same loans)
 
-  loan_error : (e : LoanError) (new : State T H T H K) → Loans answer IsDefaultElement IsDefaultHeader family s n len (Err e) new
+  loan_error : (e : LoanError) (new : State T H T H K) → Loans action IsDefaultElement IsDefaultHeader family s n len (Err e) new
       → e ≢ OutOfMemory
   loan_error e new loans = ⊎_elim (request_loan_error e new) (response_loan_error e new) loans
 
@@ -170,52 +170,52 @@ module _ (T H : Type 0) where
   told_of_response OutOfMemory other = absurd (other refl)
   told_of_response e other = refl
 
-module _ {T H K : Type 0} (answer : K → ℕ → ℕ → BackpressureAction) (IsDefaultElement : T → Type 0) (IsDefaultHeader : H → Type 0)
+module _ {T H K : Type 0} (action : K → ℕ → ℕ → BackpressureAction) (IsDefaultElement : T → Type 0) (IsDefaultHeader : H → Type 0)
     (family : Family) (s : State T H T H K) (fits : IsReached s) where
   request_copy_error : (n : ℕ) (v : T) (e : RequestSendError) (new : State T H T H K) → HasPool s.limits s n 1
-      → Acts answer IsDefaultElement IsDefaultHeader family s (Command.SendCopy n v) (Reply.RequestError e) new →
+      → Acts action IsDefaultElement IsDefaultHeader family s (Command.SendCopy n v) (Reply.RequestError e) new →
       is_out_of_memory {T = T} {H = H} (Reply.RequestError e) ≡ false
   request_copy_error n v e new pool acts =
       ⊎_elim
       (λ loan. subst (λ x. is_out_of_memory {T = T} {H = H} (Reply.RequestError x) ≡ false) (sym loan.2)
-      (told_of_request T H loan.0 (request_loan_error answer IsDefaultElement IsDefaultHeader family s fits n 1 pool loan.0 new
+      (told_of_request T H loan.0 (request_loan_error action IsDefaultElement IsDefaultHeader family s fits n 1 pool loan.0 new
       loan.1)))
       (λ send. ⊎_elim
       (λ same. subst (λ x. is_out_of_memory {T = T} {H = H} (Reply.RequestError x) ≡ false) (sym same) refl)
       (λ same. subst (λ x. is_out_of_memory {T = T} {H = H} (Reply.RequestError x) ≡ false) (sym same) refl)
-      (request_send_error answer (with_complete send.0 send.1 (v ∷ [])) send.1 e new send.3))
+      (request_send_error action (with_complete send.0 send.1 (v ∷ [])) send.1 e new send.3))
       acts
 
   response_copy_error : (n : ℕ) (v : T) (e : SendError) (new : State T H T H K) → HasPool s.limits s n 1
-      → Acts answer IsDefaultElement IsDefaultHeader family s (Command.SendCopy n v) (Reply.SendError e) new →
+      → Acts action IsDefaultElement IsDefaultHeader family s (Command.SendCopy n v) (Reply.SendError e) new →
       is_out_of_memory {T = T} {H = H} (Reply.SendError e) ≡ false
   response_copy_error n v e new pool acts =
       ⊎_elim
       (λ loan. subst (λ x. is_out_of_memory {T = T} {H = H} (Reply.SendError x) ≡ false) (sym loan.2)
-      (told_of_response T H loan.0 (response_loan_error answer IsDefaultElement IsDefaultHeader family s fits n 1 pool loan.0 new
+      (told_of_response T H loan.0 (response_loan_error action IsDefaultElement IsDefaultHeader family s fits n 1 pool loan.0 new
       loan.1)))
       (λ send. subst (λ x. is_out_of_memory {T = T} {H = H} (Reply.SendError x) ≡ false)
-      (sym (response_send_error answer (with_complete send.0 send.1 (v ∷ [])) send.1 e new send.3)) refl)
+      (sym (response_send_error action (with_complete send.0 send.1 (v ∷ [])) send.1 e new send.3)) refl)
       acts
 
   loan_told : (n len : ℕ) → HasPool s.limits s n len → (reply : Reply T H) (new : State T H T H K)
-      → Acts answer IsDefaultElement IsDefaultHeader family s (Command.Loan n len) reply new → is_out_of_memory reply ≡ false
+      → Acts action IsDefaultElement IsDefaultHeader family s (Command.Loan n len) reply new → is_out_of_memory reply ≡ false
   loan_told n len pool (Reply.LoanError e) new acts = told T H e
-      (loan_error answer IsDefaultElement IsDefaultHeader family s fits n len pool e new acts)
+      (loan_error action IsDefaultElement IsDefaultHeader family s fits n len pool e new acts)
   loan_told n len pool (Reply.RequestError e) new acts = absurd acts
   loan_told n len pool (Reply.SendError e) new acts = absurd acts
   loan_told n len pool reply new acts = refl
 
   default_told : (n len : ℕ) → HasPool s.limits s n len → (reply : Reply T H) (new : State T H T H K)
-      → Acts answer IsDefaultElement IsDefaultHeader family s (Command.LoanDefault n len) reply new → is_out_of_memory reply ≡ false
+      → Acts action IsDefaultElement IsDefaultHeader family s (Command.LoanDefault n len) reply new → is_out_of_memory reply ≡ false
   default_told n len pool (Reply.LoanError e) new acts = told T H e
-      (loan_error answer IsDefaultElement IsDefaultHeader family s fits n len pool e new acts)
+      (loan_error action IsDefaultElement IsDefaultHeader family s fits n len pool e new acts)
   default_told n len pool (Reply.RequestError e) new acts = absurd acts
   default_told n len pool (Reply.SendError e) new acts = absurd acts
   default_told n len pool reply new acts = refl
 
   copy_told : (n : ℕ) (v : T) → HasPool s.limits s n 1 → (reply : Reply T H) (new : State T H T H K)
-      → Acts answer IsDefaultElement IsDefaultHeader family s (Command.SendCopy n v) reply new → is_out_of_memory reply ≡ false
+      → Acts action IsDefaultElement IsDefaultHeader family s (Command.SendCopy n v) reply new → is_out_of_memory reply ≡ false
   copy_told n v pool (Reply.LoanError e) new acts = absurd acts
   copy_told n v pool (Reply.RequestError e) new acts = request_copy_error n v e new pool acts
   copy_told n v pool (Reply.SendError e) new acts = response_copy_error n v e new pool acts
@@ -229,7 +229,7 @@ module _ {T H K : Type 0} (answer : K → ℕ → ℕ → BackpressureAction) (I
   -- what a loan from such a pool is answered
   acts_with_memory : (command : Command T H K) (reply : Reply T H) (new : State T H T H K) (n len : ℕ) → asked_in command ≡ Some (n, len)
       → HasPool s.limits s n len →
-      Acts answer IsDefaultElement IsDefaultHeader family s command reply new → is_out_of_memory reply ≡ false
+      Acts action IsDefaultElement IsDefaultHeader family s command reply new → is_out_of_memory reply ≡ false
   acts_with_memory (Command.Loan k l) reply new n len asked pool acts = loan_told k l (pool_of n len k l asked pool) reply new acts
   acts_with_memory (Command.LoanDefault k l) reply new n len asked pool acts = default_told k l
       (pool_of n len k l asked pool) reply new acts
@@ -239,11 +239,11 @@ module _ {T H K : Type 0} (answer : K → ℕ → ℕ → BackpressureAction) (I
 -- no loan from a pool of the worst-case size is refused for want of memory
 pub finds_memory : {T H K : Type 0} (IsDefaultElement : T → Type 0) (IsDefaultHeader : H → Type 0) (s : State T H T H K) → IsReached s
     → FindsMemory IsDefaultElement IsDefaultHeader s.limits s
-finds_memory {T} {H} {K} IsDefaultElement IsDefaultHeader s fits answer family command reply new n len asked pool step = go
+finds_memory {T} {H} {K} IsDefaultElement IsDefaultHeader s fits action family command reply new n len asked pool step = go
     (refusal family s command) refl step
   where
     go : (o : Option (Reply T H)) → refusal family s command ≡ o
-        → MatchOption o (Acts answer IsDefaultElement IsDefaultHeader family s command reply new) (λ refused. (reply ≡ refused) × (new ≡ s))
+        → MatchOption o (Acts action IsDefaultElement IsDefaultHeader family s command reply new) (λ refused. (reply ≡ refused) × (new ≡ s))
         → is_out_of_memory reply ≡ false
-    go None is step = acts_with_memory answer IsDefaultElement IsDefaultHeader family s fits command reply new n len asked pool step
+    go None is step = acts_with_memory action IsDefaultElement IsDefaultHeader family s fits command reply new n len asked pool step
     go (Some refused) is step = subst (λ r. is_out_of_memory r ≡ false) (sym step.0) (refuses_otherwise family s command refused is)

@@ -5,13 +5,13 @@ use Rattle.std.specs.Option.{option_map_or}
 use Rattle.std.specs.FinMap as fin_map
 use Rattle.std.specs.FinMap.{get, insert}
 use Rattle.std.proofs.lemmas.Bool.{cases_eq}
-use Rattle.rr_table.proofs.MapLaws.{get-insert_same, get-insert_other, get-insert_cases}
-use Rattle.rr_hub.specs.Lists.{Lists, at}
-use Rattle.rr_hub.specs.Keys.{ResponseKey, response_key_cmp}
-use Rattle.rr_hub.specs.Messages.{ResponseMessage}
-use Rattle.rr_hub.specs.State.{State}
-use Rattle.rr_hub.proofs.KeyLaws.{response_keys_total, response_keys_exact}
-use Rattle.rr_hub.proofs.ListsLaws.{at-retain_keys}
+use Rattle.rr_maps.proofs.MapLaws.{get-insert_same, get-insert_other, get-insert_cases}
+use Rattle.rr_protocol.specs.Lists.{Lists, at}
+use Rattle.rr_protocol.specs.Keys.{ResponseKey, response_key_cmp}
+use Rattle.rr_protocol.specs.Messages.{ResponseMessage}
+use Rattle.rr_protocol.specs.State.{State}
+use Rattle.rr_protocol.proofs.KeyLaws.{response_keys_total, response_keys_exact}
+use Rattle.rr_protocol.proofs.ListsLaws.{at-retain_keys}
 use Rattle.rr_laws.specs.Roles.{Question, Role, Roles, roles_of}
 use Rattle.rr_laws.specs.Following.{waiting_question, is_servers, channel_key, entries_for, queued, Moves, MovesQuietly}
 

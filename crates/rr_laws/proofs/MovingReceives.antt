@@ -8,18 +8,18 @@ use Rattle.std.specs.List.{AllByRecursion}
 use Rattle.std.specs.Option.{option_map_or}
 use Rattle.std.specs.FinMap.{get, insert}
 use Rattle.std.proofs.lemmas.Bool.{cases_eq, eq-eqb, ne_eqb}
-use Rattle.rr_table.specs.Maps.{mark}
-use Rattle.rr_table.proofs.MapLaws.{get-insert_same, get-insert_other, get-insert_cases}
-use Rattle.rr_hub.specs.declared.error.ReceiveError.{ReceiveError}
-use Rattle.rr_hub.specs.Lists.{at, with_at}
-use Rattle.rr_hub.specs.Keys.{ResponseKey, response_key_cmp}
-use Rattle.rr_hub.specs.Messages.{RequestMessage, ResponseMessage, Pending, Active, PendingResponse, ActiveRequest, Response, response_key, as_active}
-use Rattle.rr_hub.specs.State.{State, handle_at, pending_at, active_at}
-use Rattle.rr_hub.specs.Loans.{LoansResponse}
-use Rattle.rr_hub.specs.Receives.{Skims, with_active_request, ReceivesRequest, ReceivesResponse}
-use Rattle.rr_hub.proofs.KeyLaws.{response_keys_total, response_keys_exact}
-use Rattle.rr_hub.proofs.ListsLaws.{at-with_at}
-use Rattle.rr_steps.specs.AnswerRule.{Event}
+use Rattle.rr_maps.specs.Maps.{mark}
+use Rattle.rr_maps.proofs.MapLaws.{get-insert_same, get-insert_other, get-insert_cases}
+use Rattle.rr_protocol.specs.declared.error.ReceiveError.{ReceiveError}
+use Rattle.rr_protocol.specs.Lists.{at, with_at}
+use Rattle.rr_protocol.specs.Keys.{ResponseKey, response_key_cmp}
+use Rattle.rr_protocol.specs.Messages.{RequestMessage, ResponseMessage, Pending, Active, PendingResponse, ActiveRequest, Response, response_key, as_active}
+use Rattle.rr_protocol.specs.State.{State, handle_at, pending_at, active_at}
+use Rattle.rr_protocol.specs.Loans.{LoansResponse}
+use Rattle.rr_protocol.specs.Receives.{Skims, with_active_request, ReceivesRequest, ReceivesResponse}
+use Rattle.rr_protocol.proofs.KeyLaws.{response_keys_total, response_keys_exact}
+use Rattle.rr_protocol.proofs.ListsLaws.{at-with_at}
+use Rattle.rr_commands.specs.AnswerRule.{Event}
 use Rattle.rr_laws.specs.Roles.{Question, Role, SentRequest, ReceivedRequest, LoanedResponse, ReceivedResponse, Answer, roles_of, question_of, answer_of, asking}
 use Rattle.rr_laws.specs.Reached.{ResponseFits, IsReached}
 use Rattle.rr_laws.specs.Apart.{standing, IsApart}
@@ -27,8 +27,8 @@ use Rattle.rr_laws.specs.Following.{waiting_question, is_servers, channel_key, e
 use Rattle.rr_laws.specs.Settling.{Settles}
 use Rattle.rr_laws.proofs.RoleLaws.{role_at, roles-insert}
 use Rattle.rr_laws.proofs.Opening.{some_and, open_active, from_pending}
-use Rattle.rr_table.proofs.Counting.{count-cons}
-use Rattle.rr_table.proofs.MapFacts.{itself}
+use Rattle.rr_maps.proofs.Counting.{count-cons}
+use Rattle.rr_maps.proofs.MapFacts.{itself}
 use Rattle.rr_laws.proofs.Occurring.{false_is_true}
 use Rattle.rr_laws.proofs.Following.{GainsRequest, GainsLoan}
 use Rattle.rr_laws.proofs.Moving.{entries-waiting, entries-none, entries-same_role, none_for, moves_same, moves_with_role}

@@ -4,12 +4,12 @@ use Rattle.std.specs.Prelude.{fold, filter, is_some}
 use Rattle.std.specs.Option.{option_map_or}
 use Rattle.std.specs.FinMap as fin_map
 use Rattle.std.specs.FinMap.{get, remove}
-use Rattle.rr_table.proofs.MapLaws.{get-remove_cases}
-use Rattle.rr_hub.specs.Lists.{with_at}
-use Rattle.rr_hub.specs.Messages.{Handle, RequestMutUninit, RequestMut, PendingResponse, ActiveRequest, ResponseMutUninit, ResponseMut, Response, port_of}
-use Rattle.rr_hub.specs.State.{State, client_at, handle_at}
-use Rattle.rr_hub.specs.Counts.{is_in_use}
-use Rattle.rr_hub.specs.Releases.{map_handles, has_responses_from, with_expired_server, after_client_left, after_server_left, without_unused_port, without_port_value, without_server, after_handle_gone, after_release}
+use Rattle.rr_maps.proofs.MapLaws.{get-remove_cases}
+use Rattle.rr_protocol.specs.Lists.{with_at}
+use Rattle.rr_protocol.specs.Messages.{Handle, RequestMutUninit, RequestMut, PendingResponse, ActiveRequest, ResponseMutUninit, ResponseMut, Response, port_of}
+use Rattle.rr_protocol.specs.State.{State, client_at, handle_at}
+use Rattle.rr_protocol.specs.Counts.{is_in_use}
+use Rattle.rr_protocol.specs.Releases.{map_handles, has_responses_from, with_expired_server, after_client_left, after_server_left, without_unused_port, without_port_value, without_server, after_handle_gone, after_release}
 use Rattle.rr_laws.specs.Roles.{roles_of}
 use Rattle.rr_laws.specs.Reached.{IsReached}
 use Rattle.rr_laws.specs.Following.{MovesQuietly}

@@ -7,21 +7,21 @@ use Rattle.std.specs.Ordering.{is_eq}
 use Rattle.std.specs.List.{AllByRecursion}
 use Rattle.std.specs.FinMap.{get, insert}
 use Rattle.std.proofs.lemmas.List.{map-append, drop-map, length-map}
-use Rattle.rr_table.proofs.MapLaws.{get-insert_same, get-remove_same}
-use Rattle.rr_hub.specs.declared.settings.BackpressureAction.{BackpressureAction}
-use Rattle.rr_hub.specs.declared.error.RequestSendError.{RequestSendError}
-use Rattle.rr_hub.specs.declared.error.SendError.{SendError}
-use Rattle.rr_hub.specs.Lists.{Lists, at, with_at}
-use Rattle.rr_hub.specs.Keys.{ResponseKey, response_key_cmp}
-use Rattle.rr_hub.specs.Messages.{ResponseMessage, RequestMut, ResponseMut}
-use Rattle.rr_hub.specs.Ports.{Client}
-use Rattle.rr_hub.specs.State.{State, client_at, handle_at}
-use Rattle.rr_hub.specs.Counts.{is_alive}
-use Rattle.rr_hub.specs.Loans.{LoansRequest}
-use Rattle.rr_hub.specs.Sends.{is_full, put, with_response_put, SendsRequest, SendsResponse}
-use Rattle.rr_hub.specs.Releases.{after_release}
-use Rattle.rr_hub.proofs.KeyLaws.{response_keys_total, response_keys_exact}
-use Rattle.rr_hub.proofs.ListsLaws.{at-with_at}
+use Rattle.rr_maps.proofs.MapLaws.{get-insert_same, get-remove_same}
+use Rattle.rr_protocol.specs.declared.settings.BackpressureAction.{BackpressureAction}
+use Rattle.rr_protocol.specs.declared.error.RequestSendError.{RequestSendError}
+use Rattle.rr_protocol.specs.declared.error.SendError.{SendError}
+use Rattle.rr_protocol.specs.Lists.{Lists, at, with_at}
+use Rattle.rr_protocol.specs.Keys.{ResponseKey, response_key_cmp}
+use Rattle.rr_protocol.specs.Messages.{ResponseMessage, RequestMut, ResponseMut}
+use Rattle.rr_protocol.specs.Ports.{Client}
+use Rattle.rr_protocol.specs.State.{State, client_at, handle_at}
+use Rattle.rr_protocol.specs.Counts.{is_alive}
+use Rattle.rr_protocol.specs.Loans.{LoansRequest}
+use Rattle.rr_protocol.specs.Sends.{is_full, put, with_response_put, SendsRequest, SendsResponse}
+use Rattle.rr_protocol.specs.Releases.{after_release}
+use Rattle.rr_protocol.proofs.KeyLaws.{response_keys_total, response_keys_exact}
+use Rattle.rr_protocol.proofs.ListsLaws.{at-with_at}
 use Rattle.rr_laws.specs.Roles.{Question, Role, LoanedRequest, SentRequest, ReceivedRequest, LoanedResponse, ReceivedResponse, Roles, roles_of, question_of, answer_of, answered, asking}
 use Rattle.rr_laws.specs.Reached.{ResponseFits, IsReached}
 use Rattle.rr_laws.specs.Apart.{ChannelsApart, IsApart}
@@ -163,10 +163,10 @@ module _ {Q QH P PH K : Type 0} where
           ∙ ap (get (roles_of s.handles)) same ∙ here in cc)
 
   -- a send of a request
-  pub sent_request_quietly : (answer : K → ℕ → ℕ → BackpressureAction) (s : State Q QH P PH K) → IsReached s → IsApart s
+  pub sent_request_quietly : (action : K → ℕ → ℕ → BackpressureAction) (s : State Q QH P PH K) → IsReached s → IsApart s
       → (n : ℕ) (result : Result ℕ RequestSendError) (new : State Q QH P PH K) →
-      SendsRequest answer s n result new → MovesQuietly s new
-  sent_request_quietly answer s fits apart n (Ok connections) new sends =
+      SendsRequest action s n result new → MovesQuietly s new
+  sent_request_quietly action s fits apart n (Ok connections) new sends =
       let o = open_request_mut s n _ sends in
       let q = question_of o.1 in
       let here : get (roles_of s.handles) n ≡ Some (LoanedRequest q) = role_at s.handles n (RequestMut o.1) o.2 in
@@ -175,7 +175,7 @@ module _ {Q QH P PH K : Type 0} where
       (λ server. entries-waiting (insert (roles_of s.handles) n (SentRequest q)) s.responses server n (SentRequest q) q
       (get-insert_same (roles_of s.handles) n (SentRequest q) n refl) refl
       ∙ ap (map (λ m. m.number)) (unsent_empty s fits apart n q here server)))
-  sent_request_quietly answer s fits apart n (Err error) new sends = subst (λ (x : State Q QH P PH K). MovesQuietly s x)
+  sent_request_quietly action s fits apart n (Err error) new sends = subst (λ (x : State Q QH P PH K). MovesQuietly s x)
       (sym (open_request_mut s n _ sends).4.1) (after_release_quietly s n fits)
 
   -- after a response came to the list that it reaches, if there is one
@@ -247,11 +247,11 @@ module _ {Q QH P PH K : Type 0} where
       ((released_quietly s n (ResponseMut m) fits is).roles n role servers e)
 
   -- a send of a response: it enters its list, and its handle is gone
-  pub sent_response_moves : {U : Type 0} (answer : K → ℕ → ℕ → BackpressureAction) (s : State Q QH P PH K) → IsReached s → IsApart s
-      → (n : ℕ) (u : U) (new : State Q QH P PH K) → SendsResponse answer s n (Ok u) new →
+  pub sent_response_moves : {U : Type 0} (action : K → ℕ → ℕ → BackpressureAction) (s : State Q QH P PH K) → IsReached s → IsApart s
+      → (n : ℕ) (u : U) (new : State Q QH P PH K) → SendsResponse action s n (Ok u) new →
       (m : ResponseMessage P PH) × (handle_at s n ≡ Some (ResponseMut m)) × Moves (λ k role. ⊥) (Enters m.server m.request n) s new
       × ((role : Role) → is_servers role ≡ true → get (roles_of new.handles) n ≢ Some role)
-  sent_response_moves answer s fits apart n u new sends =
+  sent_response_moves action s fits apart n u new sends =
       let o = open_response_mut s n _ sends in
       let mid = with_put s o.1 in
       let mid_fits = response_put_reached s fits n o.1 o.2 in (
@@ -264,10 +264,10 @@ module _ {Q QH P PH K : Type 0} where
       )
 
   -- a send of a response that is refused
-  pub unsent_response_moves : (U : Type 0) (answer : K → ℕ → ℕ → BackpressureAction) (s : State Q QH P PH K) → IsReached s
-      → (n : ℕ) (error : SendError) (new : State Q QH P PH K) → SendsResponse {U = U} answer s n (Err error) new →
+  pub unsent_response_moves : (U : Type 0) (action : K → ℕ → ℕ → BackpressureAction) (s : State Q QH P PH K) → IsReached s
+      → (n : ℕ) (error : SendError) (new : State Q QH P PH K) → SendsResponse {U = U} action s n (Err error) new →
       MovesQuietly s new × ((role : Role) → is_servers role ≡ true → get (roles_of new.handles) n ≢ Some role)
-  unsent_response_moves U answer s fits n error new sends =
+  unsent_response_moves U action s fits n error new sends =
       let o = open_response_mut s n _ sends in (
         subst (λ (x : State Q QH P PH K). MovesQuietly s x) (sym o.4.2) (after_release_quietly s n fits),
         subst (λ (x : State Q QH P PH K). (role : Role) → is_servers role ≡ true → get (roles_of x.handles) n ≢ Some role) (sym o.4.2)

@@ -1,9 +1,9 @@
 -- What stands behind a number that a step names.
 use Rattle.std.proofs.Common.{◌≡◌, ℕ, Option, Some, None, refl}
 use Rattle.std.specs.Prelude.{option_and_then, IsSomeAnd}
-use Rattle.rr_hub.specs.Messages.{RequestMessage, ResponseMessage, Pending, Active, Handle, RequestMut, PendingResponse, ActiveRequest, ResponseMut, as_request_mut, as_pending, as_active, as_response_mut}
-use Rattle.rr_hub.specs.Ports.{Client, Server}
-use Rattle.rr_hub.specs.State.{State, IsRequestMutAnd, IsResponseMutAnd, IsActiveAnd, client_at, server_at, handle_at, request_at, active_at, response_at}
+use Rattle.rr_protocol.specs.Messages.{RequestMessage, ResponseMessage, Pending, Active, Handle, RequestMut, PendingResponse, ActiveRequest, ResponseMut, as_request_mut, as_pending, as_active, as_response_mut}
+use Rattle.rr_protocol.specs.Ports.{Client, Server}
+use Rattle.rr_protocol.specs.State.{State, IsRequestMutAnd, IsResponseMutAnd, IsActiveAnd, client_at, server_at, handle_at, request_at, active_at, response_at}
 
 -- a fact of what is there
 pub some_and : {X : Type 0} (o : Option X) (P : X → Type 0) → IsSomeAnd o P → (x : X) × (o ≡ Some x) × P x

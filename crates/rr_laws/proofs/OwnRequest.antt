@@ -2,9 +2,9 @@
 use Rattle.std.proofs.Common.{◌≡◌, ℕ, List, ◌∷◌, Some, ap, subst, option_and_then}
 use Rattle.std.specs.List.{AllByRecursion}
 use Rattle.std.specs.FinMap.{get}
-use Rattle.rr_hub.specs.Lists.{at}
-use Rattle.rr_hub.specs.Messages.{ResponseMessage, Pending, PendingResponse, response_key}
-use Rattle.rr_hub.specs.State.{State, handle_at, pending_at}
+use Rattle.rr_protocol.specs.Lists.{at}
+use Rattle.rr_protocol.specs.Messages.{ResponseMessage, Pending, PendingResponse, response_key}
+use Rattle.rr_protocol.specs.State.{State, handle_at, pending_at}
 use Rattle.rr_laws.specs.Roles.{SentRequest, roles_of, question_of, answered, answer_of, asking}
 use Rattle.rr_laws.specs.Reached.{ResponseFits, IsReached}
 use Rattle.rr_laws.specs.Apart.{IsApart}

@@ -10,17 +10,17 @@ use Rattle.std.specs.FinMap as fin_map
 use Rattle.std.proofs.Math.Seq.{drop-length}
 use Rattle.std.proofs.lemmas.List.{length-append, length-drop}
 use Rattle.std.proofs.lemmas.Bool.{leb-false}
-use Rattle.rr_hub.specs.declared.limits.Limits.{Limits}
-use Rattle.rr_hub.specs.Lists.{Lists, at, with_at}
-use Rattle.rr_hub.specs.Keys.{RequestKey, ResponseKey, request_key_cmp, response_key_cmp}
-use Rattle.rr_hub.specs.Messages.{RequestMessage, ResponseMessage}
-use Rattle.rr_hub.specs.Ports.{Server}
-use Rattle.rr_hub.specs.Sends.{is_full, put}
-use Rattle.rr_hub.proofs.KeyLaws.{request_keys_total, request_keys_exact, response_keys_total, response_keys_exact}
-use Rattle.rr_hub.proofs.ListsLaws.{at-with_at, at-retain_keys}
+use Rattle.rr_protocol.specs.declared.limits.Limits.{Limits}
+use Rattle.rr_protocol.specs.Lists.{Lists, at, with_at}
+use Rattle.rr_protocol.specs.Keys.{RequestKey, ResponseKey, request_key_cmp, response_key_cmp}
+use Rattle.rr_protocol.specs.Messages.{RequestMessage, ResponseMessage}
+use Rattle.rr_protocol.specs.Ports.{Server}
+use Rattle.rr_protocol.specs.Sends.{is_full, put}
+use Rattle.rr_protocol.proofs.KeyLaws.{request_keys_total, request_keys_exact, response_keys_total, response_keys_exact}
+use Rattle.rr_protocol.proofs.ListsLaws.{at-with_at, at-retain_keys}
 use Rattle.rr_laws.specs.Roles.{Roles}
 use Rattle.rr_laws.specs.Reached.{RequestFits, RequestsFit, ResponseFits, ResponsesFit}
-use Rattle.rr_table.proofs.ListFacts.{all_append, all_drop}
+use Rattle.rr_maps.proofs.ListFacts.{all_append, all_drop}
 use Rattle.rr_laws.proofs.Staying.{Shrinks}
 
 module _ {X : Type 0} where

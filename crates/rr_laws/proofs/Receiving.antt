@@ -4,14 +4,14 @@ use Rattle.std.specs.Prelude.{option_and_then}
 use Rattle.std.specs.List.{AllByRecursion}
 use Rattle.std.specs.FinMap.{insert}
 use Rattle.std.proofs.lemmas.Bool.{ltb-true}
-use Rattle.rr_table.specs.Maps.{tally}
-use Rattle.rr_hub.specs.declared.error.ReceiveError.{ReceiveError}
-use Rattle.rr_hub.specs.Lists.{at, with_at}
-use Rattle.rr_hub.specs.Keys.{RequestKey, ResponseKey, request_key}
-use Rattle.rr_hub.specs.Messages.{RequestMessage, ResponseMessage, Response, response_key}
-use Rattle.rr_hub.specs.State.{State, pending_at}
-use Rattle.rr_hub.specs.Receives.{TakesRequest, Skims, with_active_request, ReceivesUnskimmed, ReceivesRequest, TakesResponse, ReceivesResponse}
-use Rattle.rr_hub.proofs.KeyLaws.{request_keys_total, request_keys_exact, response_keys_total, response_keys_exact}
+use Rattle.rr_maps.specs.Maps.{tally}
+use Rattle.rr_protocol.specs.declared.error.ReceiveError.{ReceiveError}
+use Rattle.rr_protocol.specs.Lists.{at, with_at}
+use Rattle.rr_protocol.specs.Keys.{RequestKey, ResponseKey, request_key}
+use Rattle.rr_protocol.specs.Messages.{RequestMessage, ResponseMessage, Response, response_key}
+use Rattle.rr_protocol.specs.State.{State, pending_at}
+use Rattle.rr_protocol.specs.Receives.{TakesRequest, Skims, with_active_request, ReceivesUnskimmed, ReceivesRequest, TakesResponse, ReceivesResponse}
+use Rattle.rr_protocol.proofs.KeyLaws.{request_keys_total, request_keys_exact, response_keys_total, response_keys_exact}
 use Rattle.rr_laws.specs.Roles.{answered, SentRequest, ReceivedRequest, ReceivedResponse, roles_of, question_of, answer_of, asking, holds_request, holds_response}
 use Rattle.rr_laws.specs.Reached.{RequestFits, ResponseFits, Fits, IsReached}
 use Rattle.rr_laws.proofs.RoleLaws.{roles-insert, borrowed_requests-roles, borrowed_responses-roles}

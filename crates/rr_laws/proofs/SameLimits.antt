@@ -4,28 +4,28 @@ use Rattle.std.specs.Prelude.{fold, is_some}
 use Rattle.std.specs.Option.{option_map_or}
 use Rattle.std.specs.FinMap as fin_map
 use Rattle.rr_slots.specs.declared.family.Family.{Family}
-use Rattle.rr_hub.specs.declared.settings.BackpressureAction.{BackpressureAction}
-use Rattle.rr_hub.specs.declared.settings.ClientSettings.{ClientSettings}
-use Rattle.rr_hub.specs.declared.settings.ServerSettings.{ServerSettings}
-use Rattle.rr_hub.specs.declared.error.ClientCreateError.{ClientCreateError}
-use Rattle.rr_hub.specs.declared.error.ServerCreateError.{ServerCreateError}
-use Rattle.rr_hub.specs.declared.error.LoanError.{LoanError}
-use Rattle.rr_hub.specs.declared.error.ReceiveError.{ReceiveError}
-use Rattle.rr_hub.specs.declared.error.RequestSendError.{RequestSendError}
-use Rattle.rr_hub.specs.declared.error.SendError.{SendError}
-use Rattle.rr_hub.specs.Messages.{Handle, RequestMutUninit, RequestMut, PendingResponse, ActiveRequest, ResponseMutUninit, ResponseMut, Response, port_of}
-use Rattle.rr_hub.specs.State.{State, client_at, handle_at, pending_at}
-use Rattle.rr_hub.specs.Counts.{is_in_use}
-use Rattle.rr_hub.specs.Loans.{LoansRequest, LoansResponse}
-use Rattle.rr_hub.specs.Creation.{CreatesClient, CreatesServer}
-use Rattle.rr_hub.specs.Sends.{SendsRequest, SendsResponse, with_response_put}
-use Rattle.rr_hub.specs.Receives.{Skims, ReceivesUnskimmed, ReceivesRequest, ReceivesResponse}
-use Rattle.rr_hub.specs.Releases.{has_responses_from, has_requests_from, with_expired_client, with_expired_server, after_client_left, after_server_left, without_unused_port, without_port_value, after_handle_gone, after_release}
-use Rattle.rr_steps.specs.declared.command.Command.{Command}
-use Rattle.rr_steps.specs.declared.reply.Reply.{Reply}
-use Rattle.rr_steps.specs.Refusals.{refusal}
-use Rattle.rr_steps.specs.Step.{client_settings, server_settings, with_complete, Loans, Acts, Step}
-use Rattle.rr_steps.specs.Run.{Run}
+use Rattle.rr_protocol.specs.declared.settings.BackpressureAction.{BackpressureAction}
+use Rattle.rr_protocol.specs.declared.settings.ClientSettings.{ClientSettings}
+use Rattle.rr_protocol.specs.declared.settings.ServerSettings.{ServerSettings}
+use Rattle.rr_protocol.specs.declared.error.ClientCreateError.{ClientCreateError}
+use Rattle.rr_protocol.specs.declared.error.ServerCreateError.{ServerCreateError}
+use Rattle.rr_protocol.specs.declared.error.LoanError.{LoanError}
+use Rattle.rr_protocol.specs.declared.error.ReceiveError.{ReceiveError}
+use Rattle.rr_protocol.specs.declared.error.RequestSendError.{RequestSendError}
+use Rattle.rr_protocol.specs.declared.error.SendError.{SendError}
+use Rattle.rr_protocol.specs.Messages.{Handle, RequestMutUninit, RequestMut, PendingResponse, ActiveRequest, ResponseMutUninit, ResponseMut, Response, port_of}
+use Rattle.rr_protocol.specs.State.{State, client_at, handle_at, pending_at}
+use Rattle.rr_protocol.specs.Counts.{is_in_use}
+use Rattle.rr_protocol.specs.Loans.{LoansRequest, LoansResponse}
+use Rattle.rr_protocol.specs.Creation.{CreatesClient, CreatesServer}
+use Rattle.rr_protocol.specs.Sends.{SendsRequest, SendsResponse, with_response_put}
+use Rattle.rr_protocol.specs.Receives.{Skims, ReceivesUnskimmed, ReceivesRequest, ReceivesResponse}
+use Rattle.rr_protocol.specs.Releases.{has_responses_from, has_requests_from, with_expired_client, with_expired_server, after_client_left, after_server_left, without_unused_port, without_port_value, after_handle_gone, after_release}
+use Rattle.rr_commands.specs.declared.command.Command.{Command}
+use Rattle.rr_commands.specs.declared.reply.Reply.{Reply}
+use Rattle.rr_commands.specs.Refusals.{refusal}
+use Rattle.rr_commands.specs.Step.{client_settings, server_settings, with_complete, Loans, Acts, Step}
+use Rattle.rr_commands.specs.Run.{Run}
 use Rattle.rr_laws.proofs.Opening.{some_and, open_request_mut, open_response_mut, open_active}
 
 module _ {Q QH P PH K : Type 0} where
@@ -93,17 +93,17 @@ module _ {Q QH P PH K : Type 0} where
   loans_response IsDefault s n len (Ok number) new loans = same new _ s (open_active s n _ loans).4.2.2 refl
   loans_response IsDefault s n len (Err error) new loans = same new s s (open_active s n _ loans).4.1 refl
 
-  sends_request : (answer : K → ℕ → ℕ → BackpressureAction) (s : State Q QH P PH K) (n : ℕ) (result : Result ℕ RequestSendError)
-      (new : State Q QH P PH K) → SendsRequest answer s n result new → new.limits ≡ s.limits
-  sends_request answer s n (Ok connections) new sends = same new _ s (open_request_mut s n _ sends).4.2 refl
-  sends_request answer s n (Err error) new sends = same new _ s (open_request_mut s n _ sends).4.1 (released s n)
+  sends_request : (action : K → ℕ → ℕ → BackpressureAction) (s : State Q QH P PH K) (n : ℕ) (result : Result ℕ RequestSendError)
+      (new : State Q QH P PH K) → SendsRequest action s n result new → new.limits ≡ s.limits
+  sends_request action s n (Ok connections) new sends = same new _ s (open_request_mut s n _ sends).4.2 refl
+  sends_request action s n (Err error) new sends = same new _ s (open_request_mut s n _ sends).4.1 (released s n)
 
-  sends_response : {U : Type 0} (answer : K → ℕ → ℕ → BackpressureAction) (s : State Q QH P PH K) (n : ℕ) (result : Result U SendError)
-      (new : State Q QH P PH K) → SendsResponse answer s n result new → new.limits ≡ s.limits
-  sends_response answer s n (Ok u) new sends =
+  sends_response : {U : Type 0} (action : K → ℕ → ℕ → BackpressureAction) (s : State Q QH P PH K) (n : ℕ) (result : Result U SendError)
+      (new : State Q QH P PH K) → SendsResponse action s n result new → new.limits ≡ s.limits
+  sends_response action s n (Ok u) new sends =
       let o = open_response_mut s n _ sends in
       same new _ s o.4.1 (released (record s { responses = with_response_put s o.1 }) n)
-  sends_response answer s n (Err error) new sends = same new _ s (open_response_mut s n _ sends).4.2 (released s n)
+  sends_response action s n (Err error) new sends = same new _ s (open_response_mut s n _ sends).4.2 (released s n)
 
   skims : (clients : List ℕ) (s : State Q QH P PH K) (server : ℕ) (new : State Q QH P PH K) → Skims s server clients new
       → new.limits ≡ s.limits
@@ -128,15 +128,15 @@ module _ {Q QH P PH K : Type 0} where
   receives_response s n (Err ReceiveError.ExceedsMaxBorrows) new h = same new s s (some_and (pending_at s n) _ h).2.2 refl
   receives_response s n (Err (ReceiveError.ConnectionFailure failure)) new h = absurd h
 
-module _ {T H K : Type 0} (answer : K → ℕ → ℕ → BackpressureAction) (IsDefaultElement : T → Type 0) (IsDefaultHeader : H → Type 0)
+module _ {T H K : Type 0} (action : K → ℕ → ℕ → BackpressureAction) (IsDefaultElement : T → Type 0) (IsDefaultHeader : H → Type 0)
     (family : Family) where
   loans : (old : State T H T H K) (n len : ℕ) (result : Result ℕ LoanError) (new : State T H T H K)
-      → Loans answer IsDefaultElement IsDefaultHeader family old n len result new → new.limits ≡ old.limits
+      → Loans action IsDefaultElement IsDefaultHeader family old n len result new → new.limits ≡ old.limits
   loans old n len result new h = ⊎_elim (loans_request IsDefaultHeader old n len result new)
       (loans_response IsDefaultHeader old n len result new) h
 
   acts_same : (old : State T H T H K) (command : Command T H K) (reply : Reply T H) (new : State T H T H K)
-      → Acts answer IsDefaultElement IsDefaultHeader family old command reply new → new.limits ≡ old.limits
+      → Acts action IsDefaultElement IsDefaultHeader family old command reply new → new.limits ≡ old.limits
   acts_same old (Command.CreateClient settings) (Reply.Created n) new acts = creates_client old (client_settings family settings)
       (Ok n) new acts
   acts_same old (Command.CreateClient settings) (Reply.ClientError e) new acts = creates_client old (client_settings family settings)
@@ -155,21 +155,21 @@ module _ {T H K : Type 0} (answer : K → ℕ → ℕ → BackpressureAction) (I
   acts_same old (Command.LoanDefault n len) (Reply.LoanError e) new acts = loans old n len (Err e) new acts
   acts_same old (Command.LoanDefault n len) Reply.NoMemory new acts = same new old old acts refl
   acts_same old (Command.SendCopy n v) (Reply.Pending k connections) new acts =
-      sends_request answer (with_complete acts.0 k (v ∷ [])) k (Ok connections) new acts.2
+      sends_request action (with_complete acts.0 k (v ∷ [])) k (Ok connections) new acts.2
       ∙ loans_request IsDefaultHeader old n 1 (Ok k) acts.0 acts.1
   acts_same old (Command.SendCopy n v) (Reply.RequestError e) new acts =
       ⊎_elim
       (λ loan. loans_request IsDefaultHeader old n 1 (Err loan.0) new loan.1)
-      (λ send. sends_request answer (with_complete send.0 send.1 (v ∷ [])) send.1 (Err e) new send.3
+      (λ send. sends_request action (with_complete send.0 send.1 (v ∷ [])) send.1 (Err e) new send.3
       ∙ loans_request IsDefaultHeader old n 1 (Ok send.1) send.0 send.2)
       acts
   acts_same old (Command.SendCopy n v) (Reply.Sent k) new acts =
-      sends_response answer (with_complete acts.0 k (v ∷ [])) k (Ok k) new acts.2
+      sends_response action (with_complete acts.0 k (v ∷ [])) k (Ok k) new acts.2
       ∙ loans_response IsDefaultHeader old n 1 (Ok k) acts.0 acts.1
   acts_same old (Command.SendCopy n v) (Reply.SendError e) new acts =
       ⊎_elim
       (λ loan. loans_response IsDefaultHeader old n 1 (Err loan.0) new loan.1)
-      (λ send. sends_response {U = ℕ} answer (with_complete send.0 send.1 (v ∷ [])) send.1 (Err e) new send.3
+      (λ send. sends_response {U = ℕ} action (with_complete send.0 send.1 (v ∷ [])) send.1 (Err e) new send.3
       ∙ loans_response IsDefaultHeader old n 1 (Ok send.1) send.0 send.2)
       acts
   acts_same old (Command.SendCopy n v) Reply.NoMemory new acts = same new old old acts refl
@@ -180,10 +180,10 @@ module _ {T H K : Type 0} (answer : K → ℕ → ℕ → BackpressureAction) (I
   acts_same old (Command.SetUserHeader n h) Reply.Done new acts = same new _ old acts refl
   acts_same old (Command.AssumeInit n) Reply.Done new acts = same new _ old acts refl
   acts_same old (Command.IsDeliverable n) (Reply.Flag b) new acts = same new old old acts.1 refl
-  acts_same old (Command.Send n) (Reply.Pending k connections) new acts = sends_request answer old n (Ok connections) new acts.1
-  acts_same old (Command.Send n) (Reply.RequestError e) new acts = sends_request answer old n (Err e) new acts
-  acts_same old (Command.Send n) (Reply.Sent k) new acts = sends_response answer old n (Ok k) new acts.1
-  acts_same old (Command.Send n) (Reply.SendError e) new acts = sends_response {U = ℕ} answer old n (Err e) new acts
+  acts_same old (Command.Send n) (Reply.Pending k connections) new acts = sends_request action old n (Ok connections) new acts.1
+  acts_same old (Command.Send n) (Reply.RequestError e) new acts = sends_request action old n (Err e) new acts
+  acts_same old (Command.Send n) (Reply.Sent k) new acts = sends_response action old n (Ok k) new acts.1
+  acts_same old (Command.Send n) (Reply.SendError e) new acts = sends_response {U = ℕ} action old n (Err e) new acts
   acts_same old (Command.Receive n) (Reply.Active a r) new acts = receives_request old n (Ok (Some a)) new acts.0
   acts_same old (Command.Receive n) (Reply.Response k) new acts = receives_response old n (Ok (Some k)) new acts
   acts_same old (Command.Receive n) Reply.Nothing new acts = ⊎_elim (receives_request old n (Ok None) new)
@@ -210,17 +210,17 @@ module _ {T H K : Type 0} (answer : K → ℕ → ℕ → BackpressureAction) (I
 
   -- after any step
   pub step_keeps_limits : (old : State T H T H K) (command : Command T H K) (reply : Reply T H) (new : State T H T H K)
-      → Step answer IsDefaultElement IsDefaultHeader family old command reply new → new.limits ≡ old.limits
+      → Step action IsDefaultElement IsDefaultHeader family old command reply new → new.limits ≡ old.limits
   step_keeps_limits old command reply new step = go (refusal family old command) step
     where
-      go : (o : Option (Reply T H)) → MatchOption o (Acts answer IsDefaultElement IsDefaultHeader family old command reply new)
+      go : (o : Option (Reply T H)) → MatchOption o (Acts action IsDefaultElement IsDefaultHeader family old command reply new)
           (λ refused. (reply ≡ refused) × (new ≡ old)) → new.limits ≡ old.limits
       go None step = acts_same old command reply new step
       go (Some refused) step = same new old old step.1 refl
 
   -- after any run
   pub run_keeps_limits : (old : State T H T H K) (commands : List (Command T H K)) (replies : List (Reply T H)) (new : State T H T H K) →
-      Run answer IsDefaultElement IsDefaultHeader family old commands replies new → new.limits ≡ old.limits
+      Run action IsDefaultElement IsDefaultHeader family old commands replies new → new.limits ≡ old.limits
   run_keeps_limits old [] [] new run = same new old old run refl
   run_keeps_limits old (command ∷ commands) (reply ∷ replies) new run =
       run_keeps_limits run.0 commands replies new run.2 ∙ step_keeps_limits old command reply run.0 run.1

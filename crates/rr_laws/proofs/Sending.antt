@@ -3,20 +3,20 @@ use Rattle.std.proofs.Common.{◌≡◌, ℕ, ◌<◌, Bool, true, false, cond, 
 use Rattle.std.specs.Prelude.{fold, option_and_then, is_some}
 use Rattle.std.specs.FinMap.{get, insert}
 use Rattle.std.proofs.lemmas.Bool.{eqb-true}
-use Rattle.rr_table.specs.Maps.{tally}
-use Rattle.rr_hub.specs.declared.settings.BackpressureAction.{BackpressureAction}
-use Rattle.rr_hub.specs.declared.error.RequestSendError.{RequestSendError}
-use Rattle.rr_hub.specs.declared.error.SendError.{SendError}
-use Rattle.rr_hub.specs.Lists.{at, with_at}
-use Rattle.rr_hub.specs.Keys.{ResponseKey, request_key}
-use Rattle.rr_hub.specs.Messages.{RequestMessage, ResponseMessage, Pending, RequestMut, PendingResponse, ResponseMut}
-use Rattle.rr_hub.specs.Ports.{Client, Server}
-use Rattle.rr_hub.specs.State.{State, IsRequestMutAnd, client_at, handle_at, pending_at, request_at}
-use Rattle.rr_hub.specs.Counts.{pending_responses, is_alive}
-use Rattle.rr_hub.specs.Sends.{put, request_reach, with_request_put, with_response_put, connections_of, request_send_refusal, with_sent_request, SendsRequest, SendsResponse}
+use Rattle.rr_maps.specs.Maps.{tally}
+use Rattle.rr_protocol.specs.declared.settings.BackpressureAction.{BackpressureAction}
+use Rattle.rr_protocol.specs.declared.error.RequestSendError.{RequestSendError}
+use Rattle.rr_protocol.specs.declared.error.SendError.{SendError}
+use Rattle.rr_protocol.specs.Lists.{at, with_at}
+use Rattle.rr_protocol.specs.Keys.{ResponseKey, request_key}
+use Rattle.rr_protocol.specs.Messages.{RequestMessage, ResponseMessage, Pending, RequestMut, PendingResponse, ResponseMut}
+use Rattle.rr_protocol.specs.Ports.{Client, Server}
+use Rattle.rr_protocol.specs.State.{State, IsRequestMutAnd, client_at, handle_at, pending_at, request_at}
+use Rattle.rr_protocol.specs.Counts.{pending_responses, is_alive}
+use Rattle.rr_protocol.specs.Sends.{put, request_reach, with_request_put, with_response_put, connections_of, request_send_refusal, with_sent_request, SendsRequest, SendsResponse}
 use Rattle.rr_laws.specs.Roles.{answered, LoanedRequest, SentRequest, LoanedResponse, roles_of, question_of, answer_of, asking, asking_at, waits}
 use Rattle.rr_laws.specs.Reached.{RequestFits, RequestsFit, ResponseFits, ResponsesFit, Fits, IsReached}
-use Rattle.rr_table.proofs.ListFacts.{all_map, each_found, passes_found}
+use Rattle.rr_maps.proofs.ListFacts.{all_map, each_found, passes_found}
 use Rattle.rr_laws.proofs.RoleLaws.{role_at, roles-insert, pending_responses-roles}
 use Rattle.rr_laws.proofs.Staying.{asking_stays_with, known_stays}
 use Rattle.rr_laws.proofs.Counts.{counts_with_sent_request}
@@ -67,23 +67,23 @@ module _ {Q QH P PH K : Type 0} (s : State Q QH P PH K) (fits : IsReached s) (n 
       (counts_with_sent_request s.limits s.servers roles fits.counts n q below))
 
   -- a request that nothing refused, and that was put into its lists, is sent
-  pub sends_unrefused : (answer : K → ℕ → ℕ → BackpressureAction) (connections : ℕ) (new : State Q QH P PH K)
-      → IsRequestMutAnd s n (λ client message. None ≡ request_send_refusal answer s client message)
+  pub sends_unrefused : (action : K → ℕ → ℕ → BackpressureAction) (connections : ℕ) (new : State Q QH P PH K)
+      → IsRequestMutAnd s n (λ client message. None ≡ request_send_refusal action s client message)
       → IsRequestMutAnd s n (λ client message. (connections ≡ connections_of s message) × (new ≡ with_sent_request s n message))
-      → SendsRequest answer s n (Ok connections) new
-  sends_unrefused answer connections new due sent =
+      → SendsRequest action s n (Ok connections) new
+  sends_unrefused action connections new due sent =
       with_both (request_at s n) _ _ _ (λ m. with_both (client_at s m.client) _ _ _ (λ client d r. (sym d, r.0, r.1))) due sent
 
   -- after a request was sent, or refused
-  pub sends_request_reached : (answer : K → ℕ → ℕ → BackpressureAction) (result : Result ℕ RequestSendError) (new : State Q QH P PH K)
-      → SendsRequest answer s n result new → IsReached new
-  sends_request_reached answer (Ok connections) new sends =
+  pub sends_request_reached : (action : K → ℕ → ℕ → BackpressureAction) (result : Result ℕ RequestSendError) (new : State Q QH P PH K)
+      → SendsRequest action s n result new → IsReached new
+  sends_request_reached action (Ok connections) new sends =
       let o = open_request_mut s n _ sends in
       let same : (o.0).id ≡ o.1.client = eqb-true _ _ (passes_found _ s.clients o.0 o.3) in
       subst (λ (x : State Q QH P PH K). IsReached x) (sym o.4.2)
       (with_sent_request_reached o.0 o.1 o.2 same (below_of_test s.limits.max_active_requests_per_client
       (pending_responses s (o.0).id) (not_due _ _ _ o.4.0).0))
-  sends_request_reached answer (Err error) new sends =
+  sends_request_reached action (Err error) new sends =
       let o = open_request_mut s n _ sends in
       subst (λ (x : State Q QH P PH K). IsReached x) (sym o.4.1) (after_release_reached s n fits)
 
@@ -134,13 +134,13 @@ module _ {Q QH P PH K : Type 0} (s : State Q QH P PH K) (fits : IsReached s) (n 
   response_put_reached m is = fits_with_responses s (with_response_put s m) fits (response_put_fits m is)
 
   -- after a response was sent, or refused
-  pub sends_response_reached : {U : Type 0} (answer : K → ℕ → ℕ → BackpressureAction) (result : Result U SendError)
-      (new : State Q QH P PH K) → SendsResponse answer s n result new → IsReached new
-  sends_response_reached answer (Ok u) new sends =
+  pub sends_response_reached : {U : Type 0} (action : K → ℕ → ℕ → BackpressureAction) (result : Result U SendError)
+      (new : State Q QH P PH K) → SendsResponse action s n result new → IsReached new
+  sends_response_reached action (Ok u) new sends =
       let o = open_response_mut s n _ sends in
       let lists = with_response_put s o.1 in
       subst (λ (x : State Q QH P PH K). IsReached x) (sym o.4.1)
       (after_release_reached (record s { responses = lists }) n (fits_with_responses s lists fits (response_put_fits o.1 o.2)))
-  sends_response_reached answer (Err error) new sends =
+  sends_response_reached action (Err error) new sends =
       let o = open_response_mut s n _ sends in
       subst (λ (x : State Q QH P PH K). IsReached x) (sym o.4.2) (after_release_reached s n fits)

@@ -3,10 +3,10 @@ use Rattle.std.proofs.Common.{◌≡◌, ℕ, ◌<◌, ◌≤◌, true, eqb, Lis
 use Rattle.std.specs.Prelude.{◌⊎◌, ◌&&◌, find, option_and_then}
 use Rattle.std.specs.List.{list_any}
 use Rattle.std.specs.FinMap.{get, insert}
-use Rattle.rr_table.proofs.MapLaws.{get-insert_other, get-insert_cases}
-use Rattle.rr_hub.specs.Keys.{RequestKey}
-use Rattle.rr_hub.specs.Ports.{Server}
-use Rattle.rr_hub.specs.State.{State, server_at, is_server_held}
+use Rattle.rr_maps.proofs.MapLaws.{get-insert_other, get-insert_cases}
+use Rattle.rr_protocol.specs.Keys.{RequestKey}
+use Rattle.rr_protocol.specs.Ports.{Server}
+use Rattle.rr_protocol.specs.State.{State, server_at, is_server_value}
 use Rattle.rr_laws.specs.Roles.{Question, Role, LoanedRequest, SentRequest, roles_of, asking, asking_at}
 use Rattle.rr_laws.specs.Following.{entries_for, queued}
 use Rattle.rr_laws.specs.Settling.{listed, IsServing, Settles}
@@ -21,7 +21,7 @@ module _ {Q QH P PH K : Type 0} where
   pub settles_by : {Begins : ℕ → ℕ → Type 0} {Ends : ℕ → Type 0} {GoesOn : ℕ → ℕ → List ℕ → List ℕ → Type 0} (old new : State Q QH P PH K)
       → old.next ≤ new.next →
       ((n : ℕ) (c : Server K) → server_at new n ≡ Some c → StaysAsMade old n c) →
-      ((n : ℕ) → is_server_held old n ≡ true → (is_server_held new n ≡ true) ⊎ Ends n) →
+      ((n : ℕ) → is_server_value old n ≡ true → (is_server_value new n ≡ true) ⊎ Ends n) →
       ((n : ℕ) (role : Role) (q : Question) → asking role ≡ Some q → get (roles_of new.handles) n ≡ Some role
       → get (roles_of old.handles) n ≡ Some role) →
       ((server p : ℕ) → IsServing old server p → IsServing new server p → GoesOn server p (queued old server p) (queued new server p)) →
@@ -66,9 +66,9 @@ module _ {Q QH P PH K : Type 0} where
   same_servers old new same n c e = (c, sym (ap (λ l. find (λ x. eqb x.id n) l) same) ∙ e, refl, refl)
 
   -- are held as they were
-  pub same_held : (Ends : ℕ → Type 0) (old new : State Q QH P PH K) → new.servers ≡ old.servers → (n : ℕ) → is_server_held old n ≡ true
-      → (is_server_held new n ≡ true) ⊎ Ends n
-  same_held Ends old new same n e = inl (ap (λ l. list_any (λ x. eqb x.id n && x.is_held) l) same ∙ e)
+  pub same_held : (Ends : ℕ → Type 0) (old new : State Q QH P PH K) → new.servers ≡ old.servers → (n : ℕ) → is_server_value old n ≡ true
+      → (is_server_value new n ≡ true) ⊎ Ends n
+  same_held Ends old new same n e = inl (ap (λ l. list_any (λ x. eqb x.id n && x.has_value) l) same ∙ e)
 
   -- the same lists of requests
   pub same_requests : (old new : State Q QH P PH K) → new.requests ≡ old.requests → (n : ℕ) (key : RequestKey)

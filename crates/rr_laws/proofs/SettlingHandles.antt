@@ -5,19 +5,19 @@ use Rattle.std.specs.Option.{option_map_or}
 use Rattle.std.specs.FinMap as fin_map
 use Rattle.std.specs.FinMap.{get, remove}
 use Rattle.std.proofs.lemmas.Bool.{cases_eq, eqb-true, ne_eqb}
-use Rattle.rr_table.proofs.MapLaws.{get-remove_cases}
-use Rattle.rr_hub.specs.Lists.{at}
-use Rattle.rr_hub.specs.Messages.{Handle, RequestMutUninit, RequestMut, PendingResponse, ActiveRequest, ResponseMutUninit, ResponseMut, Response, Pending, port_of}
-use Rattle.rr_hub.specs.Ports.{Port, Client, Server}
-use Rattle.rr_hub.specs.State.{State, handle_at}
-use Rattle.rr_hub.specs.Releases.{without_unused_port, without_port_value, without_value, without_server, after_handle_gone, after_release}
+use Rattle.rr_maps.proofs.MapLaws.{get-remove_cases}
+use Rattle.rr_protocol.specs.Lists.{at}
+use Rattle.rr_protocol.specs.Messages.{Handle, RequestMutUninit, RequestMut, PendingResponse, ActiveRequest, ResponseMutUninit, ResponseMut, Response, Pending, port_of}
+use Rattle.rr_protocol.specs.Ports.{Port, Client, Server}
+use Rattle.rr_protocol.specs.State.{State, handle_at}
+use Rattle.rr_protocol.specs.Releases.{without_unused_port, without_port_value, without_value, without_server, after_handle_gone, after_release}
 use Rattle.rr_laws.specs.Roles.{Question, Role, SentRequest, roles_of, question_of, asking}
 use Rattle.rr_laws.specs.Reached.{IsReached}
 use Rattle.rr_laws.specs.Apart.{ChannelsApart}
 use Rattle.rr_laws.specs.Left.{IsLeftFit}
 use Rattle.rr_laws.specs.Following.{channel_key}
 use Rattle.rr_laws.specs.Settling.{Settles}
-use Rattle.rr_table.proofs.ListFacts.{find-changed, any-map, any_weaker}
+use Rattle.rr_maps.proofs.ListFacts.{find-changed, any-map, any_weaker}
 use Rattle.rr_laws.proofs.RoleLaws.{role_at, roles-remove, roles-changed}
 use Rattle.rr_laws.proofs.Releasing.{without_server-role, handle_gone_reached}
 use Rattle.rr_laws.proofs.Leaving.{without_value_id, without_port_value_reached}
@@ -32,8 +32,8 @@ without_value_made : {K : Type 0} (n : ℕ) (port : Port K) → ((without_value 
     × ((without_value n port).handler ≡ port.handler)
 without_value_made n port = go (eqb port.id n)
   where
-    go : (b : Bool) → ((cond b (record port { is_held = false }) port).strategy ≡ port.strategy)
-        × ((cond b (record port { is_held = false }) port).handler ≡ port.handler)
+    go : (b : Bool) → ((cond b (record port { has_value = false }) port).strategy ≡ port.strategy)
+        × ((cond b (record port { has_value = false }) port).handler ≡ port.handler)
     go true = (refl, refl)
     go false = (refl, refl)
 
@@ -107,9 +107,9 @@ module _ {Q QH P PH K : Type 0} where
       (λ k h. ⊎_elim
       (λ same. inr (subst Ends (sym same) ends))
       (λ other. inl (any-map (λ (d : Server K). record d { port = without_value n d.port })
-      (λ (c : Server K). eqb c.id k && c.is_held) s.servers
-      ∙ any_weaker (λ (c : Server K). eqb c.id k && c.is_held)
-      (λ (c : Server K). eqb (without_value n c.port).id k && (without_value n c.port).is_held)
+      (λ (c : Server K). eqb c.id k && c.has_value) s.servers
+      ∙ any_weaker (λ (c : Server K). eqb c.id k && c.has_value)
+      (λ (c : Server K). eqb (without_value n c.port).id k && (without_value n c.port).has_value)
       (λ c h. stays k other c.port (eqb c.id n) refl h) s.servers h))
       (cases_eq k n))
       (λ k role q asks e. e) (λ server p was serves. refl) (same_requests s (without_port_value s n) refl)
@@ -123,9 +123,10 @@ module _ {Q QH P PH K : Type 0} where
           let m = without_value_made n d.port in
           (d, is, ap (λ (x : Server K). x.strategy) (sym same) ∙ m.0, ap (λ (x : Server K). x.handler) (sym same) ∙ m.1)
 
-      stays : (k : ℕ) → k ≢ n → (port : Port K) (b : Bool) → eqb port.id n ≡ b → (eqb port.id k && port.is_held) ≡ true
-          → (eqb (cond b (record port { is_held = false }) port).id k && (cond b (record port { is_held = false }) port).is_held) ≡ true
-      stays k other port true is h = absurd (false_is_true (sym (ap (λ b. b && port.is_held)
+      stays : (k : ℕ) → k ≢ n → (port : Port K) (b : Bool) → eqb port.id n ≡ b → (eqb port.id k && port.has_value) ≡ true
+          → (eqb (cond b (record port { has_value = false }) port).id k && (cond b (record port { has_value = false }) port).has_value)
+          ≡ true
+      stays k other port true is h = absurd (false_is_true (sym (ap (λ b. b && port.has_value)
           (ne_eqb port.id k (λ same. other (sym same ∙ eqb-true port.id n is)))) ∙ h))
       stays k other port false is h = h
 

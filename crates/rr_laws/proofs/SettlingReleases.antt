@@ -6,21 +6,21 @@ use Rattle.std.specs.Ordering.{nat_cmp}
 use Rattle.std.specs.FinMap as fin_map
 use Rattle.std.specs.FinMap.{get}
 use Rattle.std.proofs.lemmas.Bool.{eq-eqb, eqb-true, ne_eqb}
-use Rattle.rr_hub.specs.Lists.{Lists, at, with_at}
-use Rattle.rr_hub.specs.Keys.{RequestKey, ResponseKey, request_key_cmp, response_key_cmp}
-use Rattle.rr_hub.specs.Messages.{RequestMessage, ResponseMessage, port_of}
-use Rattle.rr_hub.specs.Ports.{Server}
-use Rattle.rr_hub.specs.State.{State, client_at, server_at, all_handles, is_client_held, is_server_held}
-use Rattle.rr_hub.specs.Counts.{is_in_use}
-use Rattle.rr_hub.specs.Releases.{outdated_senders, map_handles, has_responses_from, has_requests_from, with_expired_client, with_expired_server, after_client_left, after_server_left, without_unused_port, without_server}
-use Rattle.rr_hub.proofs.KeyLaws.{request_keys_total, request_keys_exact, response_keys_total, response_keys_exact}
-use Rattle.rr_hub.proofs.ListsLaws.{at-retain_keys}
+use Rattle.rr_protocol.specs.Lists.{Lists, at, with_at}
+use Rattle.rr_protocol.specs.Keys.{RequestKey, ResponseKey, request_key_cmp, response_key_cmp}
+use Rattle.rr_protocol.specs.Messages.{RequestMessage, ResponseMessage, port_of}
+use Rattle.rr_protocol.specs.Ports.{Server}
+use Rattle.rr_protocol.specs.State.{State, client_at, server_at, all_handles, is_client_value, is_server_value}
+use Rattle.rr_protocol.specs.Counts.{is_in_use}
+use Rattle.rr_protocol.specs.Releases.{outdated_senders, map_handles, has_responses_from, has_requests_from, with_expired_client, with_expired_server, after_client_left, after_server_left, without_unused_port, without_server}
+use Rattle.rr_protocol.proofs.KeyLaws.{request_keys_total, request_keys_exact, response_keys_total, response_keys_exact}
+use Rattle.rr_protocol.proofs.ListsLaws.{at-retain_keys}
 use Rattle.rr_laws.specs.Roles.{Question, Role, SentRequest, roles_of}
 use Rattle.rr_laws.specs.Reached.{has_server, IsReached}
 use Rattle.rr_laws.specs.Left.{IsGone, IsLeftFit}
 use Rattle.rr_laws.specs.Following.{channel_key, queued}
 use Rattle.rr_laws.specs.Settling.{listed, Settles}
-use Rattle.rr_table.proofs.ListFacts.{all_each, all_append, find-gone, any-filter, any_weaker}
+use Rattle.rr_maps.proofs.ListFacts.{all_each, all_append, find-gone, any-filter, any_weaker}
 use Rattle.rr_laws.proofs.RoleLaws.{roles-map_handles}
 use Rattle.rr_laws.proofs.Releasing.{without_server-role}
 use Rattle.rr_laws.proofs.Expiring.{clients_expired, servers_expired}
@@ -180,9 +180,9 @@ module _ {Q QH P PH K : Type 0} where
       } in
       settles_by s new (omega arith)
       (λ n c e. (c, (stood n c (eqb n server) refl (sym (find-gone (λ (d : Server K). d.id) server n s.servers) ∙ e)).1, refl, refl))
-      (λ n e. inl (any-filter (λ (c : Server K). eqb c.id n && c.is_held) (λ (c : Server K). not (eqb c.id server)) s.servers
-      (any_weaker (λ (c : Server K). eqb c.id n && c.is_held) (λ (c : Server K). not (eqb c.id server) && (eqb c.id n && c.is_held))
-      (λ c h. stays n (λ same. not_held n same e) (eqb c.id n) c.is_held c refl h) s.servers e)))
+      (λ n e. inl (any-filter (λ (c : Server K). eqb c.id n && c.has_value) (λ (c : Server K). not (eqb c.id server)) s.servers
+      (any_weaker (λ (c : Server K). eqb c.id n && c.has_value) (λ (c : Server K). not (eqb c.id server) && (eqb c.id n && c.has_value))
+      (λ c h. stays n (λ same. not_held n same e) (eqb c.id n) c.has_value c refl h) s.servers e)))
       (λ n role q asks e. same_role n role e)
       (λ other p was serves. entries-serving s new other p was.0.0 was.0.1
       (ap (λ r. get r p) (roles-map_handles (without_server server) (without_server-role server) s.handles) ∙ was.0.1)
@@ -195,9 +195,9 @@ module _ {Q QH P PH K : Type 0} where
       stood n c true is e = absurd (let f : None ≡ Some c = e in cc)
       stood n c false is e = ((λ same. false_is_true (sym is ∙ eq-eqb n server same)), e)
 
-      not_held : (n : ℕ) → n ≡ server → is_server_held s n ≡ true → ⊥
-      not_held n same h = go (is_client_held s server) (is_server_held s server)
-          (list_any (λ handle. eqb (port_of handle) server) (all_handles s)) (ap (is_server_held s) (sym same) ∙ h) unused
+      not_held : (n : ℕ) → n ≡ server → is_server_value s n ≡ true → ⊥
+      not_held n same h = go (is_client_value s server) (is_server_value s server)
+          (list_any (λ handle. eqb (port_of handle) server) (all_handles s)) (ap (is_server_value s) (sym same) ∙ h) unused
         where
           go : (a b c : Bool) → b ≡ true → (a || b || c) ≡ false → ⊥
           go true b c e f = false_is_true (sym f)

@@ -6,19 +6,19 @@ use Rattle.std.specs.Option.{option_map_or}
 use Rattle.std.specs.FinMap.{get}
 use Rattle.std.proofs.lemmas.List.{map-append}
 use Rattle.std.proofs.lemmas.Bool.{cases_eq}
-use Rattle.rr_hub.specs.declared.settings.BackpressureAction.{BackpressureAction}
-use Rattle.rr_hub.specs.declared.settings.BackpressureStrategy.{BackpressureStrategy}
-use Rattle.rr_hub.specs.declared.error.SendError.{SendError}
-use Rattle.rr_hub.specs.Lists.{at, with_at}
-use Rattle.rr_hub.specs.Messages.{ResponseMessage, Handle, PendingResponse, ResponseMut, RequestMutUninit, RequestMut, ActiveRequest, ResponseMutUninit, Response, as_pending}
-use Rattle.rr_hub.specs.Ports.{Port, Server}
-use Rattle.rr_hub.specs.State.{State, client_at, server_at, handle_at}
-use Rattle.rr_hub.specs.Counts.{is_alive}
-use Rattle.rr_hub.specs.Backpressure.{strategy_discards, action_discards, discards}
-use Rattle.rr_hub.specs.Sends.{is_full, put, response_reach, is_response_list_blocked, is_response_refused, SendsResponse}
-use Rattle.rr_hub.specs.Releases.{after_release}
-use Rattle.rr_hub.proofs.KeyLaws.{response_keys_total}
-use Rattle.rr_hub.proofs.ListsLaws.{at-with_at}
+use Rattle.rr_protocol.specs.declared.settings.BackpressureAction.{BackpressureAction}
+use Rattle.rr_protocol.specs.declared.settings.BackpressureStrategy.{BackpressureStrategy}
+use Rattle.rr_protocol.specs.declared.error.SendError.{SendError}
+use Rattle.rr_protocol.specs.Lists.{at, with_at}
+use Rattle.rr_protocol.specs.Messages.{ResponseMessage, Handle, PendingResponse, ResponseMut, RequestMutUninit, RequestMut, ActiveRequest, ResponseMutUninit, Response, as_pending}
+use Rattle.rr_protocol.specs.Ports.{Port, Server}
+use Rattle.rr_protocol.specs.State.{State, client_at, server_at, handle_at}
+use Rattle.rr_protocol.specs.Counts.{is_alive}
+use Rattle.rr_protocol.specs.Backpressure.{strategy_discards, action_discards, discards}
+use Rattle.rr_protocol.specs.Sends.{is_full, put, response_reach, is_response_list_blocked, is_response_refused, SendsResponse}
+use Rattle.rr_protocol.specs.Releases.{after_release}
+use Rattle.rr_protocol.proofs.KeyLaws.{response_keys_total}
+use Rattle.rr_protocol.proofs.ListsLaws.{at-with_at}
 use Rattle.rr_laws.specs.Roles.{Question, SentRequest, LoanedResponse, role_of, roles_of, answer_of, answered, asking}
 use Rattle.rr_laws.specs.Reached.{IsReached}
 use Rattle.rr_laws.specs.Apart.{IsApart}
@@ -27,7 +27,7 @@ use Rattle.rr_laws.specs.Following.{channel_key, entries_for, queued, Moves}
 use Rattle.rr_laws.specs.Settling.{IsServing, IsWaiting, Settles}
 use Rattle.rr_laws.proofs.RoleLaws.{role_at, handle_of}
 use Rattle.rr_laws.proofs.Opening.{open_response_mut}
-use Rattle.rr_table.proofs.MapFacts.{itself}
+use Rattle.rr_maps.proofs.MapFacts.{itself}
 use Rattle.rr_laws.proofs.Sending.{response_fits, response_put_reached}
 use Rattle.rr_laws.proofs.Occurring.{false_is_true}
 use Rattle.rr_laws.proofs.Moving.{entries-waiting, then_quietly}
@@ -37,10 +37,10 @@ use Rattle.rr_laws.proofs.Settling.{settles_by, same_servers, same_held, then_se
 use Rattle.rr_laws.proofs.SettlingHandles.{after_release_settles}
 
 -- a port that waits for room passes no full list over
-waits_on : {K : Type 0} (answer : K → ℕ → ℕ → BackpressureAction) (port : Port K) (receiver : ℕ)
-    → port.strategy ≡ BackpressureStrategy.RetryUntilDelivered → port.handler ≡ None → discards answer port receiver ≡ false
-waits_on answer port receiver strategy handler =
-    ap (λ h. action_discards port.strategy (option_map_or (λ x. answer x port.id receiver) h BackpressureAction.FollowBackpressureStrategy))
+waits_on : {K : Type 0} (action : K → ℕ → ℕ → BackpressureAction) (port : Port K) (receiver : ℕ)
+    → port.strategy ≡ BackpressureStrategy.RetryUntilDelivered → port.handler ≡ None → discards action port receiver ≡ false
+waits_on action port receiver strategy handler =
+    ap (λ h. action_discards port.strategy (option_map_or (λ x. action x port.id receiver) h BackpressureAction.FollowBackpressureStrategy))
     handler
     ∙ ap strategy_discards strategy
 
@@ -117,20 +117,20 @@ module _ {Q QH P PH K : Type 0} where
       ∙ ap (λ k. queued s m.server m.request ++ k ∷ []) f.own_number
 
   -- where a server that waits for room is not refused, the list is not full
-  has_room : (answer : K → ℕ → ℕ → BackpressureAction) (s : State Q QH P PH K) → IsReached s → (n : ℕ) (m : ResponseMessage P PH)
+  has_room : (action : K → ℕ → ℕ → BackpressureAction) (s : State Q QH P PH K) → IsReached s → (n : ℕ) (m : ResponseMessage P PH)
       → handle_at s n ≡ Some (ResponseMut m) → (q : Question) → get (roles_of s.handles) m.request ≡ Some (SentRequest q) →
       (server : Server K) → IsWaiting server → s.limits.enable_safe_overflow_for_responses ≡ false
-      → is_response_refused answer s server m ≡ false →
+      → is_response_refused action s server m ≡ false →
       is_full s.limits.max_response_buffer_size (at s.responses (channel_key m.server (answered (answer_of m)))) ≡ false
-  has_room answer s fits n m is q waits server waiting no_overflow sent =
+  has_room action s fits n m is q waits server waiting no_overflow sent =
       let key = channel_key m.server (answered (answer_of m)) in
       let e : ((not s.limits.enable_safe_overflow_for_responses && is_full s.limits.max_response_buffer_size (at s.responses key))
-      && not (discards answer server.port key.client) || false) ≡ false =
-      sym (ap (λ keys. list_any (λ k. is_response_list_blocked s k && not (discards answer server.port k.client)) keys)
+      && not (discards action server.port key.client) || false) ≡ false =
+      sym (ap (λ keys. list_any (λ k. is_response_list_blocked s k && not (discards action server.port k.client)) keys)
       (reaches s fits n m is q waits)) ∙ sent in
       by s.limits.enable_safe_overflow_for_responses (is_full s.limits.max_response_buffer_size (at s.responses key))
-      (discards answer server.port key.client) no_overflow
-      (waits_on answer server.port key.client waiting.0 waiting.1) e
+      (discards action server.port key.client) no_overflow
+      (waits_on action server.port key.client waiting.0 waiting.1) e
     where
       by : (overflow full passes : Bool) → overflow ≡ false → passes ≡ false → ((not overflow && full) && not passes || false) ≡ false
           → full ≡ false
@@ -140,11 +140,11 @@ module _ {Q QH P PH K : Type 0} where
       by false false false a b e = refl
 
   -- a response comes to its list
-  put_settles : {Begins : ℕ → ℕ → Type 0} {Ends : ℕ → Type 0} (answer : K → ℕ → ℕ → BackpressureAction) (s : State Q QH P PH K)
+  put_settles : {Begins : ℕ → ℕ → Type 0} {Ends : ℕ → Type 0} (action : K → ℕ → ℕ → BackpressureAction) (s : State Q QH P PH K)
       → IsReached s → IsApart s → (n : ℕ) (m : ResponseMessage P PH) → handle_at s n ≡ Some (ResponseMut m) →
-      (server : Server K) → server_at s m.server ≡ Some server → is_response_refused answer s server m ≡ false
+      (server : Server K) → server_at s m.server ≡ Some server → is_response_refused action s server m ≡ false
       → Settles Begins Ends (Appends s m.server m.request n) s (with_put s m)
-  put_settles {Begins} {Ends} answer s fits apart n m is server there sent =
+  put_settles {Begins} {Ends} action s fits apart n m is server there sent =
       settles_by s (with_put s m) (omega arith) (same_servers s (with_put s m) refl) (same_held Ends s (with_put s m) refl)
       (λ k role q asks e. e)
       (λ other q was serves. ⊎_elim
@@ -169,14 +169,14 @@ module _ {Q QH P PH K : Type 0} where
       last : (x : Question) × (get (roles_of s.handles) m.request ≡ Some (SentRequest x)) → WaitsForRoom s m.server
           → queued (with_put s m) m.server m.request ≡ queued s m.server m.request ++ n ∷ []
       last waits room = put_last s fits n m is waits.0 waits.1
-          (has_room answer s fits n m is waits.0 waits.1 server (room.1 server there) room.0 sent)
+          (has_room action s fits n m is waits.0 waits.1 server (room.1 server there) room.0 sent)
 
   -- the list may have been full, if the server does not wait for room
-  put_may_append : (answer : K → ℕ → ℕ → BackpressureAction) (s : State Q QH P PH K) → IsReached s → IsApart s
+  put_may_append : (action : K → ℕ → ℕ → BackpressureAction) (s : State Q QH P PH K) → IsReached s → IsApart s
       → (n : ℕ) (m : ResponseMessage P PH) → handle_at s n ≡ Some (ResponseMut m) →
-      (server : Server K) → server_at s m.server ≡ Some server → is_response_refused answer s server m ≡ false
+      (server : Server K) → server_at s m.server ≡ Some server → is_response_refused action s server m ≡ false
       → Moves (λ k role. ⊥) (MayAppend s m.server m.request n) s (with_put s m)
-  put_may_append answer s fits apart n m is server there sent = record {
+  put_may_append action s fits apart n m is server there sent = record {
     next = omega arith;
     roles = λ k role servers e. inl e;
     entries = λ other q. inr (⊎_elim
@@ -197,7 +197,7 @@ module _ {Q QH P PH K : Type 0} where
                 subst (λ o. queued (with_put s m) o q ≡ queued s o q ++ n ∷ []) (sym a)
                 (subst (λ r. queued (with_put s m) m.server r ≡ queued s m.server r ++ n ∷ []) (sym b)
                 (put_last s fits n m is (answered (answer_of m)) answers
-                (has_room answer s fits n m is (answered (answer_of m)) answers server (room.1 server there) room.0 sent))),
+                (has_room action s fits n m is (answered (answer_of m)) answers server (room.1 server there) room.0 sent))),
           )
       by other q a b false alive = inl (dead (is_some (client_at s m.client)) refl)
         where
@@ -213,11 +213,11 @@ module _ {Q QH P PH K : Type 0} where
               ∙ nowhere (is_some (client_at s m.client)))
 
   -- a send of a response
-  pub sent_response_settles : {U : Type 0} {Begins : ℕ → ℕ → Type 0} {Ends : ℕ → Type 0} (answer : K → ℕ → ℕ → BackpressureAction)
+  pub sent_response_settles : {U : Type 0} {Begins : ℕ → ℕ → Type 0} {Ends : ℕ → Type 0} (action : K → ℕ → ℕ → BackpressureAction)
       (s : State Q QH P PH K) → IsReached s → IsApart s → IsLeftFit s → (n : ℕ) (u : U) (new : State Q QH P PH K) →
-      SendsResponse answer s n (Ok u) new → (m : ResponseMessage P PH) → handle_at s n ≡ Some (ResponseMut m)
+      SendsResponse action s n (Ok u) new → (m : ResponseMessage P PH) → handle_at s n ≡ Some (ResponseMut m)
       → Settles Begins Ends (Appends s m.server m.request n) s new × Moves (λ k role. ⊥) (MayAppend s m.server m.request n) s new
-  sent_response_settles {U} {Begins} {Ends} answer s fits apart left n u new sends m is =
+  sent_response_settles {U} {Begins} {Ends} action s fits apart left n u new sends m is =
       let o = open_response_mut s n _ sends in
       let same : o.1 ≡ m = (let f : Some (ResponseMut o.1) ≡ Some (ResponseMut m) = sym o.2 ∙ is in cc) in
       subst (λ (x : ResponseMessage P PH). Settles Begins Ends (Appends s x.server x.request n) s new
@@ -225,18 +225,18 @@ module _ {Q QH P PH K : Type 0} where
       (subst (λ (y : State Q QH P PH K). Settles Begins Ends (Appends s o.1.server o.1.request n) s y
       × Moves (λ k role. ⊥) (MayAppend s o.1.server o.1.request n) s y) (sym o.4.1)
       (let mid = with_put s o.1 in let mid_fits = response_put_reached s fits n o.1 o.2 in (
-        then_settles s mid (after_release mid n) (put_settles answer s fits apart n o.1 o.2 o.0 o.3 o.4.0)
+        then_settles s mid (after_release mid n) (put_settles action s fits apart n o.1 o.2 o.0 o.3 o.4.0)
             (after_release_settles mid n mid_fits apart.channels left
             (λ none. absurd (let f : None ≡ Some (ResponseMut o.1) = sym none ∙ o.2 in cc))),
-        then_quietly s mid (after_release mid n) (put_may_append answer s fits apart n o.1 o.2 o.0 o.3 o.4.0)
+        then_quietly s mid (after_release mid n) (put_may_append action s fits apart n o.1 o.2 o.0 o.3 o.4.0)
             (after_release_quietly mid n mid_fits),
       )))
 
   -- a send of a response that is refused
-  pub unsent_response_settles : (U : Type 0) {Begins : ℕ → ℕ → Type 0} {Ends : ℕ → Type 0} (answer : K → ℕ → ℕ → BackpressureAction)
+  pub unsent_response_settles : (U : Type 0) {Begins : ℕ → ℕ → Type 0} {Ends : ℕ → Type 0} (action : K → ℕ → ℕ → BackpressureAction)
       (s : State Q QH P PH K) → IsReached s → IsApart s → IsLeftFit s → (n : ℕ) (error : SendError) (new : State Q QH P PH K) →
-      SendsResponse {U = U} answer s n (Err error) new → Settles Begins Ends (λ server p before after. after ≡ before) s new
-  unsent_response_settles U {Begins} {Ends} answer s fits apart left n error new sends =
+      SendsResponse {U = U} action s n (Err error) new → Settles Begins Ends (λ server p before after. after ≡ before) s new
+  unsent_response_settles U {Begins} {Ends} action s fits apart left n error new sends =
       let o = open_response_mut s n _ sends in
       subst (λ (x : State Q QH P PH K). Settles Begins Ends (λ server p before after. after ≡ before) s x) (sym o.4.2)
       (after_release_settles s n fits apart.channels left (λ none. absurd (let f : None ≡ Some (ResponseMut o.1) = sym none ∙ o.2 in cc)))

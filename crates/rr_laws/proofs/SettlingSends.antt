@@ -7,21 +7,21 @@ use Rattle.std.specs.Ordering.{is_eq}
 use Rattle.std.specs.List.{AllByRecursion}
 use Rattle.std.specs.FinMap.{get, insert}
 use Rattle.std.proofs.lemmas.Bool.{eqb-true}
-use Rattle.rr_table.specs.Maps.{mark}
-use Rattle.rr_table.proofs.MapLaws.{get-insert_other, get-insert_cases}
-use Rattle.rr_hub.specs.declared.settings.BackpressureAction.{BackpressureAction}
-use Rattle.rr_hub.specs.declared.error.RequestSendError.{RequestSendError}
-use Rattle.rr_hub.specs.declared.error.ReceiveError.{ReceiveError}
-use Rattle.rr_hub.specs.Lists.{Lists, at, with_at}
-use Rattle.rr_hub.specs.Keys.{RequestKey, request_key, request_key_cmp}
-use Rattle.rr_hub.specs.Messages.{RequestMessage, RequestMut}
-use Rattle.rr_hub.specs.Ports.{Server}
-use Rattle.rr_hub.specs.State.{State, client_at, handle_at}
-use Rattle.rr_hub.specs.Loans.{LoansRequest, LoansResponse}
-use Rattle.rr_hub.specs.Sends.{put, request_reach, with_sent_request, SendsRequest}
-use Rattle.rr_hub.specs.Receives.{TakesRequest, Skims, ReceivesRequest}
-use Rattle.rr_hub.proofs.KeyLaws.{request_keys_total, request_keys_exact}
-use Rattle.rr_hub.proofs.ListsLaws.{at-with_at}
+use Rattle.rr_maps.specs.Maps.{mark}
+use Rattle.rr_maps.proofs.MapLaws.{get-insert_other, get-insert_cases}
+use Rattle.rr_protocol.specs.declared.settings.BackpressureAction.{BackpressureAction}
+use Rattle.rr_protocol.specs.declared.error.RequestSendError.{RequestSendError}
+use Rattle.rr_protocol.specs.declared.error.ReceiveError.{ReceiveError}
+use Rattle.rr_protocol.specs.Lists.{Lists, at, with_at}
+use Rattle.rr_protocol.specs.Keys.{RequestKey, request_key, request_key_cmp}
+use Rattle.rr_protocol.specs.Messages.{RequestMessage, RequestMut}
+use Rattle.rr_protocol.specs.Ports.{Server}
+use Rattle.rr_protocol.specs.State.{State, client_at, handle_at}
+use Rattle.rr_protocol.specs.Loans.{LoansRequest, LoansResponse}
+use Rattle.rr_protocol.specs.Sends.{put, request_reach, with_sent_request, SendsRequest}
+use Rattle.rr_protocol.specs.Receives.{TakesRequest, Skims, ReceivesRequest}
+use Rattle.rr_protocol.proofs.KeyLaws.{request_keys_total, request_keys_exact}
+use Rattle.rr_protocol.proofs.ListsLaws.{at-with_at}
 use Rattle.rr_laws.specs.Roles.{Question, Role, LoanedRequest, SentRequest, ReceivedRequest, LoanedResponse, roles_of, question_of, asking, asking_at}
 use Rattle.rr_laws.specs.Reached.{RequestFits, IsReached}
 use Rattle.rr_laws.specs.Apart.{IsApart}
@@ -31,7 +31,7 @@ use Rattle.rr_laws.specs.Settling.{listed, Settles}
 use Rattle.rr_laws.proofs.RoleLaws.{role_at, roles-insert}
 use Rattle.rr_laws.proofs.Opening.{some_and, open_request_mut, open_active}
 use Rattle.rr_laws.proofs.Connected.{has_below}
-use Rattle.rr_table.proofs.Counting.{count-cons}
+use Rattle.rr_maps.proofs.Counting.{count-cons}
 use Rattle.rr_laws.proofs.Putting.{shrinks_taken}
 use Rattle.rr_laws.proofs.Apart.{count-drop}
 use Rattle.rr_laws.proofs.ApartResponses.{count-put}
@@ -287,15 +287,15 @@ module _ {Q QH P PH K : Type 0} where
               (at_role k role at)
 
   -- a send of a request, by which answers to it begin
-  pub sent_request_settles : {Begins : ℕ → ℕ → Type 0} {Ends : ℕ → Type 0} (answer : K → ℕ → ℕ → BackpressureAction) (s : State Q QH P PH K)
+  pub sent_request_settles : {Begins : ℕ → ℕ → Type 0} {Ends : ℕ → Type 0} (action : K → ℕ → ℕ → BackpressureAction) (s : State Q QH P PH K)
       → IsReached s → IsApart s → IsLeftFit s → (n : ℕ) (result : Result ℕ RequestSendError) (new : State Q QH P PH K) →
-      SendsRequest answer s n result new → ((server : ℕ) (q : Question) → get (roles_of s.handles) n ≡ Some (LoanedRequest q)
+      SendsRequest action s n result new → ((server : ℕ) (q : Question) → get (roles_of s.handles) n ≡ Some (LoanedRequest q)
       → Begins server n) → Settles Begins Ends (λ server p before after. after ≡ before) s new
-  sent_request_settles {Begins} {Ends} answer s fits apart left n (Ok connections) new sends begins =
+  sent_request_settles {Begins} {Ends} action s fits apart left n (Ok connections) new sends begins =
       let o = open_request_mut s n _ sends in
       subst (λ (x : State Q QH P PH K). Settles Begins Ends (λ server p before after. after ≡ before) s x) (sym o.4.2)
       (request_sent_settles s fits n o.1 o.2 (λ server. begins server (question_of o.1) (role_at s.handles n (RequestMut o.1) o.2)))
-  sent_request_settles {Begins} {Ends} answer s fits apart left n (Err error) new sends begins =
+  sent_request_settles {Begins} {Ends} action s fits apart left n (Err error) new sends begins =
       let o = open_request_mut s n _ sends in
       subst (λ (x : State Q QH P PH K). Settles Begins Ends (λ server p before after. after ≡ before) s x) (sym o.4.1)
       (after_release_settles s n fits apart.channels left (λ none. absurd (let f : None ≡ Some (RequestMut o.1) = sym none ∙ o.2 in cc)))

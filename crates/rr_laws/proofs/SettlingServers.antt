@@ -5,30 +5,30 @@ use Rattle.std.specs.List.{list_any}
 use Rattle.std.specs.FinMap.{get}
 use Rattle.std.proofs.lemmas.Bool.{eq-eqb, eqb-true}
 use Rattle.std.proofs.lemmas.List.Folds.{list_any-append}
-use Rattle.rr_table.specs.Maps.{mark}
-use Rattle.rr_table.proofs.MapLaws.{get-insert_same}
+use Rattle.rr_maps.specs.Maps.{mark}
+use Rattle.rr_maps.proofs.MapLaws.{get-insert_same}
 use Rattle.rr_slots.specs.declared.family.Family.{Family}
 use Rattle.rr_slots.specs.declared.family.Family.TheVariants.{Typed, Sliced}
-use Rattle.rr_hub.specs.declared.settings.BackpressureStrategy.{BackpressureStrategy}
-use Rattle.rr_hub.specs.declared.settings.ServerSettings.{ServerSettings}
-use Rattle.rr_hub.specs.Keys.{RequestKey, request_key}
-use Rattle.rr_hub.specs.Messages.{RequestMessage, Active, ActiveRequest, as_active}
-use Rattle.rr_hub.specs.Ports.{Server}
-use Rattle.rr_hub.specs.State.{State, server_at, active_at, is_server_held}
-use Rattle.rr_hub.specs.Creation.{CreatesServer}
-use Rattle.rr_hub.specs.Receives.{with_active_request, ReceivesRequest}
-use Rattle.rr_steps.specs.declared.command.Command.{Command}
-use Rattle.rr_steps.specs.declared.reply.Reply.{Reply}
-use Rattle.rr_steps.specs.Step.{server_settings}
-use Rattle.rr_steps.specs.AnswerRule.{retries, creates_waiting}
+use Rattle.rr_protocol.specs.declared.settings.BackpressureStrategy.{BackpressureStrategy}
+use Rattle.rr_protocol.specs.declared.settings.ServerSettings.{ServerSettings}
+use Rattle.rr_protocol.specs.Keys.{RequestKey, request_key}
+use Rattle.rr_protocol.specs.Messages.{RequestMessage, Active, ActiveRequest, as_active}
+use Rattle.rr_protocol.specs.Ports.{Server}
+use Rattle.rr_protocol.specs.State.{State, server_at, active_at, is_server_value}
+use Rattle.rr_protocol.specs.Creation.{CreatesServer}
+use Rattle.rr_protocol.specs.Receives.{with_active_request, ReceivesRequest}
+use Rattle.rr_commands.specs.declared.command.Command.{Command}
+use Rattle.rr_commands.specs.declared.reply.Reply.{Reply}
+use Rattle.rr_commands.specs.Step.{server_settings}
+use Rattle.rr_commands.specs.AnswerRule.{retries, creates_waiting}
 use Rattle.rr_laws.specs.Roles.{Question, Role, roles_of, asking, asking_at}
 use Rattle.rr_laws.specs.Reached.{IsReached}
 use Rattle.rr_laws.specs.Following.{entries_for}
 use Rattle.rr_laws.specs.Settling.{listed, IsNew, IsWaiting, Settles}
-use Rattle.rr_table.proofs.ListFacts.{any-append, find-append}
+use Rattle.rr_maps.proofs.ListFacts.{any-append, find-append}
 use Rattle.rr_laws.proofs.Opening.{some_and}
 use Rattle.rr_laws.proofs.Connected.{has_below}
-use Rattle.rr_table.proofs.Counting.{count-cons}
+use Rattle.rr_maps.proofs.Counting.{count-cons}
 use Rattle.rr_laws.proofs.Occurring.{false_is_true}
 use Rattle.rr_laws.proofs.Telling.{three_true}
 use Rattle.rr_laws.proofs.SettlingSends.{listed_below, skims_fewer}
@@ -61,8 +61,8 @@ module _ {Q QH P PH K : Type 0} where
         (λ now. inr (inl (omega (arith, is, now.0))))
         (at_server server serves.1.0 serves.1.1);
     servers = λ n c e. ⊎_elim (λ was. inl (c, was, refl, refl)) (λ now. inr (omega (arith, is, now.0))) (at_server n c e);
-    held = λ n e. inl (ap (list_any (λ (x : Server K). eqb x.id n && x.is_held)) servers
-        ∙ any-append (λ (x : Server K). eqb x.id n && x.is_held) s.servers (one ∷ []) e);
+    held = λ n e. inl (ap (list_any (λ (x : Server K). eqb x.id n && x.has_value)) servers
+        ∙ any-append (λ (x : Server K). eqb x.id n && x.has_value) s.servers (one ∷ []) e);
     loaned = λ n q e. inl (sym (ap (λ h. get (roles_of h) n) handles) ∙ e);
     clash = λ n clashes. ⊎_elim
         (λ unsent. inl (
@@ -148,10 +148,10 @@ module _ {T H K : Type 0} where
   pub created_waits : (family : Family) (s : State T H T H K) → IsReached s → (settings : ServerSettings K) (m : ℕ) (new : State T H T H K)
       → CreatesServer s (server_settings family settings) (Ok m) new → (n : ℕ) →
       creates_waiting {T = T} {H = H} {K = K} n (Command.CreateServer settings, Reply.Created m) ≡ true → (s.next ≤ n) × (n < new.next)
-      × ((c : Server K) → server_at new n ≡ Some c → IsWaiting c) × (is_server_held new n ≡ true)
+      × ((c : Server K) → server_at new n ≡ Some c → IsWaiting c) × (is_server_value new n ≡ true)
   created_waits family s fits settings m new made n e = subst
       (λ (x : State T H T H K). (s.next ≤ n) × (n < x.next) × ((c : Server K) → server_at x n ≡ Some c → IsWaiting c)
-      × (is_server_held x n ≡ true)) (sym made.2) (
+      × (is_server_value x n ≡ true)) (sym made.2) (
         omega (arith, is),
         omega (arith, is),
         (λ c at. ⊎_elim
@@ -167,9 +167,10 @@ module _ {T H K : Type 0} where
                   ∙ none_is settings.handler t.2,
             ))
             (server_cases s _ n c at)),
-        list_any-append (λ (x : Server K). eqb x.id n && x.is_held) s.servers _
-            ∙ ap (λ b. list_any (λ (x : Server K). eqb x.id n && x.is_held) s.servers || ((b && true) || false)) (eq-eqb s.next n (sym is))
-            ∙ last (list_any (λ (x : Server K). eqb x.id n && x.is_held) s.servers),
+        list_any-append (λ (x : Server K). eqb x.id n && x.has_value) s.servers _
+            ∙ ap (λ b. list_any (λ (x : Server K). eqb x.id n && x.has_value) s.servers || ((b && true) || false))
+            (eq-eqb s.next n (sym is))
+            ∙ last (list_any (λ (x : Server K). eqb x.id n && x.has_value) s.servers),
       )
     where
       t : (eqb m n ≡ true) × (retries settings.strategy ≡ true) × (is_none settings.handler ≡ true)

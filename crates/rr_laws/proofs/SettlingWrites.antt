@@ -1,12 +1,12 @@
 -- A write, a creation of a client and a step that changes nothing settle with nothing new.
 use Rattle.std.proofs.Common.{◌≡◌, ℕ, Bool, true, false, cond, List, Result, Ok, Err, refl, sym, subst, arith}
-use Rattle.rr_hub.specs.declared.settings.ClientSettings.{ClientSettings}
-use Rattle.rr_hub.specs.declared.error.ClientCreateError.{ClientCreateError}
-use Rattle.rr_hub.specs.Messages.{Content, Handle}
-use Rattle.rr_hub.specs.Writing.{with_request_content, with_response_content}
-use Rattle.rr_hub.specs.State.{State, with_changed}
-use Rattle.rr_hub.specs.Creation.{CreatesClient}
-use Rattle.rr_steps.specs.Step.{with_content, with_complete}
+use Rattle.rr_protocol.specs.declared.settings.ClientSettings.{ClientSettings}
+use Rattle.rr_protocol.specs.declared.error.ClientCreateError.{ClientCreateError}
+use Rattle.rr_protocol.specs.Messages.{Content, Handle}
+use Rattle.rr_protocol.specs.Writing.{with_request_content, with_response_content}
+use Rattle.rr_protocol.specs.State.{State, with_changed}
+use Rattle.rr_protocol.specs.Creation.{CreatesClient}
+use Rattle.rr_commands.specs.Step.{with_content, with_complete}
 use Rattle.rr_laws.specs.Roles.{role_of}
 use Rattle.rr_laws.specs.Settling.{IsNew, Settles}
 use Rattle.rr_laws.proofs.RoleLaws.{roles-changed}

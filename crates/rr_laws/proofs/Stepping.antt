@@ -1,16 +1,16 @@
 -- Each step keeps what holds in a reached state.
 use Rattle.std.proofs.Common.{◌≡◌, ℕ, Bool, true, false, cond, List, [], ◌∷◌, Option, Some, None, MatchOption, Result, Ok, Err, sym, subst, ⊎_elim}
 use Rattle.rr_slots.specs.declared.family.Family.{Family}
-use Rattle.rr_hub.specs.declared.settings.BackpressureAction.{BackpressureAction}
-use Rattle.rr_hub.specs.declared.error.LoanError.{LoanError}
-use Rattle.rr_hub.specs.Messages.{Content}
-use Rattle.rr_hub.specs.Writing.{with_element, with_element_at, with_user_header}
-use Rattle.rr_hub.specs.State.{State, handle_at}
-use Rattle.rr_steps.specs.declared.command.Command.{Command}
-use Rattle.rr_steps.specs.declared.reply.Reply.{Reply}
-use Rattle.rr_steps.specs.Refusals.{refusal}
-use Rattle.rr_steps.specs.Step.{client_settings, server_settings, with_content, with_complete, Loans, Acts, Step}
-use Rattle.rr_steps.specs.Run.{Run}
+use Rattle.rr_protocol.specs.declared.settings.BackpressureAction.{BackpressureAction}
+use Rattle.rr_protocol.specs.declared.error.LoanError.{LoanError}
+use Rattle.rr_protocol.specs.Messages.{Content}
+use Rattle.rr_protocol.specs.Writing.{with_element, with_element_at, with_user_header}
+use Rattle.rr_protocol.specs.State.{State, handle_at}
+use Rattle.rr_commands.specs.declared.command.Command.{Command}
+use Rattle.rr_commands.specs.declared.reply.Reply.{Reply}
+use Rattle.rr_commands.specs.Refusals.{refusal}
+use Rattle.rr_commands.specs.Step.{client_settings, server_settings, with_content, with_complete, Loans, Acts, Step}
+use Rattle.rr_commands.specs.Run.{Run}
 use Rattle.rr_laws.specs.Reached.{IsReached}
 use Rattle.rr_laws.proofs.Opening.{some_and}
 use Rattle.rr_laws.proofs.Creating.{creates_client_reached, creates_server_reached}
@@ -20,13 +20,13 @@ use Rattle.rr_laws.proofs.Sending.{sends_request_reached, sends_response_reached
 use Rattle.rr_laws.proofs.Receiving.{receives_request_reached, receives_response_reached}
 use Rattle.rr_laws.proofs.Leaving.{after_release_reached}
 
-module _ {T H K : Type 0} (answer : K → ℕ → ℕ → BackpressureAction) (IsDefaultElement : T → Type 0) (IsDefaultHeader : H → Type 0)
+module _ {T H K : Type 0} (action : K → ℕ → ℕ → BackpressureAction) (IsDefaultElement : T → Type 0) (IsDefaultHeader : H → Type 0)
     (family : Family) where
   same_reached : (old new : State T H T H K) → new ≡ old → IsReached old → IsReached new
   same_reached old new same fits = subst (λ (x : State T H T H K). IsReached x) (sym same) fits
 
   loans_reached : (old : State T H T H K) → IsReached old → (n len : ℕ) (result : Result ℕ LoanError) (new : State T H T H K) →
-      Loans answer IsDefaultElement IsDefaultHeader family old n len result new → IsReached new
+      Loans action IsDefaultElement IsDefaultHeader family old n len result new → IsReached new
   loans_reached old fits n len result new loans =
       ⊎_elim (loans_request_reached old fits IsDefaultHeader n len result new)
       (loans_response_reached old fits IsDefaultHeader n len result new) loans
@@ -38,7 +38,7 @@ module _ {T H K : Type 0} (answer : K → ℕ → ℕ → BackpressureAction) (I
 
   -- after any command that acts
   pub acts_reached : (old : State T H T H K) → IsReached old → (command : Command T H K) (reply : Reply T H) (new : State T H T H K) →
-      Acts answer IsDefaultElement IsDefaultHeader family old command reply new → IsReached new
+      Acts action IsDefaultElement IsDefaultHeader family old command reply new → IsReached new
   acts_reached old fits (Command.CreateClient settings) (Reply.Created n) new acts = creates_client_reached old fits
       (client_settings family settings) (Ok n) new acts
   acts_reached old fits (Command.CreateClient settings) (Reply.ClientError e) new acts = creates_client_reached old fits
@@ -58,21 +58,21 @@ module _ {T H K : Type 0} (answer : K → ℕ → ℕ → BackpressureAction) (I
   acts_reached old fits (Command.LoanDefault n len) Reply.NoMemory new acts = same_reached old new acts fits
   acts_reached old fits (Command.SendCopy n v) (Reply.Pending k connections) new acts =
       sends_request_reached (with_complete acts.0 k (v ∷ [])) (complete_reached acts.0 k
-      (v ∷ []) (loans_request_reached old fits IsDefaultHeader n 1 (Ok k) acts.0 acts.1)) k answer (Ok connections) new acts.2
+      (v ∷ []) (loans_request_reached old fits IsDefaultHeader n 1 (Ok k) acts.0 acts.1)) k action (Ok connections) new acts.2
   acts_reached old fits (Command.SendCopy n v) (Reply.RequestError e) new acts =
       ⊎_elim
       (λ loan. loans_request_reached old fits IsDefaultHeader n 1 (Err loan.0) new loan.1)
       (λ send. sends_request_reached (with_complete send.0 send.1 (v ∷ [])) (complete_reached send.0 send.1
-      (v ∷ []) (loans_request_reached old fits IsDefaultHeader n 1 (Ok send.1) send.0 send.2)) send.1 answer (Err e) new send.3)
+      (v ∷ []) (loans_request_reached old fits IsDefaultHeader n 1 (Ok send.1) send.0 send.2)) send.1 action (Err e) new send.3)
       acts
   acts_reached old fits (Command.SendCopy n v) (Reply.Sent k) new acts =
       sends_response_reached (with_complete acts.0 k (v ∷ [])) (complete_reached acts.0 k
-      (v ∷ []) (loans_response_reached old fits IsDefaultHeader n 1 (Ok k) acts.0 acts.1)) k answer (Ok k) new acts.2
+      (v ∷ []) (loans_response_reached old fits IsDefaultHeader n 1 (Ok k) acts.0 acts.1)) k action (Ok k) new acts.2
   acts_reached old fits (Command.SendCopy n v) (Reply.SendError e) new acts =
       ⊎_elim
       (λ loan. loans_response_reached old fits IsDefaultHeader n 1 (Err loan.0) new loan.1)
       (λ send. sends_response_reached (with_complete send.0 send.1 (v ∷ [])) (complete_reached send.0 send.1
-      (v ∷ []) (loans_response_reached old fits IsDefaultHeader n 1 (Ok send.1) send.0 send.2)) send.1 {U = ℕ} answer
+      (v ∷ []) (loans_response_reached old fits IsDefaultHeader n 1 (Ok send.1) send.0 send.2)) send.1 {U = ℕ} action
       (Err e) new send.3)
       acts
   acts_reached old fits (Command.SendCopy n v) Reply.NoMemory new acts = same_reached old new acts fits
@@ -84,11 +84,11 @@ module _ {T H K : Type 0} (answer : K → ℕ → ℕ → BackpressureAction) (I
       (content_reached old n (with_user_header h) fits)
   acts_reached old fits (Command.AssumeInit n) Reply.Done new acts = same_reached _ new acts (init_reached old n fits)
   acts_reached old fits (Command.IsDeliverable n) (Reply.Flag b) new acts = same_reached old new acts.1 fits
-  acts_reached old fits (Command.Send n) (Reply.Pending k connections) new acts = sends_request_reached old fits n answer
+  acts_reached old fits (Command.Send n) (Reply.Pending k connections) new acts = sends_request_reached old fits n action
       (Ok connections) new acts.1
-  acts_reached old fits (Command.Send n) (Reply.RequestError e) new acts = sends_request_reached old fits n answer (Err e) new acts
-  acts_reached old fits (Command.Send n) (Reply.Sent k) new acts = sends_response_reached old fits n answer (Ok k) new acts.1
-  acts_reached old fits (Command.Send n) (Reply.SendError e) new acts = sends_response_reached old fits n {U = ℕ} answer (Err e) new acts
+  acts_reached old fits (Command.Send n) (Reply.RequestError e) new acts = sends_request_reached old fits n action (Err e) new acts
+  acts_reached old fits (Command.Send n) (Reply.Sent k) new acts = sends_response_reached old fits n action (Ok k) new acts.1
+  acts_reached old fits (Command.Send n) (Reply.SendError e) new acts = sends_response_reached old fits n {U = ℕ} action (Err e) new acts
   acts_reached old fits (Command.Receive n) (Reply.Active a r) new acts = receives_request_reached old fits n (Ok (Some a)) new acts.0
   acts_reached old fits (Command.Receive n) (Reply.Response k) new acts = receives_response_reached old fits n (Ok (Some k)) new acts
   acts_reached old fits (Command.Receive n) Reply.Nothing new acts = ⊎_elim (receives_request_reached old fits n (Ok None) new)
@@ -115,10 +115,10 @@ module _ {T H K : Type 0} (answer : K → ℕ → ℕ → BackpressureAction) (I
 
   -- after any step
   pub step_reached : (old : State T H T H K) → IsReached old → (command : Command T H K) (reply : Reply T H) (new : State T H T H K) →
-      Step answer IsDefaultElement IsDefaultHeader family old command reply new → IsReached new
+      Step action IsDefaultElement IsDefaultHeader family old command reply new → IsReached new
   step_reached old fits command reply new step = go (refusal family old command) step
     where
-      go : (o : Option (Reply T H)) → MatchOption o (Acts answer IsDefaultElement IsDefaultHeader family old command reply new)
+      go : (o : Option (Reply T H)) → MatchOption o (Acts action IsDefaultElement IsDefaultHeader family old command reply new)
           (λ refused. (reply ≡ refused) × (new ≡ old)) → IsReached new
       go None step = acts_reached old fits command reply new step
       go (Some refused) step = same_reached old new step.1 fits
@@ -126,7 +126,7 @@ module _ {T H K : Type 0} (answer : K → ℕ → ℕ → BackpressureAction) (I
   -- whatever is run, what holds in a reached state holds after it
   pub run_reached : (old : State T H T H K) → IsReached old → (commands : List (Command T H K)) (replies : List (Reply T H))
       (new : State T H T H K) →
-      Run answer IsDefaultElement IsDefaultHeader family old commands replies new → IsReached new
+      Run action IsDefaultElement IsDefaultHeader family old commands replies new → IsReached new
   run_reached old fits [] [] new run = same_reached old new run fits
   run_reached old fits (command ∷ commands) (reply ∷ replies) new run =
       run_reached run.0 (step_reached old fits command reply run.0 run.1) commands replies new run.2

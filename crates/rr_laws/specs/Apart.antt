@@ -1,10 +1,10 @@
 -- What keeps the requests and the responses of a reached state apart from one another.
 use Rattle.std.specs.Prelude.{◌≡◌, ℕ, ◌<◌, ◌≤◌, ◌==◌, Some, None, count_by}
 use Rattle.std.specs.FinMap as fin_map
-use Rattle.rr_hub.specs.Lists.{Lists, at}
-use Rattle.rr_hub.specs.Keys.{ResponseKey, response_key_cmp}
-use Rattle.rr_hub.specs.Messages.{ResponseMessage}
-use Rattle.rr_hub.specs.State.{State}
+use Rattle.rr_protocol.specs.Lists.{Lists, at}
+use Rattle.rr_protocol.specs.Keys.{ResponseKey, response_key_cmp}
+use Rattle.rr_protocol.specs.Messages.{ResponseMessage}
+use Rattle.rr_protocol.specs.State.{State}
 use Rattle.rr_laws.specs.Roles.{Question, Roles, roles_of, asking_at}
 
 -- of the requests that a client has on loan or that wait for answers, no two are on one channel

@@ -1,15 +1,15 @@
 -- A connected port's live messages are never more than the worst case.
 use Rattle.std.specs.Prelude.{◌≡◌, ℕ, ◌≤◌, List, Some, None}
 use Rattle.rr_slots.specs.declared.family.Family.{Family}
-use Rattle.rr_hub.specs.declared.limits.Limits.{Limits}
-use Rattle.rr_hub.specs.declared.settings.BackpressureAction.{BackpressureAction}
-use Rattle.rr_hub.specs.Limits.{worst_case_requests, worst_case_responses, hub_refusal}
-use Rattle.rr_hub.specs.Ports.{Client, Server}
-use Rattle.rr_hub.specs.State.{State, empty_hub, client_at, server_at}
-use Rattle.rr_hub.specs.Counts.{live_requests, live_responses}
-use Rattle.rr_steps.specs.declared.command.Command.{Command}
-use Rattle.rr_steps.specs.declared.reply.Reply.{Reply}
-use Rattle.rr_steps.specs.Run.{Run}
+use Rattle.rr_protocol.specs.declared.limits.Limits.{Limits}
+use Rattle.rr_protocol.specs.declared.settings.BackpressureAction.{BackpressureAction}
+use Rattle.rr_protocol.specs.Limits.{worst_case_requests, worst_case_responses, hub_refusal}
+use Rattle.rr_protocol.specs.Ports.{Client, Server}
+use Rattle.rr_protocol.specs.State.{State, empty_hub, client_at, server_at}
+use Rattle.rr_protocol.specs.Counts.{live_requests, live_responses}
+use Rattle.rr_commands.specs.declared.command.Command.{Command}
+use Rattle.rr_commands.specs.declared.reply.Reply.{Reply}
+use Rattle.rr_commands.specs.Run.{Run}
 
 module _ {Q QH P PH K : Type 0} where
   -- each connected client has at most the worst case of live requests
@@ -26,5 +26,5 @@ module _ {T H K : Type 0} (IsDefaultElement : T → Type 0) (IsDefaultHeader : H
   abbrev pub HoldsOfRuns : (Limits → State T H T H K → Type 0) → Type 0
   HoldsOfRuns R =
       (limits : Limits) (node_id : ℕ) → hub_refusal limits ≡ None
-      → (answer : K → ℕ → ℕ → BackpressureAction) (family : Family) (commands : List (Command T H K)) (replies : List (Reply T H)) (s : State T H T H K)
-      → Run answer IsDefaultElement IsDefaultHeader family (empty_hub limits node_id) commands replies s → R limits s
+      → (action : K → ℕ → ℕ → BackpressureAction) (family : Family) (commands : List (Command T H K)) (replies : List (Reply T H)) (s : State T H T H K)
+      → Run action IsDefaultElement IsDefaultHeader family (empty_hub limits node_id) commands replies s → R limits s

@@ -2,9 +2,9 @@
 use Rattle.std.specs.Prelude.{◌≡◌, ◌≢◌, ℕ, ◌<◌, true, false, List, ◌++◌, Some}
 use Rattle.std.specs.List.{list_any}
 use Rattle.std.specs.FinMap as fin_map
-use Rattle.rr_hub.specs.Ports.{Server}
-use Rattle.rr_hub.specs.State.{State, server_at, is_server_held}
-use Rattle.rr_steps.specs.AnswerRule.{Event, IsPrefix, creates_waiting, is_release, sent_for, received_from}
+use Rattle.rr_protocol.specs.Ports.{Server}
+use Rattle.rr_protocol.specs.State.{State, server_at, is_server_value}
+use Rattle.rr_commands.specs.AnswerRule.{Event, IsPrefix, creates_waiting, is_release, sent_for, received_from}
 use Rattle.rr_laws.specs.Roles.{Question, LoanedRequest, roles_of}
 use Rattle.rr_laws.specs.Following.{queued, WasReceived}
 use Rattle.rr_laws.specs.Settling.{IsServing, Clashes, IsWaiting}
@@ -22,7 +22,7 @@ module _ {T H K : Type 0} where
     pub under_way : (a server p : ℕ) → WasReceived history server a p → IsUnderWay s server p
     pub given : (n : ℕ) → list_any (creates_waiting n) history ≡ true → n < s.next
     pub waits : (n : ℕ) → list_any (creates_waiting n) history ≡ true → (c : Server K) → server_at s n ≡ Some c → IsWaiting c
-    pub held : (n : ℕ) → list_any (creates_waiting n) history ≡ true → list_any (is_release n) history ≡ false → is_server_held s n ≡ true
+    pub held : (n : ℕ) → list_any (creates_waiting n) history ≡ true → list_any (is_release n) history ≡ false → is_server_value s n ≡ true
     pub clear : (n : ℕ) → Clashes s n → ⊥
     pub whole : s.limits.enable_safe_overflow_for_responses ≡ false → (server p : ℕ) → list_any (creates_waiting server) history ≡ true → IsServing s server p →
         received_from history server p ++ queued s server p ≡ sent_for history server p

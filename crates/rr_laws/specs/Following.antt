@@ -3,11 +3,11 @@ use Rattle.std.specs.Prelude.{◌≡◌, ◌⊎◌, ℕ, ◌<◌, ◌≤◌, Boo
 use Rattle.std.specs.List.{AllByRecursion, list_any}
 use Rattle.std.specs.Option.{option_map_or}
 use Rattle.std.specs.FinMap as fin_map
-use Rattle.rr_hub.specs.Lists.{Lists, at}
-use Rattle.rr_hub.specs.Keys.{ResponseKey, response_key_cmp}
-use Rattle.rr_hub.specs.Messages.{ResponseMessage}
-use Rattle.rr_hub.specs.State.{State}
-use Rattle.rr_steps.specs.AnswerRule.{Event, IsSubsequence, occur_in_order, is_active, is_active_of, is_loan, is_sent, is_sent_copy, is_response, sent_by, received_by, lender_of, sent_for, received_from}
+use Rattle.rr_protocol.specs.Lists.{Lists, at}
+use Rattle.rr_protocol.specs.Keys.{ResponseKey, response_key_cmp}
+use Rattle.rr_protocol.specs.Messages.{ResponseMessage}
+use Rattle.rr_protocol.specs.State.{State}
+use Rattle.rr_commands.specs.AnswerRule.{Event, IsSubsequence, occur_in_order, is_active, is_active_of, is_loan, is_sent, is_sent_copy, is_response, sent_by, received_by, lender_of, sent_for, received_from}
 use Rattle.rr_laws.specs.Roles.{Question, Role, SentRequest, ReceivedRequest, LoanedResponse, Answer, Roles, roles_of}
 
 -- the request that waits for answers in a role

@@ -2,9 +2,9 @@
 use Rattle.std.specs.Prelude.{◌≡◌, ℕ, ◌<◌, true, false, List}
 use Rattle.std.specs.List.{AllByRecursion}
 use Rattle.std.specs.Ordering.{nat_cmp}
-use Rattle.rr_hub.specs.Lists.{Lists, at}
-use Rattle.rr_hub.specs.Ports.{Client, Server}
-use Rattle.rr_hub.specs.State.{State}
+use Rattle.rr_protocol.specs.Lists.{Lists, at}
+use Rattle.rr_protocol.specs.Ports.{Client, Server}
+use Rattle.rr_protocol.specs.State.{State}
 use Rattle.rr_laws.specs.Reached.{has_client, has_server}
 
 -- a number that was given, and names no connected port

@@ -2,14 +2,14 @@
 use Rattle.std.specs.Prelude.{◌≡◌, ℕ, ◌<◌, ◌≤◌, Bool, true, List, length, Some, None, is_some, find, ◌==◌}
 use Rattle.std.specs.List.{AllByRecursion}
 use Rattle.std.specs.FinMap as fin_map
-use Rattle.rr_table.specs.Maps.{tally}
-use Rattle.rr_hub.specs.declared.limits.Limits.{Limits}
-use Rattle.rr_hub.specs.Limits.{worst_case_requests, max_loaned_responses, hub_refusal}
-use Rattle.rr_hub.specs.Lists.{Lists, at}
-use Rattle.rr_hub.specs.Keys.{RequestKey, ResponseKey, request_key_cmp, response_key_cmp}
-use Rattle.rr_hub.specs.Messages.{RequestMessage, ResponseMessage}
-use Rattle.rr_hub.specs.Ports.{Client, Server}
-use Rattle.rr_hub.specs.State.{State}
+use Rattle.rr_maps.specs.Maps.{tally}
+use Rattle.rr_protocol.specs.declared.limits.Limits.{Limits}
+use Rattle.rr_protocol.specs.Limits.{worst_case_requests, max_loaned_responses, hub_refusal}
+use Rattle.rr_protocol.specs.Lists.{Lists, at}
+use Rattle.rr_protocol.specs.Keys.{RequestKey, ResponseKey, request_key_cmp, response_key_cmp}
+use Rattle.rr_protocol.specs.Messages.{RequestMessage, ResponseMessage}
+use Rattle.rr_protocol.specs.Ports.{Client, Server}
+use Rattle.rr_protocol.specs.State.{State}
 use Rattle.rr_laws.specs.Roles.{Question, Role, LoanedRequest, SentRequest, ReceivedRequest, LoanedResponse, ReceivedResponse, Roles, question_of, answer_of, answered, roles_of, subject_of, number_of, asking_at, loans_request, waits, holds_request, loans_response, holds_response}
 
 module _ {K : Type 0} where

@@ -2,9 +2,9 @@
 use Rattle.std.specs.Prelude.{ℕ, Bool, false, ◌&&◌, ◌==◌, Option, Some, None, option_and_then}
 use Rattle.std.specs.Ordering.{nat_cmp}
 use Rattle.std.specs.FinMap as fin_map
-use Rattle.rr_table.specs.Maps.{map_values}
-use Rattle.rr_hub.specs.Keys.{RequestKey, ResponseKey}
-use Rattle.rr_hub.specs.Messages.{RequestMessage, ResponseMessage, Handle, RequestMutUninit, RequestMut, PendingResponse, ActiveRequest, ResponseMutUninit, ResponseMut, Response}
+use Rattle.rr_maps.specs.Maps.{map_values}
+use Rattle.rr_protocol.specs.Keys.{RequestKey, ResponseKey}
+use Rattle.rr_protocol.specs.Messages.{RequestMessage, ResponseMessage, Handle, RequestMutUninit, RequestMut, PendingResponse, ActiveRequest, ResponseMutUninit, ResponseMut, Response}
 
 -- a request without its content
 pub record Question : Type 0 where

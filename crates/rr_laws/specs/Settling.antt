@@ -1,12 +1,12 @@
 -- From one state to another: which requests still wait for which servers, and that a request's number stands for nothing else.
 use Rattle.std.specs.Prelude.{◌≡◌, ◌⊎◌, ℕ, ◌<◌, ◌≤◌, true, ◌==◌, List, Some, None, count_by}
 use Rattle.std.specs.FinMap as fin_map
-use Rattle.rr_hub.specs.declared.settings.BackpressureStrategy.{BackpressureStrategy}
-use Rattle.rr_hub.specs.Lists.{Lists, at}
-use Rattle.rr_hub.specs.Keys.{RequestKey, request_key_cmp}
-use Rattle.rr_hub.specs.Messages.{RequestMessage}
-use Rattle.rr_hub.specs.Ports.{Server}
-use Rattle.rr_hub.specs.State.{State, server_at, is_server_held}
+use Rattle.rr_protocol.specs.declared.settings.BackpressureStrategy.{BackpressureStrategy}
+use Rattle.rr_protocol.specs.Lists.{Lists, at}
+use Rattle.rr_protocol.specs.Keys.{RequestKey, request_key_cmp}
+use Rattle.rr_protocol.specs.Messages.{RequestMessage}
+use Rattle.rr_protocol.specs.Ports.{Server}
+use Rattle.rr_protocol.specs.State.{State, server_at, is_server_value}
 use Rattle.rr_laws.specs.Roles.{Question, LoanedRequest, SentRequest, roles_of, asking_at}
 use Rattle.rr_laws.specs.Following.{queued}
 
@@ -41,6 +41,6 @@ module _ {Q QH P PH K : Type 0} where
     pub next : old.next ≤ new.next
     pub serving : (server p : ℕ) → IsServing new server p → (IsServing old server p × GoesOn server p (queued old server p) (queued new server p)) ⊎ Begins server p
     pub servers : (n : ℕ) (c : Server K) → server_at new n ≡ Some c → ((d : Server K) × (server_at old n ≡ Some d) × (c.strategy ≡ d.strategy) × (c.handler ≡ d.handler)) ⊎ (old.next ≤ n)
-    pub held : (n : ℕ) → is_server_held old n ≡ true → (is_server_held new n ≡ true) ⊎ Ends n
+    pub held : (n : ℕ) → is_server_value old n ≡ true → (is_server_value new n ≡ true) ⊎ Ends n
     pub loaned : (n : ℕ) (q : Question) → fin_map.get (roles_of new.handles) n ≡ Some (LoanedRequest q) → (fin_map.get (roles_of old.handles) n ≡ Some (LoanedRequest q)) ⊎ (old.next ≤ n)
     pub clash : (n : ℕ) → Clashes new n → Clashes old n

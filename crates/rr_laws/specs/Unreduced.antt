@@ -1,19 +1,19 @@
 -- A pool of the worst-case size never runs dry, and a loan that is not refused finds a channel.
 use Rattle.std.specs.Prelude.{◌≡◌, ℕ, ◌≤◌, Bool, true, false, Option, Some, None}
 use Rattle.rr_slots.specs.declared.family.Family.{Family}
-use Rattle.rr_hub.specs.declared.limits.Limits.{Limits}
-use Rattle.rr_hub.specs.declared.settings.BackpressureAction.{BackpressureAction}
-use Rattle.rr_hub.specs.declared.error.LoanError.{LoanError}
-use Rattle.rr_hub.specs.declared.error.SendError.{SendError}
-use Rattle.rr_hub.specs.declared.error.RequestSendError.{RequestSendError}
-use Rattle.rr_hub.specs.Limits.{worst_case_requests, worst_case_responses}
-use Rattle.rr_hub.specs.Messages.{Active}
-use Rattle.rr_hub.specs.Ports.{Client, Server}
-use Rattle.rr_hub.specs.State.{State, client_at, server_at, active_at}
-use Rattle.rr_hub.specs.Loans.{request_loan_refusal, IsFreeChannel}
-use Rattle.rr_steps.specs.declared.command.Command.{Command}
-use Rattle.rr_steps.specs.declared.reply.Reply.{Reply}
-use Rattle.rr_steps.specs.Step.{Step}
+use Rattle.rr_protocol.specs.declared.limits.Limits.{Limits}
+use Rattle.rr_protocol.specs.declared.settings.BackpressureAction.{BackpressureAction}
+use Rattle.rr_protocol.specs.declared.error.LoanError.{LoanError}
+use Rattle.rr_protocol.specs.declared.error.SendError.{SendError}
+use Rattle.rr_protocol.specs.declared.error.RequestSendError.{RequestSendError}
+use Rattle.rr_protocol.specs.Limits.{worst_case_requests, worst_case_responses}
+use Rattle.rr_protocol.specs.Messages.{Active}
+use Rattle.rr_protocol.specs.Ports.{Client, Server}
+use Rattle.rr_protocol.specs.State.{State, client_at, server_at, active_at}
+use Rattle.rr_protocol.specs.Loans.{request_loan_refusal, IsFreeChannel}
+use Rattle.rr_commands.specs.declared.command.Command.{Command}
+use Rattle.rr_commands.specs.declared.reply.Reply.{Reply}
+use Rattle.rr_commands.specs.Step.{Step}
 
 module _ {T H K : Type 0} where
   -- from what a command would loan, and how long a slice
@@ -65,6 +65,6 @@ module _ {T H K : Type 0} (IsDefaultElement : T → Type 0) (IsDefaultHeader : H
   -- no step from here by a loan from such a pool is answered with want of memory
   abbrev pub FindsMemory : Limits → State T H T H K → Type 0
   FindsMemory limits s =
-      (answer : K → ℕ → ℕ → BackpressureAction) (family : Family) (command : Command T H K) (reply : Reply T H) (new : State T H T H K) (n len : ℕ)
-      → asked_in command ≡ Some (n, len) → HasPool limits s n len → Step answer IsDefaultElement IsDefaultHeader family s command reply new
+      (action : K → ℕ → ℕ → BackpressureAction) (family : Family) (command : Command T H K) (reply : Reply T H) (new : State T H T H K) (n len : ℕ)
+      → asked_in command ≡ Some (n, len) → HasPool limits s n len → Step action IsDefaultElement IsDefaultHeader family s command reply new
       → is_out_of_memory reply ≡ false

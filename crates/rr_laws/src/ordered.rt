@@ -1,6 +1,6 @@
 //! Responses are received in the order in which they were sent, and from a server that waits for room without a gap.
 ghost use Rattle.std.specs.Prelude.{◌≡◌, false};
-ghost use Rattle.rr_steps.specs.AnswerRule.{ReceivesInOrder, ReceivesWithoutGap, ReceivesAll};
+ghost use Rattle.rr_commands.specs.AnswerRule.{ReceivesInOrder, ReceivesWithoutGap, ReceivesAll};
 ghost use Rattle.rr_laws.specs.History.{HoldsOfHistories};
 
 /// Whatever is run on an empty hub, a request receives from each server some of the responses that the server sent for it, in order.

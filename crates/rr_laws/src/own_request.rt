@@ -1,5 +1,5 @@
 //! A response is received by the request that it answers, and once.
-ghost use Rattle.rr_steps.specs.AnswerRule.{AnswersTheRequest, ReceivesOnce};
+ghost use Rattle.rr_commands.specs.AnswerRule.{AnswersTheRequest, ReceivesOnce};
 ghost use Rattle.rr_laws.specs.History.{HoldsOfHistories};
 
 /// Whatever is run on an empty hub, a response that a request receives was loaned from an active request of that request and sent after that, and no response is received twice.

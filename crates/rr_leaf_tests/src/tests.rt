@@ -8,12 +8,12 @@ mod bodies;
 mod channels;
 mod connections;
 mod errors;
-mod lane_bodies;
-mod lanes;
 mod limits;
 mod messages;
 mod pools;
 mod replies;
+mod sender_bodies;
+mod senders;
 mod tables;
 
 /// Two elements that own memory.

@@ -4,41 +4,41 @@ use Rattle.std.specs.Prelude.{not, ◌&&◌, ◌||◌, ◌==◌, if◌then◌els
 use Rattle.std.specs.List.{list_any}
 use Rattle.std.specs.Option.{option_map_or}
 use Rattle.std.specs.FinMap as fin_map
-use Rattle.rr_table.proofs.MapLaws.{get-insert_same}
-use Rattle.rr_hub.specs.declared.kind.Kind.{Kind}
-use Rattle.rr_hub.specs.Messages.{Content, RequestMessage, ResponseMessage, Handle, RequestMutUninit, ResponseMutUninit, request_in, response_in}
-use Rattle.rr_hub.specs.Ports.{Client}
-use Rattle.rr_hub.specs.Writing.{is_complete, with_element, with_elements, with_request_content, with_response_content, after_init}
-use Rattle.rr_hub.specs.State.{State, client_at, server_at, active_at, handle_at, is_client_held, is_server_held, with_changed}
-use Rattle.rr_hub.specs.Queries.{kind_of, kind_at}
-use Rattle.rr_hub.specs.Loans.{LoansRequest, LoansResponse, empty_content, with_loan_counted}
-use Rattle.rr_core.specs.Writing.{is_ready}
-use Rattle.rr_steps.specs.Step.{with_content, with_complete}
+use Rattle.rr_maps.proofs.MapLaws.{get-insert_same}
+use Rattle.rr_protocol.specs.declared.kind.Kind.{Kind}
+use Rattle.rr_protocol.specs.Messages.{Content, RequestMessage, ResponseMessage, Handle, RequestMutUninit, ResponseMutUninit, request_in, response_in}
+use Rattle.rr_protocol.specs.Ports.{Client}
+use Rattle.rr_protocol.specs.Writing.{is_complete, with_element, with_elements, with_request_content, with_response_content, after_init}
+use Rattle.rr_protocol.specs.State.{State, client_at, server_at, active_at, handle_at, is_client_value, is_server_value, with_changed}
+use Rattle.rr_protocol.specs.Queries.{kind_of, kind_at}
+use Rattle.rr_protocol.specs.Loans.{LoansRequest, LoansResponse, empty_content, with_loan_counted}
+use Rattle.rr_hub.specs.Writing.{is_ready}
+use Rattle.rr_commands.specs.Step.{with_content, with_complete}
 use Rattle.rr_laws.proofs.Opening.{some_and}
 
 -- a client's value lives as before, once a loan was counted
-counted_one : {K : Type 0} (n k : ℕ) (c : Client K) → ((with_loan_counted k c).id == n && (with_loan_counted k c).is_held) ≡
-    (c.id == n && c.is_held)
+counted_one : {K : Type 0} (n k : ℕ) (c : Client K) → ((with_loan_counted k c).id == n && (with_loan_counted k c).has_value) ≡
+    (c.id == n && c.has_value)
 counted_one n k c = elim (c.id == k) as (λ b. ((cond b (record c { loans_made = c.loans_made + 1 }) c).id == n
-    && (cond b (record c { loans_made = c.loans_made + 1 }) c).is_held) ≡ (c.id == n && c.is_held)) [
+    && (cond b (record c { loans_made = c.loans_made + 1 }) c).has_value) ≡ (c.id == n && c.has_value)) [
       | true ↦ refl
       | false ↦ refl
     ]
 
 counted_held : {K : Type 0} (n k : ℕ) (clients : List (Client K))
-    → list_any (λ c. c.id == n && c.is_held) (map (with_loan_counted k) clients) ≡ list_any (λ c. c.id == n && c.is_held) clients
+    → list_any (λ c. c.id == n && c.has_value) (map (with_loan_counted k) clients) ≡ list_any (λ c. c.id == n && c.has_value) clients
 counted_held n k [] = refl
 counted_held n k (c ∷ clients) =
-    ap (λ b. b || list_any (λ d. d.id == n && d.is_held) (map (with_loan_counted k) clients)) (counted_one n k c)
-    ∙ ap (λ b. (c.id == n && c.is_held) || b) (counted_held n k clients)
+    ap (λ b. b || list_any (λ d. d.id == n && d.has_value) (map (with_loan_counted k) clients)) (counted_one n k c)
+    ∙ ap (λ b. (c.id == n && c.has_value) || b) (counted_held n k clients)
 
 module _ {T H K : Type 0} where
   -- no port has the number
   abbrev IsNoPort : State T H T H K → ℕ → Type 0
-  IsNoPort s n = (is_client_held s n ≡ false) × (is_server_held s n ≡ false)
+  IsNoPort s n = (is_client_value s n ≡ false) × (is_server_value s n ≡ false)
 
   no_port : (s : State T H T H K) (n : ℕ) → kind_at s n ≡ None → IsNoPort s n
-  no_port s n h = go (is_client_held s n) (is_server_held s n) (option_map kind_of (handle_at s n)) h
+  no_port s n h = go (is_client_value s n) (is_server_value s n) (option_map kind_of (handle_at s n)) h
     where
       go : (a b : Bool) (o : Option Kind) → cond a (Some Kind.Client) (cond b (Some Kind.Server) o) ≡ None → (a ≡ false) × (b ≡ false)
       go true b o e = absurd (let f : Some Kind.Client ≡ None = e in cc)
@@ -49,7 +49,7 @@ module _ {T H K : Type 0} where
   handle_kind : (s : State T H T H K) (n : ℕ) (handle : Handle T H T H) → IsNoPort s n → handle_at s n ≡ Some handle
       → kind_at s n ≡ Some (kind_of handle)
   handle_kind s n handle apart at =
-      ap (λ b. cond b (Some Kind.Client) (cond (is_server_held s n) (Some Kind.Server) (option_map kind_of (handle_at s n)))) apart.0
+      ap (λ b. cond b (Some Kind.Client) (cond (is_server_value s n) (Some Kind.Server) (option_map kind_of (handle_at s n)))) apart.0
       ∙ ap (λ b. cond b (Some Kind.Server) (option_map kind_of (handle_at s n))) apart.1
       ∙ ap (option_map kind_of) at
 
@@ -155,8 +155,8 @@ module _ {T H K : Type 0} where
           record { number = old.next; client = l.0.id; request_id = l.0.loans_made; channel = m.0; content = empty_content m.1 1 },
           record {
             apart = (
-              ap (λ t. is_client_held t k) m.4 ∙ counted_held k l.0.id old.clients ∙ ap (is_client_held old) l.2.1 ∙ a.0,
-              ap (λ t. is_server_held t k) m.4 ∙ ap (is_server_held old) l.2.1 ∙ a.1,
+              ap (λ t. is_client_value t k) m.4 ∙ counted_held k l.0.id old.clients ∙ ap (is_client_value old) l.2.1 ∙ a.0,
+              ap (λ t. is_server_value t k) m.4 ∙ ap (is_server_value old) l.2.1 ∙ a.1,
             );
             header = m.1;
             at = ap (λ t. handle_at t k) m.4 ∙ get-insert_same old.handles old.next _ k l.2.1;
@@ -183,8 +183,8 @@ module _ {T H K : Type 0} where
           },
           record {
             apart = (
-              ap (λ t. is_client_held t k) m.2 ∙ ap (is_client_held old) l.2.1 ∙ a.0,
-              ap (λ t. is_server_held t k) m.2 ∙ ap (is_server_held old) l.2.1 ∙ a.1,
+              ap (λ t. is_client_value t k) m.2 ∙ ap (is_client_value old) l.2.1 ∙ a.0,
+              ap (λ t. is_server_value t k) m.2 ∙ ap (is_server_value old) l.2.1 ∙ a.1,
             );
             header = m.0;
             at = ap (λ t. handle_at t k) m.2 ∙ get-insert_same old.handles old.next _ k l.2.1;

@@ -1,10 +1,10 @@
 -- What a server received stands under the number that it was given.
 use Rattle.std.proofs.Common.{◌≡◌, ℕ, Some, sym, ap, ◌∙◌, Ok}
 use Rattle.std.specs.Prelude.{IsSome, is_some, option_and_then}
-use Rattle.rr_table.proofs.MapLaws.{get-insert_same}
-use Rattle.rr_hub.specs.Messages.{ActiveRequest, as_active}
-use Rattle.rr_hub.specs.State.{State, active_at, handle_at}
-use Rattle.rr_hub.specs.Receives.{ReceivesRequest}
+use Rattle.rr_maps.proofs.MapLaws.{get-insert_same}
+use Rattle.rr_protocol.specs.Messages.{ActiveRequest, as_active}
+use Rattle.rr_protocol.specs.State.{State, active_at, handle_at}
+use Rattle.rr_protocol.specs.Receives.{ReceivesRequest}
 
 module _ {T H K : Type 0} (old new : State T H T H K) (server k : ℕ) where
   pub active_there : ReceivesRequest old server (Ok (Some k)) new → IsSome (active_at new k)

@@ -2,20 +2,20 @@
 use Rattle.std.proofs.Common.{◌≡◌, ℕ, List, [], ◌∷◌, ◌++◌, refl, sym, ap, ◌∙◌, length, subst, arith}
 use Rattle.std.proofs.lemmas.List.{append_assoc, append-nil}
 use Rattle.rr_slots.specs.declared.family.Family.{Family}
-use Rattle.rr_hub.specs.declared.settings.BackpressureAction.{BackpressureAction}
-use Rattle.rr_hub.specs.State.{State}
-use Rattle.rr_steps.specs.declared.command.Command.{Command}
-use Rattle.rr_steps.specs.declared.reply.Reply.{Reply}
+use Rattle.rr_protocol.specs.declared.settings.BackpressureAction.{BackpressureAction}
+use Rattle.rr_protocol.specs.State.{State}
+use Rattle.rr_commands.specs.declared.command.Command.{Command}
+use Rattle.rr_commands.specs.declared.reply.Reply.{Reply}
 use Rattle.rr_run.specs.Offered.{IsOffered, AreOffered}
-use Rattle.rr_steps.specs.Run.{Run}
-use Rattle.rr_steps.specs.Step.{Step}
-use Rattle.rr_steps.proofs.RunLaws.{run_then_step}
+use Rattle.rr_commands.specs.Run.{Run}
+use Rattle.rr_commands.specs.Step.{Step}
+use Rattle.rr_commands.proofs.RunLaws.{run_then_step}
 
 nothing_left : {X : Type 0} (xs : List X) → length xs ≡ 0 → xs ≡ []
 nothing_left [] none = refl
 nothing_left (x ∷ xs) none = absurd (omega (arith, none))
 
-module _ {T H K : Type 0} (answer : K → ℕ → ℕ → BackpressureAction) (IsDefaultElement : T → Type 0) (IsDefaultHeader : H → Type 0)
+module _ {T H K : Type 0} (action : K → ℕ → ℕ → BackpressureAction) (IsDefaultElement : T → Type 0) (IsDefaultHeader : H → Type 0)
     (family : Family) where
   -- the first commands were carried out, and the others can be
   pub record IsRunning (old new : State T H T H K) (commands rest : List (Command T H K)) (before after : List (Reply T H)) : Type 0 where
@@ -23,12 +23,12 @@ module _ {T H K : Type 0} (answer : K → ℕ → ℕ → BackpressureAction) (I
     pub given : List (Reply T H)
     pub commands_are : commands ≡ done ++ rest
     pub replies_are : after ≡ before ++ given
-    pub run : Run answer IsDefaultElement IsDefaultHeader family old done given new
-    pub offered : AreOffered answer IsDefaultElement IsDefaultHeader family new rest
+    pub run : Run action IsDefaultElement IsDefaultHeader family old done given new
+    pub offered : AreOffered action IsDefaultElement IsDefaultHeader family new rest
 
   -- none was at first
   pub run_starts : (old : State T H T H K) (commands : List (Command T H K)) (before : List (Reply T H))
-      → AreOffered answer IsDefaultElement IsDefaultHeader family old commands →
+      → AreOffered action IsDefaultElement IsDefaultHeader family old commands →
       IsRunning old old commands commands before before
   run_starts old commands before offered = record {
     done = [];
@@ -47,14 +47,14 @@ module _ {T H K : Type 0} (answer : K → ℕ → ℕ → BackpressureAction) (I
 
     -- and then it was
     pub run_goes_on : (reply : Reply T H) (new : State T H T H K)
-        → Step answer IsDefaultElement IsDefaultHeader family mid command reply new
+        → Step action IsDefaultElement IsDefaultHeader family mid command reply new
         → IsRunning old new commands rest before (after ++ reply ∷ [])
     run_goes_on reply new step = record {
       done = r.done ++ command ∷ [];
       given = r.given ++ reply ∷ [];
       commands_are = r.commands_are ∙ sym (append_assoc r.done (command ∷ []) rest);
       replies_are = ap (λ rs. rs ++ reply ∷ []) r.replies_are ∙ append_assoc before r.given (reply ∷ []);
-      run = run_then_step answer IsDefaultElement IsDefaultHeader family r.done r.given old mid new command reply r.run step;
+      run = run_then_step action IsDefaultElement IsDefaultHeader family r.done r.given old mid new command reply r.run step;
       offered = r.offered.1 reply new step;
     }
 
@@ -62,7 +62,7 @@ module _ {T H K : Type 0} (answer : K → ℕ → ℕ → BackpressureAction) (I
   pub run_ends : (old new : State T H T H K) (commands rest : List (Command T H K)) (before after : List (Reply T H))
       → IsRunning old new commands rest before after → length rest ≡ 0 →
       (replies : List (Reply T H)) × (after ≡ before ++ replies)
-      × Run answer IsDefaultElement IsDefaultHeader family old commands replies new
+      × Run action IsDefaultElement IsDefaultHeader family old commands replies new
   run_ends old new commands rest before after r none =
       let all : commands ≡ r.done = r.commands_are ∙ ap (λ cs. r.done ++ cs) (nothing_left rest none) ∙ append-nil r.done in
-      (r.given, r.replies_are, subst (λ cs. Run answer IsDefaultElement IsDefaultHeader family old cs r.given new) (sym all) r.run)
+      (r.given, r.replies_are, subst (λ cs. Run action IsDefaultElement IsDefaultHeader family old cs r.given new) (sym all) r.run)

@@ -3,27 +3,27 @@ use Rattle.std.proofs.Common.{◌≡◌, ℕ, false, refl, sym, ap, ◌∙◌, s
 use Rattle.std.specs.Prelude.{◌==◌, option_and_then}
 use Rattle.std.specs.Option.{option_map_or}
 use Rattle.rr_slots.specs.declared.family.Family.{Family}
-use Rattle.rr_hub.specs.declared.settings.BackpressureAction.{BackpressureAction}
-use Rattle.rr_hub.specs.declared.kind.Kind.{Kind}
-use Rattle.rr_hub.specs.State.{State, numbers_left}
-use Rattle.rr_hub.specs.Queries.{kind_at}
-use Rattle.rr_steps.specs.declared.command.Command.{Command}
-use Rattle.rr_steps.specs.declared.reply.Reply.{Reply}
-use Rattle.rr_steps.specs.Refusals.{number_in, refusal, refusal_of_kind}
-use Rattle.rr_steps.specs.Step.{Acts, Step}
+use Rattle.rr_protocol.specs.declared.settings.BackpressureAction.{BackpressureAction}
+use Rattle.rr_protocol.specs.declared.kind.Kind.{Kind}
+use Rattle.rr_protocol.specs.State.{State, numbers_left}
+use Rattle.rr_protocol.specs.Queries.{kind_at}
+use Rattle.rr_commands.specs.declared.command.Command.{Command}
+use Rattle.rr_commands.specs.declared.reply.Reply.{Reply}
+use Rattle.rr_commands.specs.Refusals.{number_in, refusal, refusal_of_kind}
+use Rattle.rr_commands.specs.Step.{Acts, Step}
 
-module _ {T H K : Type 0} (answer : K → ℕ → ℕ → BackpressureAction) (IsDefaultElement : T → Type 0) (IsDefaultHeader : H → Type 0)
+module _ {T H K : Type 0} (action : K → ℕ → ℕ → BackpressureAction) (IsDefaultElement : T → Type 0) (IsDefaultHeader : H → Type 0)
     (family : Family) where
   module _ (old : State T H T H K) (command : Command T H K) (n : ℕ) (k : Kind) (reply : Reply T H) (new : State T H T H K) where
     -- where nothing refuses it, a command acts
     pub step_acts : number_in command ≡ Some n → kind_at old n ≡ Some k → refusal_of_kind family old command k ≡ None →
-        Acts answer IsDefaultElement IsDefaultHeader family old command reply new
-        → Step answer IsDefaultElement IsDefaultHeader family old command reply new
+        Acts action IsDefaultElement IsDefaultHeader family old command reply new
+        → Step action IsDefaultElement IsDefaultHeader family old command reply new
     step_acts names is due acts =
         let none : refusal family old command ≡ None =
         ap (option_and_then (λ m. option_map_or (refusal_of_kind family old command) (kind_at old m) (Some Reply.Unknown))) names
         ∙ ap (λ o. option_map_or (refusal_of_kind family old command) o (Some Reply.Unknown)) is ∙ due in
-        subst (λ o. MatchOption o (Acts answer IsDefaultElement IsDefaultHeader family old command reply new)
+        subst (λ o. MatchOption o (Acts action IsDefaultElement IsDefaultHeader family old command reply new)
         (λ refused. (reply ≡ refused) × (new ≡ old))) (sym none) acts
 
 module _ {T H K : Type 0} (family : Family) (old : State T H T H K) (n : ℕ) (left : (numbers_left old == 0) ≡ false) where

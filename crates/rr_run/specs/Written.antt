@@ -1,11 +1,11 @@
 -- A message of one element that was loaned, written and taken as complete, before it is sent.
 use Rattle.std.specs.Prelude.{◌≡◌, ℕ, [], ◌∷◌, Some, Result, Ok, Err}
-use Rattle.rr_hub.specs.declared.kind.Kind.{Kind}
-use Rattle.rr_hub.specs.declared.error.LoanError.{LoanError}
-use Rattle.rr_hub.specs.State.{State}
-use Rattle.rr_hub.specs.Queries.{kind_at}
-use Rattle.rr_hub.specs.Loans.{LoansRequest, LoansResponse}
-use Rattle.rr_steps.specs.Step.{with_complete}
+use Rattle.rr_protocol.specs.declared.kind.Kind.{Kind}
+use Rattle.rr_protocol.specs.declared.error.LoanError.{LoanError}
+use Rattle.rr_protocol.specs.State.{State}
+use Rattle.rr_protocol.specs.Queries.{kind_at}
+use Rattle.rr_protocol.specs.Loans.{LoansRequest, LoansResponse}
+use Rattle.rr_commands.specs.Step.{with_complete}
 
 module _ {T H K : Type 0} where
   -- a request of a client, which can be sent then, or the refusal of its loan

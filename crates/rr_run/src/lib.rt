@@ -1,7 +1,7 @@
 //! A runner that carries out commands of all ports, and a program that reads them from a script.
 #![tactic(auto)]
 
-mod places;
+mod hints;
 mod runner;
 mod script;
 

@@ -1,17 +1,17 @@
 //! A runner of commands over a hub's core.
 ghost use Rattle.std.specs.Prelude.{◌≡◌, IsTrue};
-ghost use Rattle.rr_hub.specs.Creation.{CreatesHub};
-ghost use Rattle.rr_hub.specs.Queries.{kind_at};
+ghost use Rattle.rr_protocol.specs.Creation.{CreatesHub};
+ghost use Rattle.rr_protocol.specs.Queries.{kind_at};
 ghost use Rattle.rr_run.specs.Offered.{IsOffered, AreOffered};
-ghost use Rattle.rr_steps.specs.Continuing.{GoesOn};
-ghost use Rattle.rr_steps.specs.Run.{RunsAppending};
-ghost use Rattle.rr_steps.specs.Step.{Step};
+ghost use Rattle.rr_commands.specs.Continuing.{GoesOn};
+ghost use Rattle.rr_commands.specs.Run.{RunsAppending};
+ghost use Rattle.rr_commands.specs.Step.{Step};
 
-use crate::places::Places;
-use rr_core::Core;
-use rr_hub::{BackpressureFn, HubCreateError, Kind, Limits, UniqueNodeId};
+use crate::hints::Hints;
+use rr_commands::{Command, Reply};
+use rr_hub::Core;
+use rr_protocol::{BackpressureFn, HubCreateError, Kind, Limits, UniqueNodeId};
 use rr_slots::Body;
-use rr_steps::{Command, Reply};
 use std::alloc::{AllocError, Global};
 use std::marker::Model;
 
@@ -30,13 +30,13 @@ mod writes;
 pub struct Runner<T: Copy + Default, B: Body<Item = T>, H: Copy + Default, K: BackpressureFn> {
     alloc: Global,
     core: Core<B, H, B, H, K>,
-    places: Places,
+    hints: Hints,
 }
 
 impl<T: Copy + Default, B: Body<Item = T>, H: Copy + Default, K: BackpressureFn> Model
     for Runner<T, B, H, K> {
-    ghost use Rattle.rr_hub.specs.State.{State};
-    ghost use Rattle.rr_hub.specs.Codes.{state_code};
+    ghost use Rattle.rr_protocol.specs.State.{State};
+    ghost use Rattle.rr_protocol.specs.Codes.{state_code};
 
     ghost Value = { State T H T H K };
 
@@ -61,7 +61,7 @@ impl<T: Copy + Default, B: Body<Item = T>, H: Copy + Default, K: BackpressureFn>
         Ok(Runner {
             alloc,
             core,
-            places: Places::new(alloc),
+            hints: Hints::new(alloc),
         })
     }
 
@@ -71,7 +71,7 @@ impl<T: Copy + Default, B: Body<Item = T>, H: Copy + Default, K: BackpressureFn>
     pub fn kind(&self, number: u64) -> Option<Kind>
         ensures { result ≡ kind_at self.now number }
     {
-        self.core.kind(&self.places.id_of(number))
+        self.core.kind(&self.hints.id_of(number))
     }
 
     /// Whether `apply` takes a command: one that it tells of, and no release of a port's value.
@@ -108,37 +108,37 @@ impl<T: Copy + Default, B: Body<Item = T>, H: Copy + Default, K: BackpressureFn>
     /// each handle. Our own: iceoryx2 has the calls alone.
     pub fn apply(&mut self, command: Command<T, H, K>) -> Reply<T, H>
         requires { IsOffered self.old command }
-        ensures { Step K.answer T.is_default H.is_default B.family self.old command result self.new }
+        ensures { Step K.action T.is_default H.is_default B.family self.old command result self.new }
     {
         match command {
             Command::CreateClient(settings) => creation::create_client(&mut self.core, settings),
             Command::CreateServer(settings) => creation::create_server(&mut self.core, settings),
             Command::Loan(number, len) => {
-                loans::loan(&mut self.core, &mut self.places, number, len)
+                loans::loan(&mut self.core, &mut self.hints, number, len)
             }
             Command::SendCopy(number, item) => {
-                sends::send_copy(&mut self.core, &mut self.places, number, item)
+                sends::send_copy(&mut self.core, &mut self.hints, number, item)
             }
             Command::Push(number, item) => {
-                writes::push(&mut self.core, &self.places.id_of(number), item)
+                writes::push(&mut self.core, &self.hints.id_of(number), item)
             }
             Command::AssumeInit(number) => {
-                writes::assume_init(&mut self.core, &self.places.id_of(number))
+                writes::assume_init(&mut self.core, &self.hints.id_of(number))
             }
-            Command::Send(number) => sends::send(&mut self.core, &mut self.places, number),
+            Command::Send(number) => sends::send(&mut self.core, &mut self.hints, number),
             Command::Receive(number) => {
-                receives::receive(&mut self.core, &mut self.places, number)
+                receives::receive(&mut self.core, &mut self.hints, number)
             }
             Command::Payload(number) => queries::payload(
                 &self.core,
                 self.alloc,
-                &self.places.id_of(number),
+                &self.hints.id_of(number),
             ),
             Command::IsConnected(number) => {
-                queries::is_connected(&self.core, &self.places.id_of(number))
+                queries::is_connected(&self.core, &self.hints.id_of(number))
             }
             Command::Release(number) => {
-                releases::release(&mut self.core, &mut self.places, number)
+                releases::release(&mut self.core, &mut self.hints, number)
             }
             _ => unreachable!(),
         }
@@ -154,9 +154,9 @@ impl<T: Copy + Default, B: Body<Item = T>, H: Copy + Default, K: BackpressureFn>
         commands: Vec<Command<T, H, K>>,
         replies: &mut Vec<Reply<T, H>>,
     ) -> Result<(), AllocError>
-        requires { AreOffered K.answer T.is_default H.is_default B.family self.old commands.items }
-        ensures runs { RunsAppending K.answer T.is_default H.is_default B.family self.old commands.items replies.old.items result self.new replies.new.items }
-        ensures answer_rule { GoesOn K.answer T.is_default H.is_default B.family self.old commands.items replies.old.items result self.new replies.new.items }
+        requires { AreOffered K.action T.is_default H.is_default B.family self.old commands.items }
+        ensures runs { RunsAppending K.action T.is_default H.is_default B.family self.old commands.items replies.old.items result self.new replies.new.items }
+        ensures answer_rule { GoesOn K.action T.is_default H.is_default B.family self.old commands.items replies.old.items result self.new replies.new.items }
     {
         replies.reserve(commands.len())?;
         for command in commands {

@@ -6,8 +6,8 @@ use crate::script::line::{Line, NoHandler, ScriptCommand};
 use crate::script::lines::Lines;
 use crate::script::reply_text::{hub_error, write_reply};
 use crate::script::stop::Stop;
-use rr_hub::{Limits, UniqueNodeId};
-use rr_steps::Reply;
+use rr_commands::Reply;
+use rr_protocol::{Limits, UniqueNodeId};
 use std::alloc::{AllocError, Global};
 use std::io::{BufRead, Write};
 

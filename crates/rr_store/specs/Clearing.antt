@@ -1,26 +1,26 @@
--- A channel's queues from all lanes are emptied, and the parts of a core from which a pending response goes.
+-- A channel's queues from all senders are emptied, and the parts of a core from which a pending response goes.
 use Rattle.std.specs.Prelude.{◌≡◌, ◌<◌, ◌≤◌, ℕ, ◌-◌, Bool, true, false, List, [], length}
-use Rattle.rr_lanes.specs.Lanes.{with_queue}
-use Rattle.rr_hub.specs.Messages.{Handle, PendingResponse}
+use Rattle.rr_sender.specs.Senders.{with_queue}
+use Rattle.rr_protocol.specs.Messages.{Handle, PendingResponse}
 use Rattle.rr_store.specs.declared.port.ClientPort.{ClientPort}
 use Rattle.rr_store.specs.Loaning.{with_messages}
-use Rattle.rr_store.specs.Parts.{ClientPart, Lane}
-use Rattle.rr_store.specs.Views.{lane_of}
+use Rattle.rr_store.specs.Parts.{ClientPart, Sender}
+use Rattle.rr_store.specs.Views.{sender_of}
 
 -- a request that was sent
 abbrev pub is_pending_response : {Q QH P PH : Type 0} → Handle Q QH P PH → Bool
 is_pending_response (PendingResponse p) = true
 is_pending_response _ = false
 
--- a lane of which nothing waits for a receiver on a channel
-abbrev pub channel_cleared : {T N H : Type 0} → ℕ → ℕ → Lane T N H → Lane T N H
-channel_cleared place channel lane = with_messages lane (with_queue lane.messages place channel [])
+-- a sender of which nothing waits for a receiver on a channel
+abbrev pub channel_cleared : {T N H : Type 0} → ℕ → ℕ → Sender T N H → Sender T N H
+channel_cleared receiver channel sender = with_messages sender (with_queue sender.messages receiver channel [])
 
--- the first lanes are like that, and the others as they were
-pub record IsClearedBelow {T N H : Type 0} (place channel n : ℕ) (before after : List (Lane T N H)) : Type 0 where
+-- the first senders are like that, and the others as they were
+pub record IsClearedBelow {T N H : Type 0} (receiver channel n : ℕ) (before after : List (Sender T N H)) : Type 0 where
   pub many : length after ≡ length before
-  pub done : (l : ℕ) → l < n → l < length before → lane_of l after ≡ channel_cleared place channel (lane_of l before)
-  pub rest : (l : ℕ) → n ≤ l → lane_of l after ≡ lane_of l before
+  pub done : (l : ℕ) → l < n → l < length before → sender_of l after ≡ channel_cleared receiver channel (sender_of l before)
+  pub rest : (l : ℕ) → n ≤ l → sender_of l after ≡ sender_of l before
 
 module _ {K : Type 0} where
   -- a client with one pending response less

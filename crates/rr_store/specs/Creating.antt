@@ -1,20 +1,20 @@
 -- The parts of a core after a port was created.
 use Rattle.std.specs.Prelude.{◌≡◌, ℕ, ◌+◌, ◌*◌, true, false, [], ◌∷◌, ◌++◌, length, replicate}
-use Rattle.rr_table.specs.Seats.{with_row}
-use Rattle.rr_lanes.specs.Lanes.{Messages}
-use Rattle.rr_hub.specs.declared.settings.ClientSettings.{ClientSettings}
-use Rattle.rr_hub.specs.declared.settings.ServerSettings.{ServerSettings}
-use Rattle.rr_hub.specs.Limits.{worst_case_requests, worst_case_responses}
-use Rattle.rr_hub.specs.Ports.{Port}
-use Rattle.rr_hub.specs.Creation.{pool_size_of, loans_of}
-use Rattle.rr_store.specs.declared.note.RequestNote.{RequestNote}
-use Rattle.rr_store.specs.declared.note.ResponseNote.{ResponseNote}
+use Rattle.rr_table.specs.TableView.{with_row}
+use Rattle.rr_sender.specs.Senders.{Messages}
+use Rattle.rr_protocol.specs.declared.settings.ClientSettings.{ClientSettings}
+use Rattle.rr_protocol.specs.declared.settings.ServerSettings.{ServerSettings}
+use Rattle.rr_protocol.specs.Limits.{worst_case_requests, worst_case_responses}
+use Rattle.rr_protocol.specs.Ports.{Port}
+use Rattle.rr_protocol.specs.Creation.{pool_size_of, loans_of}
+use Rattle.rr_store.specs.declared.details.RequestDetails.{RequestDetails}
+use Rattle.rr_store.specs.declared.details.ResponseDetails.{ResponseDetails}
 use Rattle.rr_store.specs.Parts.{Parts}
 
--- a lane from which nothing was sent
-pub record IsNew {T N H : Type 0} (slots room receivers channels capacity : ℕ) (note : N) (m : Messages T N H) : Type 0 where
+-- a sender from which nothing was sent
+pub record IsNew {T N H : Type 0} (slots room receivers channels capacity : ℕ) (detail : N) (m : Messages T N H) : Type 0 where
   pub contents : length m.contents ≡ slots
-  pub notes : m.notes ≡ replicate slots note
+  pub details : m.details ≡ replicate slots detail
   pub user_headers : length m.user_headers ≡ slots
   pub held : m.held ≡ replicate slots 0
   pub queues : m.queues ≡ replicate receivers (replicate channels [])
@@ -33,7 +33,7 @@ module _ {Q QH P PH K : Type 0} (p : Parts Q QH P PH K) where
         allocation_strategy = settings.allocation_strategy;
         initial_max_slice_len = settings.initial_max_slice_len;
         pool_size = pool_size_of (worst_case_requests p.limits) settings.pool;
-        is_held = true;
+        has_value = true;
       }
 
   abbrev pub server_port : ServerSettings K → Port K
@@ -45,26 +45,26 @@ module _ {Q QH P PH K : Type 0} (p : Parts Q QH P PH K) where
         allocation_strategy = settings.allocation_strategy;
         initial_max_slice_len = settings.initial_max_slice_len;
         pool_size = pool_size_of (worst_case_responses p.limits (loans_of settings)) settings.pool;
-        is_held = true;
+        has_value = true;
       }
 
-  -- a client sends from a new lane, and is sent to in this place
-  abbrev pub with_client_part : ClientSettings K → ℕ → Messages Q RequestNote QH → Parts Q QH P PH K
-  with_client_part settings place messages =
+  -- a client sends from a new sender, and is this receiver
+  abbrev pub with_client_part : ClientSettings K → ℕ → Messages Q RequestDetails QH → Parts Q QH P PH K
+  with_client_part settings receiver messages =
       record p {
         next = p.next + 1;
-        clients = p.clients ++ record { connected = record { port = client_port settings; lane = length p.client_lanes; place = place; loans = 0 }; loans_made = 0; pendings = 0 } ∷ [];
-        client_lanes = p.client_lanes ++ record { owner = p.next; row = length p.table.rows; messages = messages } ∷ [];
+        clients = p.clients ++ record { connected = record { port = client_port settings; sender = length p.client_senders; receiver = receiver; loans = 0 }; loans_made = 0; pendings = 0 } ∷ [];
+        client_senders = p.client_senders ++ record { owner = p.next; row = length p.table.rows; messages = messages } ∷ [];
         waiting = p.waiting ++ replicate ((client_port settings).pool_size * p.limits.max_servers) false ∷ [];
         table = with_row p.table ((p.limits.max_servers + 1) * (client_port settings).pool_size);
       }
 
   -- a server does
-  abbrev pub with_server_part : ServerSettings K → ℕ → Messages P ResponseNote PH → Parts Q QH P PH K
-  with_server_part settings place messages =
+  abbrev pub with_server_part : ServerSettings K → ℕ → Messages P ResponseDetails PH → Parts Q QH P PH K
+  with_server_part settings receiver messages =
       record p {
         next = p.next + 1;
-        servers = p.servers ++ record { connected = record { port = server_port settings; lane = length p.server_lanes; place = place; loans = 0 }; max_loaned_responses_per_request = loans_of settings } ∷ [];
-        server_lanes = p.server_lanes ++ record { owner = p.next; row = length p.table.rows; messages = messages } ∷ [];
+        servers = p.servers ++ record { connected = record { port = server_port settings; sender = length p.server_senders; receiver = receiver; loans = 0 }; max_loaned_responses_per_request = loans_of settings } ∷ [];
+        server_senders = p.server_senders ++ record { owner = p.next; row = length p.table.rows; messages = messages } ∷ [];
         table = with_row p.table (server_port settings).pool_size;
       }

@@ -1,7 +1,7 @@
 -- What a handle's stage tells of the handle.
-use Rattle.rr_hub.specs.declared.kind.Kind.{Kind}
-use Rattle.rr_store.specs.declared.held.Stage.{Stage}
-use Rattle.rr_store.specs.declared.held.Stage.TheVariants as stage
+use Rattle.rr_protocol.specs.declared.kind.Kind.{Kind}
+use Rattle.rr_store.specs.declared.handle_entry.Stage.{Stage}
+use Rattle.rr_store.specs.declared.handle_entry.Stage.TheVariants as stage
 
 -- the kind of a handle in this stage
 abbrev pub stage_kind : Stage → Kind

@@ -1,35 +1,35 @@
 -- The parts of a core after a loan.
 use Rattle.std.specs.Prelude.{ℕ, ◌+◌, slice_set}
-use Rattle.rr_table.specs.Seats.{seated}
+use Rattle.rr_table.specs.TableView.{inserted}
 use Rattle.rr_table.specs.declared.place.Place.{Place}
-use Rattle.rr_lanes.specs.Lanes.{Messages, loaned}
-use Rattle.rr_store.specs.declared.held.Held.{Held}
-use Rattle.rr_store.specs.declared.held.Stage.TheVariants as stage
-use Rattle.rr_store.specs.declared.note.RequestNote.{RequestNote}
-use Rattle.rr_store.specs.Parts.{ClientPart, Lane, Parts}
-use Rattle.rr_store.specs.Views.{lane_of}
+use Rattle.rr_sender.specs.Senders.{Messages, loaned}
+use Rattle.rr_store.specs.declared.handle_entry.HandleEntry.{HandleEntry}
+use Rattle.rr_store.specs.declared.handle_entry.Stage.TheVariants as stage
+use Rattle.rr_store.specs.declared.details.RequestDetails.{RequestDetails}
+use Rattle.rr_store.specs.Parts.{ClientPart, Sender, Parts}
+use Rattle.rr_store.specs.Views.{sender_of}
 
 module _ {K : Type 0} where
   -- a client that made one more loan
   abbrev pub with_one_loan : ClientPart K → ClientPart K
   with_one_loan c = record c { connected = record c.connected { loans = c.loans + 1 }; loans_made = c.loans_made + 1 }
 
--- a lane with other messages
-abbrev pub with_messages : {T N H : Type 0} → Lane T N H → Messages T N H → Lane T N H
+-- a sender with other messages
+abbrev pub with_messages : {T N H : Type 0} → Sender T N H → Messages T N H → Sender T N H
 with_messages l m = record l { messages = m }
 
 module _ {Q QH P PH K : Type 0} (p : Parts Q QH P PH K) where
-  -- what is noted of a request that a client loans
-  abbrev pub loan_note : ClientPart K → RequestNote
-  loan_note c = record { number = p.next; client = c.port.id; request_id = c.loans_made }
+  -- the details of a request that a client loans
+  abbrev pub loan_details : ClientPart K → RequestDetails
+  loan_details c = record { number = p.next; client = c.port.id; request_id = c.loans_made }
 
   -- the handle of a request on loan
-  abbrev pub loan_held : ClientPart K → ℕ → Held
-  loan_held c slot = record { stage = stage.RequestMutUninit; lane = c.lane; slot = slot }
+  abbrev pub loan_held : ClientPart K → ℕ → HandleEntry
+  loan_held c slot = record { stage = stage.RequestMutUninit; sender = c.sender; slot = slot }
 
   -- the place of the handle
   abbrev pub loan_place : ClientPart K → ℕ → Place
-  loan_place c slot = record { row = (lane_of c.lane p.client_lanes).row; index = slot }
+  loan_place c slot = record { row = (sender_of c.sender p.client_senders).row; index = slot }
 
   -- a client that stands at an index loaned a request in this slot, which has no handle yet
   abbrev pub with_loan_in_hand : ℕ → ClientPart K → ℕ → ℕ → QH → Parts Q QH P PH K
@@ -37,10 +37,10 @@ module _ {Q QH P PH K : Type 0} (p : Parts Q QH P PH K) where
       record p {
         next = p.next + 1;
         clients = slice_set p.clients index (with_one_loan c);
-        client_lanes = slice_set p.client_lanes c.lane (with_messages (lane_of c.lane p.client_lanes) (loaned (lane_of c.lane p.client_lanes).messages slot len (loan_note c) header));
+        client_senders = slice_set p.client_senders c.sender (with_messages (sender_of c.sender p.client_senders) (loaned (sender_of c.sender p.client_senders).messages slot len (loan_details c) header));
       }
 
   -- and has one
   abbrev pub with_request_loan : ℕ → ClientPart K → ℕ → ℕ → QH → Parts Q QH P PH K
   with_request_loan index c slot len header =
-      let q = with_loan_in_hand index c slot len header in record q { table = seated p.table p.next (loan_place c slot) (loan_held c slot) }
+      let q = with_loan_in_hand index c slot len header in record q { table = inserted p.table p.next (loan_place c slot) (loan_held c slot) }

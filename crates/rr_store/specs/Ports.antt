@@ -1,11 +1,11 @@
--- Ports and lanes as parts.
-use Rattle.std.specs.Prelude.{Bool, List, map, Vec}
+-- Ports and senders as parts.
+use Rattle.std.specs.Prelude.{Bool, List, Vec}
 use Rattle.std.specs.Global.{Global}
 use Rattle.rr_store.specs.declared.port.Port.{Port as PortField}
 use Rattle.rr_store.specs.declared.port.ClientPort.{ClientPort}
 use Rattle.rr_store.specs.declared.port.ServerPort.{ServerPort}
-use Rattle.rr_store.specs.declared.port.OwnedLane.{OwnedLane}
-use Rattle.rr_store.specs.Parts.{Connected, ClientPart, ServerPart, Lane}
+use Rattle.rr_store.specs.declared.port.OwnedSender.{OwnedSender}
+use Rattle.rr_store.specs.Parts.{Connected, ClientPart, ServerPart, Sender}
 
 module _ {K : Type 0} where
   -- a connected port
@@ -19,10 +19,10 @@ module _ {K : Type 0} where
           allocation_strategy = p.allocation_strategy;
           initial_max_slice_len = p.initial_max_slice_len;
           pool_size = p.pool_size;
-          is_held = p.is_held;
+          has_value = p.has_value;
         };
-        lane = p.lane;
-        place = p.place;
+        sender = p.sender;
+        receiver = p.receiver;
         loans = p.loans;
       }
 
@@ -34,9 +34,9 @@ module _ {K : Type 0} where
   abbrev pub server_part : ServerPort K → ServerPart K
   server_part s = record { connected = connected_of s.port; max_loaned_responses_per_request = s.max_loaned_responses_per_request }
 
--- a lane
-abbrev pub lane_part : {B N H T : Type 0} → OwnedLane B N H T → Lane T N H
-lane_part l = record { owner = l.owner; row = l.row; messages = l.messages }
+-- a sender
+abbrev pub sender_part : {B N H T : Type 0} → OwnedSender B N H T → Sender T N H
+sender_part l = record { owner = l.owner; row = l.row; messages = l.messages }
 
 -- a row of marks
 abbrev pub marks_of : Vec Bool Global → List Bool

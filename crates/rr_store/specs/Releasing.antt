@@ -1,9 +1,9 @@
 -- What a release takes away, and from which part.
 use Rattle.std.specs.Prelude.{ℕ, ◌-◌, Bool, true, false, slice_index}
-use Rattle.rr_lanes.specs.Lanes.{Messages, borrowed_at, with_held, with_borrowed}
-use Rattle.rr_hub.specs.Messages.{Handle, RequestMutUninit, RequestMut, ActiveRequest, ResponseMutUninit, ResponseMut, Response}
-use Rattle.rr_store.specs.declared.held.Stage.{Stage}
-use Rattle.rr_store.specs.declared.held.Stage.TheVariants as stage
+use Rattle.rr_sender.specs.Senders.{Messages, borrowed_at, with_held, with_borrowed}
+use Rattle.rr_protocol.specs.Messages.{Handle, RequestMutUninit, RequestMut, ActiveRequest, ResponseMutUninit, ResponseMut, Response}
+use Rattle.rr_store.specs.declared.handle_entry.Stage.{Stage}
+use Rattle.rr_store.specs.declared.handle_entry.Stage.TheVariants as stage
 use Rattle.rr_store.specs.declared.port.ClientPort.{ClientPort}
 use Rattle.rr_store.specs.Parts.{ClientPart, ServerPart}
 
@@ -52,5 +52,5 @@ module _ {K : Type 0} where
   without_loan c = record c { connected = record c.connected { loans = c.loans - 1 } }
 
   -- a server's part with one response less on loan
-  abbrev pub without_answer : ServerPart K → ServerPart K
-  without_answer s = record s { connected = record s.connected { loans = s.loans - 1 } }
+  abbrev pub without_response_loan : ServerPart K → ServerPart K
+  without_response_loan s = record s { connected = record s.connected { loans = s.loans - 1 } }

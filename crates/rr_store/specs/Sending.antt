@@ -1,40 +1,40 @@
 -- Which queues a request is put into, and the parts of a core after it was sent.
 use Rattle.std.specs.Prelude.{◌≡◌, ◌<◌, ◌≤◌, ℕ, ◌+◌, ◌-◌, ◌*◌, Bool, true, false, not, ◌&&◌, List, [], length, drop, map, fold, Some, slice_get, slice_set, slice_index, slice_index_or}
-use Rattle.rr_table.specs.Seats.{seated}
+use Rattle.rr_table.specs.TableView.{inserted}
 use Rattle.rr_table.specs.declared.place.Place.{Place}
-use Rattle.rr_lanes.specs.Lanes.{Messages, at_two, set_two, queue_at, put, uses}
-use Rattle.rr_hub.specs.declared.settings.BackpressureAction.{BackpressureAction}
-use Rattle.rr_hub.specs.Backpressure.{discards}
-use Rattle.rr_hub.specs.Ports.{Port}
-use Rattle.rr_hub.specs.Sends.{is_blocked}
-use Rattle.rr_store.specs.declared.held.Held.{Held}
-use Rattle.rr_store.specs.declared.held.Stage.TheVariants as stage
+use Rattle.rr_sender.specs.Senders.{Messages, at_two, set_two, queue_at, put, uses}
+use Rattle.rr_protocol.specs.declared.settings.BackpressureAction.{BackpressureAction}
+use Rattle.rr_protocol.specs.Backpressure.{discards}
+use Rattle.rr_protocol.specs.Ports.{Port}
+use Rattle.rr_protocol.specs.Sends.{is_blocked}
+use Rattle.rr_store.specs.declared.handle_entry.HandleEntry.{HandleEntry}
+use Rattle.rr_store.specs.declared.handle_entry.Stage.TheVariants as stage
 use Rattle.rr_store.specs.declared.port.ClientPort.{ClientPort}
 use Rattle.rr_store.specs.declared.port.ServerPort.{ServerPort}
 use Rattle.rr_store.specs.Loaning.{with_messages}
 use Rattle.rr_store.specs.Parts.{ClientPart, Parts}
-use Rattle.rr_store.specs.Views.{lane_of}
+use Rattle.rr_store.specs.Views.{sender_of}
 
 module _ {T N H : Type 0} where
   -- whether the queue to a receiver's first channel can take no more, and drops nothing for it
   abbrev pub is_blocked_at : Bool → Messages T N H → ℕ → Bool
-  is_blocked_at overflow m place = is_blocked overflow m.capacity (queue_at m place 0)
+  is_blocked_at overflow m receiver = is_blocked overflow m.capacity (queue_at m receiver 0)
 
   -- whether it is, and the sender doesn't pass it over
   abbrev pub is_refused_at : {K : Type 0} → (K → ℕ → ℕ → BackpressureAction) → Port K → Bool → Messages T N H → ServerPort K → Bool
-  is_refused_at answer port overflow m s = is_blocked_at overflow m s.port.place && not (discards answer port s.port.id)
+  is_refused_at action port overflow m s = is_blocked_at overflow m s.port.receiver && not (discards action port s.port.id)
 
   -- each server has a queue
   abbrev pub HasQueues : {K : Type 0} → Messages T N H → List (ServerPort K) → Type 0
-  HasQueues m servers = (i : ℕ) (s : ServerPort _) → slice_get servers i ≡ Some s → (s.port.place < length m.queues) × (0 < length (slice_index_or m.queues s.port.place []))
+  HasQueues m servers = (i : ℕ) (s : ServerPort _) → slice_get servers i ≡ Some s → (s.port.receiver < length m.queues) × (0 < length (slice_index_or m.queues s.port.receiver []))
 
 -- where servers are sent to
-abbrev pub places_of : {K : Type 0} → List (ServerPort K) → List ℕ
-places_of servers = map (λ s. s.port.place) servers
+abbrev pub receivers_of : {K : Type 0} → List (ServerPort K) → List ℕ
+receivers_of servers = map (λ s. s.port.receiver) servers
 
 -- the queues after a slot was put into the first one of each of these receivers
 abbrev pub put_queues : Bool → ℕ → ℕ → List (List (List ℕ)) → List ℕ → List (List (List ℕ))
-put_queues overflow capacity slot queues places = fold (λ qs place. set_two qs place 0 (put overflow capacity (at_two [] qs place 0) slot)) queues places
+put_queues overflow capacity slot queues places = fold (λ qs receiver. set_two qs receiver 0 (put overflow capacity (at_two [] qs receiver 0) slot)) queues places
 
 -- what one port sends from, after it
 abbrev pub with_puts : {T N H : Type 0} → Bool → ℕ → Messages T N H → List ℕ → Messages T N H
@@ -42,7 +42,7 @@ with_puts overflow slot m places = record m { queues = put_queues overflow m.cap
 
 -- of some servers the first ones have the slot, and the others complete the queues
 pub record IsPutting {T N H K : Type 0} (overflow : Bool) (slot : ℕ) (before now : Messages T N H) (servers : List (ServerPort K)) (i : ℕ) : Type 0 where
-  pub rest : with_puts overflow slot now (places_of (drop i servers)) ≡ with_puts overflow slot before (places_of servers)
+  pub rest : with_puts overflow slot now (receivers_of (drop i servers)) ≡ with_puts overflow slot before (receivers_of servers)
   pub queues : HasQueues now servers
   pub capacity : now.capacity ≡ before.capacity
   pub held : slice_index now.held slot ≡ slice_index before.held slot
@@ -62,32 +62,32 @@ module _ {K : Type 0} where
   with_one_sent c = record c { connected = record c.connected { loans = c.loans - 1 }; pendings = c.pendings + 1 }
 
 -- the handle of a request that can be sent, and the one after so many queues took it
-abbrev pub request_held : ℕ → ℕ → Held
-request_held lane slot = record { stage = stage.RequestMut; lane = lane; slot = slot }
+abbrev pub request_held : ℕ → ℕ → HandleEntry
+request_held sender slot = record { stage = stage.RequestMut; sender = sender; slot = slot }
 
-abbrev pub pending_held : ℕ → ℕ → ℕ → Held
-pending_held lane slot connections = record { stage = stage.PendingResponse false connections; lane = lane; slot = slot }
+abbrev pub pending_held : ℕ → ℕ → ℕ → HandleEntry
+pending_held sender slot connections = record { stage = stage.PendingResponse false connections; sender = sender; slot = slot }
 
 module _ {Q QH P PH K : Type 0} (p : Parts Q QH P PH K) where
   -- where connected servers are sent to
   abbrev pub server_places : List ℕ
-  server_places = map (λ s. s.place) p.servers
+  server_places = map (λ s. s.receiver) p.servers
 
   -- the marks of a slot for connected servers
   abbrev pub server_marks : ℕ → List ℕ
-  server_marks slot = map (λ s. slot * p.limits.max_servers + s.place) p.servers
+  server_marks slot = map (λ s. slot * p.limits.max_servers + s.receiver) p.servers
 
   -- a request in this slot came to all connected servers; the client that stands at an index counts it as sent, and it has no handle
   abbrev pub with_request_in_queues : ℕ → ClientPart K → ℕ → ℕ → Parts Q QH P PH K
-  with_request_in_queues index c lane slot =
+  with_request_in_queues index c sender slot =
       record p {
         clients = slice_set p.clients index (with_one_sent c);
-        client_lanes = slice_set p.client_lanes lane
-            (with_messages (lane_of lane p.client_lanes) (with_puts p.limits.enable_safe_overflow_for_requests slot (lane_of lane p.client_lanes).messages server_places));
-        waiting = slice_set p.waiting lane (with_marks (slice_index_or p.waiting lane []) (server_marks slot));
+        client_senders = slice_set p.client_senders sender
+            (with_messages (sender_of sender p.client_senders) (with_puts p.limits.enable_safe_overflow_for_requests slot (sender_of sender p.client_senders).messages server_places));
+        waiting = slice_set p.waiting sender (with_marks (slice_index_or p.waiting sender []) (server_marks slot));
       }
 
   -- and its handle is a pending response
   abbrev pub with_request_sent : ℕ → ClientPart K → ℕ → ℕ → ℕ → ℕ → Place → Parts Q QH P PH K
-  with_request_sent index c n lane slot connections place =
-      let q = with_request_in_queues index c lane slot in record q { table = seated p.table n place (pending_held lane slot connections) }
+  with_request_sent index c n sender slot connections receiver =
+      let q = with_request_in_queues index c sender slot in record q { table = inserted p.table n receiver (pending_held sender slot connections) }

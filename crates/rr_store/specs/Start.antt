@@ -1,7 +1,7 @@
 -- The parts of a core in which nothing was made.
 use Rattle.std.specs.Prelude.{ℕ, []}
-use Rattle.rr_table.specs.Seats.{no_seats}
-use Rattle.rr_hub.specs.declared.limits.Limits.{Limits}
+use Rattle.rr_table.specs.TableView.{empty_table}
+use Rattle.rr_protocol.specs.declared.limits.Limits.{Limits}
 use Rattle.rr_store.specs.Parts.{Parts}
 
 abbrev pub start_parts : {Q QH P PH K : Type 0} → Limits → ℕ → QH → PH → Parts Q QH P PH K
@@ -12,10 +12,10 @@ start_parts limits node_id request_header response_header =
       next = 0;
       clients = [];
       servers = [];
-      client_lanes = [];
-      server_lanes = [];
+      client_senders = [];
+      server_senders = [];
       waiting = [];
-      table = no_seats;
+      table = empty_table;
       spare_request_header = request_header;
       spare_response_header = response_header;
     }

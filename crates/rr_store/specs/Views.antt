@@ -2,31 +2,31 @@
 use Rattle.std.specs.Prelude.{ℕ, ◌+◌, ◌*◌, Bool, false, ◌==◌, List, [], map, filter, flat_map, find, length, slice_index_or}
 use Rattle.std.specs.List.{range_with_len}
 use Rattle.std.specs.Option.{option_map_or}
-use Rattle.rr_table.specs.Maps.{map_values}
-use Rattle.rr_table.specs.Seats.{Seat}
-use Rattle.rr_lanes.specs.Lanes.{Messages, content_at, queue_at}
-use Rattle.rr_hub.specs.Lists.{no_lists, lists_by}
-use Rattle.rr_hub.specs.Keys.{RequestKey, ResponseKey, request_key}
-use Rattle.rr_hub.specs.Messages.{Content, RequestMessage, ResponseMessage, Handle, RequestMutUninit, RequestMut, PendingResponse, ActiveRequest, ResponseMutUninit, ResponseMut, Response}
-use Rattle.rr_hub.specs.Ports.{Client, Server}
-use Rattle.rr_hub.specs.State.{State}
-use Rattle.rr_store.specs.declared.held.Held.{Held}
-use Rattle.rr_store.specs.declared.held.Stage.{Stage}
-use Rattle.rr_store.specs.declared.held.Stage.TheVariants as stage
-use Rattle.rr_store.specs.declared.note.RequestNote.{RequestNote}
-use Rattle.rr_store.specs.declared.note.ResponseNote.{ResponseNote}
-use Rattle.rr_store.specs.Parts.{ClientPart, ServerPart, Lane, Parts}
+use Rattle.rr_maps.specs.Maps.{map_values}
+use Rattle.rr_table.specs.TableView.{TableEntry}
+use Rattle.rr_sender.specs.Senders.{Messages, content_at, queue_at}
+use Rattle.rr_protocol.specs.Lists.{no_lists, lists_by}
+use Rattle.rr_protocol.specs.Keys.{RequestKey, ResponseKey, request_key}
+use Rattle.rr_protocol.specs.Messages.{Content, RequestMessage, ResponseMessage, Handle, RequestMutUninit, RequestMut, PendingResponse, ActiveRequest, ResponseMutUninit, ResponseMut, Response}
+use Rattle.rr_protocol.specs.Ports.{Client, Server}
+use Rattle.rr_protocol.specs.State.{State}
+use Rattle.rr_store.specs.declared.handle_entry.HandleEntry.{HandleEntry}
+use Rattle.rr_store.specs.declared.handle_entry.Stage.{Stage}
+use Rattle.rr_store.specs.declared.handle_entry.Stage.TheVariants as stage
+use Rattle.rr_store.specs.declared.details.RequestDetails.{RequestDetails}
+use Rattle.rr_store.specs.declared.details.ResponseDetails.{ResponseDetails}
+use Rattle.rr_store.specs.Parts.{ClientPart, ServerPart, Sender, Parts}
 
--- what is noted of no request, and of no response
-abbrev pub no_request : RequestNote
+-- the details of no request, and of no response
+abbrev pub no_request : RequestDetails
 no_request = record { number = 0; client = 0; request_id = 0 }
 
-abbrev pub no_response : ResponseNote
+abbrev pub no_response : ResponseDetails
 no_response = record { number = 0; server = 0; active_request = 0; request = 0; request_id = 0; client = 0; channel = 0 }
 
--- a lane that isn't there
-abbrev pub no_lane : {T N H : Type 0} → Lane T N H
-no_lane = record { owner = 0; row = 0; messages = record { contents = []; notes = []; user_headers = []; held = []; queues = []; borrowed = []; capacity = 0; room = 0 } }
+-- a sender that isn't there
+abbrev pub no_sender : {T N H : Type 0} → Sender T N H
+no_sender = record { owner = 0; row = 0; messages = record { contents = []; details = []; user_headers = []; held = []; queues = []; borrowed = []; capacity = 0; room = 0 } }
 
 -- the content of a slot
 abbrev pub content_of : {T N H : Type 0} → H → Messages T N H → ℕ → Content T H
@@ -34,29 +34,29 @@ content_of spare m slot =
     record { user_header = slice_index_or m.user_headers slot spare; asked_len = (content_at m slot).asked_len; elements = (content_at m slot).elements }
 
 -- the request in a slot, whose channel is the slot
-abbrev pub request_in_slot : {T H : Type 0} → H → Messages T RequestNote H → ℕ → RequestMessage T H
+abbrev pub request_in_slot : {T H : Type 0} → H → Messages T RequestDetails H → ℕ → RequestMessage T H
 request_in_slot spare m slot =
-    let note = slice_index_or m.notes slot no_request in
-    record { number = note.number; client = note.client; request_id = note.request_id; channel = slot; content = content_of spare m slot }
+    let details = slice_index_or m.details slot no_request in
+    record { number = details.number; client = details.client; request_id = details.request_id; channel = slot; content = content_of spare m slot }
 
 -- the response in a slot
-abbrev pub response_in_slot : {T H : Type 0} → H → Messages T ResponseNote H → ℕ → ResponseMessage T H
+abbrev pub response_in_slot : {T H : Type 0} → H → Messages T ResponseDetails H → ℕ → ResponseMessage T H
 response_in_slot spare m slot =
-    let note = slice_index_or m.notes slot no_response in
+    let details = slice_index_or m.details slot no_response in
     record {
-      number = note.number;
-      server = note.server;
-      active_request = note.active_request;
-      request = note.request;
-      request_id = note.request_id;
-      client = note.client;
-      channel = note.channel;
+      number = details.number;
+      server = details.server;
+      active_request = details.active_request;
+      request = details.request;
+      request_id = details.request_id;
+      client = details.client;
+      channel = details.channel;
       content = content_of spare m slot;
     }
 
--- the lane of a port
-abbrev pub lane_of : {T N H : Type 0} → ℕ → List (Lane T N H) → Lane T N H
-lane_of lane lanes = slice_index_or lanes lane no_lane
+-- the sender of a port
+abbrev pub sender_of : {T N H : Type 0} → ℕ → List (Sender T N H) → Sender T N H
+sender_of sender senders = slice_index_or senders sender no_sender
 
 -- a client, and a server, as they are seen
 abbrev pub client_of : {K : Type 0} → ClientPart K → Client K
@@ -66,34 +66,34 @@ abbrev pub server_of : {K : Type 0} → ServerPart K → Server K
 server_of s = record { port = s.port; max_loaned_responses_per_request = s.max_loaned_responses_per_request }
 
 module _ {Q QH P PH K : Type 0} where
-  -- the request that a handle or an entry names by lane and slot, and the response that it names
+  -- the request that a handle or an entry names by sender and slot, and the response that it names
   abbrev pub request_at : Parts Q QH P PH K → ℕ → ℕ → RequestMessage Q QH
-  request_at p lane slot = request_in_slot p.spare_request_header (lane_of lane p.client_lanes).messages slot
+  request_at p sender slot = request_in_slot p.spare_request_header (sender_of sender p.client_senders).messages slot
 
   abbrev pub response_at : Parts Q QH P PH K → ℕ → ℕ → ResponseMessage P PH
-  response_at p lane slot = response_in_slot p.spare_response_header (lane_of lane p.server_lanes).messages slot
+  response_at p sender slot = response_in_slot p.spare_response_header (sender_of sender p.server_senders).messages slot
 
-  -- whether the server in a place may still answer the request in a slot
+  -- whether the server that is a receiver may still answer the request in a slot
   abbrev pub is_awaited : Parts Q QH P PH K → ℕ → ℕ → ℕ → Bool
-  is_awaited p lane slot place = slice_index_or (slice_index_or p.waiting lane []) (slot * p.limits.max_servers + place) false
+  is_awaited p sender slot receiver = slice_index_or (slice_index_or p.waiting sender []) (slot * p.limits.max_servers + receiver) false
 
   -- the servers that may
   abbrev pub waiting_at : Parts Q QH P PH K → ℕ → ℕ → List ℕ
-  waiting_at p lane slot = map (λ server. server.port.id) (filter (λ server. is_awaited p lane slot server.place) p.servers)
+  waiting_at p sender slot = map (λ server. server.port.id) (filter (λ server. is_awaited p sender slot server.receiver) p.servers)
 
   -- what is under a number, by its stage
   abbrev pub handle_in : Parts Q QH P PH K → Stage → ℕ → ℕ → Handle Q QH P PH
-  handle_in p stage.RequestMutUninit lane slot = RequestMutUninit (request_at p lane slot)
-  handle_in p stage.RequestMut lane slot = RequestMut (request_at p lane slot)
-  handle_in p (stage.PendingResponse hint connections) lane slot =
-      PendingResponse (record { message = request_at p lane slot; hint = hint; connections = connections; servers = waiting_at p lane slot })
-  handle_in p (stage.ActiveRequest server loans) lane slot = ActiveRequest (record { message = request_at p lane slot; server = server })
-  handle_in p stage.ResponseMutUninit lane slot = ResponseMutUninit (response_at p lane slot)
-  handle_in p stage.ResponseMut lane slot = ResponseMut (response_at p lane slot)
-  handle_in p stage.Response lane slot = Response (response_at p lane slot)
+  handle_in p stage.RequestMutUninit sender slot = RequestMutUninit (request_at p sender slot)
+  handle_in p stage.RequestMut sender slot = RequestMut (request_at p sender slot)
+  handle_in p (stage.PendingResponse hint connections) sender slot =
+      PendingResponse (record { message = request_at p sender slot; hint = hint; connections = connections; servers = waiting_at p sender slot })
+  handle_in p (stage.ActiveRequest server loans) sender slot = ActiveRequest (record { message = request_at p sender slot; server = server })
+  handle_in p stage.ResponseMutUninit sender slot = ResponseMutUninit (response_at p sender slot)
+  handle_in p stage.ResponseMut sender slot = ResponseMut (response_at p sender slot)
+  handle_in p stage.Response sender slot = Response (response_at p sender slot)
 
-  abbrev pub handle_of : Parts Q QH P PH K → Seat Held → Handle Q QH P PH
-  handle_of p seat = handle_in p seat.value.stage seat.value.lane seat.value.slot
+  abbrev pub handle_of : Parts Q QH P PH K → TableEntry HandleEntry → Handle Q QH P PH
+  handle_of p table_entry = handle_in p table_entry.value.stage table_entry.value.sender table_entry.value.slot
 
   -- the requests from a client to a server, the oldest first
   abbrev pub requests_at : Parts Q QH P PH K → RequestKey → List (RequestMessage Q QH)
@@ -101,8 +101,8 @@ module _ {Q QH P PH K : Type 0} where
       option_map_or
       (λ server.
       option_map_or
-      (λ lane. map (request_in_slot p.spare_request_header lane.messages) (queue_at lane.messages server.place 0))
-      (find (λ lane. lane.owner == key.client) p.client_lanes)
+      (λ sender. map (request_in_slot p.spare_request_header sender.messages) (queue_at sender.messages server.receiver 0))
+      (find (λ sender. sender.owner == key.client) p.client_senders)
       [])
       (find (λ server. server.port.id == key.server) p.servers)
       []
@@ -113,26 +113,26 @@ module _ {Q QH P PH K : Type 0} where
       option_map_or
       (λ client.
       option_map_or
-      (λ lane. map (response_in_slot p.spare_response_header lane.messages) (queue_at lane.messages client.place key.channel))
-      (find (λ lane. lane.owner == key.server) p.server_lanes)
+      (λ sender. map (response_in_slot p.spare_response_header sender.messages) (queue_at sender.messages client.receiver key.channel))
+      (find (λ sender. sender.owner == key.server) p.server_senders)
       [])
       (find (λ client. client.port.id == key.client) p.clients)
       []
 
   -- every key at which requests, or responses, can wait
   abbrev pub request_keys : Parts Q QH P PH K → List RequestKey
-  request_keys p = flat_map (λ lane. map (λ server. request_key lane.owner server.port.id) p.servers) p.client_lanes
+  request_keys p = flat_map (λ sender. map (λ server. request_key sender.owner server.port.id) p.servers) p.client_senders
 
   abbrev pub response_keys : Parts Q QH P PH K → List ResponseKey
   response_keys p =
       flat_map
-      (λ lane.
+      (λ sender.
       flat_map
       (λ client.
-      map (λ channel. record { server = lane.owner; client = client.port.id; channel = channel })
-      (range_with_len 0 (length (slice_index_or lane.messages.queues client.place []))))
+      map (λ channel. record { server = sender.owner; client = client.port.id; channel = channel })
+      (range_with_len 0 (length (slice_index_or sender.messages.queues client.receiver []))))
       p.clients)
-      p.server_lanes
+      p.server_senders
 
   -- what contracts see of a core
   abbrev pub state_of : Parts Q QH P PH K → State Q QH P PH K
@@ -142,7 +142,7 @@ module _ {Q QH P PH K : Type 0} where
         node_id = p.node_id;
         clients = map client_of p.clients;
         servers = map server_of p.servers;
-        handles = map_values (handle_of p) p.table.seats;
+        handles = map_values (handle_of p) p.table.entries;
         requests = lists_by (request_keys p) (requests_at p);
         responses = lists_by (response_keys p) (responses_at p);
         expired = no_lists;

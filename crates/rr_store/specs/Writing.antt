@@ -1,20 +1,20 @@
--- What writing does to a lane that is stored and to the stage of a handle, and when a message can be sent.
+-- What writing does to a sender that is stored and to the stage of a handle, and when a message can be sent.
 use Rattle.std.specs.Prelude.{◌==◌, Bool, false, length}
 use Rattle.rr_slots.specs.Pools.{Written}
-use Rattle.rr_lanes.specs.Lanes.{Messages}
-use Rattle.rr_hub.specs.Messages.{Handle, RequestMutUninit, ResponseMutUninit}
-use Rattle.rr_hub.specs.Writing.{is_complete}
-use Rattle.rr_store.specs.declared.held.Stage.{Stage}
-use Rattle.rr_store.specs.declared.held.Stage.TheVariants as stage
-use Rattle.rr_store.specs.declared.port.OwnedLane.{OwnedLane}
+use Rattle.rr_sender.specs.Senders.{Messages}
+use Rattle.rr_protocol.specs.Messages.{Handle, RequestMutUninit, ResponseMutUninit}
+use Rattle.rr_protocol.specs.Writing.{is_complete}
+use Rattle.rr_store.specs.declared.handle_entry.Stage.{Stage}
+use Rattle.rr_store.specs.declared.handle_entry.Stage.TheVariants as stage
+use Rattle.rr_store.specs.declared.port.OwnedSender.{OwnedSender}
 
 -- whether as many elements were written as are asked for
 abbrev pub is_written : {T : Type 0} → Written T → Bool
 is_written w = length w.elements == w.asked_len
 
--- a lane of the same port, with other messages
-abbrev pub with_messages : {B T N H : Type 0} → OwnedLane B N H T → Messages T N H → OwnedLane B N H T
-with_messages lane messages = record lane { messages = messages }
+-- a sender of the same port, with other messages
+abbrev pub with_messages : {B T N H : Type 0} → OwnedSender B N H T → Messages T N H → OwnedSender B N H T
+with_messages sender messages = record sender { messages = messages }
 
 -- the stage once a message that was being written can be sent; other stages stay
 abbrev pub initialised : Stage → Stage

@@ -1,25 +1,25 @@
 //! Creating ports.
 ghost use Rattle.std.specs.Prelude.{◌≡◌, ◌≢◌, ℕ, ◌+◌, ◌*◌, ◌^◌, ◌<◌, ◌++◌, ◌∷◌, [], None, Some, length, replicate, true, false, if◌then◌else◌, is_ok, IsTrue, IfOk, slice_get, ◌==◌};
 ghost use Rattle.rr_slots.specs.Families.{takes_len};
-ghost use Rattle.rr_table.specs.Seats.{with_row};
-ghost use Rattle.rr_hub.specs.Creation.{pool_size_of};
-ghost use Rattle.rr_hub.specs.Limits.{hub_refusal, worst_case_requests};
+ghost use Rattle.rr_table.specs.TableView.{with_row};
+ghost use Rattle.rr_protocol.specs.Creation.{pool_size_of};
+ghost use Rattle.rr_protocol.specs.Limits.{hub_refusal, worst_case_requests};
 ghost use Rattle.std.specs.List.{list_any};
 ghost use Rattle.rr_store.specs.Creating.{IsNew};
 ghost use Rattle.rr_store.specs.Ports.{connected_of};
 ghost use Rattle.rr_store.specs.Views.{no_request};
 
-use crate::{ClientPort, Held, OwnedLane, Placed, Port, RequestNote};
-use rr_hub::{ClientSettings, Limits};
-use rr_lanes::{Lane, LaneSize};
+use crate::{ClientPort, ConnectedPort, HandleEntry, OwnedSender, Port, RequestDetails};
+use rr_protocol::{ClientSettings, Limits};
+use rr_sender::{Sender, SenderSize};
 use rr_slots::Body;
 use rr_table::Table;
 use std::alloc::{AllocError, Global};
 
 pub mod server;
 
-/// What is noted of no request.
-const NO_REQUEST: RequestNote = RequestNote {
+/// The details of no request.
+const NO_REQUEST: RequestDetails = RequestDetails {
     number: 0,
     client: 0,
     request_id: 0,
@@ -41,7 +41,7 @@ pub fn pool_size(worst_case: usize, pool: Option<usize>) -> usize
     ensures { result ≡ pool_size_of worst_case pool }
 {
     match pool {
-        Some(answer) => answer.min(worst_case).max(1),
+        Some(size) => size.min(worst_case).max(1),
         None => worst_case,
     }
 }
@@ -61,10 +61,10 @@ pub fn row_len(slots: usize, servers: usize) -> Result<usize, AllocError>
     }
 }
 
-/// What a client sends from: its lane, the marks of its slots, and the length of its row in the table.
+/// What a client sends from: its sender, the marks of its slots, and the length of its row in the table.
 #[derive(Drop)]
 pub struct ClientStore<B: Body, H: Default + Drop> {
-    pub messages: Lane<B, RequestNote, H>,
+    pub messages: Sender<B, RequestDetails, H>,
     pub marks: Vec<bool>,
     pub row_len: usize,
 }
@@ -84,7 +84,7 @@ pub fn client_store<B: Body, H: Default + Drop>(
     ensures fits { IfOk result (λ store. store.row_len < 2 ^ 64) }
 {
     let row_len = row_len(slots, limits.max_servers)?;
-    let size = LaneSize {
+    let size = SenderSize {
         slots,
         room,
         receivers: limits.max_servers,
@@ -92,7 +92,7 @@ pub fn client_store<B: Body, H: Default + Drop>(
         capacity: limits.max_active_requests_per_client,
     };
     Ok(ClientStore {
-        messages: Lane::new(alloc, size, NO_REQUEST)?,
+        messages: Sender::new(alloc, size, NO_REQUEST)?,
         marks: vec![in alloc; false; row_len - slots]?,
         row_len,
     })
@@ -102,14 +102,14 @@ pub fn client_store<B: Body, H: Default + Drop>(
 pub fn insert_client<B: Body, H: Default + Drop, K: Drop>(
     alloc: Global,
     clients: &mut Vec<ClientPort<K>>,
-    lanes: &mut Vec<OwnedLane<B, RequestNote, H>>,
+    senders: &mut Vec<OwnedSender<B, RequestDetails, H>>,
     waiting: &mut Vec<Vec<bool>>,
-    table: &mut Table<Held>,
+    table: &mut Table<HandleEntry>,
     port: Port<K>,
     store: ClientStore<B, H>,
 ) -> Result<(), AllocError>
     ensures clients { clients.new.items ≡ (if is_ok result then clients.old.items ++ record { port = port; loans_made = 0; pendings = 0 } ∷ [] else clients.old.items) }
-    ensures lanes { lanes.new.items ≡ (if is_ok result then lanes.old.items ++ record { owner = port.id; row = length table.old.rows; messages = store.messages } ∷ [] else lanes.old.items) }
+    ensures senders { senders.new.items ≡ (if is_ok result then senders.old.items ++ record { owner = port.id; row = length table.old.rows; messages = store.messages } ∷ [] else senders.old.items) }
     ensures waiting { waiting.new.items ≡ (if is_ok result then waiting.old.items ++ store.marks ∷ [] else waiting.old.items) }
     ensures table { table.new ≡ (if is_ok result then with_row table.old store.row_len else table.old) }
 {
@@ -126,33 +126,33 @@ pub fn insert_client<B: Body, H: Default + Drop, K: Drop>(
         pendings: 0,
     };
     insert_port(
-        alloc, clients, lanes, table, client, owner, messages, row_len,
+        alloc, clients, senders, table, client, owner, messages, row_len,
     )?;
     waiting.push_reserved(marks);
     Ok(())
 }
 
-/// Adds a port, the lane from which it sends, and a row of the table for its messages. Returns `AllocError` if memory was
+/// Adds a port, the sender from which it sends, and a row of the table for its messages. Returns `AllocError` if memory was
 /// refused; the lists and the table are unchanged then.
 pub fn insert_port<P: Drop, B: Body, N: Copy, H: Drop>(
     alloc: Global,
     ports: &mut Vec<P>,
-    lanes: &mut Vec<OwnedLane<B, N, H>>,
-    table: &mut Table<Held>,
+    senders: &mut Vec<OwnedSender<B, N, H>>,
+    table: &mut Table<HandleEntry>,
     port: P,
     owner: u64,
-    messages: Lane<B, N, H>,
+    messages: Sender<B, N, H>,
     row_len: usize,
 ) -> Result<(), AllocError>
     ensures ports { ports.new.items ≡ (if is_ok result then ports.old.items ++ port ∷ [] else ports.old.items) }
-    ensures lanes { lanes.new.items ≡ (if is_ok result then lanes.old.items ++ record { owner = owner; row = length table.old.rows; messages = messages } ∷ [] else lanes.old.items) }
+    ensures senders { senders.new.items ≡ (if is_ok result then senders.old.items ++ record { owner = owner; row = length table.old.rows; messages = messages } ∷ [] else senders.old.items) }
     ensures table { table.new ≡ (if is_ok result then with_row table.old row_len else table.old) }
 {
     ports.reserve(1)?;
-    lanes.reserve(1)?;
+    senders.reserve(1)?;
     let row = table.add_row(alloc, row_len)?;
     ports.push_reserved(port);
-    lanes.push_reserved(OwnedLane {
+    senders.push_reserved(OwnedSender {
         owner,
         row,
         messages,
@@ -165,10 +165,10 @@ pub fn client_port<K: Drop>(
     id: u64,
     settings: ClientSettings<K>,
     pool_size: usize,
-    lane: usize,
-    place: usize,
+    sender: usize,
+    receiver: usize,
 ) -> Port<K>
-    ensures { connected_of result ≡ record { port = record { id = id; strategy = settings.strategy; handler = settings.handler; allocation_strategy = settings.allocation_strategy; initial_max_slice_len = settings.initial_max_slice_len; pool_size = pool_size; is_held = true }; lane = lane; place = place; loans = 0 } }
+    ensures { connected_of result ≡ record { port = record { id = id; strategy = settings.strategy; handler = settings.handler; allocation_strategy = settings.allocation_strategy; initial_max_slice_len = settings.initial_max_slice_len; pool_size = pool_size; has_value = true }; sender = sender; receiver = receiver; loans = 0 } }
 {
     Port {
         id,
@@ -177,30 +177,30 @@ pub fn client_port<K: Drop>(
         allocation_strategy: settings.allocation_strategy,
         initial_max_slice_len: settings.initial_max_slice_len,
         pool_size,
-        is_held: true,
-        lane,
-        place,
+        has_value: true,
+        sender,
+        receiver,
         loans: 0,
     }
 }
 
-/// A place that no port has.
-pub fn free_place<P: Placed>(ports: &[P], places: usize) -> usize
-    requires { length ports.now < places }
-    ensures inside { result < places }
-    ensures vacant { (i : ℕ) (p : P) → slice_get ports.now i ≡ Some p → P.place p ≢ result }
+/// Returns a receiver that no port is.
+pub fn free_receiver<P: ConnectedPort>(ports: &[P], receivers: usize) -> usize
+    requires { length ports.now < receivers }
+    ensures inside { result < receivers }
+    ensures vacant { (i : ℕ) (p : P) → slice_get ports.now i ≡ Some p → P.receiver p ≢ result }
 {
-    for place in 0..places {
-        if !is_taken(ports, place) {
-            return place;
+    for receiver in 0..receivers {
+        if !is_taken(ports, receiver) {
+            return receiver;
         }
     }
     unreachable!()
 }
 
-/// Whether a port has a place.
-pub fn is_taken<P: Placed>(ports: &[P], place: usize) -> bool
-    ensures { result ≡ list_any (λ p. P.place p == place) ports.now }
+/// Returns whether a port is this receiver.
+pub fn is_taken<P: ConnectedPort>(ports: &[P], receiver: usize) -> bool
+    ensures { result ≡ list_any (λ p. P.receiver p == receiver) ports.now }
 {
-    ports.iter().any(|port| port.place() == place)
+    ports.iter().any(|port| port.receiver() == receiver)
 }

@@ -3,9 +3,9 @@
 #![tactic(auto)]
 
 pub mod create;
-mod held;
+mod details;
+mod handle_entry;
 pub mod loan;
-mod note;
 mod port;
 pub mod query;
 pub mod receive;
@@ -13,6 +13,8 @@ pub mod release;
 pub mod send;
 pub mod write;
 
-pub use held::{Held, Stage};
-pub use note::{RequestNote, ResponseNote};
-pub use port::{ClientPort, OwnedLane, Placed, Port, ServerPort, index_of, index_of_lane};
+pub use details::{RequestDetails, ResponseDetails};
+pub use handle_entry::{HandleEntry, Stage};
+pub use port::{
+    ClientPort, ConnectedPort, OwnedSender, Port, ServerPort, index_of, index_of_sender,
+};

@@ -1,47 +1,47 @@
 //! Loans of requests.
 ghost use Rattle.std.specs.Prelude.{◌≡◌, ◌<◌, ◌↔◌, Some, Err, IsTrue, IfOk, OnErr, IsErrOf, map, length, slice_get, slice_set};
 ghost use Rattle.rr_slots.specs.Families.{takes_len};
-ghost use Rattle.rr_lanes.specs.Lanes.{times, all_entries, loaned, used_count};
+ghost use Rattle.rr_sender.specs.Senders.{times, all_entries, loaned, used_count};
 ghost use Rattle.rr_store.specs.Loaning.{with_messages};
-ghost use Rattle.rr_store.specs.Ports.{lane_part};
-ghost use Rattle.rr_store.specs.Views.{lane_of};
+ghost use Rattle.rr_store.specs.Ports.{sender_part};
+ghost use Rattle.rr_store.specs.Views.{sender_of};
 
-use crate::OwnedLane;
+use crate::OwnedSender;
 use rr_slots::{AcquireError, Body};
 use rr_table::Place;
 
 pub mod response;
 
-/// Loans a slot of a lane for a message of `len` elements, a length that the body's family takes. Returns the place of its
+/// Loans a slot of a sender for a message of `len` elements, a length that the body's family takes. Returns the place of its
 /// handle.
 ///
 /// # Errors
 ///
-/// - `Full` if each slot of the lane is used.
+/// - `Full` if each slot of the sender is used.
 /// - `NoRoom` if the slot has less room than `len`, and memory was refused.
 ///
-/// The lanes are unchanged then.
+/// The senders are unchanged then.
 pub fn loan_from<B: Body, N: Copy, H: Drop>(
-    lanes: &mut Vec<OwnedLane<B, N, H>>,
-    lane: usize,
+    senders: &mut Vec<OwnedSender<B, N, H>>,
+    sender: usize,
     len: usize,
-    note: N,
+    details: N,
     user_header: H,
 ) -> Result<Place, AcquireError>
-    requires lane { lane < length lanes.old.items }
+    requires sender { sender < length senders.old.items }
     requires len { IsTrue (takes_len B.family len) }
-    ensures row { IfOk result (λ place. place.row ≡ (lane_of lane (map lane_part lanes.old.items)).row) }
-    ensures free { IfOk result (λ place. slice_get (lane_of lane (map lane_part lanes.old.items)).messages.held place.index ≡ Some 0) }
-    ensures unused { IfOk result (λ place. times place.index (all_entries (lane_of lane (map lane_part lanes.old.items)).messages.queues) ≡ 0) }
-    ensures ok { IfOk result (λ place. map lane_part lanes.new.items ≡ slice_set (map lane_part lanes.old.items) lane (with_messages (lane_of lane (map lane_part lanes.old.items)) (loaned (lane_of lane (map lane_part lanes.old.items)).messages place.index len note user_header))) }
-    ensures full { IsErrOf result AcquireError.Full ↔ (used_count (lane_of lane (map lane_part lanes.old.items)).messages ≡ length (lane_of lane (map lane_part lanes.old.items)).messages.held) }
-    ensures no_room { IsErrOf result AcquireError.NoRoom → (lane_of lane (map lane_part lanes.old.items)).messages.room < len }
-    ensures err { OnErr result (map lane_part lanes.new.items ≡ map lane_part lanes.old.items) }
+    ensures row { IfOk result (λ place. place.row ≡ (sender_of sender (map sender_part senders.old.items)).row) }
+    ensures free { IfOk result (λ place. slice_get (sender_of sender (map sender_part senders.old.items)).messages.held place.index ≡ Some 0) }
+    ensures unused { IfOk result (λ place. times place.index (all_entries (sender_of sender (map sender_part senders.old.items)).messages.queues) ≡ 0) }
+    ensures ok { IfOk result (λ place. map sender_part senders.new.items ≡ slice_set (map sender_part senders.old.items) sender (with_messages (sender_of sender (map sender_part senders.old.items)) (loaned (sender_of sender (map sender_part senders.old.items)).messages place.index len details user_header))) }
+    ensures full { IsErrOf result AcquireError.Full ↔ (used_count (sender_of sender (map sender_part senders.old.items)).messages ≡ length (sender_of sender (map sender_part senders.old.items)).messages.held) }
+    ensures no_room { IsErrOf result AcquireError.NoRoom → (sender_of sender (map sender_part senders.old.items)).messages.room < len }
+    ensures err { OnErr result (map sender_part senders.new.items ≡ map sender_part senders.old.items) }
 {
-    let lane = &mut lanes[lane];
-    match lane.messages.loan(len, note, user_header) {
+    let sender = &mut senders[sender];
+    match sender.messages.loan(len, details, user_header) {
         Ok(slot) => Ok(Place {
-            row: lane.row,
+            row: sender.row,
             index: slot,
         }),
         Err(error) => Err(error),

@@ -1,20 +1,20 @@
-//! What a core keeps of its connected ports, and the lanes from which ports send.
+//! What a core keeps of its connected ports, and the senders from which ports send.
 ghost use Rattle.std.specs.Prelude.{◌≡◌, ◌<◌, ◌*◌, ◌==◌, ◌&&◌, ◌||◌, nat_le};
 ghost use Rattle.std.specs.List.{position};
-ghost use Rattle.rr_hub.specs.Backpressure.{discards};
-ghost use Rattle.rr_hub.specs.Limits.{max_loaned_responses};
-ghost use Rattle.rr_hub.specs.Loans.{is_too_long};
+ghost use Rattle.rr_protocol.specs.Backpressure.{discards};
+ghost use Rattle.rr_protocol.specs.Limits.{max_loaned_responses};
+ghost use Rattle.rr_protocol.specs.Loans.{is_too_long};
 ghost use Rattle.rr_store.specs.Ports.{connected_of};
 
-use rr_hub::{
+use rr_protocol::{
     AllocationStrategy, BackpressureAction, BackpressureFn, BackpressureInfo, BackpressureStrategy,
     Limits,
 };
-use rr_lanes::Lane;
+use rr_sender::Sender;
 use rr_slots::Body;
 
-/// What clients and servers have in common: the settings, in which lane the port sends, in which place others send to it,
-/// and how many loans it has.
+/// What clients and servers have in common: the settings, the index of the sender from which the port sends, its index among
+/// the receivers of the other side, and how many loans it has.
 #[derive(Drop)]
 pub struct Port<K: Drop> {
     pub id: u64,
@@ -23,9 +23,9 @@ pub struct Port<K: Drop> {
     pub allocation_strategy: AllocationStrategy,
     pub initial_max_slice_len: usize,
     pub pool_size: usize,
-    pub is_held: bool,
-    pub lane: usize,
-    pub place: usize,
+    pub has_value: bool,
+    pub sender: usize,
+    pub receiver: usize,
     pub loans: usize,
 }
 
@@ -46,18 +46,18 @@ pub struct ServerPort<K: Drop> {
 
 /// What a port sends from, the port's number, and the row of the table in which the handles of its messages stand.
 #[derive(Drop)]
-pub struct OwnedLane<B: Body, N: Copy, H: Drop> {
+pub struct OwnedSender<B: Body, N: Copy, H: Drop> {
     pub owner: u64,
     pub row: usize,
-    pub messages: Lane<B, N, H>,
+    pub messages: Sender<B, N, H>,
 }
 
 impl<K: Drop> Port<K> {
     /// Whether the port has this number, and its value lives.
-    pub fn is_held_as(&self, number: u64) -> bool
-        ensures { result ≡ (self.now.id == number && self.now.is_held) }
+    pub fn has_value_under(&self, number: u64) -> bool
+        ensures { result ≡ (self.now.id == number && self.now.has_value) }
     {
-        self.id == number && self.is_held
+        self.id == number && self.has_value
     }
 
     /// Whether a slice is longer than the port has room for, and may not get more.
@@ -74,7 +74,7 @@ impl<K: Drop> Port<K> {
 impl<K: BackpressureFn> Port<K> {
     /// Whether the port passes over the full queue to a receiver: its handler says so, if it has one, or else its strategy.
     pub fn discards(&self, receiver: u64) -> bool
-        ensures { result ≡ discards K.answer (connected_of self.now).port receiver }
+        ensures { result ≡ discards K.action (connected_of self.now).port receiver }
     {
         let action = match &self.handler {
             Some(handler) => handler.act(&BackpressureInfo {
@@ -124,82 +124,82 @@ fn is_product_within(first: usize, second: usize, third: usize, count: usize) ->
     }
 }
 
-/// A connected port, with a number, to which others send in a place.
-pub trait Placed: Drop {
+/// A connected port: its number, its index as a receiver of the other side, and the sender from which it sends.
+pub trait ConnectedPort: Drop {
     ghost use Rattle.std.specs.Prelude.{ℕ};
 
     /// The number.
     ghost id: { Self → ℕ };
 
-    /// The place.
-    ghost place: { Self → ℕ };
+    /// The index among the receivers of the other side.
+    ghost receiver: { Self → ℕ };
 
-    /// The lane from which it sends.
-    ghost lane: { Self → ℕ };
+    /// The sender from which it sends.
+    ghost sender: { Self → ℕ };
 
     /// The number.
     fn id(&self) -> u64
         ensures { result ≡ id self.now };
 
-    /// The place.
-    fn place(&self) -> usize
-        ensures { result ≡ place self.now };
+    /// The index among the receivers of the other side.
+    fn receiver(&self) -> usize
+        ensures { result ≡ receiver self.now };
 
-    /// The lane from which it sends.
-    fn lane(&self) -> usize
-        ensures { result ≡ lane self.now };
+    /// The sender from which it sends.
+    fn sender(&self) -> usize
+        ensures { result ≡ sender self.now };
 }
 
-impl<K: Drop> Placed for ClientPort<K> {
+impl<K: Drop> ConnectedPort for ClientPort<K> {
     ghost id = { λ c. c.port.id };
 
-    ghost lane = { λ c. c.port.lane };
+    ghost sender = { λ c. c.port.sender };
 
-    ghost place = { λ c. c.port.place };
+    ghost receiver = { λ c. c.port.receiver };
 
     fn id(&self) -> u64 {
         self.port.id
     }
 
-    fn place(&self) -> usize {
-        self.port.place
+    fn receiver(&self) -> usize {
+        self.port.receiver
     }
 
-    fn lane(&self) -> usize {
-        self.port.lane
+    fn sender(&self) -> usize {
+        self.port.sender
     }
 }
 
-impl<K: Drop> Placed for ServerPort<K> {
+impl<K: Drop> ConnectedPort for ServerPort<K> {
     ghost id = { λ s. s.port.id };
 
-    ghost lane = { λ s. s.port.lane };
+    ghost sender = { λ s. s.port.sender };
 
-    ghost place = { λ s. s.port.place };
+    ghost receiver = { λ s. s.port.receiver };
 
     fn id(&self) -> u64 {
         self.port.id
     }
 
-    fn place(&self) -> usize {
-        self.port.place
+    fn receiver(&self) -> usize {
+        self.port.receiver
     }
 
-    fn lane(&self) -> usize {
-        self.port.lane
+    fn sender(&self) -> usize {
+        self.port.sender
     }
 }
 
 /// Where among the ports the one with a number stands.
-pub fn index_of<P: Placed>(ports: &[P], id: u64) -> Option<usize>
+pub fn index_of<P: ConnectedPort>(ports: &[P], id: u64) -> Option<usize>
     ensures { result ≡ position (λ p. P.id p == id) ports.now }
 {
     ports.iter().position(|port| port.id() == id)
 }
 
-/// Where among the ports the one that sends from a lane stands.
-pub fn index_of_lane<P: Placed>(ports: &[P], lane: usize) -> Option<usize>
-    ensures { result ≡ position (λ p. P.lane p == lane) ports.now }
+/// Returns where among the ports the one with this sender stands.
+pub fn index_of_sender<P: ConnectedPort>(ports: &[P], sender: usize) -> Option<usize>
+    ensures { result ≡ position (λ p. P.sender p == sender) ports.now }
 {
-    ports.iter().position(|port| port.lane() == lane)
+    ports.iter().position(|port| port.sender() == sender)
 }

@@ -5,26 +5,30 @@ ghost use Rattle.std.specs.List.{list_any};
 use crate::{ClientPort, ServerPort};
 
 /// Whether one of the clients has this number and lives by value.
-pub fn is_client_held<K: Drop>(clients: &[ClientPort<K>], number: u64) -> bool
-    ensures { result ≡ list_any (λ c. c.port.id == number && c.port.is_held) clients.now }
+pub fn is_client_value<K: Drop>(clients: &[ClientPort<K>], number: u64) -> bool
+    ensures { result ≡ list_any (λ c. c.port.id == number && c.port.has_value) clients.now }
 {
-    clients.iter().any(|client| client.port.is_held_as(number))
+    clients
+        .iter()
+        .any(|client| client.port.has_value_under(number))
 }
 
 /// Whether one of the servers has this number and lives by value.
-pub fn is_server_held<K: Drop>(servers: &[ServerPort<K>], number: u64) -> bool
-    ensures { result ≡ list_any (λ s. s.port.id == number && s.port.is_held) servers.now }
+pub fn is_server_value<K: Drop>(servers: &[ServerPort<K>], number: u64) -> bool
+    ensures { result ≡ list_any (λ s. s.port.id == number && s.port.has_value) servers.now }
 {
-    servers.iter().any(|server| server.port.is_held_as(number))
+    servers
+        .iter()
+        .any(|server| server.port.has_value_under(number))
 }
 
-/// Whether one of the servers has a mark, where the marks by place begin at an index.
+/// Whether one of the servers has a mark, where the marks by receiver begin at an index.
 pub fn is_any_marked<K: Drop>(servers: &[ServerPort<K>], marks: &[bool], start: usize) -> bool
-    requires { (i : ℕ) (s : ServerPort K) → slice_get servers.now i ≡ Some s → start + s.port.place < length marks.now }
-    ensures { result ≡ list_any (λ s. slice_index_or marks.now (start + s.port.place) false) servers.now }
+    requires { (i : ℕ) (s : ServerPort K) → slice_get servers.now i ≡ Some s → start + s.port.receiver < length marks.now }
+    ensures { result ≡ list_any (λ s. slice_index_or marks.now (start + s.port.receiver) false) servers.now }
 {
     for server in servers {
-        if marks[start + server.port.place] {
+        if marks[start + server.port.receiver] {
             return true;
         }
     }

@@ -1,31 +1,31 @@
 //! Receiving responses, and from which sender a receiver takes next.
 ghost use Rattle.std.specs.Prelude.{Some, map};
-ghost use Rattle.rr_store.specs.Ports.{lane_part};
+ghost use Rattle.rr_store.specs.Ports.{sender_part};
 ghost use Rattle.rr_store.specs.Receiving.{IsNextSender, Reaches};
 
-use crate::OwnedLane;
-use rr_hub::ReceiveError;
+use crate::OwnedSender;
+use rr_protocol::ReceiveError;
 use rr_slots::Body;
 
 pub mod request;
 
-/// Some lane from which a message waits for a receiver on a channel, of which it may have `most` from each.
+/// Some sender from which a message waits for a receiver on a channel, of which it may have `most` from each.
 ///
 /// `None` if no message waits, `ExceedsMaxBorrows` if messages wait alone where the receiver has so many.
 pub fn next_sender<B: Body, N: Copy, H: Drop>(
-    lanes: &Vec<OwnedLane<B, N, H>>,
-    place: usize,
+    senders: &Vec<OwnedSender<B, N, H>>,
+    receiver: usize,
     channel: usize,
     most: usize,
 ) -> Result<Option<usize>, ReceiveError>
-    requires { Reaches (map lane_part lanes.now.items) place channel }
-    ensures { IsNextSender (map lane_part lanes.now.items) place channel most result }
+    requires { Reaches (map sender_part senders.now.items) receiver channel }
+    ensures { IsNextSender (map sender_part senders.now.items) receiver channel most result }
 {
     let mut is_blocked = false;
-    for lane in 0..lanes.len() {
-        if lanes[lane].messages.has_entries(place, channel) {
-            if lanes[lane].messages.borrowed(place, channel) < most {
-                return Ok(Some(lane));
+    for sender in 0..senders.len() {
+        if senders[sender].messages.has_entries(receiver, channel) {
+            if senders[sender].messages.borrowed(receiver, channel) < most {
+                return Ok(Some(sender));
             }
             is_blocked = true;
         }

@@ -1,10 +1,6 @@
-pub mod MapLaws
 pub mod Standing
 pub mod Kept
 pub mod Rows
 pub mod Vectors
-pub mod SeatLaws
-pub mod ListFacts
-pub mod MapFacts
-pub mod Counting
-pub mod Members
+pub mod TableLaws
+pub mod Here

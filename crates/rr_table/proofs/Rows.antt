@@ -4,9 +4,9 @@ use Rattle.std.specs.Prelude.{slice_set, ◌≢◌, replicate, if◌then◌else�
 use Rattle.std.specs.FinMap.{get}
 use Rattle.std.proofs.lemmas.Bool.{cases_eq, eq-eqb, ne_eqb}
 use Rattle.std.proofs.lemmas.List.{length-replicate, map-append, map-set, get_or-set_same, get_or-set_other}
-use Rattle.rr_table.proofs.Standing.{option_same, stands_at, seat_of, same_seats}
-use Rattle.rr_table.specs.Seats.{Seat, with_row, outside, IsRenewed}
-use Rattle.rr_table.specs.Places.{place, entry, seats_of, standing, IsDistinct}
+use Rattle.rr_table.proofs.Standing.{option_same, stands_at, table_entry_of, same_entries}
+use Rattle.rr_table.specs.TableView.{TableEntry, with_row, outside, IsRenewed}
+use Rattle.rr_table.specs.Places.{place, entry, table_of, standing, IsDistinct}
 use Rattle.rr_table.specs.declared.place.Place.{Place}
 use Rattle.rr_table.specs.declared.table.Entry.{Entry}
 
@@ -35,26 +35,26 @@ module _ {E : Type 0} where
     pub pushed_distinct : IsDistinct (rows ++ replicate n None ∷ [])
     pushed_distinct p q a b h k e = d p q a b (sym (standing-pushed rows n p) ∙ h) (sym (standing-pushed rows n q) ∙ k) e
 
-    pushed_map : (seats_of (rows ++ replicate n None ∷ [])).seats ≡ (seats_of rows).seats
-    pushed_map = same_seats _ _ pushed_distinct
-        (λ q s h. seat_of rows s.place (entry q s.value) d (sym (standing-pushed rows n s.place) ∙ h))
+    pushed_map : (table_of (rows ++ replicate n None ∷ [])).entries ≡ (table_of rows).entries
+    pushed_map = same_entries _ _ pushed_distinct
+        (λ q s h. table_entry_of rows s.place (entry q s.value) d (sym (standing-pushed rows n s.place) ∙ h))
         (λ q s h. standing-pushed rows n s.place ∙ stands_at rows q s h)
 
     pushed_lengths : map length (rows ++ replicate n None ∷ []) ≡ map length rows ++ n ∷ []
     pushed_lengths = map-append length rows (replicate n None ∷ [])
         ∙ ap (λ l. map length rows ++ l ∷ []) (length-replicate {A = Option (Entry E)} n None)
 
-    pub pushed_is : seats_of (rows ++ replicate n None ∷ []) ≡ with_row (seats_of rows) n
-    pushed_is = λ t. record { seats = pushed_map t; rows = pushed_lengths t }
+    pub pushed_is : table_of (rows ++ replicate n None ∷ []) ≡ with_row (table_of rows) n
+    pushed_is = λ t. record { entries = pushed_map t; rows = pushed_lengths t }
 
-  outside_in : (r : ℕ) (s : Seat E) → s.place.row ≡ r → outside r (Some s) ≡ None
+  outside_in : (r : ℕ) (s : TableEntry E) → s.place.row ≡ r → outside r (Some s) ≡ None
   outside_in r s e = ap (λ b. if b then None else Some s) (eq-eqb s.place.row r e)
 
-  outside_out : (r : ℕ) (s : Seat E) → s.place.row ≢ r → outside r (Some s) ≡ Some s
+  outside_out : (r : ℕ) (s : TableEntry E) → s.place.row ≢ r → outside r (Some s) ≡ Some s
   outside_out r s n = ap (λ b. if b then None else Some s) (ne_eqb s.place.row r n)
 
   -- what is left is outside the row, and was there
-  pub outside_some : (r : ℕ) (o : Option (Seat E)) (s : Seat E) → outside r o ≡ Some s → (o ≡ Some s) × (s.place.row ≢ r)
+  pub outside_some : (r : ℕ) (o : Option (TableEntry E)) (s : TableEntry E) → outside r o ≡ Some s → (o ≡ Some s) × (s.place.row ≢ r)
   outside_some r None s h = absurd (let g : None ≡ Some s = h in cc)
   outside_some r (Some x) s h = ⊎_elim
       (λ e. absurd (let g : None ≡ Some s = sym (outside_in r x e) ∙ h in cc))
@@ -83,14 +83,14 @@ module _ {E : Type 0} where
     pub renewed_distinct : IsDistinct (slice_set rows r (replicate n None))
     renewed_distinct p q a b h k e = d p q a b (renewed_some p a h).1 (renewed_some q b k).1 e
 
-    renewed_get : (k : ℕ) → get (seats_of (slice_set rows r (replicate n None))).seats k ≡ outside r (get (seats_of rows).seats k)
+    renewed_get : (k : ℕ) → get (table_of (slice_set rows r (replicate n None))).entries k ≡ outside r (get (table_of rows).entries k)
     renewed_get k = option_same _ _
         (λ s h. let f = renewed_some s.place _ (stands_at _ k s h) in
-        ap (outside r) (seat_of rows s.place (entry k s.value) d f.1) ∙ outside_out r s f.0)
+        ap (outside r) (table_entry_of rows s.place (entry k s.value) d f.1) ∙ outside_out r s f.0)
         (λ s h. let f = outside_some r _ s h in
-        seat_of _ s.place (entry k s.value) renewed_distinct (standing-renewed_out s.place f.1 ∙ stands_at rows k s f.0))
+        table_entry_of _ s.place (entry k s.value) renewed_distinct (standing-renewed_out s.place f.1 ∙ stands_at rows k s f.0))
 
-    pub renewed_is : IsRenewed r n (seats_of rows) (seats_of (slice_set rows r (replicate n None)))
+    pub renewed_is : IsRenewed r n (table_of rows) (table_of (slice_set rows r (replicate n None)))
     renewed_is = (
       map-set length rows r (replicate n None) ∙ ap (slice_set (map length rows) r)
           (length-replicate {A = Option (Entry E)} n None),

@@ -1,3 +1,2 @@
-pub mod Maps
-pub mod Seats
+pub mod TableView
 pub mod Places

@@ -2,7 +2,7 @@
 use Rattle.std.specs.Prelude.{◌≡◌, ◌≢◌, ℕ, ◌+◌, Option, None, Some, List, [], ◌∷◌, ◌++◌, map, length, slice_index_or, Vec}
 use Rattle.std.specs.Global.{Global}
 use Rattle.std.specs.FinMap as map
-use Rattle.rr_table.specs.Seats.{Seat, seat, Seats}
+use Rattle.rr_table.specs.TableView.{TableEntry, table_entry, TableView}
 use Rattle.rr_table.specs.declared.place.Place.{Place}
 use Rattle.rr_table.specs.declared.table.Entry.{Entry}
 
@@ -20,19 +20,19 @@ module _ {E : Type 0} where
   rows_of rows = map (λ row. row.items) rows.items
 
   -- what stands in row r, from place i on
-  abbrev pub in_row : ℕ → ℕ → List (Option (Entry E)) → List (ℕ × Seat E)
+  abbrev pub in_row : ℕ → ℕ → List (Option (Entry E)) → List (ℕ × TableEntry E)
   in_row r i [] = []
   in_row r i (None ∷ xs) = in_row r (i + 1) xs
-  in_row r i (Some e ∷ xs) = (e.number, seat (place r i) e.value) ∷ in_row r (i + 1) xs
+  in_row r i (Some e ∷ xs) = (e.number, table_entry (place r i) e.value) ∷ in_row r (i + 1) xs
 
   -- what stands in the rows, the first of them row r
-  abbrev pub in_rows : ℕ → List (List (Option (Entry E))) → List (ℕ × Seat E)
+  abbrev pub in_rows : ℕ → List (List (Option (Entry E))) → List (ℕ × TableEntry E)
   in_rows r [] = []
   in_rows r (row ∷ rows) = in_row r 0 row ++ in_rows (r + 1) rows
 
   -- the table that the rows stand for
-  abbrev pub seats_of : List (List (Option (Entry E))) → Seats E
-  seats_of rows = record { seats = map.from_entries (in_rows 0 rows); rows = map length rows }
+  abbrev pub table_of : List (List (Option (Entry E))) → TableView E
+  table_of rows = record { entries = map.from_entries (in_rows 0 rows); rows = map length rows }
 
   -- the entry in a place, or None where the place is vacant or outside the rows
   abbrev pub standing : List (List (Option (Entry E))) → Place → Option (Entry E)

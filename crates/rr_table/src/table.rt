@@ -1,8 +1,8 @@
 //! The table and its calls.
 
-ghost use Rattle.std.specs.Prelude.{◌≡◌, ◌≢◌, ◌<◌, length, replicate, IfOk, OnOk, OnErr, IfSome, None};
+ghost use Rattle.std.specs.Prelude.{◌≡◌, ◌≢◌, ◌<◌, length, replicate, IfOk, OnOk, OnErr, IfSome, Some, None, true, option_map};
 ghost use Rattle.std.specs.FinMap as map;
-ghost use Rattle.rr_table.specs.Seats.{value_at, value_in, no_seats, seated, unseated, IsInside, IsVacant, with_row, IsRenewed};
+ghost use Rattle.rr_table.specs.TableView.{value_at, value_in, empty_table, table_entry, inserted, removed, IsAt, IsInside, IsVacant, with_row, IsRenewed};
 
 use crate::place::Place;
 use crate::seek::{entry_at, seek};
@@ -23,15 +23,15 @@ pub struct Table<E: Copy> {
 }
 
 impl<E: Copy> Model for Table<E> {
-    ghost use Rattle.rr_table.specs.Seats.{Seats, seats_code};
+    ghost use Rattle.rr_table.specs.TableView.{TableView, table_code};
 
-    ghost Value = { Seats E };
+    ghost Value = { TableView E };
 
-    ghost coded = { seats_code E.code };
+    ghost coded = { table_code E.code };
 
-    ghost use Rattle.rr_table.specs.Places.{rows_of, seats_of, IsDistinct};
+    ghost use Rattle.rr_table.specs.Places.{rows_of, table_of, IsDistinct};
 
-    ghost view = { λ t. seats_of (rows_of t.rows) };
+    ghost view = { λ t. table_of (rows_of t.rows) };
 
     ghost invariant = { λ t. IsDistinct (rows_of t.rows) };
 }
@@ -39,7 +39,7 @@ impl<E: Copy> Model for Table<E> {
 impl<E: Copy> Table<E> {
     /// A table with no rows. It takes no memory.
     pub fn new(alloc: Global) -> Self
-        ensures { result ≡ no_seats }
+        ensures { result ≡ empty_table }
     {
         Table {
             rows: Vec::new(alloc),
@@ -102,12 +102,63 @@ impl<E: Copy> Table<E> {
         }
     }
 
-    /// Seats a value in a vacant place, under a new number.
+    /// Returns whether a number stands in a place. Looks at no other place.
+    pub fn is_at(&self, number: u64, place: Place) -> bool
+        ensures there { result ≡ true → IsAt self.now number place }
+        ensures elsewhere { IsAt self.now number place → result ≡ true }
+    {
+        match entry_at(&self.rows, place) {
+            Some(entry) => entry.number == number,
+            None => false,
+        }
+    }
+
+    /// Returns the value under a number from the place where it stands.
+    pub fn at(&self, number: u64, place: Place) -> E
+        requires { IsAt self.now number place }
+        ensures { map.get self.now.entries number ≡ Some (table_entry place result) }
+    {
+        let _ = number;
+        match self.rows[place.row][place.index] {
+            Some(entry) => entry.value,
+            None => unreachable!(),
+        }
+    }
+
+    /// Replaces the value under a number in the place where it stands.
+    pub fn set_at(&mut self, number: u64, place: Place, value: E)
+        requires { IsAt self.old number place }
+        ensures { self.new ≡ inserted self.old number place value }
+    {
+        self.rows[place.row][place.index] = Some(Entry { number, value });
+    }
+
+    /// Takes a number and its value out of the place where they stand, which is vacant then.
+    pub fn take_at(&mut self, number: u64, place: Place) -> E
+        requires { IsAt self.old number place }
+        ensures taken { map.get self.old.entries number ≡ Some (table_entry place result) }
+        ensures gone { self.new ≡ removed self.old number }
+        ensures vacated { IsVacant self.new place }
+    {
+        let value = self.at(number, place);
+        self.rows[place.row][place.index] = None;
+        value
+    }
+
+    /// Returns where a number stands, or `None` if it stands nowhere. Walks over the rows.
+    #[cold]
+    pub fn find(&self, number: u64) -> Option<Place>
+        ensures { result ≡ option_map (λ s. s.place) (map.get self.now.entries number) }
+    {
+        seek(&self.rows, number, Place { row: 0, index: 0 })
+    }
+
+    /// Puts a value into a vacant place, under a new number.
     pub fn insert(&mut self, place: Place, number: u64, value: E)
         requires place { IsInside self.old place }
         requires vacant { IsVacant self.old place }
-        requires fresh { map.get self.old.seats number ≡ None }
-        ensures { self.new ≡ seated self.old number place value }
+        requires fresh { map.get self.old.entries number ≡ None }
+        ensures { self.new ≡ inserted self.old number place value }
     {
         let entry = Entry { number, value };
         self.rows[place.row][place.index] = Some(entry);
@@ -115,8 +166,8 @@ impl<E: Copy> Table<E> {
 
     /// Replaces the value under a number, which keeps its place. The hint is the place that is tried first.
     pub fn set(&mut self, number: u64, hint: Place, value: E)
-        requires { map.get self.old.seats number ≢ None }
-        ensures { IfSome (map.get self.old.seats number) (λ s. self.new ≡ seated self.old number s.place value) }
+        requires { map.get self.old.entries number ≢ None }
+        ensures { IfSome (map.get self.old.entries number) (λ s. self.new ≡ inserted self.old number s.place value) }
     {
         if let Some(place) = seek(&self.rows, number, hint) {
             self.rows[place.row][place.index] = Some(Entry { number, value });
@@ -125,9 +176,9 @@ impl<E: Copy> Table<E> {
 
     /// Takes away a number and its value, so that its place is vacant. The hint is the place that is tried first.
     pub fn remove(&mut self, number: u64, hint: Place)
-        requires { map.get self.old.seats number ≢ None }
-        ensures gone { self.new ≡ unseated self.old number }
-        ensures vacated { IfSome (map.get self.old.seats number) (λ s. IsVacant self.new s.place) }
+        requires { map.get self.old.entries number ≢ None }
+        ensures gone { self.new ≡ removed self.old number }
+        ensures vacated { IfSome (map.get self.old.entries number) (λ s. IsVacant self.new s.place) }
     {
         if let Some(place) = seek(&self.rows, number, hint) {
             self.rows[place.row][place.index] = None;

@@ -1,11 +1,11 @@
 -- The answer rule holds of a whole history with one answer, and not of histories in which a response is read twice or by another request.
 use Rattle.std.specs.List.{list_any}
 use Rattle.std.proofs.Common.{◌≡◌, ◌≤◌, ◌+◌, ℕ, Bool, true, false, ◌&&◌, ◌||◌, ◌==◌, if◌then◌else◌, List, [], ◌∷◌, ◌++◌, refl, sym, ap, ◌∙◌, inl, inr, arith}
-use Rattle.rr_hub.specs.declared.settings.ServerSettings.{ServerSettings}
-use Rattle.rr_hub.specs.declared.settings.BackpressureStrategy.{BackpressureStrategy}
-use Rattle.rr_steps.specs.declared.command.Command.{Command}
-use Rattle.rr_steps.specs.declared.reply.Reply.{Reply}
-use Rattle.rr_steps.specs.AnswerRule.{Event, IsSubsequence, IsPrefix, ReceivesOnce, ReceivesInOrder, ReceivesWithoutGap, ReceivesAll, AnswersTheRequest, KeepsAnswerRule, sent_for, received_from}
+use Rattle.rr_protocol.specs.declared.settings.ServerSettings.{ServerSettings}
+use Rattle.rr_protocol.specs.declared.settings.BackpressureStrategy.{BackpressureStrategy}
+use Rattle.rr_commands.specs.declared.command.Command.{Command}
+use Rattle.rr_commands.specs.declared.reply.Reply.{Reply}
+use Rattle.rr_commands.specs.AnswerRule.{Event, IsSubsequence, IsPrefix, ReceivesOnce, ReceivesInOrder, ReceivesWithoutGap, ReceivesAll, AnswersTheRequest, KeepsAnswerRule, sent_for, received_from}
 use Rattle.rr_worked.proofs.Worked.{NoHandler, not_true, limits, client, server}
 
 abbrev Events : Type 0

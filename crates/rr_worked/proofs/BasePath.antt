@@ -1,12 +1,12 @@
 -- The base path: a request is received, answered, and its answer read.
 use Rattle.std.proofs.Common.{inr, ℕ, false, [], ◌∷◌, refl, lit<}
-use Rattle.rr_hub.specs.declared.settings.BackpressureStrategy.{BackpressureStrategy}
-use Rattle.rr_hub.specs.Messages.{RequestMessage, ResponseMessage, Handle}
-use Rattle.rr_hub.specs.State.{empty_hub}
-use Rattle.rr_hub.specs.Creation.{with_client}
-use Rattle.rr_hub.specs.Loans.{with_loaned_request, with_loaned_response}
-use Rattle.rr_steps.specs.declared.command.Command.{Command}
-use Rattle.rr_steps.specs.declared.reply.Reply.{Reply}
+use Rattle.rr_protocol.specs.declared.settings.BackpressureStrategy.{BackpressureStrategy}
+use Rattle.rr_protocol.specs.Messages.{RequestMessage, ResponseMessage, Handle}
+use Rattle.rr_protocol.specs.State.{empty_hub}
+use Rattle.rr_protocol.specs.Creation.{with_client}
+use Rattle.rr_protocol.specs.Loans.{with_loaned_request, with_loaned_response}
+use Rattle.rr_commands.specs.declared.command.Command.{Command}
+use Rattle.rr_commands.specs.declared.reply.Reply.{Reply}
 use Rattle.rr_worked.proofs.Literals.{literals}
 use Rattle.rr_worked.proofs.Worked.{HubState, Handles, Requests, Responses, StepOf, RunOf, limits, client, server, hub, request, pending, active, response, requests_at, responses_at, client_0, server_1}
 

@@ -4,14 +4,14 @@ use Rattle.std.specs.Ordering.{nat_cmp}
 use Rattle.std.specs.declared.cmp.Ordering.{Ordering}
 use Rattle.std.specs.declared.cmp.Ordering.TheVariants.{Less, Equal, Greater}
 use Rattle.std.specs.FinMap.{nat_cmp-IsAntisymmetric}
-use Rattle.rr_hub.specs.declared.error.ReceiveError.{ReceiveError}
-use Rattle.rr_hub.specs.Lists.{at}
-use Rattle.rr_hub.specs.Messages.{RequestMessage, ResponseMessage, Pending, Handle, response_key}
-use Rattle.rr_hub.specs.State.{handle_at}
-use Rattle.rr_hub.specs.Counts.{has_response_room}
-use Rattle.rr_hub.specs.Loans.{with_loaned_response}
-use Rattle.rr_steps.specs.declared.command.Command.{Command}
-use Rattle.rr_steps.specs.declared.reply.Reply.{Reply}
+use Rattle.rr_protocol.specs.declared.error.ReceiveError.{ReceiveError}
+use Rattle.rr_protocol.specs.Lists.{at}
+use Rattle.rr_protocol.specs.Messages.{RequestMessage, ResponseMessage, Pending, Handle, response_key}
+use Rattle.rr_protocol.specs.State.{handle_at}
+use Rattle.rr_protocol.specs.Counts.{has_response_room}
+use Rattle.rr_protocol.specs.Loans.{with_loaned_response}
+use Rattle.rr_commands.specs.declared.command.Command.{Command}
+use Rattle.rr_commands.specs.declared.reply.Reply.{Reply}
 use Rattle.rr_worked.proofs.Literals.{literals}
 use Rattle.rr_worked.proofs.Worked.{HubState, Handles, Responses, StepOf, RunOf, limits, hub, request, pending, active, response, responses_at, client_0, server_1}
 

@@ -1,13 +1,13 @@
 -- Single steps at the corners: a full pool, a message in three places, a hint, a handler.
 use Rattle.std.proofs.Common.{◌≡◌, inl, ℕ, true, false, List, [], ◌∷◌, Some, refl, lit<}
-use Rattle.rr_hub.specs.declared.settings.BackpressureStrategy.{BackpressureStrategy}
-use Rattle.rr_hub.specs.declared.error.LoanError.{LoanError}
-use Rattle.rr_hub.specs.Messages.{RequestMessage, Pending, Handle}
-use Rattle.rr_hub.specs.Ports.{Client, Server}
-use Rattle.rr_hub.specs.Counts.{live_requests}
-use Rattle.rr_hub.specs.Loans.{with_loaned_request}
-use Rattle.rr_steps.specs.declared.command.Command.{Command}
-use Rattle.rr_steps.specs.declared.reply.Reply.{Reply}
+use Rattle.rr_protocol.specs.declared.settings.BackpressureStrategy.{BackpressureStrategy}
+use Rattle.rr_protocol.specs.declared.error.LoanError.{LoanError}
+use Rattle.rr_protocol.specs.Messages.{RequestMessage, Pending, Handle}
+use Rattle.rr_protocol.specs.Ports.{Client, Server}
+use Rattle.rr_protocol.specs.Counts.{live_requests}
+use Rattle.rr_protocol.specs.Loans.{with_loaned_request}
+use Rattle.rr_commands.specs.declared.command.Command.{Command}
+use Rattle.rr_commands.specs.declared.reply.Reply.{Reply}
 use Rattle.rr_worked.proofs.Literals.{literals}
 use Rattle.rr_worked.proofs.Worked.{NoHandler, HubState, Handles, Requests, StepOf, limits, port, client_port, client_0, server_1, hub, request, pending, active, requests_at}
 

@@ -1,9 +1,9 @@
 -- A request that isn't alive is handed to a server only with fire-and-forget.
 use Rattle.std.proofs.Common.{inl, ℕ, Bool, true, false, [], ◌∷◌, refl, lit<}
-use Rattle.rr_hub.specs.Messages.{RequestMessage, Handle}
-use Rattle.rr_hub.specs.Loans.{with_loaned_request}
-use Rattle.rr_steps.specs.declared.command.Command.{Command}
-use Rattle.rr_steps.specs.declared.reply.Reply.{Reply}
+use Rattle.rr_protocol.specs.Messages.{RequestMessage, Handle}
+use Rattle.rr_protocol.specs.Loans.{with_loaned_request}
+use Rattle.rr_commands.specs.declared.command.Command.{Command}
+use Rattle.rr_commands.specs.declared.reply.Reply.{Reply}
 use Rattle.rr_worked.proofs.Literals.{literals}
 use Rattle.rr_worked.proofs.Worked.{not_true, HubState, Handles, Requests, StepOf, RunOf, limits, hub, request, pending, active, requests_at, client_0, server_1}
 

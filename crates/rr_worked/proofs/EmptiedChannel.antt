@@ -1,10 +1,10 @@
 -- Releasing a pending response empties its channel, also what a left server sent.
 use Rattle.std.proofs.Common.{inr, ℕ, false, List, [], ◌∷◌, refl, lit<}
-use Rattle.rr_hub.specs.Messages.{RequestMessage, ResponseMessage, Handle}
-use Rattle.rr_hub.specs.Ports.{Server}
-use Rattle.rr_hub.specs.Loans.{with_loaned_request, with_loaned_response}
-use Rattle.rr_steps.specs.declared.command.Command.{Command}
-use Rattle.rr_steps.specs.declared.reply.Reply.{Reply}
+use Rattle.rr_protocol.specs.Messages.{RequestMessage, ResponseMessage, Handle}
+use Rattle.rr_protocol.specs.Ports.{Server}
+use Rattle.rr_protocol.specs.Loans.{with_loaned_request, with_loaned_response}
+use Rattle.rr_commands.specs.declared.command.Command.{Command}
+use Rattle.rr_commands.specs.declared.reply.Reply.{Reply}
 use Rattle.rr_worked.proofs.Literals.{literals}
 use Rattle.rr_worked.proofs.Worked.{not_true, NoHandler, HubState, Handles, Requests, Responses, StepOf, RunOf, limits, hub, request, pending, active, response, requests_at, responses_at, client_0, server_1}
 

@@ -1,10 +1,10 @@
 -- Of two servers that left, the first gives way: the client keeps the entries of one.
 use Rattle.std.proofs.Common.{inr, ℕ, Bool, true, false, List, [], ◌∷◌, refl}
-use Rattle.rr_hub.specs.declared.settings.BackpressureStrategy.{BackpressureStrategy}
-use Rattle.rr_hub.specs.Messages.{RequestMessage, ResponseMessage, Handle}
-use Rattle.rr_hub.specs.Ports.{Server}
-use Rattle.rr_steps.specs.declared.command.Command.{Command}
-use Rattle.rr_steps.specs.declared.reply.Reply.{Reply}
+use Rattle.rr_protocol.specs.declared.settings.BackpressureStrategy.{BackpressureStrategy}
+use Rattle.rr_protocol.specs.Messages.{RequestMessage, ResponseMessage, Handle}
+use Rattle.rr_protocol.specs.Ports.{Server}
+use Rattle.rr_commands.specs.declared.command.Command.{Command}
+use Rattle.rr_commands.specs.declared.reply.Reply.{Reply}
 use Rattle.rr_worked.proofs.Literals.{literals}
 use Rattle.rr_worked.proofs.Worked.{NoHandler, HubState, Handles, Requests, Responses, StepOf, RunOf, limits, port, server_port, hub, request, active, response, responses_at, client_0}
 

@@ -1,8 +1,8 @@
 -- What full lists take and drop, and how messages are counted.
 use Rattle.std.proofs.Common.{◌≡◌, ℕ, true, false, [], ◌∷◌, refl}
-use Rattle.rr_hub.specs.Counts.{distinct_count}
-use Rattle.rr_hub.specs.Releases.{outdated_senders, kept_senders}
-use Rattle.rr_hub.specs.Sends.{put}
+use Rattle.rr_protocol.specs.Counts.{distinct_count}
+use Rattle.rr_protocol.specs.Releases.{outdated_senders, kept_senders}
+use Rattle.rr_protocol.specs.Sends.{put}
 
 -- a list of two expired senders takes a third for its oldest one
 pub room_left : kept_senders 2 (7 ∷ []) 9 ≡ 7 ∷ 9 ∷ []

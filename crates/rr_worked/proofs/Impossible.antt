@@ -3,18 +3,18 @@ use Rattle.std.proofs.Common.{◌≡◌, inl, inr, ℕ, true, false, List, [], �
 use Rattle.std.specs.Ordering.{nat_cmp}
 use Rattle.std.specs.declared.cmp.Ordering.{Ordering}
 use Rattle.std.specs.declared.cmp.Ordering.TheVariants.{Less, Equal, Greater}
-use Rattle.rr_hub.specs.declared.error.LoanError.{LoanError}
-use Rattle.rr_hub.specs.declared.error.SendError.{SendError}
-use Rattle.rr_hub.specs.declared.settings.BackpressureStrategy.{BackpressureStrategy}
-use Rattle.rr_hub.specs.Lists.{at}
-use Rattle.rr_hub.specs.Keys.{request_key}
-use Rattle.rr_hub.specs.Messages.{RequestMessage, ResponseMessage, response_key}
-use Rattle.rr_hub.specs.Loans.{with_loaned_request}
-use Rattle.rr_hub.specs.Sends.{SendsRequest}
-use Rattle.rr_hub.specs.Receives.{is_dead, TakesRequest, Skims, TakesResponse}
-use Rattle.rr_steps.specs.Step.{with_complete}
-use Rattle.rr_steps.specs.declared.command.Command.{Command}
-use Rattle.rr_steps.specs.declared.reply.Reply.{Reply}
+use Rattle.rr_protocol.specs.declared.error.LoanError.{LoanError}
+use Rattle.rr_protocol.specs.declared.error.SendError.{SendError}
+use Rattle.rr_protocol.specs.declared.settings.BackpressureStrategy.{BackpressureStrategy}
+use Rattle.rr_protocol.specs.Lists.{at}
+use Rattle.rr_protocol.specs.Keys.{request_key}
+use Rattle.rr_protocol.specs.Messages.{RequestMessage, ResponseMessage, response_key}
+use Rattle.rr_protocol.specs.Loans.{with_loaned_request}
+use Rattle.rr_protocol.specs.Sends.{SendsRequest}
+use Rattle.rr_protocol.specs.Receives.{is_dead, TakesRequest, Skims, TakesResponse}
+use Rattle.rr_commands.specs.Step.{with_complete}
+use Rattle.rr_commands.specs.declared.command.Command.{Command}
+use Rattle.rr_commands.specs.declared.reply.Reply.{Reply}
 use Rattle.rr_worked.proofs.Literals.{literals}
 use Rattle.rr_worked.proofs.Worked.{not_true, HubState, StepOf, answer, port, client_port}
 use Rattle.rr_worked.proofs.BasePath as base_path

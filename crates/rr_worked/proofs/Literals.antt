@@ -5,9 +5,9 @@ use Rattle.std.specs.Ordering.{eq_by_cmp, nat_cmp}
 use Rattle.std.specs.Cmp.{IsTotalOrder, nat_cmp_total}
 use Rattle.std.specs.FinMap.{IsAntisymmetric, nat_cmp-IsAntisymmetric, entries, get, insert, remove, retain_keys, empty, from_sorted, same_entries_map, len-entries, len-empty, entries-from_sorted, entries-insert, get-from_sorted, find, put, is_sorted}
 use Rattle.std.specs.FinMap.Entries.{where_key}
-use Rattle.rr_hub.specs.Keys.{RequestKey, ResponseKey, request_key_cmp as by_request, response_key_cmp as by_response}
-use Rattle.rr_hub.proofs.EntriesLaws.{entries-retain_keys, entries-remove}
-use Rattle.rr_hub.proofs.KeyLaws.{request_keys_total, response_keys_total, request_keys_exact, response_keys_exact}
+use Rattle.rr_protocol.specs.Keys.{RequestKey, ResponseKey, request_key_cmp as by_request, response_key_cmp as by_response}
+use Rattle.rr_protocol.proofs.EntriesLaws.{entries-retain_keys, entries-remove}
+use Rattle.rr_protocol.proofs.KeyLaws.{request_keys_total, response_keys_total, request_keys_exact, response_keys_exact}
 
 no_length : {X : Type 0} (xs : List X) → length xs ≡ 0 → xs ≡ []
 no_length [] e = refl

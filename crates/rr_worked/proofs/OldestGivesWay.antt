@@ -1,10 +1,10 @@
 -- A full list of requests drops its oldest entry for a new one, with overflow; and with fire-and-forget the rest is handed out.
 use Rattle.std.proofs.Common.{inl, ℕ, true, List, [], ◌∷◌, refl, lit<}
-use Rattle.rr_hub.specs.declared.limits.Limits.{Limits}
-use Rattle.rr_hub.specs.Messages.{RequestMessage}
-use Rattle.rr_hub.specs.Loans.{with_loaned_request}
-use Rattle.rr_steps.specs.declared.command.Command.{Command}
-use Rattle.rr_steps.specs.declared.reply.Reply.{Reply}
+use Rattle.rr_protocol.specs.declared.limits.Limits.{Limits}
+use Rattle.rr_protocol.specs.Messages.{RequestMessage}
+use Rattle.rr_protocol.specs.Loans.{with_loaned_request}
+use Rattle.rr_commands.specs.declared.command.Command.{Command}
+use Rattle.rr_commands.specs.declared.reply.Reply.{Reply}
 use Rattle.rr_worked.proofs.Literals.{literals}
 use Rattle.rr_worked.proofs.Worked.{HubState, Handles, Requests, StepOf, RunOf, limits, hub, request, pending, active, client_0, server_1}
 

@@ -1,10 +1,10 @@
 -- A request that outlives its client, with fire-and-forget and without it.
 use Rattle.std.proofs.Common.{Bool, ℕ, true, false, List, [], ◌∷◌, refl}
-use Rattle.rr_hub.specs.Messages.{RequestMessage}
-use Rattle.rr_hub.specs.Ports.{Client}
-use Rattle.rr_hub.specs.Loans.{with_loaned_response}
-use Rattle.rr_steps.specs.declared.command.Command.{Command}
-use Rattle.rr_steps.specs.declared.reply.Reply.{Reply}
+use Rattle.rr_protocol.specs.Messages.{RequestMessage}
+use Rattle.rr_protocol.specs.Ports.{Client}
+use Rattle.rr_protocol.specs.Loans.{with_loaned_response}
+use Rattle.rr_commands.specs.declared.command.Command.{Command}
+use Rattle.rr_commands.specs.declared.reply.Reply.{Reply}
 use Rattle.rr_worked.proofs.Literals.{literals}
 use Rattle.rr_worked.proofs.Worked.{not_true, NoHandler, HubState, Handles, Requests, StepOf, RunOf, limits, hub, request, active, requests_at, client_0, server_1}
 

@@ -1,11 +1,11 @@
 -- A place that is taken again: a left client's active request reaches nobody, whoever came after it.
 use Rattle.std.proofs.Common.{ℕ, true, false, List, [], ◌∷◌, refl, lit<}
-use Rattle.rr_hub.specs.declared.settings.BackpressureStrategy.{BackpressureStrategy}
-use Rattle.rr_hub.specs.Messages.{RequestMessage, Handle}
-use Rattle.rr_hub.specs.Ports.{Client}
-use Rattle.rr_hub.specs.Loans.{with_loaned_request, with_loaned_response}
-use Rattle.rr_steps.specs.declared.command.Command.{Command}
-use Rattle.rr_steps.specs.declared.reply.Reply.{Reply}
+use Rattle.rr_protocol.specs.declared.settings.BackpressureStrategy.{BackpressureStrategy}
+use Rattle.rr_protocol.specs.Messages.{RequestMessage, Handle}
+use Rattle.rr_protocol.specs.Ports.{Client}
+use Rattle.rr_protocol.specs.Loans.{with_loaned_request, with_loaned_response}
+use Rattle.rr_commands.specs.declared.command.Command.{Command}
+use Rattle.rr_commands.specs.declared.reply.Reply.{Reply}
 use Rattle.rr_worked.proofs.Literals.{literals}
 use Rattle.rr_worked.proofs.Worked.{not_true, NoHandler, HubState, Handles, Requests, StepOf, RunOf, limits, client, port, client_port, hub, request, pending, active, requests_at, client_0, server_1}
 

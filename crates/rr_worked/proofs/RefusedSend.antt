@@ -1,17 +1,17 @@
 -- A send is refused before it delivers anything: server 1 has room, and server 2 has none.
 use Rattle.std.proofs.Common.{◌≡◌, inr, ℕ, true, false, cond, List, [], ◌∷◌, Some, None, refl, lit<}
-use Rattle.rr_hub.specs.declared.settings.BackpressureStrategy.{BackpressureStrategy}
-use Rattle.rr_hub.specs.declared.error.SendError.{SendError}
-use Rattle.rr_hub.specs.declared.error.RequestSendError.{RequestSendError}
-use Rattle.rr_hub.specs.Messages.{RequestMessage, Handle}
-use Rattle.rr_hub.specs.Loans.{with_loaned_request}
-use Rattle.rr_steps.specs.declared.command.Command.{Command}
-use Rattle.rr_steps.specs.declared.reply.Reply.{Reply}
+use Rattle.rr_protocol.specs.declared.settings.BackpressureStrategy.{BackpressureStrategy}
+use Rattle.rr_protocol.specs.declared.error.SendError.{SendError}
+use Rattle.rr_protocol.specs.declared.error.RequestSendError.{RequestSendError}
+use Rattle.rr_protocol.specs.Messages.{RequestMessage, Handle}
+use Rattle.rr_protocol.specs.Loans.{with_loaned_request}
+use Rattle.rr_commands.specs.declared.command.Command.{Command}
+use Rattle.rr_commands.specs.declared.reply.Reply.{Reply}
 use Rattle.std.specs.Ordering.{nat_cmp, is_eq, ordering_then}
 use Rattle.std.specs.declared.cmp.Ordering.{Ordering}
 use Rattle.std.specs.declared.cmp.Ordering.TheVariants.{Less, Equal, Greater}
-use Rattle.rr_hub.specs.Lists.{list_of}
-use Rattle.rr_hub.specs.Keys.{RequestKey}
+use Rattle.rr_protocol.specs.Lists.{list_of}
+use Rattle.rr_protocol.specs.Keys.{RequestKey}
 use Rattle.rr_worked.proofs.Literals.{literals}
 use Rattle.rr_worked.proofs.Worked.{not_true, HubState, Handles, Requests, StepOf, RunOf, limits, server, port, client_port, server_port, hub, request, pending, active, requests_at, server_1}
 

@@ -1,10 +1,10 @@
 -- A server with a pool of one response loans again once the pending response that had its answer is released.
 use Rattle.std.proofs.Common.{inr, ℕ, false, [], ◌∷◌, refl}
-use Rattle.rr_hub.specs.declared.error.LoanError.{LoanError}
-use Rattle.rr_hub.specs.Messages.{RequestMessage, ResponseMessage, Handle}
-use Rattle.rr_hub.specs.Loans.{with_loaned_response}
-use Rattle.rr_steps.specs.declared.command.Command.{Command}
-use Rattle.rr_steps.specs.declared.reply.Reply.{Reply}
+use Rattle.rr_protocol.specs.declared.error.LoanError.{LoanError}
+use Rattle.rr_protocol.specs.Messages.{RequestMessage, ResponseMessage, Handle}
+use Rattle.rr_protocol.specs.Loans.{with_loaned_response}
+use Rattle.rr_commands.specs.declared.command.Command.{Command}
+use Rattle.rr_commands.specs.declared.reply.Reply.{Reply}
 use Rattle.rr_worked.proofs.Literals.{literals}
 use Rattle.rr_worked.proofs.Worked.{HubState, Handles, Responses, StepOf, RunOf, limits, hub, request, pending, active, response, responses_at, client_0, server_1}
 

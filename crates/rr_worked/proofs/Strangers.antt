@@ -1,8 +1,8 @@
 -- What a runner refuses, and what is written to a message.
 use Rattle.std.proofs.Common.{inl, ℕ, true, false, List, [], ◌∷◌, refl, lit<}
-use Rattle.rr_hub.specs.Messages.{RequestMessage, Handle}
-use Rattle.rr_steps.specs.declared.command.Command.{Command}
-use Rattle.rr_steps.specs.declared.reply.Reply.{Reply}
+use Rattle.rr_protocol.specs.Messages.{RequestMessage, Handle}
+use Rattle.rr_commands.specs.declared.command.Command.{Command}
+use Rattle.rr_commands.specs.declared.reply.Reply.{Reply}
 use Rattle.rr_worked.proofs.Literals.{literals}
 use Rattle.rr_worked.proofs.Worked.{HubState, Handles, StepOf, RunOf, limits, hub, client_0}
 

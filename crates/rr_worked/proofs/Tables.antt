@@ -1,13 +1,13 @@
 -- How many calls the kinds have, and the sizes of pools for some limits.
 use Rattle.std.proofs.Common.{◌≡◌, ℕ, false, List, [], ◌∷◌, Some, refl}
 use Rattle.std.specs.Prelude.{count_by, sum_by}
-use Rattle.rr_hub.specs.declared.kind.Kind.{Kind}
-use Rattle.rr_hub.specs.declared.kind.Kind.TheVariants.{Client, Server}
-use Rattle.rr_hub.specs.declared.error.HubCreateError.{HubCreateError}
-use Rattle.rr_hub.specs.Limits.{worst_case_requests, max_loaned_responses, worst_case_responses, hub_refusal}
-use Rattle.rr_hub.specs.Creation.{pool_size_of}
-use Rattle.rr_steps.specs.declared.command.Command.{Command}
-use Rattle.rr_steps.specs.Refusals.{handle_kinds, has_call}
+use Rattle.rr_protocol.specs.declared.kind.Kind.{Kind}
+use Rattle.rr_protocol.specs.declared.kind.Kind.TheVariants.{Client, Server}
+use Rattle.rr_protocol.specs.declared.error.HubCreateError.{HubCreateError}
+use Rattle.rr_protocol.specs.Limits.{worst_case_requests, max_loaned_responses, worst_case_responses, hub_refusal}
+use Rattle.rr_protocol.specs.Creation.{pool_size_of}
+use Rattle.rr_commands.specs.declared.command.Command.{Command}
+use Rattle.rr_commands.specs.Refusals.{handle_kinds, has_call}
 use Rattle.rr_worked.proofs.Worked.{NoHandler, limits}
 
 -- the commands that name a number

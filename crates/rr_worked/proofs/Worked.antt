@@ -2,20 +2,20 @@
 use Rattle.std.proofs.Common.{◌≡◌, ℕ, Bool, true, false, List, [], ◌∷◌, length, None}
 use Rattle.std.specs.FinMap.{from_sorted}
 use Rattle.rr_slots.specs.declared.family.Family.{Family}
-use Rattle.rr_hub.specs.declared.limits.Limits.{Limits}
-use Rattle.rr_hub.specs.declared.settings.BackpressureAction.{BackpressureAction}
-use Rattle.rr_hub.specs.declared.settings.BackpressureStrategy.{BackpressureStrategy}
-use Rattle.rr_hub.specs.declared.settings.AllocationStrategy.{AllocationStrategy}
-use Rattle.rr_hub.specs.declared.settings.ClientSettings.{ClientSettings}
-use Rattle.rr_hub.specs.declared.settings.ServerSettings.{ServerSettings}
-use Rattle.rr_hub.specs.Messages.{RequestMessage, ResponseMessage, Handle}
-use Rattle.rr_hub.specs.Keys.{RequestKey, ResponseKey}
-use Rattle.rr_hub.specs.Ports.{Port, Client, Server}
-use Rattle.rr_hub.specs.State.{State}
-use Rattle.rr_steps.specs.declared.command.Command.{Command}
-use Rattle.rr_steps.specs.declared.reply.Reply.{Reply}
-use Rattle.rr_steps.specs.Step.{Step}
-use Rattle.rr_steps.specs.Run.{Run}
+use Rattle.rr_protocol.specs.declared.limits.Limits.{Limits}
+use Rattle.rr_protocol.specs.declared.settings.BackpressureAction.{BackpressureAction}
+use Rattle.rr_protocol.specs.declared.settings.BackpressureStrategy.{BackpressureStrategy}
+use Rattle.rr_protocol.specs.declared.settings.AllocationStrategy.{AllocationStrategy}
+use Rattle.rr_protocol.specs.declared.settings.ClientSettings.{ClientSettings}
+use Rattle.rr_protocol.specs.declared.settings.ServerSettings.{ServerSettings}
+use Rattle.rr_protocol.specs.Messages.{RequestMessage, ResponseMessage, Handle}
+use Rattle.rr_protocol.specs.Keys.{RequestKey, ResponseKey}
+use Rattle.rr_protocol.specs.Ports.{Port, Client, Server}
+use Rattle.rr_protocol.specs.State.{State}
+use Rattle.rr_commands.specs.declared.command.Command.{Command}
+use Rattle.rr_commands.specs.declared.reply.Reply.{Reply}
+use Rattle.rr_commands.specs.Step.{Step}
+use Rattle.rr_commands.specs.Run.{Run}
 
 pub not_true : false ≡ true → ⊥
 not_true e = cc
@@ -94,7 +94,7 @@ port n strategy size held =
       allocation_strategy = AllocationStrategy.Static;
       initial_max_slice_len = 1;
       pool_size = size;
-      is_held = held;
+      has_value = held;
     }
 
 abbrev pub client_port : Port NoHandler → ℕ → Client NoHandler

@@ -1,5 +1,5 @@
 //! The texts of errors, and the errors that hold others.
-use rr_hub::{
+use rr_protocol::{
     ClientCreateError, ConnectionFailure, LoanError, ReceiveError, RequestSendError, SendError,
     ServerCreateError,
 };

@@ -1,7 +1,7 @@
 //! The sizes that follow from limits, and limits that are refused.
 ghost use Rattle.std.specs.Prelude.{◌<◌};
 
-use rr_hub::{HubCreateError, Limits};
+use rr_protocol::{HubCreateError, Limits};
 
 /// Two clients and one server; two loans, two active requests, two queued and one borrowed response.
 const TWO_CLIENTS: Limits = Limits {

@@ -1,7 +1,7 @@
 //! Headers of messages, and a handler of full queues.
 ghost use Rattle.std.specs.Prelude.{◌≡◌};
 
-use rr_hub::{
+use rr_protocol::{
     BackpressureAction, BackpressureFn, BackpressureInfo, RequestHeader, ResponseHeader,
     UniqueClientId, UniqueNodeId, UniqueServerId,
 };
@@ -40,9 +40,9 @@ struct PassOver {
 
 impl BackpressureFn for PassOver {
     ghost use Rattle.std.specs.Prelude.{◌==◌, if◌then◌else◌};
-    ghost use Rattle.rr_hub.specs.declared.settings.BackpressureAction.TheVariants.{DiscardData, DiscardDataAndFail};
+    ghost use Rattle.rr_protocol.specs.declared.settings.BackpressureAction.TheVariants.{DiscardData, DiscardDataAndFail};
 
-    ghost answer = { λ handler _ receiver. if receiver == handler.receiver then DiscardData else DiscardDataAndFail };
+    ghost action = { λ handler _ receiver. if receiver == handler.receiver then DiscardData else DiscardDataAndFail };
 
     fn act(&self, info: &BackpressureInfo) -> BackpressureAction {
         if info.receiver == self.receiver {
@@ -54,7 +54,7 @@ impl BackpressureFn for PassOver {
 }
 
 fn action_of<K: BackpressureFn>(handler: &K, sender: u64, receiver: u64) -> BackpressureAction
-    ensures { result ≡ K.answer handler.now sender receiver }
+    ensures { result ≡ K.action handler.now sender receiver }
 {
     handler.act(&BackpressureInfo { sender, receiver })
 }

@@ -1,5 +1,5 @@
 //! That replies can be made and compared.
-use rr_steps::{Elements, Reply};
+use rr_commands::{Elements, Reply};
 use std::alloc::{AllocError, Global};
 
 /// Whether a vector's elements are those of the vector in order.

@@ -1,6 +1,6 @@
 //! Each call of a table once, wrong hints, and what is left where there is no memory.
 ghost use Rattle.std.specs.Prelude.{◌≡◌, ◌<◌, IfOk, length};
-ghost use Rattle.rr_table.specs.Seats.{no_seats, with_row, seated};
+ghost use Rattle.rr_table.specs.TableView.{empty_table, with_row, inserted};
 ghost use Rattle.rr_table.specs.Places.{place};
 
 use rr_table::{Place, Table};
@@ -8,7 +8,7 @@ use std::alloc::{AllocError, Global};
 
 /// Two rows, with 70 under 7 in the first and 90 under 9 in the second.
 fn two_rows(alloc: Global) -> Result<Table<u32>, AllocError>
-    ensures { IfOk result (λ t. t ≡ seated (seated (with_row (with_row no_seats 2) 1) 7 (place 0 1) 70) 9 (place 1 0) 90) }
+    ensures { IfOk result (λ t. t ≡ inserted (inserted (with_row (with_row empty_table 2) 1) 7 (place 0 1) 70) 9 (place 1 0) 90) }
 {
     let mut table = Table::new(alloc);
     table.add_row(alloc, 2)?;
@@ -55,6 +55,34 @@ fn found_at(alloc: Global) -> Result<[Option<u32>; 5], AllocError> {
 #[test]
 fn gets_only_what_stands_in_the_place(rt: HostRuntime) {
     assert!(rt; found_at(rt.alloc()) == Ok([Some(70), None, None, None, Some(90)]));
+}
+
+/// Returns where 7 stands, in which of the places it stands, and what was taken from there once 71 was set.
+fn taken_from_its_place(
+    alloc: Global,
+) -> Result<(Option<Place>, [bool; 4], Option<u32>), AllocError> {
+    let mut table = two_rows(alloc)?;
+    let stands = [
+        table.is_at(7, HINTS[0]),
+        table.is_at(7, HINTS[1]),
+        table.is_at(7, HINTS[2]),
+        table.is_at(7, HINTS[3]),
+    ];
+    let found = table.find(7);
+    if table.is_at(7, HINTS[0]) {
+        table.set_at(7, HINTS[0], 71);
+    }
+    if table.is_at(7, HINTS[0]) {
+        let value = table.take_at(7, HINTS[0]);
+        return Ok((found, stands, Some(value)));
+    }
+    Ok((found, stands, None))
+}
+
+#[test]
+fn takes_a_value_from_its_place(rt: HostRuntime) {
+    let expected = (Some(HINTS[0]), [true, false, false, false], Some(71));
+    assert!(rt; taken_from_its_place(rt.alloc()) == Ok(expected));
 }
 
 /// Returns the numbers of three rows.

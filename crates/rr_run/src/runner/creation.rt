@@ -1,13 +1,13 @@
 //! Creating ports.
 ghost use Rattle.std.specs.Prelude.{◌≡◌, true, IsTrue};
 ghost use Rattle.rr_slots.specs.Families.{takes_len};
-ghost use Rattle.rr_steps.specs.declared.command.Command.{Command};
-ghost use Rattle.rr_steps.specs.Step.{Step, client_settings, server_settings};
+ghost use Rattle.rr_commands.specs.declared.command.Command.{Command};
+ghost use Rattle.rr_commands.specs.Step.{Step, client_settings, server_settings};
 
-use rr_core::Core;
-use rr_hub::{AllocationStrategy, BackpressureFn, ClientSettings, ServerSettings};
+use rr_commands::Reply;
+use rr_hub::Core;
+use rr_protocol::{AllocationStrategy, BackpressureFn, ClientSettings, ServerSettings};
 use rr_slots::{Body, Family};
-use rr_steps::Reply;
 
 /// Creates a client.
 pub(crate) fn create_client<
@@ -16,7 +16,7 @@ pub(crate) fn create_client<
     H: Copy + Default,
     K: BackpressureFn,
 >(core: &mut Core<B, H, B, H, K>, settings: ClientSettings<K>) -> Reply<T, H>
-    ensures { Step K.answer T.is_default H.is_default B.family core.old (Command.CreateClient settings) result core.new }
+    ensures { Step K.action T.is_default H.is_default B.family core.old (Command.CreateClient settings) result core.new }
 {
     match core.create_client(client_settings(B::family(), settings)) {
         Ok(number) => Reply::Created(number),
@@ -31,7 +31,7 @@ pub(crate) fn create_server<
     H: Copy + Default,
     K: BackpressureFn,
 >(core: &mut Core<B, H, B, H, K>, settings: ServerSettings<K>) -> Reply<T, H>
-    ensures { Step K.answer T.is_default H.is_default B.family core.old (Command.CreateServer settings) result core.new }
+    ensures { Step K.action T.is_default H.is_default B.family core.old (Command.CreateServer settings) result core.new }
 {
     match core.create_server(server_settings(B::family(), settings)) {
         Ok(number) => Reply::Created(number),

@@ -1,30 +1,30 @@
 //! Loans.
 ghost use Rattle.std.specs.Prelude.{◌≡◌, Some};
 ghost use Rattle.rr_slots.specs.Families.{takes_len};
-ghost use Rattle.rr_hub.specs.declared.kind.Kind.TheVariants as kind;
-ghost use Rattle.rr_hub.specs.Queries.{kind_at};
-ghost use Rattle.rr_steps.specs.declared.command.Command.{Command};
-ghost use Rattle.rr_steps.specs.Step.{Step};
+ghost use Rattle.rr_protocol.specs.declared.kind.Kind.TheVariants as kind;
+ghost use Rattle.rr_protocol.specs.Queries.{kind_at};
+ghost use Rattle.rr_commands.specs.declared.command.Command.{Command};
+ghost use Rattle.rr_commands.specs.Step.{Step};
 
-use crate::places::Places;
-use rr_core::{Core, HandleId};
-use rr_hub::{BackpressureFn, Kind};
+use crate::hints::Hints;
+use rr_commands::Reply;
+use rr_hub::{Core, HandleId};
+use rr_protocol::{BackpressureFn, Kind};
 use rr_slots::{Body, Family};
-use rr_steps::Reply;
 
 /// Loans a message of `len` elements: a request of a client, or a response of an active request.
 pub(crate) fn loan<T: Copy + Default, B: Body<Item = T>, H: Copy + Default, K: BackpressureFn>(
     core: &mut Core<B, H, B, H, K>,
-    places: &mut Places,
+    hints: &mut Hints,
     number: u64,
     len: usize,
 ) -> Reply<T, H>
-    ensures { Step K.answer T.is_default H.is_default B.family core.old (Command.Loan number len) result core.new }
+    ensures { Step K.action T.is_default H.is_default B.family core.old (Command.Loan number len) result core.new }
 {
-    let id = places.id_of(number);
+    let id = hints.id_of(number);
     match core.kind(&id) {
-        Some(Kind::Client) => loan_request(core, places, number, len),
-        Some(Kind::ActiveRequest) => loan_response(core, places, &id, len),
+        Some(Kind::Client) => loan_request(core, hints, number, len),
+        Some(Kind::ActiveRequest) => loan_response(core, hints, &id, len),
         Some(_) => Reply::WrongKind,
         None => Reply::Unknown,
     }
@@ -33,12 +33,12 @@ pub(crate) fn loan<T: Copy + Default, B: Body<Item = T>, H: Copy + Default, K: B
 /// Loans a request of a client.
 fn loan_request<T: Copy + Default, B: Body<Item = T>, H: Copy + Default, K: BackpressureFn>(
     core: &mut Core<B, H, B, H, K>,
-    places: &mut Places,
+    hints: &mut Hints,
     client: u64,
     len: usize,
 ) -> Reply<T, H>
     requires { kind_at core.old client ≡ Some kind.Client }
-    ensures { Step K.answer T.is_default H.is_default B.family core.old (Command.Loan client len) result core.new }
+    ensures { Step K.action T.is_default H.is_default B.family core.old (Command.Loan client len) result core.new }
 {
     if !takes_len(B::family(), len) {
         return Reply::WrongKind;
@@ -48,7 +48,7 @@ fn loan_request<T: Copy + Default, B: Body<Item = T>, H: Copy + Default, K: Back
     }
     match core.loan_request(client, len) {
         Ok(id) => {
-            places.remember(&id);
+            hints.remember(&id);
             Reply::Loaned(id.number())
         }
         Err(error) => Reply::LoanError(error),
@@ -58,12 +58,12 @@ fn loan_request<T: Copy + Default, B: Body<Item = T>, H: Copy + Default, K: Back
 /// Loans a response of an active request.
 fn loan_response<T: Copy + Default, B: Body<Item = T>, H: Copy + Default, K: BackpressureFn>(
     core: &mut Core<B, H, B, H, K>,
-    places: &mut Places,
+    hints: &mut Hints,
     active: &HandleId,
     len: usize,
 ) -> Reply<T, H>
     requires { kind_at core.old active.now ≡ Some kind.ActiveRequest }
-    ensures { Step K.answer T.is_default H.is_default B.family core.old (Command.Loan active.now len) result core.new }
+    ensures { Step K.action T.is_default H.is_default B.family core.old (Command.Loan active.now len) result core.new }
 {
     if !takes_len(B::family(), len) {
         return Reply::WrongKind;
@@ -73,7 +73,7 @@ fn loan_response<T: Copy + Default, B: Body<Item = T>, H: Copy + Default, K: Bac
     }
     match core.loan_response(active, len) {
         Ok(id) => {
-            places.remember(&id);
+            hints.remember(&id);
             Reply::Loaned(id.number())
         }
         Err(error) => Reply::LoanError(error),

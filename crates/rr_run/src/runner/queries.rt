@@ -1,12 +1,12 @@
 //! What a runner tells of handles. No query changes it.
 ghost use Rattle.std.specs.Prelude.{◌≡◌, IfOk};
-ghost use Rattle.rr_steps.specs.declared.command.Command.{Command};
-ghost use Rattle.rr_steps.specs.Step.{Step};
+ghost use Rattle.rr_commands.specs.declared.command.Command.{Command};
+ghost use Rattle.rr_commands.specs.Step.{Step};
 
-use rr_core::{Core, HandleId};
-use rr_hub::{BackpressureFn, Kind};
+use rr_commands::{Elements, Reply};
+use rr_hub::{Core, HandleId};
+use rr_protocol::{BackpressureFn, Kind};
 use rr_slots::Body;
-use rr_steps::{Elements, Reply};
 use std::alloc::{AllocError, Global};
 
 /// A handle's elements. `NoMemory` if none was found for a copy of them.
@@ -15,7 +15,7 @@ pub(crate) fn payload<T: Copy + Default, B: Body<Item = T>, H: Copy + Default, K
     alloc: Global,
     id: &HandleId,
 ) -> Reply<T, H>
-    ensures { Step K.answer T.is_default H.is_default B.family core.now (Command.Payload id.now) result core.now }
+    ensures { Step K.action T.is_default H.is_default B.family core.now (Command.Payload id.now) result core.now }
 {
     let copied = match core.kind(id) {
         Some(Kind::Client | Kind::Server) => return Reply::WrongKind,
@@ -55,7 +55,7 @@ pub(crate) fn is_connected<
     H: Copy + Default,
     K: BackpressureFn,
 >(core: &Core<B, H, B, H, K>, id: &HandleId) -> Reply<T, H>
-    ensures { Step K.answer T.is_default H.is_default B.family core.now (Command.IsConnected id.now) result core.now }
+    ensures { Step K.action T.is_default H.is_default B.family core.now (Command.IsConnected id.now) result core.now }
 {
     match core.kind(id) {
         Some(Kind::PendingResponse) => Reply::Flag(core.is_pending_connected(id)),

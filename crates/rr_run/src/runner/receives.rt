@@ -1,28 +1,28 @@
 //! Receives.
 ghost use Rattle.std.specs.Prelude.{◌≡◌, Some};
-ghost use Rattle.rr_hub.specs.declared.kind.Kind.TheVariants as kind;
-ghost use Rattle.rr_hub.specs.Queries.{kind_at};
-ghost use Rattle.rr_steps.specs.declared.command.Command.{Command};
-ghost use Rattle.rr_steps.specs.Step.{Step};
+ghost use Rattle.rr_protocol.specs.declared.kind.Kind.TheVariants as kind;
+ghost use Rattle.rr_protocol.specs.Queries.{kind_at};
+ghost use Rattle.rr_commands.specs.declared.command.Command.{Command};
+ghost use Rattle.rr_commands.specs.Step.{Step};
 
-use crate::places::Places;
-use rr_core::{Core, HandleId};
-use rr_hub::{BackpressureFn, Kind};
+use crate::hints::Hints;
+use rr_commands::Reply;
+use rr_hub::{Core, HandleId};
+use rr_protocol::{BackpressureFn, Kind};
 use rr_slots::Body;
-use rr_steps::Reply;
 
 /// Receives a request of a server, or a response of a pending response.
 pub(crate) fn receive<T: Copy + Default, B: Body<Item = T>, H: Copy + Default, K: BackpressureFn>(
     core: &mut Core<B, H, B, H, K>,
-    places: &mut Places,
+    hints: &mut Hints,
     number: u64,
 ) -> Reply<T, H>
-    ensures { Step K.answer T.is_default H.is_default B.family core.old (Command.Receive number) result core.new }
+    ensures { Step K.action T.is_default H.is_default B.family core.old (Command.Receive number) result core.new }
 {
-    let id = places.id_of(number);
+    let id = hints.id_of(number);
     match core.kind(&id) {
-        Some(Kind::Server) => receive_request(core, places, number),
-        Some(Kind::PendingResponse) => receive_response(core, places, &id),
+        Some(Kind::Server) => receive_request(core, hints, number),
+        Some(Kind::PendingResponse) => receive_response(core, hints, &id),
         Some(_) => Reply::WrongKind,
         None => Reply::Unknown,
     }
@@ -31,18 +31,18 @@ pub(crate) fn receive<T: Copy + Default, B: Body<Item = T>, H: Copy + Default, K
 /// Receives a request of a server.
 fn receive_request<T: Copy + Default, B: Body<Item = T>, H: Copy + Default, K: BackpressureFn>(
     core: &mut Core<B, H, B, H, K>,
-    places: &mut Places,
+    hints: &mut Hints,
     server: u64,
 ) -> Reply<T, H>
     requires { kind_at core.old server ≡ Some kind.Server }
-    ensures { Step K.answer T.is_default H.is_default B.family core.old (Command.Receive server) result core.new }
+    ensures { Step K.action T.is_default H.is_default B.family core.old (Command.Receive server) result core.new }
 {
     if core.numbers_left() == 0 {
         return Reply::NumbersExhausted;
     }
     match core.receive_request(server) {
         Ok(Some(id)) => {
-            places.remember(&id);
+            hints.remember(&id);
             Reply::Active(id.number(), core.request_number(&id))
         }
         Ok(None) => Reply::Nothing,
@@ -53,15 +53,15 @@ fn receive_request<T: Copy + Default, B: Body<Item = T>, H: Copy + Default, K: B
 /// Receives a response of a pending response.
 fn receive_response<T: Copy + Default, B: Body<Item = T>, H: Copy + Default, K: BackpressureFn>(
     core: &mut Core<B, H, B, H, K>,
-    places: &mut Places,
+    hints: &mut Hints,
     pending: &HandleId,
 ) -> Reply<T, H>
     requires { kind_at core.old pending.now ≡ Some kind.PendingResponse }
-    ensures { Step K.answer T.is_default H.is_default B.family core.old (Command.Receive pending.now) result core.new }
+    ensures { Step K.action T.is_default H.is_default B.family core.old (Command.Receive pending.now) result core.new }
 {
     match core.receive_response(pending) {
         Ok(Some(id)) => {
-            places.remember(&id);
+            hints.remember(&id);
             Reply::Response(id.number())
         }
         Ok(None) => Reply::Nothing,

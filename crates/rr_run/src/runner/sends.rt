@@ -1,37 +1,37 @@
 //! Sends.
 ghost use Rattle.std.specs.Prelude.{◌≡◌, ◌<◌, Some};
-ghost use Rattle.rr_hub.specs.declared.kind.Kind.TheVariants as kind;
-ghost use Rattle.rr_hub.specs.Queries.{kind_at};
-ghost use Rattle.rr_hub.specs.State.{numbers_left};
-ghost use Rattle.rr_steps.specs.declared.command.Command.{Command};
-ghost use Rattle.rr_steps.specs.Step.{Step};
+ghost use Rattle.rr_protocol.specs.declared.kind.Kind.TheVariants as kind;
+ghost use Rattle.rr_protocol.specs.Queries.{kind_at};
+ghost use Rattle.rr_protocol.specs.State.{numbers_left};
+ghost use Rattle.rr_commands.specs.declared.command.Command.{Command};
+ghost use Rattle.rr_commands.specs.Step.{Step};
 ghost use Rattle.rr_run.specs.Written.{WritesRequest, WritesResponse};
 
-use crate::places::Places;
-use rr_core::{Core, HandleId};
-use rr_hub::{BackpressureFn, Kind, LoanError, RequestSendError, SendError};
+use crate::hints::Hints;
+use rr_commands::Reply;
+use rr_hub::{Core, HandleId};
+use rr_protocol::{BackpressureFn, Kind, LoanError, RequestSendError, SendError};
 use rr_slots::Body;
-use rr_steps::Reply;
 
 /// Sends a request or a response.
 pub(crate) fn send<T: Copy + Default, B: Body<Item = T>, H: Copy + Default, K: BackpressureFn>(
     core: &mut Core<B, H, B, H, K>,
-    places: &mut Places,
+    hints: &mut Hints,
     number: u64,
 ) -> Reply<T, H>
-    ensures { Step K.answer T.is_default H.is_default B.family core.old (Command.Send number) result core.new }
+    ensures { Step K.action T.is_default H.is_default B.family core.old (Command.Send number) result core.new }
 {
-    let id = places.id_of(number);
+    let id = hints.id_of(number);
     match core.kind(&id) {
         Some(Kind::RequestMut) => match core.send_request(&id) {
             Ok(connections) => Reply::Pending(number, connections),
             Err(error) => {
-                places.forget(number);
+                hints.forget(number);
                 Reply::RequestError(error)
             }
         },
         Some(Kind::ResponseMut) => {
-            places.forget(number);
+            hints.forget(number);
             match core.send_response(&id) {
                 Ok(()) => Reply::Sent(number),
                 Err(error) => Reply::SendError(error),
@@ -45,15 +45,15 @@ pub(crate) fn send<T: Copy + Default, B: Body<Item = T>, H: Copy + Default, K: B
 /// Loans a message of one element, writes this one and sends it: a request of a client, or a response of an active request.
 pub(crate) fn send_copy<T: Copy + Default, B: Body<Item = T>, H: Copy + Default, K: BackpressureFn>(
     core: &mut Core<B, H, B, H, K>,
-    places: &mut Places,
+    hints: &mut Hints,
     number: u64,
     item: T,
 ) -> Reply<T, H>
-    ensures { Step K.answer T.is_default H.is_default B.family core.old (Command.SendCopy number item) result core.new }
+    ensures { Step K.action T.is_default H.is_default B.family core.old (Command.SendCopy number item) result core.new }
 {
-    let id = places.id_of(number);
+    let id = hints.id_of(number);
     match core.kind(&id) {
-        Some(Kind::Client) => send_request_copy(core, places, number, item),
+        Some(Kind::Client) => send_request_copy(core, hints, number, item),
         Some(Kind::ActiveRequest) => send_response_copy(core, &id, item),
         Some(_) => Reply::WrongKind,
         None => Reply::Unknown,
@@ -63,12 +63,12 @@ pub(crate) fn send_copy<T: Copy + Default, B: Body<Item = T>, H: Copy + Default,
 /// Sends a request of one element.
 fn send_request_copy<T: Copy + Default, B: Body<Item = T>, H: Copy + Default, K: BackpressureFn>(
     core: &mut Core<B, H, B, H, K>,
-    places: &mut Places,
+    hints: &mut Hints,
     client: u64,
     item: T,
 ) -> Reply<T, H>
     requires { kind_at core.old client ≡ Some kind.Client }
-    ensures { Step K.answer T.is_default H.is_default B.family core.old (Command.SendCopy client item) result core.new }
+    ensures { Step K.action T.is_default H.is_default B.family core.old (Command.SendCopy client item) result core.new }
 {
     if core.numbers_left() == 0 {
         return Reply::NumbersExhausted;
@@ -81,7 +81,7 @@ fn send_request_copy<T: Copy + Default, B: Body<Item = T>, H: Copy + Default, K:
     };
     match core.send_request(&id) {
         Ok(connections) => {
-            places.remember(&id);
+            hints.remember(&id);
             Reply::Pending(id.number(), connections)
         }
         Err(error) => Reply::RequestError(error),
@@ -95,7 +95,7 @@ fn send_response_copy<T: Copy + Default, B: Body<Item = T>, H: Copy + Default, K
     item: T,
 ) -> Reply<T, H>
     requires { kind_at core.old active.now ≡ Some kind.ActiveRequest }
-    ensures { Step K.answer T.is_default H.is_default B.family core.old (Command.SendCopy active.now item) result core.new }
+    ensures { Step K.action T.is_default H.is_default B.family core.old (Command.SendCopy active.now item) result core.new }
 {
     if core.numbers_left() == 0 {
         return Reply::NumbersExhausted;

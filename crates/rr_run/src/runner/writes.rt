@@ -1,12 +1,12 @@
 //! Writing messages before they are sent.
 ghost use Rattle.std.specs.Prelude.{◌≡◌};
-ghost use Rattle.rr_steps.specs.declared.command.Command.{Command};
-ghost use Rattle.rr_steps.specs.Step.{Step};
+ghost use Rattle.rr_commands.specs.declared.command.Command.{Command};
+ghost use Rattle.rr_commands.specs.Step.{Step};
 
-use rr_core::{Core, HandleId};
-use rr_hub::{BackpressureFn, Kind};
+use rr_commands::Reply;
+use rr_hub::{Core, HandleId};
+use rr_protocol::{BackpressureFn, Kind};
 use rr_slots::Body;
-use rr_steps::Reply;
 
 /// Appends an element to a message that is being written.
 pub(crate) fn push<T: Copy + Default, B: Body<Item = T>, H: Copy + Default, K: BackpressureFn>(
@@ -14,7 +14,7 @@ pub(crate) fn push<T: Copy + Default, B: Body<Item = T>, H: Copy + Default, K: B
     id: &HandleId,
     item: T,
 ) -> Reply<T, H>
-    ensures { Step K.answer T.is_default H.is_default B.family core.old (Command.Push id.now item) result core.new }
+    ensures { Step K.action T.is_default H.is_default B.family core.old (Command.Push id.now item) result core.new }
 {
     match core.kind(id) {
         Some(Kind::RequestMutUninit) => Reply::Flag(core.push_request(id, item)),
@@ -31,7 +31,7 @@ pub(crate) fn assume_init<
     H: Copy + Default,
     K: BackpressureFn,
 >(core: &mut Core<B, H, B, H, K>, id: &HandleId) -> Reply<T, H>
-    ensures { Step K.answer T.is_default H.is_default B.family core.old (Command.AssumeInit id.now) result core.new }
+    ensures { Step K.action T.is_default H.is_default B.family core.old (Command.AssumeInit id.now) result core.new }
 {
     let is_complete = match core.kind(id) {
         Some(Kind::RequestMutUninit) => core.request_body(id).is_complete(),

@@ -1,19 +1,19 @@
 //! What a line of a script says.
 use crate::script::words::{Words, number};
-use rr_hub::{
+use rr_commands::Command;
+use rr_protocol::{
     AllocationStrategy, BackpressureAction, BackpressureFn, BackpressureInfo, BackpressureStrategy,
     ClientSettings, Limits, ServerSettings,
 };
-use rr_steps::Command;
 
 /// The type of a script's backpressure handlers, of which no line sets one.
 #[derive(Clone, Copy, Debug, PartialEq, Eq)]
 pub(crate) struct NoHandler;
 
 impl BackpressureFn for NoHandler {
-    ghost use Rattle.rr_hub.specs.declared.settings.BackpressureAction.TheVariants.{FollowBackpressureStrategy};
+    ghost use Rattle.rr_protocol.specs.declared.settings.BackpressureAction.TheVariants.{FollowBackpressureStrategy};
 
-    ghost answer = { λ _ _ _. FollowBackpressureStrategy };
+    ghost action = { λ _ _ _. FollowBackpressureStrategy };
 
     fn act(&self, _info: &BackpressureInfo) -> BackpressureAction {
         BackpressureAction::FollowBackpressureStrategy

@@ -1,9 +1,9 @@
 //! The text of a reply.
-use rr_hub::{
+use rr_commands::Reply;
+use rr_protocol::{
     BackpressureStrategy, ClientCreateError, ConnectionFailure, HubCreateError, LoanError,
     ReceiveError, RequestHeader, RequestSendError, ResponseHeader, SendError, ServerCreateError,
 };
-use rr_steps::Reply;
 use std::io::{self, Write};
 
 /// Writes a reply and a line feed.

@@ -1,11 +1,11 @@
 //! Calls of a runner that no script reaches: kinds, lists of commands, and handlers of full queues.
-use rr_hub::{
+use rr_commands::{Command, Reply};
+use rr_protocol::{
     AllocationStrategy, BackpressureAction, BackpressureFn, BackpressureInfo, BackpressureStrategy,
     ClientSettings, Kind, Limits, ReceiveError, RequestSendError, SendError, ServerSettings,
     UniqueNodeId,
 };
 use rr_run::Runner;
-use rr_steps::{Command, Reply};
 use std::alloc::{AllocError, Global};
 use std::test::Fail;
 
@@ -17,9 +17,9 @@ struct AtPortTwo {
 
 impl BackpressureFn for AtPortTwo {
     ghost use Rattle.std.specs.Prelude.{◌==◌, if◌then◌else◌};
-    ghost use Rattle.rr_hub.specs.declared.settings.BackpressureAction.TheVariants.{DiscardDataAndFail};
+    ghost use Rattle.rr_protocol.specs.declared.settings.BackpressureAction.TheVariants.{DiscardDataAndFail};
 
-    ghost answer = { λ handler _ receiver. if receiver == 2 then handler.action else DiscardDataAndFail };
+    ghost action = { λ handler _ receiver. if receiver == 2 then handler.action else DiscardDataAndFail };
 
     fn act(&self, info: &BackpressureInfo) -> BackpressureAction {
         if info.receiver == 2 {

@@ -1,10 +1,10 @@
 //! Creating servers.
 ghost use Rattle.std.specs.Prelude.{◌≡◌, None, true, false};
-ghost use Rattle.rr_hub.specs.Limits.{hub_refusal, is_too_large, worst_case_responses};
+ghost use Rattle.rr_protocol.specs.Limits.{hub_refusal, is_too_large, worst_case_responses};
 ghost use Rattle.rr_store.specs.Ports.{connected_of};
 
 use crate::Port;
-use rr_hub::{Limits, ServerSettings};
+use rr_protocol::{Limits, ServerSettings};
 
 /// The most responses of a server that can live at one time, where the limits make a hub and a `usize` counts them.
 pub fn worst_case_responses(limits: &Limits, loans: usize) -> usize
@@ -23,10 +23,10 @@ pub fn server_port<K: Drop>(
     id: u64,
     settings: ServerSettings<K>,
     pool_size: usize,
-    lane: usize,
-    place: usize,
+    sender: usize,
+    receiver: usize,
 ) -> Port<K>
-    ensures { connected_of result ≡ record { port = record { id = id; strategy = settings.strategy; handler = settings.handler; allocation_strategy = settings.allocation_strategy; initial_max_slice_len = settings.initial_max_slice_len; pool_size = pool_size; is_held = true }; lane = lane; place = place; loans = 0 } }
+    ensures { connected_of result ≡ record { port = record { id = id; strategy = settings.strategy; handler = settings.handler; allocation_strategy = settings.allocation_strategy; initial_max_slice_len = settings.initial_max_slice_len; pool_size = pool_size; has_value = true }; sender = sender; receiver = receiver; loans = 0 } }
 {
     Port {
         id,
@@ -35,9 +35,9 @@ pub fn server_port<K: Drop>(
         allocation_strategy: settings.allocation_strategy,
         initial_max_slice_len: settings.initial_max_slice_len,
         pool_size,
-        is_held: true,
-        lane,
-        place,
+        has_value: true,
+        sender,
+        receiver,
         loans: 0,
     }
 }

@@ -1,34 +1,34 @@
 //! Loans of responses.
 ghost use Rattle.std.specs.Prelude.{◌≡◌, ◌==◌, ◌<◌, ◌+◌, ◌^◌, Some};
 ghost use Rattle.std.specs.List.{position};
-ghost use Rattle.rr_table.specs.Seats.{value_at};
-ghost use Rattle.rr_store.specs.Answering.{IsActiveOfOne, active_held, answer_note_of};
+ghost use Rattle.rr_table.specs.TableView.{value_at};
+ghost use Rattle.rr_store.specs.Answering.{IsActiveOfOne, active_entry, response_loan_details_of};
 
-use crate::{Held, RequestNote, ResponseNote, ServerPort, Stage, index_of};
+use crate::{HandleEntry, RequestDetails, ResponseDetails, ServerPort, Stage, index_of};
 use rr_table::{Place, Table};
 
 /// An active request that was looked up: its server, where that stands, how many responses it has on loan from it, and
-/// the request's lane and slot.
+/// the request's sender and slot.
 #[derive(Clone, Copy)]
 pub struct Asked {
     pub server: u64,
     pub index: usize,
     pub loans: usize,
-    pub lane: usize,
+    pub sender: usize,
     pub slot: usize,
 }
 
 impl Asked {
-    /// What is noted of a response with this number that is loaned from it, to its request.
-    pub fn response_note(
+    /// The details of a response with this number that is loaned from it, to its request.
+    pub fn response_details(
         self,
         number: u64,
         active_request: u64,
-        request: RequestNote,
-    ) -> ResponseNote
-        ensures { result ≡ answer_note_of self.server active_request request self.slot number }
+        request: RequestDetails,
+    ) -> ResponseDetails
+        ensures { result ≡ response_loan_details_of self.server active_request request self.slot number }
     {
-        ResponseNote {
+        ResponseDetails {
             number,
             server: self.server,
             active_request,
@@ -40,13 +40,13 @@ impl Asked {
     }
 
     /// Its handle with one more response on loan.
-    pub fn with_one_loan(self) -> Held
+    pub fn with_one_loan(self) -> HandleEntry
         requires { self.loans + 1 < 2 ^ 64 }
-        ensures { result ≡ active_held self.server self.lane self.slot (self.loans + 1) }
+        ensures { result ≡ active_entry self.server self.sender self.slot (self.loans + 1) }
     {
-        Held {
+        HandleEntry {
             stage: Stage::ActiveRequest(self.server, self.loans + 1),
-            lane: self.lane,
+            sender: self.sender,
             slot: self.slot,
         }
     }
@@ -54,20 +54,20 @@ impl Asked {
 
 /// The active request under a number, of which one of the servers is the server.
 pub fn asked_from<K: Drop>(
-    table: &Table<Held>,
+    table: &Table<HandleEntry>,
     servers: &Vec<ServerPort<K>>,
     number: u64,
     hint: Place,
 ) -> Asked
     requires { IsActiveOfOne table.now servers.now.items number }
-    ensures held { value_at table.now number ≡ Some (active_held result.server result.lane result.slot result.loans) }
+    ensures held { value_at table.now number ≡ Some (active_entry result.server result.sender result.slot result.loans) }
     ensures server { position (λ s. s.port.id == result.server) servers.now.items ≡ Some result.index }
 {
-    let held = match table.get(number, hint) {
-        Some(held) => held,
+    let entry = match table.get(number, hint) {
+        Some(entry) => entry,
         None => unreachable!(),
     };
-    let (server, loans) = match held.stage.active() {
+    let (server, loans) = match entry.stage.active() {
         Some(active) => active,
         None => unreachable!(),
     };
@@ -76,8 +76,8 @@ pub fn asked_from<K: Drop>(
             server,
             index,
             loans,
-            lane: held.lane,
-            slot: held.slot,
+            sender: entry.sender,
+            slot: entry.slot,
         },
         None => unreachable!(),
     }

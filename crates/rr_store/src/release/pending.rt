@@ -2,37 +2,37 @@
 ghost use Rattle.std.specs.Prelude.{◌≡◌, ◌==◌, ◌<◌, map, IsSomeAnd, slice_get, slice_set};
 ghost use Rattle.std.specs.List.{position};
 ghost use Rattle.rr_store.specs.Clearing.{channel_cleared, with_pending_ended};
-ghost use Rattle.rr_store.specs.Ports.{lane_part};
+ghost use Rattle.rr_store.specs.Ports.{sender_part};
 ghost use Rattle.rr_store.specs.Receiving.{Reaches};
 
-use crate::{ClientPort, OwnedLane, index_of_lane};
+use crate::{ClientPort, OwnedSender, index_of_sender};
 use rr_slots::Body;
 
-/// Counts one pending response less for the client that sends in a lane. Where others send to that client.
-pub fn end_pending<K: Drop>(clients: &mut Vec<ClientPort<K>>, lane: usize) -> usize
-    requires { IsSomeAnd (position (λ c. c.port.lane == lane) clients.old.items) (λ i. IsSomeAnd (slice_get clients.old.items i) (λ c. 0 < c.pendings)) }
-    ensures { IsSomeAnd (position (λ c. c.port.lane == lane) clients.old.items) (λ i. IsSomeAnd (slice_get clients.old.items i) (λ c. (result ≡ c.port.place) × (clients.new.items ≡ slice_set clients.old.items i (with_pending_ended c)))) }
+/// Counts one pending response less for the client that sends in a sender. Returns that client's index as a receiver.
+pub fn end_pending<K: Drop>(clients: &mut Vec<ClientPort<K>>, sender: usize) -> usize
+    requires { IsSomeAnd (position (λ c. c.port.sender == sender) clients.old.items) (λ i. IsSomeAnd (slice_get clients.old.items i) (λ c. 0 < c.pendings)) }
+    ensures { IsSomeAnd (position (λ c. c.port.sender == sender) clients.old.items) (λ i. IsSomeAnd (slice_get clients.old.items i) (λ c. (result ≡ c.port.receiver) × (clients.new.items ≡ slice_set clients.old.items i (with_pending_ended c)))) }
 {
-    match index_of_lane(clients.as_slice(), lane) {
+    match index_of_sender(clients.as_slice(), sender) {
         Some(index) => {
             let client = &mut clients[index];
             client.pendings -= 1;
-            client.port.place
+            client.port.receiver
         }
         None => unreachable!(),
     }
 }
 
-/// Drops what waits in the lanes for a receiver on a channel.
+/// Drops what waits in the senders for a receiver on a channel.
 pub fn clear_channel<B: Body, N: Copy, H: Drop>(
-    lanes: &mut Vec<OwnedLane<B, N, H>>,
-    place: usize,
+    senders: &mut Vec<OwnedSender<B, N, H>>,
+    receiver: usize,
     channel: usize,
 )
-    requires { Reaches (map lane_part lanes.old.items) place channel }
-    ensures { map lane_part lanes.new.items ≡ map (channel_cleared place channel) (map lane_part lanes.old.items) }
+    requires { Reaches (map sender_part senders.old.items) receiver channel }
+    ensures { map sender_part senders.new.items ≡ map (channel_cleared receiver channel) (map sender_part senders.old.items) }
 {
-    for lane in 0..lanes.len() {
-        lanes[lane].messages.clear_queue(place, channel);
+    for sender in 0..senders.len() {
+        senders[sender].messages.clear_queue(receiver, channel);
     }
 }

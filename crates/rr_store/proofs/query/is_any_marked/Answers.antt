@@ -1,7 +1,7 @@
 use Rattle.std.proofs.Common.{sym, arith}
 use Rattle.std.proofs.lemmas.Option.{slice_get_within}
-use Rattle.rr_store.proofs.Connected.{none_pass}
-use Rattle.rr_store.proofs.ReadAt.{item_at}
+use Rattle.rr_store.proofs.querying.Connected.{none_pass}
+use Rattle.rr_store.proofs.base.lists.ReadAt.{item_at}
 use Rattle.rr_store.proofs.query.is_any_marked.Goals as goal
 
 pub returns : goal.returns

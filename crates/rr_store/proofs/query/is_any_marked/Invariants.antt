@@ -5,4 +5,4 @@ use Rattle.rr_store.proofs.query.is_any_marked.Given as goal
 -- none of the servers so far has a mark
 abbrev pub invariant-loop-server : goal.invariant-loop-server
 invariant-loop-server g l = (i : ℕ) (s : ServerPort _) → i < l.server-index → slice_get l.servers i ≡ Some s
-    → slice_index_or l.marks (l.start + s.port.place) false ≡ false
+    → slice_index_or l.marks (l.start + s.port.receiver) false ≡ false

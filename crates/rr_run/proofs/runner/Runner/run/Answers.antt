@@ -6,21 +6,21 @@ use Rattle.rr_run.proofs.runner.Runner.run.Goals as goal
 pub loop-command-init : goal.loop-command-init
 loop-command-init g c =
     let all = c.into_iter-command-iterator.ensures.into_iter_gives.0 in (
-      subst (λ rest. IsRunning g.K.BackpressureFn.answer g.T.Default.is_default g.H.Default.is_default g.B.Body.family c.args.self.now
+      subst (λ rest. IsRunning g.K.BackpressureFn.action g.T.Default.is_default g.H.Default.is_default g.B.Body.family c.args.self.now
           c.args.self.now c.args.commands.items rest c.args.replies.now.items c.reserve.new.self.items) (sym all)
-          (subst (λ after. IsRunning g.K.BackpressureFn.answer g.T.Default.is_default g.H.Default.is_default g.B.Body.family c.args.self.now
+          (subst (λ after. IsRunning g.K.BackpressureFn.action g.T.Default.is_default g.H.Default.is_default g.B.Body.family c.args.self.now
           c.args.self.now c.args.commands.items c.args.commands.items c.args.replies.now.items after)
           (sym c.in_ok-reserve.ensures.items)
-          (run_starts g.K.BackpressureFn.answer g.T.Default.is_default g.H.Default.is_default g.B.Body.family c.args.self.now
+          (run_starts g.K.BackpressureFn.action g.T.Default.is_default g.H.Default.is_default g.B.Body.family c.args.self.now
           c.args.commands.items c.args.replies.now.items c.requires)),
       omega (arith, ap length all, c.len.ensures, c.in_ok-reserve.ensures.len, c.in_ok-reserve.ensures.ok),
     )
 
 pub apply-requires : goal.apply-requires
 apply-requires g c =
-    next_offered g.K.BackpressureFn.answer g.T.Default.is_default g.H.Default.is_default g.B.Body.family c.args.self.now c.loop-command.self
+    next_offered g.K.BackpressureFn.action g.T.Default.is_default g.H.Default.is_default g.B.Body.family c.args.self.now c.loop-command.self
     c.args.commands.items c.in-Some.command c.next.new.self.rest.items c.args.replies.now.items c.loop-command.replies.items
-    (subst (λ rest. IsRunning g.K.BackpressureFn.answer g.T.Default.is_default g.H.Default.is_default g.B.Body.family c.args.self.now
+    (subst (λ rest. IsRunning g.K.BackpressureFn.action g.T.Default.is_default g.H.Default.is_default g.B.Body.family c.args.self.now
     c.loop-command.self c.args.commands.items rest c.args.replies.now.items c.loop-command.replies.items) c.in-Some.ensures.steps.0
     c.loop-command.invariant.0)
 
@@ -29,12 +29,12 @@ push_reserved-requires g c = omega (arith, ap length c.in-Some.ensures.steps.0, 
 
 pub loop-command-preserved : goal.loop-command-preserved
 loop-command-preserved g c = (
-  subst (λ after. IsRunning g.K.BackpressureFn.answer g.T.Default.is_default g.H.Default.is_default g.B.Body.family c.args.self.now
+  subst (λ after. IsRunning g.K.BackpressureFn.action g.T.Default.is_default g.H.Default.is_default g.B.Body.family c.args.self.now
       c.apply.new.self c.args.commands.items c.next.new.self.rest.items c.args.replies.now.items after) (sym c.push_reserved.ensures.items)
-      (run_goes_on g.K.BackpressureFn.answer g.T.Default.is_default g.H.Default.is_default g.B.Body.family c.args.self.now
+      (run_goes_on g.K.BackpressureFn.action g.T.Default.is_default g.H.Default.is_default g.B.Body.family c.args.self.now
       c.loop-command.self c.args.commands.items c.in-Some.command c.next.new.self.rest.items c.args.replies.now.items
       c.loop-command.replies.items
-      (subst (λ rest. IsRunning g.K.BackpressureFn.answer g.T.Default.is_default g.H.Default.is_default g.B.Body.family c.args.self.now
+      (subst (λ rest. IsRunning g.K.BackpressureFn.action g.T.Default.is_default g.H.Default.is_default g.B.Body.family c.args.self.now
       c.loop-command.self c.args.commands.items rest c.args.replies.now.items c.loop-command.replies.items) c.in-Some.ensures.steps.0
       c.loop-command.invariant.0)
       c.apply.result c.apply.new.self c.apply.ensures),
@@ -49,16 +49,16 @@ loop-command-preserved g c = (
 
 pub returns-clause-runs : goal.returns-clause-runs
 returns-clause-runs g c =
-    run_ends g.K.BackpressureFn.answer g.T.Default.is_default g.H.Default.is_default g.B.Body.family c.args.self.now c.loop-command.self
+    run_ends g.K.BackpressureFn.action g.T.Default.is_default g.H.Default.is_default g.B.Body.family c.args.self.now c.loop-command.self
     c.args.commands.items c.loop-command.command-iterator.rest.items c.args.replies.now.items c.loop-command.replies.items
     c.loop-command.invariant.0
     (sym c.loop-command.command-iterator.rest.ok.0 ∙ c.in-None.ensures.steps.0)
 
 pub returns-clause-answer_rule : goal.returns-clause-answer_rule
 returns-clause-answer_rule g c =
-    goes_on g.K.BackpressureFn.answer g.T.Default.is_default g.H.Default.is_default g.B.Body.family c.args.self.now c.loop-command.self
+    goes_on g.K.BackpressureFn.action g.T.Default.is_default g.H.Default.is_default g.B.Body.family c.args.self.now c.loop-command.self
     c.args.commands.items c.args.replies.now.items c.loop-command.replies.items
-    (run_ends g.K.BackpressureFn.answer g.T.Default.is_default g.H.Default.is_default g.B.Body.family c.args.self.now c.loop-command.self
+    (run_ends g.K.BackpressureFn.action g.T.Default.is_default g.H.Default.is_default g.B.Body.family c.args.self.now c.loop-command.self
     c.args.commands.items c.loop-command.command-iterator.rest.items c.args.replies.now.items c.loop-command.replies.items
     c.loop-command.invariant.0
     (sym c.loop-command.command-iterator.rest.ok.0 ∙ c.in-None.ensures.steps.0))

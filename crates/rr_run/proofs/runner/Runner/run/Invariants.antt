@@ -6,6 +6,6 @@ use Rattle.rr_run.proofs.runner.Runner.run.Given as goal
 -- the commands so far were carried out, and there is room for the replies to the others
 abbrev pub invariant-loop-command : goal.invariant-loop-command
 invariant-loop-command g l =
-    IsRunning g.K.BackpressureFn.answer g.T.Default.is_default g.H.Default.is_default g.B.Body.family l.fn.self l.self l.fn.commands.items
+    IsRunning g.K.BackpressureFn.action g.T.Default.is_default g.H.Default.is_default g.B.Body.family l.fn.self l.self l.fn.commands.items
     l.command-iterator.rest.items l.fn.replies.items l.replies.items
     × (vec_len l.replies + length l.command-iterator.rest.items ≤ vec_capacity l.replies)

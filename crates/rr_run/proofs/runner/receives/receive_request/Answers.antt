@@ -1,11 +1,11 @@
 use Rattle.std.proofs.Common.{Ok, inl, refl, sym, ap, ◌∙◌, subst}
 use Rattle.std.specs.Prelude.{◌==◌}
 use Rattle.std.proofs.lemmas.Bool.{ne_eqb}
-use Rattle.rr_hub.specs.declared.kind.Kind.TheVariants as kind
-use Rattle.rr_hub.specs.Receives.{ReceivesRequest}
-use Rattle.rr_steps.specs.declared.command.Command.{Command}
-use Rattle.rr_steps.specs.declared.reply.Reply.{Reply}
-use Rattle.rr_steps.specs.Step.{Step}
+use Rattle.rr_protocol.specs.declared.kind.Kind.TheVariants as kind
+use Rattle.rr_protocol.specs.Receives.{ReceivesRequest}
+use Rattle.rr_commands.specs.declared.command.Command.{Command}
+use Rattle.rr_commands.specs.declared.reply.Reply.{Reply}
+use Rattle.rr_commands.specs.Step.{Step}
 use Rattle.rr_run.proofs.Steps.{step_acts, receive_due}
 use Rattle.rr_run.proofs.Received.{active_there}
 use Rattle.rr_run.proofs.runner.receives.receive_request.Goals as goal
@@ -17,9 +17,9 @@ request_number-requires g c = active_there c.args.core.now c.receive_request.new
 
 pub returns-in-Ok-Some : goal.returns-in-Ok-Some
 returns-in-Ok-Some g c =
-    subst (λ k. Step g.K.BackpressureFn.answer g.T.Default.is_default g.H.Default.is_default g.B.Body.family c.args.core.now
+    subst (λ k. Step g.K.BackpressureFn.action g.T.Default.is_default g.H.Default.is_default g.B.Body.family c.args.core.now
     (Command.Receive c.args.server) (Reply.Active k c.request_number.result) c.receive_request.new.self) (sym c.number.ensures)
-    (step_acts g.K.BackpressureFn.answer g.T.Default.is_default g.H.Default.is_default g.B.Body.family c.args.core.now
+    (step_acts g.K.BackpressureFn.action g.T.Default.is_default g.H.Default.is_default g.B.Body.family c.args.core.now
     (Command.Receive c.args.server) c.args.server kind.Server
     (Reply.Active c.in-Ok-Some.id c.request_number.result) c.receive_request.new.self refl c.requires
     (receive_due g.B.Body.family c.args.core.now c.args.server
@@ -31,7 +31,7 @@ returns-in-Ok-Some g c =
 
 pub returns-in-Ok-None : goal.returns-in-Ok-None
 returns-in-Ok-None g c =
-    step_acts g.K.BackpressureFn.answer g.T.Default.is_default g.H.Default.is_default g.B.Body.family c.args.core.now
+    step_acts g.K.BackpressureFn.action g.T.Default.is_default g.H.Default.is_default g.B.Body.family c.args.core.now
     (Command.Receive c.args.server) c.args.server kind.Server Reply.Nothing c.receive_request.new.self refl c.requires
     (receive_due g.B.Body.family c.args.core.now c.args.server
     (ap (λ n. n == 0) (sym c.numbers_left.ensures) ∙ ne_eqb c.numbers_left.result 0 c.if-numbers_left-eq0.false))

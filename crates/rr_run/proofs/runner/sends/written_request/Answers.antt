@@ -1,9 +1,9 @@
 use Rattle.std.proofs.Common.{◌≡◌, sym, ap, refl, ◌∙◌, [], ◌∷◌}
 use Rattle.std.proofs.Common.{inl}
-use Rattle.rr_hub.specs.Messages.{RequestMessage, RequestMutUninit}
-use Rattle.rr_hub.specs.Queries.{kind_at}
-use Rattle.rr_hub.specs.Writing.{with_elements}
-use Rattle.rr_steps.specs.Step.{with_content}
+use Rattle.rr_protocol.specs.Messages.{RequestMessage, RequestMutUninit}
+use Rattle.rr_protocol.specs.Queries.{kind_at}
+use Rattle.rr_protocol.specs.Writing.{with_elements}
+use Rattle.rr_commands.specs.Step.{with_content}
 use Rattle.rr_run.proofs.Copies.{IsFresh, fresh_request, fresh_kind, request_pushed, still_uninit, ready, completed, sendable}
 use Rattle.rr_run.proofs.runner.sends.written_request.Goals.{In_ok-id, After-push_request}
 use Rattle.rr_run.proofs.runner.sends.written_request.Goals as goal

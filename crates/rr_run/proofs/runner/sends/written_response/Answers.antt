@@ -1,9 +1,9 @@
 use Rattle.std.proofs.Common.{◌≡◌, sym, ap, refl, ◌∙◌, [], ◌∷◌}
 use Rattle.std.proofs.Common.{inr}
-use Rattle.rr_hub.specs.Messages.{ResponseMessage, ResponseMutUninit}
-use Rattle.rr_hub.specs.Queries.{kind_at}
-use Rattle.rr_hub.specs.Writing.{with_elements}
-use Rattle.rr_steps.specs.Step.{with_content}
+use Rattle.rr_protocol.specs.Messages.{ResponseMessage, ResponseMutUninit}
+use Rattle.rr_protocol.specs.Queries.{kind_at}
+use Rattle.rr_protocol.specs.Writing.{with_elements}
+use Rattle.rr_commands.specs.Step.{with_content}
 use Rattle.rr_run.proofs.Copies.{IsFresh, fresh_response, fresh_kind, response_pushed, still_uninit, ready, completed, sendable}
 use Rattle.rr_run.proofs.runner.sends.written_response.Goals.{In_ok-id, After-push_response}
 use Rattle.rr_run.proofs.runner.sends.written_response.Goals as goal

@@ -4,26 +4,26 @@ use Rattle.std.specs.Prelude.{◌==◌, IsSomeAnd, slice_get, slice_set}
 use Rattle.std.proofs.lemmas.Option.{slice_get_within, slice_get-get_or}
 use Rattle.rr_store.specs.declared.port.ClientPort.{ClientPort}
 use Rattle.rr_store.specs.Clearing.{with_pending_ended}
-use Rattle.rr_store.proofs.Places.{standing}
-use Rattle.rr_store.proofs.Senders.{of_found, to_found}
+use Rattle.rr_store.proofs.base.lists.Replaced.{standing}
+use Rattle.rr_store.proofs.base.senders.Ports.{of_found, to_found}
 use Rattle.rr_store.proofs.release.pending.end_pending.Goals as goal
 use Rattle.rr_store.proofs.release.pending.end_pending.Goals.{In-Some}
 
--- where the first port stands that sends from the lane
+-- where the first port stands that sends from the sender
 found : (g : _) (c : In-Some g)
-    → (position (λ (x : ClientPort _). x.port.lane == c.args.lane) c.args.clients.now.items ≡ Some c.in-Some.index)
+    → (position (λ (x : ClientPort _). x.port.sender == c.args.sender) c.args.clients.now.items ≡ Some c.in-Some.index)
     × (c.in-Some.index < length c.args.clients.now.items)
 found g c =
-    let test = λ (x : ClientPort _). x.port.lane == c.args.lane in
+    let test = λ (x : ClientPort _). x.port.sender == c.args.sender in
     let items = c.args.clients.now.items in
     let is : position test items ≡ Some c.in-Some.index =
-    ap (position test) (sym c.as_slice.ensures.value) ∙ sym c.index_of_lane.ensures ∙ c.in-Some.is in
+    ap (position test) (sym c.as_slice.ensures.value) ∙ sym c.index_of_sender.ensures ∙ c.in-Some.is in
     let it = standing test items c.in-Some.index is in
     (is, slice_get_within items c.in-Some.index it.it it.at)
 
 pub unreachable-requires : goal.unreachable-requires
 unreachable-requires g c =
-    let none = ap (position _) (sym c.as_slice.ensures.value) ∙ sym c.index_of_lane.ensures ∙ c.in-None.is in
+    let none = ap (position _) (sym c.as_slice.ensures.value) ∙ sym c.index_of_sender.ensures ∙ c.in-None.is in
     subst (λ o. IsSomeAnd o (λ i. IsSomeAnd (slice_get c.args.clients.now.items i) (λ x. 0 < x.pendings))) none c.requires
 
 pub index_mut-client-requires : goal.index_mut-client-requires
@@ -35,7 +35,7 @@ overflow_sub-client g c =
     let i = c.in-Some.index in
     let now = c.index_mut-client.result.now in
     let at = found g (goal.at.overflow_sub-client g c).In-Some in
-    let some = of_found (λ (x : ClientPort _). x.port.lane == c.args.lane) items i now at.0
+    let some = of_found (λ (x : ClientPort _). x.port.sender == c.args.sender) items i now at.0
     (slice_get-get_or items i now at.1 ∙ ap Some (sym c.index_mut-client.ensures.value)) (λ _ x. 0 < x.pendings) c.requires in
     omega (arith, some)
 
@@ -45,6 +45,6 @@ returns g c =
     let i = c.in-Some.index in
     let now = c.index_mut-client.result.now in
     let at = found g (goal.at.returns g c).In-Some in
-    to_found (λ (x : ClientPort _). x.port.lane == c.args.lane) items i now at.0
+    to_found (λ (x : ClientPort _). x.port.sender == c.args.sender) items i now at.0
     (slice_get-get_or items i now at.1 ∙ ap Some (sym c.index_mut-client.ensures.value))
-    (λ i x. (_ ≡ x.port.place) × (_ ≡ slice_set items i (with_pending_ended x))) (refl, refl)
+    (λ i x. (_ ≡ x.port.receiver) × (_ ≡ slice_set items i (with_pending_ended x))) (refl, refl)

@@ -1,12 +1,12 @@
 use Rattle.std.proofs.Common.{◌≡◌, false, not, sym, ap, ◌∙◌, arith}
 use Rattle.std.specs.Prelude.{◌&&◌}
 use Rattle.std.proofs.lemmas.Option.{slice_get_within}
-use Rattle.rr_hub.specs.Backpressure.{discards}
+use Rattle.rr_protocol.specs.Backpressure.{discards}
 use Rattle.rr_store.specs.Ports.{connected_of}
 use Rattle.rr_store.specs.Sending.{is_refused_at, is_blocked_at}
-use Rattle.rr_store.proofs.Connected.{none_pass}
-use Rattle.rr_store.proofs.ReadAt.{item_at, one_further}
-use Rattle.rr_store.proofs.Hands.{never}
+use Rattle.rr_store.proofs.querying.Connected.{none_pass}
+use Rattle.rr_store.proofs.base.lists.ReadAt.{item_at, one_further}
+use Rattle.rr_store.proofs.base.hands.Hands.{never}
 use Rattle.rr_store.proofs.send.request.is_refused.Goals as goal
 use Rattle.rr_store.proofs.send.request.is_refused.Goals.{else-is_blocked-via-then-is_blocked+else-not-discards, else-is_blocked-via-else-is_blocked}
 
@@ -16,17 +16,17 @@ is_blocked-requires g c = c.requires c.loop-server.server-index c.server-item.re
 
 pub loop-server-preserved : goal.loop-server-preserved
 loop-server-preserved g c =
-    let answer = g.K.BackpressureFn.answer in
-    let port = (connected_of c.args.sender.now).port in
+    let action = g.K.BackpressureFn.action in
+    let port = (connected_of c.args.port.now).port in
     let m = c.args.messages.now in
     let s = c.server-item.result in
-    one_further (λ s. is_refused_at answer port c.args.overflow m s ≡ false) c.args.servers.now c.loop-server.server-index
+    one_further (λ s. is_refused_at action port c.args.overflow m s ≡ false) c.args.servers.now c.loop-server.server-index
     c.loop-server.invariant s
     (item_at c.args.servers.now c.loop-server.server-index s c.loop-server-test.true c.server-item.is)
     (elim c.else-is_blocked.branch [
-      | else-is_blocked-via-then-is_blocked+else-not-discards w ↦ ap (λ b. is_blocked_at c.args.overflow m s.port.place && not b)
-          (sym w.discards.ensures ∙ w.if-not-discards.false) ∙ never (is_blocked_at c.args.overflow m s.port.place)
-      | else-is_blocked-via-else-is_blocked w ↦ ap (λ b. b && not (discards answer port s.port.id))
+      | else-is_blocked-via-then-is_blocked+else-not-discards w ↦ ap (λ b. is_blocked_at c.args.overflow m s.port.receiver && not b)
+          (sym w.discards.ensures ∙ w.if-not-discards.false) ∙ never (is_blocked_at c.args.overflow m s.port.receiver)
+      | else-is_blocked-via-else-is_blocked w ↦ ap (λ b. b && not (discards action port s.port.id))
           (sym c.is_blocked.ensures ∙ w.if-is_blocked.false)
     ])
 

@@ -8,4 +8,4 @@ use Rattle.rr_store.proofs.send.request.is_refused.Given as goal
 abbrev pub invariant-loop-server : goal.invariant-loop-server
 invariant-loop-server g l =
     (i : ℕ) (s : ServerPort _) → i < l.server-index → slice_get l.servers i ≡ Some s
-    → is_refused_at g.K.BackpressureFn.answer (connected_of l.sender).port l.overflow l.messages s ≡ false
+    → is_refused_at g.K.BackpressureFn.action (connected_of l.port).port l.overflow l.messages s ≡ false

@@ -2,7 +2,7 @@ use Rattle.std.proofs.Common.{not, sym, ap, ◌∙◌, arith}
 use Rattle.std.proofs.lemmas.List.Sums.{count_by_more_yes, count_by_more_no}
 use Rattle.rr_store.specs.declared.port.ServerPort.{ServerPort}
 use Rattle.rr_store.specs.Sending.{is_blocked_at}
-use Rattle.rr_store.proofs.ReadAt.{item_at}
+use Rattle.rr_store.proofs.base.lists.ReadAt.{item_at}
 use Rattle.rr_store.proofs.send.request.open_count.Goals as goal
 use Rattle.rr_store.proofs.send.request.open_count.Goals.{then-not-is_blocked, else-not-is_blocked}
 
@@ -16,14 +16,14 @@ loop-server-preserved g c =
     let i = c.loop-server.server-index in
     let s = c.server-item.result in
     let told = ap not (sym c.is_blocked.ensures) in
-    let same = ap (λ (s : ServerPort _). not (is_blocked_at c.args.overflow c.args.messages.now s.port.place)) (sym c.server-item.is) in
+    let same = ap (λ (s : ServerPort _). not (is_blocked_at c.args.overflow c.args.messages.now s.port.receiver)) (sym c.server-item.is) in
     elim c.if-not-is_blocked.branch [
       | then-not-is_blocked w ↦ (
         omega (
           arith,
           w.count-is,
           c.loop-server.invariant.0,
-          count_by_more_yes (λ s. not (is_blocked_at c.args.overflow c.args.messages.now s.port.place)) xs i s c.loop-server-test.true
+          count_by_more_yes (λ s. not (is_blocked_at c.args.overflow c.args.messages.now s.port.receiver)) xs i s c.loop-server-test.true
               (same ∙ told ∙ ap not w.if-not-is_blocked.true),
         ),
         omega (arith, w.count-is, c.loop-server.invariant.1),
@@ -33,7 +33,7 @@ loop-server-preserved g c =
           arith,
           w.count-is,
           c.loop-server.invariant.0,
-          count_by_more_no (λ s. not (is_blocked_at c.args.overflow c.args.messages.now s.port.place)) xs i s c.loop-server-test.true
+          count_by_more_no (λ s. not (is_blocked_at c.args.overflow c.args.messages.now s.port.receiver)) xs i s c.loop-server-test.true
               (same ∙ told ∙ ap not w.if-not-is_blocked.false),
         ),
         omega (arith, w.count-is, c.loop-server.invariant.1),

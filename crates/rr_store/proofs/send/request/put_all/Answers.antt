@@ -1,5 +1,5 @@
-use Rattle.rr_store.proofs.ReadAt.{item_at}
-use Rattle.rr_store.proofs.PutAll.{put_next}
+use Rattle.rr_store.proofs.base.lists.ReadAt.{item_at}
+use Rattle.rr_store.proofs.sending.put.All.{put_next}
 use Rattle.rr_store.proofs.send.request.put_all.Goals as goal
 
 pub put-requires-clause-receiver : goal.put-requires-clause-receiver

@@ -1,9 +1,9 @@
 use Rattle.std.proofs.Common.{◌<◌, ◌+◌, ◌*◌, length, arith}
-use Rattle.rr_store.proofs.ReadAt.{item_at}
+use Rattle.rr_store.proofs.base.lists.ReadAt.{item_at}
 use Rattle.rr_store.proofs.send.request.set_marks.Goals as goal
 
 -- the mark's index lies within the row
-near : (g : _) (c : goal.After-index_mut-arg-1 g) → c.args.slot * c.args.places + c.server-item.result.port.place
+near : (g : _) (c : goal.After-index_mut-arg-1 g) → c.args.slot * c.args.receivers + c.server-item.result.port.receiver
     < length c.loop-server.marks.items
 near g c =
     omega (

@@ -1,7 +1,7 @@
 use Rattle.std.proofs.Common.{sym, ap, ◌∙◌, subst}
-use Rattle.rr_table.proofs.Standing.{seated_distinct, seated_is, inserted_its}
+use Rattle.rr_table.proofs.Standing.{inserted_distinct, inserted_is, inserted_its}
 use Rattle.rr_table.proofs.Vectors.{index_within, within_inside, written_at}
-use Rattle.rr_table.specs.Places.{rows_of, seats_of, IsDistinct}
+use Rattle.rr_table.specs.Places.{rows_of, table_of, IsDistinct}
 use Rattle.rr_table.proofs.table.Table.insert.Goals as goal
 
 pub index_mut-requires-2 : goal.index_mut-requires-2
@@ -16,7 +16,7 @@ invariant_of-self g c =
     let r = rw (← c.self.view_is) at c.requires in
     let within = within_inside rows c.args.place r.place in
     let is = written_at c.self.inside.rows.items c.args.place c.index_mut.result.now _ within c.index_mut.ensures.value in
-    subst IsDistinct (sym is) (seated_distinct rows c.args.place _ _ within c.self.invariant (λ k s h _. r.vacant k s h)
+    subst IsDistinct (sym is) (inserted_distinct rows c.args.place _ _ within c.self.invariant (λ k s h _. r.vacant k s h)
     (inserted_its _ _ _ r.fresh))
 
 pub returns : goal.returns
@@ -25,5 +25,5 @@ returns g c =
     let r = rw (← c.self.view_is) at c.requires in
     let within = within_inside rows c.args.place r.place in
     let is = written_at c.self.inside.rows.items c.args.place c.index_mut.result.now _ within c.index_mut.ensures.value in
-    rw (← c.self.view_is) (ap seats_of is ∙ seated_is rows c.args.place _ _ within c.self.invariant (λ k s h _. r.vacant k s h)
+    rw (← c.self.view_is) (ap table_of is ∙ inserted_is rows c.args.place _ _ within c.self.invariant (λ k s h _. r.vacant k s h)
     (inserted_its _ _ _ r.fresh))

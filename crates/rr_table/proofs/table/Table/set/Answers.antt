@@ -1,10 +1,10 @@
 use Rattle.std.proofs.Common.{sym, subst}
 use Rattle.std.specs.Prelude.{◌≡◌, IfSome}
 use Rattle.std.specs.FinMap.{get}
-use Rattle.rr_table.specs.Seats.{seated}
+use Rattle.rr_table.specs.TableView.{inserted}
 use Rattle.rr_table.proofs.Standing.{nowhere, placed_within, set_distinct, set_is}
 use Rattle.rr_table.proofs.Vectors.{written_at}
-use Rattle.rr_table.specs.Places.{rows_of, seats_of, IsDistinct}
+use Rattle.rr_table.specs.Places.{rows_of, table_of, IsDistinct}
 use Rattle.rr_table.proofs.table.Table.set.Goals as goal
 
 pub invariant_of-self : goal.invariant_of-self
@@ -19,8 +19,8 @@ returns-in-Some g c =
     let rows = rows_of c.self.inside.rows in
     let is = written_at c.self.inside.rows.items c.in-Some.place c.index_mut.result.now _
     (placed_within rows _ _ c.self.invariant c.in-Some.ensures) c.index_mut.ensures.value in
-    rw (← c.self.view_is) (subst (λ l. IfSome (get (seats_of rows).seats c.args.number)
-    (λ s. seats_of l ≡ seated (seats_of rows) c.args.number s.place c.args.value)) (sym is)
+    rw (← c.self.view_is) (subst (λ l. IfSome (get (table_of rows).entries c.args.number)
+    (λ s. table_of l ≡ inserted (table_of rows) c.args.number s.place c.args.value)) (sym is)
     (set_is rows _ _ c.self.invariant c.in-Some.ensures _))
 
 pub returns-in_default : goal.returns-in_default

@@ -1,0 +1,60 @@
+//! Making a core, and the numbers that it gives.
+ghost use Rattle.std.specs.Prelude.{◌≡◌, None};
+ghost use Rattle.rr_protocol.specs.Creation.{CreatesHub};
+ghost use Rattle.rr_protocol.specs.Queries.{kind_at};
+ghost use Rattle.rr_protocol.specs.State.{numbers_left};
+
+use crate::state::Core;
+use rr_protocol::{BackpressureFn, HubCreateError, Limits, UniqueNodeId};
+use rr_slots::Body;
+use rr_table::Table;
+use std::alloc::Global;
+
+/// How many numbers a hub gives: 2^62.
+const NUMBERS: u64 = 4611686018427387904;
+
+impl<QB: Body, QH: Default + Drop, PB: Body, PH: Default + Drop, K: BackpressureFn> Core<
+    QB,
+    QH,
+    PB,
+    PH,
+    K,
+> {
+    /// A hub without ports. `ZeroLimit` and `LimitsTooLarge` as `Limits::refusal` tells; making it takes no memory.
+    pub fn new(alloc: Global, limits: Limits, node_id: UniqueNodeId) -> Result<Self, HubCreateError>
+        ensures { CreatesHub limits node_id.0 result }
+    {
+        match limits.refusal() {
+            Some(refusal) => Err(refusal),
+            None => Ok(Core {
+                alloc,
+                limits,
+                node_id,
+                next: 0,
+                clients: Vec::new(alloc),
+                servers: Vec::new(alloc),
+                client_senders: Vec::new(alloc),
+                server_senders: Vec::new(alloc),
+                waiting: Vec::new(alloc),
+                table: Table::new(alloc),
+                spare_request_header: QH::default(),
+                spare_response_header: PH::default(),
+            }),
+        }
+    }
+
+    /// How many numbers the hub can still give.
+    pub fn numbers_left(&self) -> u64
+        ensures { result ≡ numbers_left self.now }
+    {
+        NUMBERS - self.next
+    }
+
+    /// The number that is given next, if one is left. It names nothing yet.
+    pub fn next_number(&self) -> u64
+        ensures number { result ≡ self.now.next }
+        ensures free { kind_at self.now result ≡ None }
+    {
+        self.next
+    }
+}

@@ -1,0 +1,126 @@
+//! What a core tells of its ports and handles. No query changes it.
+ghost use Rattle.std.specs.Prelude.{◌≡◌, false, nat_lt, length, Some, IsSome, IsSomeAnd, option_and_then};
+ghost use Rattle.rr_protocol.specs.Counts.{is_alive};
+ghost use Rattle.rr_protocol.specs.Messages.{request_in, response_in};
+ghost use Rattle.rr_protocol.specs.Queries.{kind_at};
+ghost use Rattle.rr_protocol.specs.State.{handle_at, pending_at, active_at};
+
+use crate::handle_id::HandleId;
+use crate::state::Core;
+use rr_protocol::{BackpressureFn, Kind};
+use rr_slots::Body;
+use rr_store::query::{is_any_marked, is_client_value, is_server_value};
+use rr_table::Place;
+
+impl<QB: Body, QH: Default + Drop, PB: Body, PH: Default + Drop, K: BackpressureFn> Core<
+    QB,
+    QH,
+    PB,
+    PH,
+    K,
+> {
+    /// What a number names: a client or a server whose value lives, or a handle. `None` if it names nothing.
+    ///
+    /// It walks over the ports, and finds a handle at its hint. Our own.
+    pub fn kind(&self, id: &HandleId) -> Option<Kind>
+        ensures { result ≡ kind_at self.now id.now }
+    {
+        if is_client_value(self.clients.as_slice(), id.number) {
+            return Some(Kind::Client);
+        }
+        if is_server_value(self.servers.as_slice(), id.number) {
+            return Some(Kind::Server);
+        }
+        match self.table.get(id.number, id.hint) {
+            Some(entry) => Some(entry.stage.kind()),
+            None => None,
+        }
+    }
+
+    /// The body of a handle's request, as far as it was written.
+    ///
+    /// After iceoryx2's `payload` of `RequestMut`, `PendingResponse` and `ActiveRequest`.
+    pub fn request_body(&self, id: &HandleId) -> &QB
+        requires { IsSome (option_and_then request_in (handle_at self.now id.now)) }
+        ensures asked { IsSomeAnd (option_and_then request_in (handle_at self.now id.now)) (λ m. QB.asked_len result.now ≡ m.content.asked_len) }
+        ensures elements { IsSomeAnd (option_and_then request_in (handle_at self.now id.now)) (λ m. QB.elements result.now ≡ m.content.elements) }
+    {
+        match self.table.get(id.number, id.hint) {
+            Some(entry) => self.client_senders[entry.sender].messages.body(entry.slot),
+            None => unreachable!(),
+        }
+    }
+
+    /// The body of a handle's response, as far as it was written.
+    ///
+    /// After iceoryx2's `payload` of `ResponseMut` and `Response`.
+    pub fn response_body(&self, id: &HandleId) -> &PB
+        requires { IsSome (option_and_then response_in (handle_at self.now id.now)) }
+        ensures asked { IsSomeAnd (option_and_then response_in (handle_at self.now id.now)) (λ m. PB.asked_len result.now ≡ m.content.asked_len) }
+        ensures elements { IsSomeAnd (option_and_then response_in (handle_at self.now id.now)) (λ m. PB.elements result.now ≡ m.content.elements) }
+    {
+        match self.table.get(id.number, id.hint) {
+            Some(entry) => self.server_senders[entry.sender].messages.body(entry.slot),
+            None => unreachable!(),
+        }
+    }
+
+    /// Whether a connected server may still answer a pending response's request.
+    ///
+    /// It looks once at each connected server. After iceoryx2's `PendingResponse::is_connected`.
+    pub fn is_pending_connected(&self, id: &HandleId) -> bool
+        requires { kind_at self.now id.now ≡ Some Kind.PendingResponse }
+        ensures { IsSomeAnd (pending_at self.now id.now) (λ pending. result ≡ nat_lt 0 (length pending.servers)) }
+    {
+        match self.table.get(id.number, id.hint) {
+            Some(entry) => is_any_marked(
+                self.servers.as_slice(),
+                self.waiting[entry.sender].as_slice(),
+                entry.slot * self.limits.max_servers,
+            ),
+            None => unreachable!(),
+        }
+    }
+
+    /// Whether the pending response of an active request's request lives.
+    ///
+    /// It looks at the one place where that handle can stand. After iceoryx2's `ActiveRequest::is_connected`.
+    pub fn is_active_connected(&self, id: &HandleId) -> bool
+        requires { kind_at self.now id.now ≡ Some Kind.ActiveRequest }
+        ensures { IsSomeAnd (active_at self.now id.now) (λ active. result ≡ is_alive self.now active.message.number) }
+    {
+        match self.table.get(id.number, id.hint) {
+            Some(entry) => {
+                let row = self.client_senders[entry.sender].row;
+                let details = self.client_senders[entry.sender]
+                    .messages
+                    .details(entry.slot);
+                let own = Place {
+                    row,
+                    index: entry.slot,
+                };
+                match self.table.get_at(details.number, own) {
+                    Some(request) => request.stage.is_pending(),
+                    None => false,
+                }
+            }
+            None => unreachable!(),
+        }
+    }
+
+    /// The number of the request that a server received as an active request.
+    ///
+    /// Our own: iceoryx2 has no numbers of requests.
+    pub fn request_number(&self, id: &HandleId) -> u64
+        requires { IsSome (active_at self.now id.now) }
+        ensures { IsSomeAnd (active_at self.now id.now) (λ active. result ≡ active.message.number) }
+    {
+        match self.table.get(id.number, id.hint) {
+            Some(entry) => self.client_senders[entry.sender]
+                .messages
+                .details(entry.slot)
+                .number,
+            None => unreachable!(),
+        }
+    }
+}

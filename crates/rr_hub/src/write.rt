@@ -1,0 +1,71 @@
+//! Writing what a loaned message says, before it is sent.
+ghost use Rattle.std.specs.Prelude.{◌≡◌, ◌⊎◌, not, true, Some, IsSomeAnd, if◌then◌else◌, option_and_then};
+ghost use Rattle.rr_protocol.specs.Messages.{request_in, response_in};
+ghost use Rattle.rr_protocol.specs.Queries.{kind_at};
+ghost use Rattle.rr_protocol.specs.State.{handle_at, with_changed};
+ghost use Rattle.rr_protocol.specs.Writing.{is_complete, with_element, with_request_content, with_response_content, after_init};
+ghost use Rattle.rr_store.specs.Writing.{is_ready};
+
+use crate::handle_id::HandleId;
+use crate::state::Core;
+use rr_protocol::{BackpressureFn, Kind};
+use rr_slots::Body;
+use rr_store::HandleEntry;
+use rr_store::write::push_in;
+
+impl<QB: Body, QH: Default + Drop, PB: Body, PH: Default + Drop, K: BackpressureFn> Core<
+    QB,
+    QH,
+    PB,
+    PH,
+    K,
+> {
+    /// Appends an element to a request that is being written, and tells whether it had room: `false` where the body is
+    /// complete, and then nothing changes.
+    ///
+    /// Our own: it stands for writes through the `MaybeUninit` that iceoryx2's `RequestMutUninit::payload_mut` lends.
+    pub fn push_request(&mut self, id: &HandleId, item: QB::Item) -> bool
+        requires { kind_at self.old id.now ≡ Some Kind.RequestMutUninit }
+        ensures { IsSomeAnd (option_and_then request_in (handle_at self.old id.now)) (λ m. (result ≡ not (is_complete m.content)) × (self.new ≡ (if result then with_changed self.old id.now (with_request_content (with_element item)) else self.old))) }
+    {
+        match self.table.get(id.number, id.hint) {
+            Some(entry) => push_in(&mut self.client_senders, entry.sender, entry.slot, item),
+            None => unreachable!(),
+        }
+    }
+
+    /// Appends an element to a response that is being written, and tells whether it had room: `false` where the body is
+    /// complete, and then nothing changes.
+    ///
+    /// Our own: it stands for writes through the `MaybeUninit` that iceoryx2's `ResponseMutUninit::payload_mut` lends.
+    pub fn push_response(&mut self, id: &HandleId, item: PB::Item) -> bool
+        requires { kind_at self.old id.now ≡ Some Kind.ResponseMutUninit }
+        ensures { IsSomeAnd (option_and_then response_in (handle_at self.old id.now)) (λ m. (result ≡ not (is_complete m.content)) × (self.new ≡ (if result then with_changed self.old id.now (with_response_content (with_element item)) else self.old))) }
+    {
+        match self.table.get(id.number, id.hint) {
+            Some(entry) => push_in(&mut self.server_senders, entry.sender, entry.slot, item),
+            None => unreachable!(),
+        }
+    }
+
+    /// Makes a message that is being written, and complete, one that can be sent.
+    ///
+    /// After iceoryx2's `RequestMutUninit::assume_init` and `ResponseMutUninit::assume_init`.
+    pub fn assume_init(&mut self, id: &HandleId)
+        requires uninit { (kind_at self.old id.now ≡ Some Kind.RequestMutUninit) ⊎ (kind_at self.old id.now ≡ Some Kind.ResponseMutUninit) }
+        requires complete { IsSomeAnd (handle_at self.old id.now) (λ handle. is_ready handle ≡ true) }
+        ensures { self.new ≡ with_changed self.old id.now after_init }
+    {
+        match self.table.get(id.number, id.hint) {
+            Some(entry) => {
+                let ready = HandleEntry {
+                    stage: entry.stage.initialised(),
+                    sender: entry.sender,
+                    slot: entry.slot,
+                };
+                self.table.set(id.number, id.hint, ready);
+            }
+            None => unreachable!(),
+        }
+    }
+}

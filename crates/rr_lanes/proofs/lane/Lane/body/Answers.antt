@@ -1,5 +1,0 @@
-use Rattle.rr_lanes.proofs.HeadLaws.{has_body}
-use Rattle.rr_lanes.proofs.lane.Lane.body.Goals as goal
-
-pub body-requires : goal.body-requires
-body-requires g c = has_body _ _ _ c.self.invariant _ (rw (← c.self.view_is) at c.requires)

@@ -1,5 +1,0 @@
-use Rattle.rr_lanes.proofs.LinkLaws.{all_within}
-use Rattle.rr_lanes.proofs.links.Links.is_full.Goals as goal
-
-pub returns-clause-within : goal.returns-clause-within
-returns-clause-within c = rw (← c.self.view_is) (all_within _ _ c.self.invariant)

@@ -1,4 +1,0 @@
-pub mod Lanes
-pub mod Links
-pub mod Parts
-pub mod LaneLends

@@ -1,7 +1,0 @@
-//! What a port sends from: the slots of its messages, and the queues of what it sent to each receiver.
-#![tactic(auto)]
-
-mod lane;
-mod links;
-
-pub use lane::{Lane, LaneSize};

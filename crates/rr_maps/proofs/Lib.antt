@@ -1,0 +1,5 @@
+pub mod ListFacts
+pub mod MapFacts
+pub mod MapLaws
+pub mod Counting
+pub mod Members

@@ -1,0 +1,16 @@
+pub mod Lists
+pub mod Keys
+pub mod Limits
+pub mod Messages
+pub mod Writing
+pub mod Ports
+pub mod State
+pub mod Counts
+pub mod Queries
+pub mod Backpressure
+pub mod Loans
+pub mod Releases
+pub mod Sends
+pub mod Receives
+pub mod Creation
+pub mod Codes

@@ -1,0 +1,100 @@
+//! How much of everything a hub may hold, and the pools that this calls for.
+ghost use Rattle.std.specs.Prelude.{◌≡◌, ◌<◌, ◌≤◌, ◌^◌, IfSome, IfNone};
+
+use crate::error::HubCreateError;
+
+/// What a hub may hold. The first six are at least 1.
+///
+/// The fields have the names of iceoryx2's service settings; the three pool sizes that follow from them are our own.
+#[derive(Clone, Copy, Debug, PartialEq, Eq)]
+pub struct Limits {
+    /// Connected clients.
+    pub max_clients: usize,
+    /// Connected servers.
+    pub max_servers: usize,
+    /// Requests that a client may have on loan at one time.
+    pub max_loaned_requests: usize,
+    /// Living pending responses of a client. Also the entries of a request queue, and the active requests that a server may
+    /// hold from one.
+    pub max_active_requests_per_client: usize,
+    /// Entries of a response queue. There is one for each server, client and channel.
+    pub max_response_buffer_size: usize,
+    /// Responses that may be held from one response queue.
+    pub max_borrowed_responses_per_pending_response: usize,
+    /// Whether a full request queue drops its oldest entry for a new one.
+    pub enable_safe_overflow_for_requests: bool,
+    /// Whether a full response queue drops its oldest entry for a new one.
+    pub enable_safe_overflow_for_responses: bool,
+    /// Whether a server is handed requests whose pending response was released.
+    pub enable_fire_and_forget_requests: bool,
+    /// Servers that left whose responses a client keeps.
+    pub client_expired_connection_buffer: usize,
+    /// Clients that left whose requests a server keeps, with fire-and-forget.
+    pub server_expired_connection_buffer: usize,
+}
+
+impl Limits {
+    ghost use Rattle.rr_protocol.specs.Limits.{has_zero_limit, worst_case_requests, worst_case_responses, hub_refusal};
+
+    /// Whether a limit is below its least value.
+    pub fn has_zero_limit(&self) -> bool
+        ensures { result ≡ has_zero_limit self.now }
+    {
+        self.max_clients == 0
+            || self.max_servers == 0
+            || self.max_loaned_requests == 0
+            || self.max_active_requests_per_client == 0
+            || self.max_response_buffer_size == 0
+            || self.max_borrowed_responses_per_pending_response == 0
+    }
+
+    /// The slots of an unreduced client: the most requests of a client that can live at one time. None if that is past
+    /// `usize::MAX`.
+    pub fn worst_case_requests(&self) -> Option<usize>
+        requires { 0 < self.now.max_active_requests_per_client }
+        ensures some { IfSome result (λ slots. slots ≡ worst_case_requests self.now) }
+        ensures none { IfNone result (2 ^ 64 ≤ worst_case_requests self.now) }
+    {
+        let pairs = self.max_servers.checked_mul(2)?;
+        let queued = pairs.checked_mul(self.max_active_requests_per_client)?;
+        let own = self
+            .max_loaned_requests
+            .checked_add(self.max_active_requests_per_client)?;
+        own.checked_add(queued)
+    }
+
+    /// The slots of an unreduced server with `loans` loaned responses for each request: the most responses of it that can
+    /// live at one time. None if that is past `usize::MAX`.
+    pub fn worst_case_responses(&self, loans: usize) -> Option<usize>
+        requires clients { 0 < self.now.max_clients }
+        requires active { 0 < self.now.max_active_requests_per_client }
+        requires borrowed { 0 < self.now.max_borrowed_responses_per_pending_response }
+        ensures some { IfSome result (λ slots. slots ≡ worst_case_responses self.now loans) }
+        ensures none { IfNone result (2 ^ 64 ≤ worst_case_responses self.now loans) }
+    {
+        let requests = self.worst_case_requests()?;
+        let borrowed = requests.checked_mul(self.max_borrowed_responses_per_pending_response)?;
+        let queued = self
+            .max_active_requests_per_client
+            .checked_mul(self.max_response_buffer_size)?;
+        let received = queued.checked_add(borrowed)?;
+        let per_request = loans.checked_mul(self.max_active_requests_per_client)?;
+        let loaned = per_request.checked_mul(self.max_clients)?;
+        let all = self.max_clients.checked_mul(received)?;
+        loaned.checked_add(all)
+    }
+
+    /// Why no hub can have these limits, whatever memory there is: `ZeroLimit` before `LimitsTooLarge`. The second looks at
+    /// the pool of a client, and at that of a server with one loan for each request. None if a hub can have them.
+    pub fn refusal(&self) -> Option<HubCreateError>
+        ensures { result ≡ hub_refusal self.now }
+    {
+        if self.has_zero_limit() {
+            return Some(HubCreateError::ZeroLimit);
+        }
+        if self.worst_case_requests().is_none() || self.worst_case_responses(1).is_none() {
+            return Some(HubCreateError::LimitsTooLarge);
+        }
+        None
+    }
+}

@@ -1,0 +1,12 @@
+use Rattle.std.proofs.Common.{arith, sym, ◌∙◌}
+use Rattle.rr_sender.proofs.StateLaws.{uses_less, put-full}
+use Rattle.rr_sender.proofs.sender.Sender.put.Goals as goal
+
+pub enter-requires-then-overflow-clause-fits : goal.enter-requires-then-overflow-clause-fits
+enter-requires-then-overflow-clause-fits g c = rw c.drop_first.ensures
+    (omega (arith, c.requires.fits, uses_less c.args.self.now _ _ c.requires.receiver c.requires.channel c.args.slot 1))
+
+pub returns-then-overflow : goal.returns-then-overflow
+returns-then-overflow g c =
+    rw (c.enter-then-overflow.ensures, c.drop_first.ensures, c.if-overflow.true)
+    (put-full c.args.self.now _ _ c.requires.receiver c.requires.channel _ (sym c.is_full.ensures.full ∙ c.if-not-is_full.false))

@@ -1,0 +1,4 @@
+pub mod Senders
+pub mod Links
+pub mod Parts
+pub mod SenderLends

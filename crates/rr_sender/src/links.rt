@@ -1,0 +1,153 @@
+//! The links from one port to its receivers: the queues, and what each receiver has not given back.
+ghost use Rattle.std.specs.Prelude.{◌≡◌, ℕ, ◌<◌, ◌≤◌, ◌↔◌, ◌++◌, ◌∷◌, [], All, IfOk, IsTrue, drop, length, replicate, slice_get, slice_index_or};
+ghost use Rattle.rr_sender.specs.Senders.{at_two, is_full};
+ghost use Rattle.rr_slots.specs.Connections.{no_entries};
+
+use rr_slots::Connection;
+use std::alloc::{AllocError, Global};
+use std::marker::Model;
+
+/// The queues to one receiver, and how many it received from each channel and has not given back.
+#[derive(Drop)]
+pub(crate) struct Link {
+    connection: Connection,
+    borrowed: Vec<usize>,
+}
+
+/// The links to each receiver, all of one capacity. All memory is taken by `new`.
+#[derive(Drop)]
+pub(crate) struct Links {
+    links: Vec<Link>,
+    capacity: usize,
+}
+
+impl Model for Links {
+    ghost use Rattle.rr_sender.specs.Links.{Sent, sent, queues_of, borrowed_of, IsLinked};
+
+    ghost Value = { Sent };
+
+    ghost view = { λ l. sent (queues_of l.links.items) (borrowed_of l.links.items) l.capacity };
+
+    ghost invariant = { λ l. IsLinked l.links.items l.capacity };
+}
+
+impl Links {
+    ghost use Rattle.rr_sender.specs.Links.{nothing_sent, with_entries, with_count};
+
+    /// Links to so many receivers, each with so many channels, on which nothing was sent. `AllocError` where there is no
+    /// memory for them all.
+    pub(crate) fn new(
+        alloc: Global,
+        receivers: usize,
+        channels: usize,
+        capacity: usize,
+    ) -> Result<Self, AllocError>
+        ensures { IfOk result (λ links. links ≡ nothing_sent receivers channels capacity) }
+    {
+        let links = empty_links(alloc, receivers, channels, capacity)?;
+        Ok(Links { links, capacity })
+    }
+
+    /// Enters a slot at the end of a queue that is not full.
+    pub(crate) fn push(&mut self, receiver: usize, channel: usize, slot: usize)
+        requires receiver { receiver < length self.old.queues }
+        requires channel { channel < length (slice_index_or self.old.queues receiver []) }
+        requires room { length (at_two [] self.old.queues receiver channel) < self.old.capacity }
+        ensures { self.new ≡ with_entries self.old receiver channel (at_two [] self.old.queues receiver channel ++ slot ∷ []) }
+    {
+        let link = &mut self.links[receiver];
+        link.connection.push(channel, slot);
+    }
+
+    /// Takes the oldest entry of a queue. `None` where it has none, and nothing changes then.
+    pub(crate) fn pop(&mut self, receiver: usize, channel: usize) -> Option<usize>
+        requires receiver { receiver < length self.old.queues }
+        requires channel { channel < length (slice_index_or self.old.queues receiver []) }
+        ensures first { result ≡ slice_get (at_two [] self.old.queues receiver channel) 0 }
+        ensures state { self.new ≡ with_entries self.old receiver channel (drop 1 (at_two [] self.old.queues receiver channel)) }
+    {
+        let link = &mut self.links[receiver];
+        link.connection.pop(channel)
+    }
+
+    /// The oldest entry of a queue, which stays. `None` where it has none.
+    pub(crate) fn first(&self, receiver: usize, channel: usize) -> Option<usize>
+        requires receiver { receiver < length self.now.queues }
+        requires channel { channel < length (slice_index_or self.now.queues receiver []) }
+        ensures { result ≡ slice_get (at_two [] self.now.queues receiver channel) 0 }
+    {
+        let link = &self.links[receiver];
+        link.connection.first(channel)
+    }
+
+    /// Whether a queue has as many entries as its capacity.
+    pub(crate) fn is_full(&self, receiver: usize, channel: usize) -> bool
+        requires receiver { receiver < length self.now.queues }
+        requires channel { channel < length (slice_index_or self.now.queues receiver []) }
+        ensures full { result ≡ is_full self.now.capacity (at_two [] self.now.queues receiver channel) }
+        ensures within { All (λ channels. All (λ queue. length queue ≤ self.now.capacity) channels) self.now.queues }
+    {
+        let link = &self.links[receiver];
+        link.connection.is_full(channel)
+    }
+
+    /// How many entries a queue has.
+    pub(crate) fn len(&self, receiver: usize, channel: usize) -> usize
+        requires receiver { receiver < length self.now.queues }
+        requires channel { channel < length (slice_index_or self.now.queues receiver []) }
+        ensures { result ≡ length (at_two [] self.now.queues receiver channel) }
+    {
+        let link = &self.links[receiver];
+        link.connection.len(channel)
+    }
+
+    /// Whether a receiver's channel has no entry, for each of its channels. It looks at none of them.
+    pub(crate) fn is_empty(&self, receiver: usize) -> bool
+        requires { receiver < length self.now.queues }
+        ensures { IsTrue result ↔ All (λ queue. queue ≡ []) (slice_index_or self.now.queues receiver []) }
+    {
+        let link = &self.links[receiver];
+        link.connection.is_empty()
+    }
+
+    /// How many a receiver has from a channel.
+    pub(crate) fn borrowed(&self, receiver: usize, channel: usize) -> usize
+        requires receiver { receiver < length self.now.queues }
+        requires channel { channel < length (slice_index_or self.now.queues receiver []) }
+        ensures { result ≡ at_two 0 self.now.borrowed receiver channel }
+    {
+        let link = &self.links[receiver];
+        link.borrowed[channel]
+    }
+
+    /// Sets that a receiver has so many from a channel.
+    pub(crate) fn set_borrowed(&mut self, receiver: usize, channel: usize, count: usize)
+        requires receiver { receiver < length self.old.queues }
+        requires channel { channel < length (slice_index_or self.old.queues receiver []) }
+        ensures { self.new ≡ with_count self.old receiver channel count }
+    {
+        let link = &mut self.links[receiver];
+        link.borrowed[channel] = count;
+    }
+}
+
+/// So many links on which nothing was sent.
+fn empty_links(
+    alloc: Global,
+    receivers: usize,
+    channels: usize,
+    capacity: usize,
+) -> Result<Vec<Link>, AllocError>
+    ensures connections { IfOk result (λ links. All (λ link. link.connection ≡ no_entries channels capacity) links.items) }
+    ensures borrowed { IfOk result (λ links. All (λ link. link.borrowed.items ≡ replicate channels 0) links.items) }
+    ensures len { IfOk result (λ links. length links.items ≡ receivers) }
+{
+    let mut links = Vec::with_capacity(alloc, receivers)?;
+    for _ in 0..receivers {
+        links.push_reserved(Link {
+            connection: Connection::new(alloc, channels, capacity)?,
+            borrowed: vec![in alloc; 0; channels]?,
+        });
+    }
+    Ok(links)
+}

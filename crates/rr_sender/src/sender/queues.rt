@@ -1,0 +1,153 @@
+//! The queues to each receiver.
+ghost use Rattle.std.specs.Prelude.{◌≡◌, ◌+◌, ◌-◌, ◌<◌, ◌≤◌, ◌^◌, ◌↔◌, ◌++◌, ◌∷◌, [], All, IfSome, IsTrue, Some, drop, length, slice_get, slice_index, slice_index_or};
+ghost use Rattle.rr_sender.specs.Senders.{borrowed_at, is_full, put, queue_at, taken, uses, with_borrowed, with_queue};
+
+use crate::sender::Sender;
+use rr_slots::Body;
+
+impl<B: Body, N: Copy, H: Drop> Sender<B, N, H> {
+    /// Enters a slot that a handle holds at the end of a queue, of which the capacity is not zero. A full queue gives up its
+    /// oldest entry with `overflow`, and stays as it is without.
+    ///
+    /// The new entry holds the slot, and an entry that is given up holds its own no more. After iceoryx2's safe overflow.
+    pub fn put(&mut self, receiver: usize, channel: usize, slot: usize, overflow: bool)
+        requires receiver { receiver < length self.old.queues }
+        requires channel { channel < length (slice_index_or self.old.queues receiver []) }
+        requires capacity { 0 < self.old.capacity }
+        requires held { 0 < slice_index self.old.held slot }
+        requires fits { uses self.old slot + 1 < 2 ^ 64 }
+        ensures { self.new ≡ with_queue self.old receiver channel (put overflow self.old.capacity (queue_at self.old receiver channel) slot) }
+    {
+        if !self.is_full(receiver, channel) {
+            self.enter(receiver, channel, slot);
+        } else if overflow {
+            self.drop_first(receiver, channel);
+            self.enter(receiver, channel, slot);
+        }
+    }
+
+    /// Enters a slot that a handle holds at the end of a queue that is not full.
+    fn enter(&mut self, receiver: usize, channel: usize, slot: usize)
+        requires receiver { receiver < length self.old.queues }
+        requires channel { channel < length (slice_index_or self.old.queues receiver []) }
+        requires room { length (queue_at self.old receiver channel) < self.old.capacity }
+        requires held { 0 < slice_index self.old.held slot }
+        requires fits { uses self.old slot + 1 < 2 ^ 64 }
+        ensures { self.new ≡ with_queue self.old receiver channel (queue_at self.old receiver channel ++ slot ∷ []) }
+    {
+        self.pool.hold(slot);
+        self.links.push(receiver, channel, slot);
+    }
+
+    /// The slot of a queue's oldest entry, which stays. `None` where it has none.
+    pub fn first(&self, receiver: usize, channel: usize) -> Option<usize>
+        requires receiver { receiver < length self.now.queues }
+        requires channel { channel < length (slice_index_or self.now.queues receiver []) }
+        ensures first { result ≡ slice_get (queue_at self.now receiver channel) 0 }
+        ensures within { IfSome result (λ slot. slot < length self.now.held) }
+    {
+        self.links.first(receiver, channel)
+    }
+
+    /// Takes the oldest entry of a queue that has one, and answers its slot.
+    ///
+    /// What held the slot as an entry holds it as a handle from now on, and the receiver has one more from this channel.
+    pub fn take(&mut self, receiver: usize, channel: usize) -> usize
+        requires receiver { receiver < length self.old.queues }
+        requires channel { channel < length (slice_index_or self.old.queues receiver []) }
+        requires entry { 0 < length (queue_at self.old receiver channel) }
+        requires fits { borrowed_at self.old receiver channel + 1 < 2 ^ 64 }
+        ensures first { slice_get (queue_at self.old receiver channel) 0 ≡ Some result }
+        ensures within { result < length self.old.held }
+        ensures state { self.new ≡ taken self.old receiver channel result (drop 1 (queue_at self.old receiver channel)) }
+    {
+        match self.links.pop(receiver, channel) {
+            Some(slot) => {
+                let count = self.links.borrowed(receiver, channel);
+                self.links.set_borrowed(receiver, channel, count + 1);
+                slot
+            }
+            None => unreachable!(),
+        }
+    }
+
+    /// Drops the oldest entry of a queue, which holds its slot no more. Nothing changes where there is none.
+    pub fn drop_first(&mut self, receiver: usize, channel: usize)
+        requires receiver { receiver < length self.old.queues }
+        requires channel { channel < length (slice_index_or self.old.queues receiver []) }
+        ensures { self.new ≡ with_queue self.old receiver channel (drop 1 (queue_at self.old receiver channel)) }
+    {
+        match self.links.pop(receiver, channel) {
+            Some(slot) => self.pool.give_back(slot),
+            None => {}
+        }
+    }
+
+    /// Drops each entry of a queue, one step an entry. None of them holds its slot any more.
+    pub fn clear_queue(&mut self, receiver: usize, channel: usize)
+        requires receiver { receiver < length self.old.queues }
+        requires channel { channel < length (slice_index_or self.old.queues receiver []) }
+        ensures { self.new ≡ with_queue self.old receiver channel [] }
+    {
+        let count = self.len(receiver, channel);
+        for _ in 0..count {
+            self.drop_first(receiver, channel);
+        }
+    }
+
+    /// How many entries a queue has.
+    fn len(&self, receiver: usize, channel: usize) -> usize
+        requires receiver { receiver < length self.now.queues }
+        requires channel { channel < length (slice_index_or self.now.queues receiver []) }
+        ensures { result ≡ length (queue_at self.now receiver channel) }
+    {
+        self.links.len(receiver, channel)
+    }
+
+    /// Whether a queue has as many entries as its capacity.
+    pub fn is_full(&self, receiver: usize, channel: usize) -> bool
+        requires receiver { receiver < length self.now.queues }
+        requires channel { channel < length (slice_index_or self.now.queues receiver []) }
+        ensures full { result ≡ is_full self.now.capacity (queue_at self.now receiver channel) }
+        ensures within { All (λ channels. All (λ queue. length queue ≤ self.now.capacity) channels) self.now.queues }
+    {
+        self.links.is_full(receiver, channel)
+    }
+
+    /// Whether a queue has an entry.
+    pub fn has_entries(&self, receiver: usize, channel: usize) -> bool
+        requires receiver { receiver < length self.now.queues }
+        requires channel { channel < length (slice_index_or self.now.queues receiver []) }
+        ensures { IsTrue result ↔ (0 < length (queue_at self.now receiver channel)) }
+    {
+        self.links.len(receiver, channel) > 0
+    }
+
+    /// Whether some channel to a receiver has an entry. It looks at none of them.
+    pub fn has_any(&self, receiver: usize) -> bool
+        requires { receiver < length self.now.queues }
+        ensures { ¬ IsTrue result ↔ All (λ queue. queue ≡ []) (slice_index_or self.now.queues receiver []) }
+    {
+        !self.links.is_empty(receiver)
+    }
+
+    /// How many messages a receiver took from a channel and has not given back.
+    pub fn borrowed(&self, receiver: usize, channel: usize) -> usize
+        requires receiver { receiver < length self.now.queues }
+        requires channel { channel < length (slice_index_or self.now.queues receiver []) }
+        ensures { result ≡ borrowed_at self.now receiver channel }
+    {
+        self.links.borrowed(receiver, channel)
+    }
+
+    /// A receiver has one less from a channel. Its handle on the slot is given back by `give_back`.
+    pub fn end_borrow(&mut self, receiver: usize, channel: usize)
+        requires receiver { receiver < length self.old.queues }
+        requires channel { channel < length (slice_index_or self.old.queues receiver []) }
+        requires borrowed { 0 < borrowed_at self.old receiver channel }
+        ensures { self.new ≡ with_borrowed self.old receiver channel (borrowed_at self.old receiver channel - 1) }
+    {
+        let count = self.links.borrowed(receiver, channel);
+        self.links.set_borrowed(receiver, channel, count - 1);
+    }
+}

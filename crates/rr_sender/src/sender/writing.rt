@@ -1,0 +1,74 @@
+//! Writing what stands in a slot, and its user header.
+ghost use Rattle.std.specs.Prelude.{◌≡◌, ◌<◌, [], Some, length, slice_get};
+ghost use Rattle.std.specs.Borrow.{sem};
+ghost use Rattle.rr_slots.specs.Pools.{appended, with_elements};
+ghost use Rattle.rr_sender.specs.Senders.{content_at, with_changed_at};
+
+use crate::sender::Sender;
+use rr_slots::{Body, SliceBody};
+
+impl<B: Body, N: Copy, H: Drop> Sender<B, N, H> {
+    ghost use Rattle.rr_sender.specs.SenderLends.{lends_user_header, lends_element};
+
+    /// Lends the user header of a slot's message for writing.
+    pub fn user_header_mut(&mut self, slot: usize) -> &mut H
+        requires { slot < length self.old.held }
+        ensures* lends { sem 𝓛 (lends_user_header B.row N.row H.row B.Item.row ⟦<B as Body>⟧ self.entry slot result) }
+        ensures value { slice_get self.old.user_headers slot ≡ Some result.now }
+    {
+        let head = &mut self.heads[slot];
+        &mut head.user_header
+    }
+
+    /// Appends an element to what stands in a slot, which is not complete.
+    pub fn push(&mut self, slot: usize, item: B::Item)
+        requires { length (content_at self.old slot).elements < (content_at self.old slot).asked_len }
+        ensures { self.new ≡ with_changed_at self.old slot (appended item) }
+    {
+        self.pool.push(slot, item);
+    }
+
+    /// Drops the elements in a slot. As many are asked for as before.
+    pub fn clear(&mut self, slot: usize)
+        requires { slot < length self.old.held }
+        ensures { self.new ≡ with_changed_at self.old slot (with_elements []) }
+    {
+        self.pool.clear(slot);
+    }
+
+    /// Lends an element in a slot for writing.
+    pub fn get_mut(&mut self, slot: usize, index: usize) -> &mut B::Item
+        requires { index < length (content_at self.old slot).elements }
+        ensures* lends { sem 𝓛 (lends_element B.row N.row H.row B.Item.row ⟦<B as Body>⟧ self.entry slot index result) }
+        ensures value { slice_get (content_at self.old slot).elements index ≡ Some result.now }
+    {
+        self.pool.get_mut(slot, index)
+    }
+}
+
+impl<T: Drop, N: Copy, H: Drop> Sender<Option<T>, N, H> {
+    ghost use Rattle.rr_slots.specs.Elements.{option_elements};
+    ghost use Rattle.rr_sender.specs.SenderLends.{lends_option};
+
+    /// Lends what stands in a slot for writing, whether an element was written or not.
+    pub fn option_mut(&mut self, slot: usize) -> &mut Option<T>
+        requires { slot < length self.old.held }
+        ensures* lends { sem 𝓛 (lends_option N.row H.row T.row ⟦<Option<T> as Body>⟧ self.entry slot result) }
+        ensures value { (content_at self.old slot).elements ≡ option_elements result.now }
+    {
+        self.pool.option_mut(slot)
+    }
+}
+
+impl<T: Drop, N: Copy, H: Drop> Sender<SliceBody<T>, N, H> {
+    ghost use Rattle.rr_sender.specs.SenderLends.{lends_slice};
+
+    /// Lends the elements written so far in a slot.
+    pub fn slice_mut(&mut self, slot: usize) -> &mut [T]
+        requires { slot < length self.old.held }
+        ensures* lends { sem 𝓛 (lends_slice N.row H.row T.row ⟦<SliceBody<T> as Body>⟧ self.entry slot result) }
+        ensures value { (content_at self.old slot).elements ≡ result.now }
+    {
+        self.pool.slice_mut(slot)
+    }
+}

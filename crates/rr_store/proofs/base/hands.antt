@@ -1,0 +1,5 @@
+pub mod Stages
+pub mod Hands
+pub mod Vacant
+pub mod Recounted
+pub mod Dropping

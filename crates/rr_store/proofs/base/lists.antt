@@ -1,0 +1,9 @@
+pub mod Found
+pub mod Tallies
+pub mod Pigeons
+pub mod Adding
+pub mod Replaced
+pub mod Distinct
+pub mod SetTwo
+pub mod ReadAt
+pub mod EachOnce

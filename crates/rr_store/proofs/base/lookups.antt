@@ -1,0 +1,5 @@
+pub mod Looking
+pub mod Shown
+pub mod Numbers
+pub mod Asking
+pub mod NextNumber

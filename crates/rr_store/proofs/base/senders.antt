@@ -1,0 +1,5 @@
+pub mod Queues
+pub mod Entries
+pub mod Ports
+pub mod GivenBack
+pub mod BorrowEnded

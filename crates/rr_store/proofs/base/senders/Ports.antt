@@ -1,0 +1,91 @@
+-- The port that sends in a sender, where a call found it.
+use Rattle.std.proofs.Common.{◌≡◌, ◌<◌, ℕ, Bool, true, List, Option, None, Some, length, get_or, refl, sym, ap, ◌∙◌, subst, arith}
+use Rattle.std.specs.Prelude.{IsSomeAnd, slice_get, slice_set}
+use Rattle.std.specs.List.{position}
+use Rattle.rr_store.proofs.base.lookups.Asking.{standing_at, read_at}
+use Rattle.std.proofs.lemmas.Bool.{false≢true}
+use Rattle.std.proofs.lemmas.List.{get_or-set_same, length-set}
+use Rattle.std.proofs.lemmas.Option.{slice_get_within, slice_get-get_or, get_or_from_slice_get}
+use Rattle.rr_store.proofs.base.senders.Entries.{found_none}
+use Rattle.rr_store.proofs.base.lists.Replaced.{Standing, standing, standing_nowhere}
+
+module _ {X : Type 0} (test : X → Bool) (i : ℕ) (slice items : List X) (o : Option ℕ) (told : o ≡ position test slice)
+    (same : slice ≡ items) (is : o ≡ Some i) (x : X) (read : x ≡ get_or items i x) (R : ℕ → X → Type 0) where
+  it : Standing test items i
+  it = standing_at test i slice items o told same is
+
+  index_is : position test items ≡ Some i
+  index_is = ap (position test) (sym same) ∙ sym told ∙ is
+
+  -- what is asked of the first port that passes is true of the one that was read
+  pub of_sender : IsSomeAnd (position test items) (λ j. IsSomeAnd (slice_get items j) (R j)) → R i x
+  of_sender all =
+      let S : Option ℕ → Type 0 = λ p. IsSomeAnd p (λ j. IsSomeAnd (slice_get items j) (R j)) in
+      let T : Option X → Type 0 = λ p. IsSomeAnd p (R i) in
+      subst (R i) (sym (read_at items i it.it x it.at read)) (subst T it.at (subst S index_is all))
+
+  -- and the other way about
+  pub to_sender : R i x → IsSomeAnd (position test items) (λ j. IsSomeAnd (slice_get items j) (R j))
+  to_sender r =
+      let S : Option ℕ → Type 0 = λ p. IsSomeAnd p (λ j. IsSomeAnd (slice_get items j) (R j)) in
+      let T : Option X → Type 0 = λ p. IsSomeAnd p (R i) in
+      subst S (sym index_is) (subst T (sym it.at) (subst (R i) (read_at items i it.it x it.at read) r))
+
+module _ {X : Type 0} (test : X → Bool) (items : List X) where
+  -- a port that passes is found, or one before it
+  pub sender_found : (j : ℕ) (x : X) → slice_get items j ≡ Some x → test x ≡ true → (i : ℕ) × (position test items ≡ Some i)
+      × Standing test items i
+  sender_found j x at is = go (position test items) refl
+    where
+      go : (o : Option ℕ) → position test items ≡ o → (i : ℕ) × (position test items ≡ Some i) × Standing test items i
+      go None e = absurd (false≢true (sym (found_none test items (standing_nowhere test items e) j x at) ∙ is))
+      go (Some i) e = (i, e, standing test items i e)
+
+  module _ (i : ℕ) (x : X) (is : position test items ≡ Some i) (at : slice_get items i ≡ Some x) (R : ℕ → X → Type 0) where
+    -- what is true of the port that is found
+    pub of_found : IsSomeAnd (position test items) (λ j. IsSomeAnd (slice_get items j) (R j)) → R i x
+    of_found all =
+        let S : Option ℕ → Type 0 = λ p. IsSomeAnd p (λ j. IsSomeAnd (slice_get items j) (R j)) in
+        let T : Option X → Type 0 = λ p. IsSomeAnd p (R i) in
+        subst T at (subst S is all)
+
+    -- and what is asked of it
+    pub to_found : R i x → IsSomeAnd (position test items) (λ j. IsSomeAnd (slice_get items j) (R j))
+    to_found r =
+        let S : Option ℕ → Type 0 = λ p. IsSomeAnd p (λ j. IsSomeAnd (slice_get items j) (R j)) in
+        let T : Option X → Type 0 = λ p. IsSomeAnd p (R i) in
+        subst S (sym is) (subst T (sym at) r)
+
+-- where something is asked of the element at an index, there is one
+pub asked_within : {X : Type 0} (xs : List X) (i : ℕ) (R : X → Type 0) → IsSomeAnd (slice_get xs i) R → i < length xs
+asked_within {X} xs i R told = go (slice_get xs i) refl told
+  where
+    go : (o : Option X) → slice_get xs i ≡ o → IsSomeAnd o R → i < length xs
+    go None e t = absurd (let f : ⊥ = t in f)
+    go (Some x) e t = slice_get_within xs i x e
+
+module _ {X : Type 0} (xs : List X) (i : ℕ) (x : X) (read : x ≡ get_or xs i x) (R : X → Type 0) where
+  -- what is asked of an element is true of the one that was read
+  pub of_read : IsSomeAnd (slice_get xs i) R → R x
+  of_read told = go (slice_get xs i) refl told
+    where
+      go : (o : Option X) → slice_get xs i ≡ o → IsSomeAnd o R → R x
+      go None e t = absurd (let f : ⊥ = t in f)
+      go (Some y) e t = subst R (sym (read ∙ get_or_from_slice_get xs i y x e)) t
+
+  -- and the other way about
+  pub to_read : i < length xs → R x → IsSomeAnd (slice_get xs i) R
+  to_read there r = subst (λ o. IsSomeAnd o R) (sym (slice_get-get_or xs i x there)) (subst R read r)
+
+module _ {X : Type 0} (xs ys : List X) (i : ℕ) (x : X) (set : ys ≡ slice_set xs i x) (there : i < length xs) (R : X → Type 0) where
+  stands : slice_get ys i ≡ Some x
+  stands =
+      ap (λ zs. slice_get zs i) set ∙ slice_get-get_or (slice_set xs i x) i x (omega (arith, there, length-set xs i x))
+      ∙ ap Some (get_or-set_same xs i x x there)
+
+  -- what is asked of the element that was put in
+  pub of_set : IsSomeAnd (slice_get ys i) R → R x
+  of_set told = subst (λ o. IsSomeAnd o R) stands told
+
+  pub to_set : R x → IsSomeAnd (slice_get ys i) R
+  to_set r = subst (λ o. IsSomeAnd o R) (sym stands) r

@@ -1,0 +1,5 @@
+pub mod Keyed
+pub mod Agreeing
+pub mod Counts
+pub mod Unseen
+pub mod Uncounted

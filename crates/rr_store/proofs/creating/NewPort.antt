@@ -1,0 +1,184 @@
+-- The ports of one side and their senders, with one more port that sends from a new sender.
+use Rattle.std.proofs.Common.{◌≡◌, ◌≢◌, ◌<◌, ◌+◌, ℕ, List, [], ◌∷◌, ◌++◌, Option, None, Some, option_map, length, get_or, map, replicate, sym, ap, ◌∙◌, subst, ⊎_elim, arith, refl}
+use Rattle.std.specs.Prelude.{slice_get}
+use Rattle.std.proofs.lemmas.Bool.{cases_lt}
+use Rattle.std.proofs.lemmas.List.{length-append, length-map, length-replicate, map-append, get_or-replicate}
+use Rattle.std.proofs.lemmas.Option.{slice_get-map}
+use Rattle.rr_sender.specs.Senders.{Messages, times, all_entries}
+use Rattle.rr_sender.proofs.EntryLaws.{times-empty}
+use Rattle.rr_store.specs.Parts.{Connected, Sender}
+use Rattle.rr_store.specs.Views.{sender_of}
+use Rattle.rr_store.specs.Sound.{HasSenders, IsShaped}
+use Rattle.rr_store.specs.Creating.{IsNew}
+use Rattle.rr_store.proofs.creating.NewSenders.{sender_before, sender_last, sender_cases, new_queue}
+use Rattle.rr_store.proofs.base.lists.Adding.{given_before}
+use Rattle.rr_store.proofs.base.lists.Tallies.{last_at, snoc_cases, snoc_keeps}
+
+-- a sender from which nothing was sent has its size
+pub new_shaped : {T N H : Type 0} {slots room receivers channels capacity : ℕ} {details : N} {m : Messages T N H}
+    → IsNew slots room receivers channels capacity details m → IsShaped receivers channels capacity m
+new_shaped {T} {N} {H} {slots} {room} {receivers} {channels} {capacity} {details} {m} new = let slots_are : length m.held ≡ slots =
+    ap length new.held ∙ length-replicate slots 0 in record {
+      contents = new.contents ∙ sym slots_are;
+      details = ap length new.details ∙ length-replicate slots details ∙ sym slots_are;
+      user_headers = new.user_headers ∙ sym slots_are;
+      queues = ap length new.queues ∙ length-replicate receivers (replicate channels []);
+      borrowed = ap length new.borrowed ∙ length-replicate receivers (replicate channels 0);
+      queue_channels = λ r h. ap (λ (q : List (List (List ℕ))). length (get_or q r [])) new.queues
+          ∙ ap length (get_or-replicate receivers r (replicate channels []) [] h)
+          ∙ length-replicate channels [];
+      borrowed_channels = λ r h. ap (λ (q : List (List ℕ)). length (get_or q r [])) new.borrowed
+          ∙ ap length (get_or-replicate receivers r (replicate channels 0) [] h)
+          ∙ length-replicate channels 0;
+      capacity_is = new.capacity_is;
+      within = λ r c. omega (arith, ap length (new_queue m new r c));
+      inside = λ slot some. absurd (omega (
+        arith,
+        some,
+        ap (λ (q : List (List (List ℕ))). times slot (all_entries q)) new.queues,
+        times-empty slot receivers channels,
+      ));
+    }
+
+-- a later number may be the next one
+pub later_next : {T N H K : Type 0} {next ports : ℕ} {connected : List (Connected K)} {senders : List (Sender T N H)}
+    → HasSenders next ports connected senders
+    → HasSenders (next + 1) ports connected senders
+later_next n = record {
+  few = n.few;
+  own = n.own;
+  ported = n.ported;
+  owned_once = n.owned_once;
+  numbered = λ i h. omega (arith, n.numbered i h);
+  placed = n.placed;
+  receivers_once = n.receivers_once;
+  numbered_once = n.numbered_once;
+}
+
+module _ {T N H K C : Type 0} (connected : C → Connected K) (next ports : ℕ) (cs : List C) (senders : List (Sender T N H))
+    (n : HasSenders next ports (map connected cs) senders) (port : C) (last : Sender T N H)
+    {slots room receivers channels capacity : ℕ} {details : N} (new : IsNew slots room receivers channels capacity details last.messages)
+    (its_sender : (connected port).sender ≡ length senders) (its_id : (connected port).port.id ≡ next) (owned : last.owner ≡ next)
+    (slots_are : length last.messages.held ≡ (connected port).port.pool_size)
+    (room_is : last.messages.room ≡ (connected port).port.initial_max_slice_len) (inside : (connected port).receiver < ports)
+    (vacant : (i : ℕ) (c : C) → slice_get cs i ≡ Some c → (connected c).receiver ≢ (connected port).receiver) (few : length cs < ports)
+  where
+    -- a port of the longer list is one of the list's, or the new one
+    connected_cases : {Z : Type 0} (i : ℕ) (c : Connected K) → slice_get (map connected (cs ++ port ∷ [])) i ≡ Some c
+        → (slice_get (map connected cs) i ≡ Some c → i < length cs → Z)
+        → (i ≡ length cs → connected port ≡ c
+        → Z) → Z
+    connected_cases i c at before fresh =
+        snoc_cases (map connected cs) _ i c
+        (sym (ap (λ (cs : List (Connected K)). slice_get cs i) (map-append connected cs _)) ∙ at)
+        (λ e h. before e (omega (arith, h, length-map cs connected)))
+        (λ e is. fresh (omega (arith, e, length-map cs connected)) is)
+
+    -- no port has the receiver of the new one
+    another : (i : ℕ) (c : Connected K) → slice_get (map connected cs) i ≡ Some c → c.receiver ≡ (connected port).receiver → ⊥
+    another i c at same = go (slice_get cs i) refl (sym (slice_get-map connected cs i) ∙ at)
+      where
+        go : (o : Option C) → slice_get cs i ≡ o → option_map connected o ≡ Some c → ⊥
+        go None e f = let no : None ≡ Some c = f in cc
+        go (Some x) e f = let is : Some (connected x) ≡ Some c = f in let also : connected x ≡ c = cc in
+            vacant i x e (ap (λ (c : Connected K). c.receiver) also ∙ same)
+
+    -- each port has a sender of its own, and each sender a port
+    pub port_added : HasSenders (next + 1) ports (map connected (cs ++ port ∷ [])) (senders ++ last ∷ [])
+    port_added =
+        record {
+          few = omega (arith, few, length-map (cs ++ port ∷ []) connected, length-append cs (port ∷ []));
+          own = λ i c at. connected_cases i c at
+              (λ before h. let o = n.own i c before in
+              let e = sender_before senders last c.sender o.0 in (
+                omega (arith, o.0, length-append senders (last ∷ [])),
+                ap (λ (x : Sender T N H). x.owner) e ∙ o.1,
+                ap (λ (x : Sender T N H). length x.messages.held) e ∙ o.2,
+                ap (λ (x : Sender T N H). x.messages.room) e ∙ o.3,
+              ))
+              (λ end is.
+              let IsOwn : Connected K → Type 0 = λ c. (c.sender < length (senders ++ last ∷ []))
+              × ((sender_of c.sender (senders ++ last ∷ [])).owner ≡ c.port.id)
+              × (length (sender_of c.sender (senders ++ last ∷ [])).messages.held ≡ c.port.pool_size)
+              × ((sender_of c.sender (senders ++ last ∷ [])).messages.room ≡ c.port.initial_max_slice_len) in
+              let e = ap (λ l. sender_of l (senders ++ last ∷ [])) its_sender ∙ sender_last senders last in
+              subst IsOwn is (
+                omega (arith, its_sender, length-append senders (last ∷ [])),
+                ap (λ (x : Sender T N H). x.owner) e ∙ owned ∙ sym its_id,
+                ap (λ (x : Sender T N H). length x.messages.held) e ∙ slots_are,
+                ap (λ (x : Sender T N H). x.messages.room) e ∙ room_is,
+              ));
+          ported = λ l h. ⊎_elim
+              (λ b. let o = n.ported l b in (
+                o.0,
+                o.1,
+                ap (λ xs. slice_get xs o.0)
+                    (map-append connected cs _) ∙ snoc_keeps _ _ o.0 o.1 o.2,
+                o.3,
+              ))
+              (λ far. (
+                length cs,
+                connected port,
+                ap (λ xs. slice_get xs (length cs)) (map-append connected cs _)
+                    ∙ last_at _ _ (length cs) (length-map cs connected),
+                omega (arith, its_sender, h, far, length-append senders (last ∷ [])),
+              ))
+              (cases_lt l (length senders));
+          owned_once = λ l k h g same. sender_cases senders last new l
+              (λ before e. sender_cases senders last new k
+              (λ also f. n.owned_once l k before also (sym (ap (λ (x : Sender T N H). x.owner) e) ∙ same
+              ∙ ap (λ (x : Sender T N H). x.owner) f))
+              (λ is f gone. absurd (omega (
+                arith,
+                n.numbered l before,
+                ap (λ (x : Sender T N H). x.owner) e,
+                same,
+                owned,
+                ap (λ (x : Sender T N H). x.owner) f,
+              )))
+              (λ far f gone. absurd (omega (arith, g, far, length-append senders (last ∷ [])))))
+              (λ is e gone. sender_cases senders last new k
+              (λ also f. absurd (omega (
+                arith,
+                n.numbered k also,
+                ap (λ (x : Sender T N H). x.owner) e,
+                same,
+                owned,
+                ap (λ (x : Sender T N H). x.owner) f,
+              )))
+              (λ too f gone. is ∙ sym too)
+              (λ far f gone. absurd (omega (arith, g, far, length-append senders (last ∷ [])))))
+              (λ far e gone. absurd (omega (arith, h, far, length-append senders (last ∷ []))));
+          numbered = λ l h. sender_cases senders last new l
+              (λ before e. omega (arith, n.numbered l before, ap (λ (x : Sender T N H). x.owner) e))
+              (λ is e gone. omega (arith, owned, ap (λ (x : Sender T N H). x.owner) e))
+              (λ far e gone. absurd (omega (arith, h, far, length-append senders (last ∷ []))));
+          placed = λ i c at. connected_cases i c at (λ before h. n.placed i c before)
+              (λ end is. omega (arith, inside, ap (λ (c : Connected K). c.receiver) is));
+          receivers_once = λ i j c d at there same. connected_cases i c at
+              (λ before h. connected_cases j d there
+              (λ also g. n.receivers_once i j c d before also same)
+              (λ end is. absurd (another i c before (same ∙ sym (ap (λ (c : Connected K). c.receiver) is)))))
+              (λ end is. connected_cases j d there
+              (λ also g. absurd (another j d also (sym same ∙ sym (ap (λ (c : Connected K). c.receiver) is))))
+              (λ too also. end ∙ sym too));
+          numbered_once = λ i j c d at there same. connected_cases i c at
+              (λ before h. connected_cases j d there
+              (λ also g. n.numbered_once i j c d before also same)
+              (λ end is. absurd (omega (
+                arith,
+                given_before next ports _ senders n i c before,
+                same,
+                its_id,
+                ap (λ (c : Connected K). c.port.id) is,
+              ))))
+              (λ end is. connected_cases j d there
+              (λ also g. absurd (omega (
+                arith,
+                given_before next ports _ senders n j d also,
+                same,
+                its_id,
+                ap (λ (c : Connected K). c.port.id) is,
+              )))
+              (λ too also. end ∙ sym too));
+        }

@@ -1,0 +1,122 @@
+-- What contracts see of a core after a client was created.
+use Rattle.std.proofs.Common.{◌≡◌, ◌≢◌, ◌+◌, ◌*◌, ℕ, Bool, true, false, cond, List, [], Option, None, Some, find, filter, length, get_or, map, refl, sym, ap, ◌∙◌, arith}
+use Rattle.std.specs.Prelude.{◌==◌, slice_get}
+use Rattle.std.specs.Option.{option_map_or, option_or}
+use Rattle.std.specs.FinMap as fin_map
+use Rattle.std.proofs.lemmas.Option.{get_or_from_slice_get}
+use Rattle.std.proofs.lemmas.List.{map-append}
+use Rattle.std.proofs.Math.ListN.{get_or-append}
+use Rattle.rr_table.specs.TableView.{TableEntry}
+use Rattle.rr_maps.proofs.MapLaws.{map_values-same}
+use Rattle.rr_sender.specs.Senders.{Messages, queue_at}
+use Rattle.rr_protocol.specs.declared.settings.ClientSettings.{ClientSettings}
+use Rattle.rr_protocol.specs.Keys.{RequestKey, ResponseKey}
+use Rattle.rr_protocol.specs.Messages.{RequestMessage, ResponseMessage}
+use Rattle.rr_protocol.specs.Creation.{with_client}
+use Rattle.rr_store.specs.declared.handle_entry.HandleEntry.{HandleEntry}
+use Rattle.rr_store.specs.declared.details.RequestDetails.{RequestDetails}
+use Rattle.rr_store.specs.declared.details.ResponseDetails.{ResponseDetails}
+use Rattle.rr_store.specs.Parts.{Parts, ClientPart, ServerPart, Sender}
+use Rattle.rr_store.specs.Views.{no_sender, no_request, sender_of, client_of, handle_of, request_in_slot, response_in_slot, requests_at, responses_at, state_of}
+use Rattle.rr_store.specs.Sound.{IsSound, empty_hand}
+use Rattle.rr_store.specs.Creating.{IsNew, client_port, with_client_part}
+use Rattle.rr_store.proofs.base.lists.Found.{found_somewhere, find_last}
+use Rattle.rr_store.proofs.creating.NewSenders.{new_queue, sender_before}
+use Rattle.rr_store.proofs.base.views.Agreeing.{request_sender, same_handle, same_requests, same_responses, same_state}
+
+module _ {Q QH P PH K : Type 0} (p : Parts Q QH P PH K) (settings : ClientSettings K) (receiver : ℕ) (m : Messages Q RequestDetails QH)
+    (sound : IsSound p empty_hand) (slots room receivers channels capacity : ℕ)
+    (new : IsNew slots room receivers channels capacity no_request m)
+    (vacant : (i : ℕ) (c : ClientPart K) → slice_get p.clients i ≡ Some c → c.receiver ≢ receiver) where
+  abbrev after : Parts Q QH P PH K
+  after = with_client_part p settings receiver m
+
+  -- the handles show what they did
+  handles : (k : ℕ) (s : TableEntry HandleEntry) → fin_map.get p.table.entries k ≡ Some s → handle_of after s ≡ handle_of p s
+  handles k s at =
+      same_handle after p s.value.stage s.value.sender s.value.slot
+      (λ is.
+      let within = request_sender p empty_hand sound.counted k s at is in (
+        ap (λ (l : Sender Q RequestDetails QH). request_in_slot p.spare_request_header l.messages s.value.slot)
+            (sender_before p.client_senders _ s.value.sender within),
+        ap (λ (w : List Bool). map (λ (x : ServerPart K). x.port.id)
+            (filter (λ (x : ServerPart K). get_or w (s.value.slot * p.limits.max_servers + x.receiver) false) p.servers))
+            (get_or-append p.waiting _ [] s.value.sender (omega (arith, within, sound.sized.waiting))),
+      ))
+      (λ is. refl)
+
+  -- no request waits in the new sender
+  requests : (key : RequestKey) → requests_at after key ≡ requests_at p key
+  requests key =
+      ap (λ o. option_map_or (λ (s : ServerPart K). option_map_or
+      (λ (l : Sender Q RequestDetails QH). shown l s) o []) (find (λ s. s.port.id == key.server) p.servers)
+      []) (find_last (λ (l : Sender Q RequestDetails QH). l.owner == key.client) p.client_senders _)
+      ∙ go (find (λ s. s.port.id == key.server) p.servers) (find (λ l. l.owner == key.client) p.client_senders) (p.next == key.client)
+    where
+      shown : Sender Q RequestDetails QH → ServerPart K → List (RequestMessage Q QH)
+      shown l s = map (request_in_slot p.spare_request_header l.messages) (queue_at l.messages s.receiver 0)
+
+      go : (server : Option (ServerPart K)) (sender : Option (Sender Q RequestDetails QH)) (b : Bool)
+          → option_map_or (λ s. option_map_or
+          (λ l. map (request_in_slot p.spare_request_header l.messages) (queue_at l.messages s.receiver 0))
+          (option_or sender (cond b (Some (record { owner = p.next; row = length p.table.rows; messages = m })) None)) []) server []
+          ≡ option_map_or (λ s. option_map_or
+          (λ l. map (request_in_slot p.spare_request_header l.messages) (queue_at l.messages s.receiver 0))
+          sender []) server []
+      go None sender b = refl
+      go (Some s) (Some l) b = refl
+      go (Some s) None true = ap (map (request_in_slot p.spare_request_header m)) (new_queue m new s.receiver 0)
+      go (Some s) None false = refl
+
+  -- no response waits for the new client
+  responses : (key : ResponseKey) → responses_at after key ≡ responses_at p key
+  responses key =
+      ap (λ o. option_map_or (λ (c : ClientPart K). option_map_or (λ (l : Sender P ResponseDetails PH). shown l c)
+      (find (λ (l : Sender P ResponseDetails PH). l.owner == key.server) p.server_senders) []) o
+      []) (find_last (λ (c : ClientPart K). c.port.id == key.client) p.clients _)
+      ∙ go (find (λ c. c.port.id == key.client) p.clients) (find (λ l. l.owner == key.server) p.server_senders) (p.next == key.client) refl
+    where
+      shown : Sender P ResponseDetails PH → ClientPart K → List (ResponseMessage P PH)
+      shown l c = map (response_in_slot p.spare_response_header l.messages) (queue_at l.messages c.receiver key.channel)
+
+      last : ClientPart K
+      last = record {
+        connected = record { port = client_port p settings; sender = length p.client_senders; receiver = receiver; loans = 0 };
+        loans_made = 0;
+        pendings = 0;
+      }
+
+      go : (client : Option (ClientPart K)) (sender : Option (Sender P ResponseDetails PH)) (b : Bool)
+          → find (λ l. l.owner == key.server) p.server_senders ≡ sender
+          → option_map_or (λ c. option_map_or (λ l. map (response_in_slot p.spare_response_header l.messages)
+          (queue_at l.messages c.receiver key.channel)) sender []) (option_or client
+          (cond b (Some (record {
+            connected = record {
+              port = client_port p settings;
+              sender = length p.client_senders;
+              receiver = receiver;
+              loans = 0;
+            };
+            loans_made = 0;
+            pendings = 0;
+          })) None)) []
+          ≡ option_map_or (λ c. option_map_or (λ l. map (response_in_slot p.spare_response_header l.messages)
+          (queue_at l.messages c.receiver key.channel)) sender []) client []
+      go (Some c) sender b e = refl
+      go None sender false e = refl
+      go None None true e = refl
+      go None (Some l) true e =
+          let there = found_somewhere (λ l. l.owner == key.server) p.server_senders l e in
+          let is : sender_of there.0 p.server_senders ≡ l = get_or_from_slice_get p.server_senders there.0 l no_sender there.1 in
+          let empty : queue_at l.messages receiver key.channel ≡ [] =
+          ap (λ (x : Sender P ResponseDetails PH). queue_at x.messages receiver key.channel) (sym is)
+          ∙ (sound.vacated.of_clients there.0 receiver key.channel vacant).0 in
+          ap (map (response_in_slot p.spare_response_header l.messages)) empty
+
+  -- a client was created
+  pub client_view : state_of after ≡ with_client (state_of p) settings
+  client_view =
+      same_state (state_of after) (with_client (state_of p) settings) refl refl
+      (map-append client_of p.clients _) refl
+      (map_values-same (handle_of after) (handle_of p) p.table.entries handles)
+      (same_requests after p requests) (same_responses after p responses) refl refl

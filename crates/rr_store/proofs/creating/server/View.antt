@@ -1,0 +1,126 @@
+-- What contracts see of a core after a server was created.
+use Rattle.std.proofs.Common.{◌≡◌, ◌≢◌, ◌<◌, ℕ, Bool, true, false, cond, List, [], ◌∷◌, ◌++◌, Option, None, Some, find, filter, length, map, refl, sym, ap, ◌∙◌}
+use Rattle.std.specs.Prelude.{◌==◌, slice_get}
+use Rattle.std.specs.Option.{option_map_or, option_or}
+use Rattle.std.specs.FinMap as fin_map
+use Rattle.std.proofs.lemmas.Option.{get_or_from_slice_get}
+use Rattle.std.proofs.lemmas.List.{map-append}
+use Rattle.rr_table.specs.TableView.{TableEntry}
+use Rattle.rr_maps.proofs.MapLaws.{map_values-same}
+use Rattle.rr_sender.specs.Senders.{Messages, queue_at}
+use Rattle.rr_protocol.specs.declared.settings.ServerSettings.{ServerSettings}
+use Rattle.rr_protocol.specs.Keys.{RequestKey, ResponseKey}
+use Rattle.rr_protocol.specs.Messages.{RequestMessage, ResponseMessage}
+use Rattle.rr_protocol.specs.Creation.{with_server, loans_of}
+use Rattle.rr_store.specs.declared.handle_entry.HandleEntry.{HandleEntry}
+use Rattle.rr_store.specs.declared.details.RequestDetails.{RequestDetails}
+use Rattle.rr_store.specs.declared.details.ResponseDetails.{ResponseDetails}
+use Rattle.rr_store.specs.Parts.{Parts, ClientPart, ServerPart, Sender}
+use Rattle.rr_store.specs.Views.{no_sender, no_response, sender_of, server_of, handle_of, request_in_slot, response_in_slot, requests_at, responses_at, is_awaited, waiting_at, state_of}
+use Rattle.rr_store.specs.Sound.{IsSound, empty_hand}
+use Rattle.rr_store.specs.Creating.{IsNew, server_port, with_server_part}
+use Rattle.rr_store.proofs.base.lists.Found.{found_somewhere, find_last}
+use Rattle.rr_store.proofs.creating.NewSenders.{new_queue, sender_before}
+use Rattle.rr_store.proofs.base.views.Agreeing.{response_sender, same_handle, same_requests, same_responses, same_state}
+
+-- one more element that doesn't pass
+filter_more : {X : Type 0} (p : X → Bool) (xs : List X) (y : X) → p y ≡ false → filter p (xs ++ y ∷ []) ≡ filter p xs
+filter_more p [] y h = rw h refl
+filter_more p (x ∷ xs) y h = go (p x) (filter_more p xs y h)
+  where
+    go : (b : Bool) → filter p (xs ++ y ∷ []) ≡ filter p xs → cond b (x ∷ filter p (xs ++ y ∷ [])) (filter p (xs ++ y ∷ [])) ≡ cond b
+        (x ∷ filter p xs) (filter p xs)
+    go true e = ap (λ ys. x ∷ ys) e
+    go false e = e
+
+module _ {Q QH P PH K : Type 0} (p : Parts Q QH P PH K) (settings : ServerSettings K) (receiver : ℕ) (m : Messages P ResponseDetails PH)
+    (sound : IsSound p empty_hand) (slots room receivers channels capacity : ℕ)
+    (new : IsNew slots room receivers channels capacity no_response m)
+    (vacant : (i : ℕ) (s : ServerPart K) → slice_get p.servers i ≡ Some s → s.receiver ≢ receiver)
+    (inside : receiver < p.limits.max_servers) where
+  abbrev after : Parts Q QH P PH K
+  after = with_server_part p settings receiver m
+
+  abbrev last : ServerPart K
+  last = record {
+    connected = record { port = server_port p settings; sender = length p.server_senders; receiver = receiver; loans = 0 };
+    max_loaned_responses_per_request = loans_of settings;
+  }
+
+  -- no request awaits the new server
+  waiting : (sender slot : ℕ) → waiting_at after sender slot ≡ waiting_at p sender slot
+  waiting sender slot = ap (map (λ (s : ServerPart K). s.port.id))
+      (filter_more (λ (s : ServerPart K). is_awaited p sender slot s.receiver) p.servers last
+      (sound.vacated.awaits_none sender slot receiver vacant inside))
+
+  -- the handles show what they did
+  handles : (k : ℕ) (s : TableEntry HandleEntry) → fin_map.get p.table.entries k ≡ Some s → handle_of after s ≡ handle_of p s
+  handles k s at =
+      same_handle after p s.value.stage s.value.sender s.value.slot
+      (λ is. (refl, waiting s.value.sender s.value.slot))
+      (λ is. ap (λ (l : Sender P ResponseDetails PH). response_in_slot p.spare_response_header l.messages s.value.slot)
+      (sender_before p.server_senders _ s.value.sender (response_sender p empty_hand sound.counted k s at is)))
+
+  -- no response waits in the new sender
+  responses : (key : ResponseKey) → responses_at after key ≡ responses_at p key
+  responses key =
+      ap (λ o. option_map_or (λ (c : ClientPart K). option_map_or
+      (λ (l : Sender P ResponseDetails PH). shown l c) o []) (find (λ c. c.port.id == key.client) p.clients)
+      []) (find_last (λ (l : Sender P ResponseDetails PH). l.owner == key.server) p.server_senders _)
+      ∙ go (find (λ c. c.port.id == key.client) p.clients) (find (λ l. l.owner == key.server) p.server_senders) (p.next == key.server)
+    where
+      shown : Sender P ResponseDetails PH → ClientPart K → List (ResponseMessage P PH)
+      shown l c = map (response_in_slot p.spare_response_header l.messages) (queue_at l.messages c.receiver key.channel)
+
+      go : (client : Option (ClientPart K)) (sender : Option (Sender P ResponseDetails PH)) (b : Bool)
+          → option_map_or (λ c. option_map_or (λ l. map (response_in_slot p.spare_response_header l.messages)
+          (queue_at l.messages c.receiver key.channel)) (option_or sender
+          (cond b (Some (record { owner = p.next; row = length p.table.rows; messages = m })) None)) []) client []
+          ≡ option_map_or (λ c. option_map_or (λ l. map (response_in_slot p.spare_response_header l.messages)
+          (queue_at l.messages c.receiver key.channel)) sender []) client []
+      go None sender b = refl
+      go (Some c) (Some l) b = refl
+      go (Some c) None true = ap (map (response_in_slot p.spare_response_header m)) (new_queue m new c.receiver key.channel)
+      go (Some c) None false = refl
+
+  -- no request waits for the new server
+  requests : (key : RequestKey) → requests_at after key ≡ requests_at p key
+  requests key =
+      ap (λ o. option_map_or (λ (s : ServerPart K). option_map_or (λ (l : Sender Q RequestDetails QH). shown l s)
+      (find (λ (l : Sender Q RequestDetails QH). l.owner == key.client) p.client_senders) []) o
+      []) (find_last (λ (s : ServerPart K). s.port.id == key.server) p.servers _)
+      ∙ go (find (λ s. s.port.id == key.server) p.servers) (find (λ l. l.owner == key.client) p.client_senders) (p.next == key.server) refl
+    where
+      shown : Sender Q RequestDetails QH → ServerPart K → List (RequestMessage Q QH)
+      shown l s = map (request_in_slot p.spare_request_header l.messages) (queue_at l.messages s.receiver 0)
+
+      go : (server : Option (ServerPart K)) (sender : Option (Sender Q RequestDetails QH)) (b : Bool)
+          → find (λ l. l.owner == key.client) p.client_senders ≡ sender
+          → option_map_or (λ s. option_map_or
+          (λ l. map (request_in_slot p.spare_request_header l.messages) (queue_at l.messages s.receiver 0))
+          sender []) (option_or server (cond b (Some (record {
+            connected =
+                record { port = server_port p settings; sender = length p.server_senders; receiver = receiver; loans = 0 };
+            max_loaned_responses_per_request = loans_of settings;
+          })) None)) []
+          ≡ option_map_or (λ s. option_map_or
+          (λ l. map (request_in_slot p.spare_request_header l.messages) (queue_at l.messages s.receiver 0))
+          sender []) server []
+      go (Some s) sender b e = refl
+      go None sender false e = refl
+      go None None true e = refl
+      go None (Some l) true e =
+          let there = found_somewhere (λ l. l.owner == key.client) p.client_senders l e in
+          let is : sender_of there.0 p.client_senders ≡ l = get_or_from_slice_get p.client_senders there.0 l no_sender there.1 in
+          let empty : queue_at l.messages receiver 0 ≡ [] =
+          ap (λ (x : Sender Q RequestDetails QH). queue_at x.messages receiver 0) (sym is)
+          ∙ (sound.vacated.of_servers there.0 receiver 0 vacant).0 in
+          ap (map (request_in_slot p.spare_request_header l.messages)) empty
+
+  -- a server was created
+  pub server_view : state_of after ≡ with_server (state_of p) settings
+  server_view =
+      same_state (state_of after) (with_server (state_of p) settings) refl refl
+      refl (map-append server_of p.servers _)
+      (map_values-same (handle_of after) (handle_of p) p.table.entries handles)
+      (same_requests after p requests) (same_responses after p responses) refl refl

@@ -1,0 +1,3 @@
+pub mod LoanedSender
+pub mod request
+pub mod response

@@ -1,0 +1,4 @@
+pub mod Sound
+pub mod View
+pub mod Live
+pub mod Refusals

@@ -1,0 +1,6 @@
+pub mod Live
+pub mod Sound
+pub mod Inserted
+pub mod View
+pub mod Refusals
+pub mod Active

@@ -1,0 +1,4 @@
+pub mod NextSender
+pub mod TakenSender
+pub mod response
+pub mod request

@@ -1,0 +1,49 @@
+-- Senders are looked through one after another.
+use Rattle.std.proofs.Common.{◌≡◌, ◌<◌, ◌≤◌, ◌+◌, ℕ, Bool, true, false, List, [], ◌∷◌, length, refl, sym, ap, ◌∙◌, ⊎_elim, arith}
+use Rattle.std.proofs.lemmas.Bool.{cases_eq, cases_lt, false≢true}
+use Rattle.rr_store.specs.Parts.{Sender}
+use Rattle.rr_store.specs.Receiving.{queue_from, borrowed_from, IsLookedThrough}
+
+module _ {T N H : Type 0} (senders : List (Sender T N H)) (receiver channel most : ℕ) where
+  -- before the first
+  pub looked_at_none : IsLookedThrough senders receiver channel most 0 false
+  looked_at_none = record {
+    passed = λ l h. absurd (omega (arith, h));
+    clear = λ _ l h. absurd (omega (arith, h));
+    blocked = λ e. absurd (false≢true e);
+  }
+
+  -- one more, or one of those before
+  last_or_before : {Z : Type 0} (n l : ℕ) → l < n + 1 → (l < n → Z) → (l ≡ n → Z) → Z
+  last_or_before n l h before last = ⊎_elim (λ e. last e) (λ e. before (below l n h e)) (cases_eq l n)
+    where
+      below : (l n : ℕ) → l < n + 1 → (l ≡ n → ⊥) → l < n
+      below l n h e = ⊎_elim (λ g. g) (λ g. absurd (e (omega (arith, h, g)))) (cases_lt l n)
+
+  -- the next one has no entry
+  pub looked_at_empty : (n : ℕ) (b : Bool) → IsLookedThrough senders receiver channel most n b → queue_from senders receiver channel n ≡ []
+      → IsLookedThrough senders receiver channel most (n + 1) b
+  looked_at_empty n b so none = record {
+    passed = λ l h room. last_or_before n l h (λ g. so.passed l g room) (λ e. ap (queue_from senders receiver channel) e ∙ none);
+    clear = λ e l h. last_or_before n l h (λ g. so.clear e l g) (λ f. ap (queue_from senders receiver channel) f ∙ none);
+    blocked = λ e. let r = so.blocked e in (r.0, omega (arith, r.1), r.2, r.3);
+  }
+
+  -- the next one has no room
+  pub looked_at_blocked : (n : ℕ) (b : Bool) → IsLookedThrough senders receiver channel most n b → most ≤ borrowed_from senders receiver
+      channel n
+      → (queue_from senders receiver channel n ≡ [] → ⊥) → IsLookedThrough senders receiver channel most (n + 1) true
+  looked_at_blocked n b so full some = record {
+    passed = λ l h room. last_or_before n l h (λ g. so.passed l g room)
+        (λ e. absurd (omega (arith, full, room, ap (borrowed_from senders receiver channel) e)));
+    clear = λ e. absurd (false≢true (sym e));
+    blocked = λ _. (n, omega arith, full, some);
+  }
+
+-- a list without elements
+pub empty_of : {X : Type 0} (xs : List X) → (0 < length xs → ⊥) → xs ≡ []
+empty_of [] h = refl
+empty_of (x ∷ xs) h = absurd (h (omega arith))
+
+pub some_of : {X : Type 0} (xs : List X) → 0 < length xs → xs ≡ [] → ⊥
+some_of xs h e = omega (arith, h, ap length e)

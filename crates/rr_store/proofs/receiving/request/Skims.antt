@@ -1,0 +1,143 @@
+-- Requests that nobody waits for leave the fronts of queues.
+use Rattle.std.proofs.Common.{zero, suc, ◌≡◌, ◌<◌, ◌≤◌, ◌+◌, ℕ, false, List, [], ◌∷◌, ◌++◌, None, Some, length, refl, sym, ap, ◌∙◌, subst, ⊎_elim, arith}
+use Rattle.std.specs.Prelude.{drop, slice_get, slice_set, slice_index_or}
+use Rattle.std.proofs.lemmas.Bool.{cases_eq, cases_lt}
+use Rattle.std.proofs.lemmas.List.{get_or-set_same, get_or-set_other, set-get_or, length-set}
+use Rattle.rr_table.specs.TableView.{TableView}
+use Rattle.rr_sender.specs.Senders.{queue_at, borrowed_at}
+use Rattle.rr_sender.proofs.EntryLaws.{length-set_two}
+use Rattle.rr_store.specs.declared.handle_entry.HandleEntry.{HandleEntry}
+use Rattle.rr_store.specs.declared.details.RequestDetails.{RequestDetails}
+use Rattle.rr_store.specs.Parts.{Sender}
+use Rattle.rr_store.specs.Receiving.{borrowed_from, Reaches}
+use Rattle.rr_store.specs.Skimming.{is_waited, without_first, SkimsSender, IsFrontAlive, SkimsSenders, IsSkimmedBelow}
+use Rattle.rr_store.specs.Views.{sender_of, no_sender}
+use Rattle.rr_store.proofs.base.lists.SetTwo.{row_length}
+
+-- an element that is set twice
+set_again : {X : Type 0} (xs : List X) (i : ℕ) (x y : X) → slice_set (slice_set xs i x) i y ≡ slice_set xs i y
+set_again [] i x y = refl
+set_again (z ∷ xs) zero x y = refl
+set_again (z ∷ xs) (suc i) x y = ap (λ ys. z ∷ ys) (set_again xs i x y)
+
+-- one more, or one of those before
+last_or_before : {Z : Type 0} (n l : ℕ) → l < n + 1 → (l < n → Z) → (l ≡ n → Z) → Z
+last_or_before n l h before last = ⊎_elim last (λ e. before (below l n h e)) (cases_eq l n)
+  where
+    below : (l n : ℕ) → l < n + 1 → (l ≡ n → ⊥) → l < n
+    below l n h e = ⊎_elim (λ g. g) (λ g. absurd (e (omega (arith, h, g)))) (cases_lt l n)
+
+module _ {T H : Type 0} (table : TableView HandleEntry) (receiver : ℕ) where
+  -- what stays as requests leave the front
+  pub record IsAlike (a b : Sender T RequestDetails H) : Type 0 where
+    pub rows : length b.messages.queues ≡ length a.messages.queues
+    pub row : length (slice_index_or b.messages.queues receiver []) ≡ length (slice_index_or a.messages.queues receiver [])
+    pub borrowed : b.messages.borrowed ≡ a.messages.borrowed
+
+  pub skim_alike : (n : ℕ) (a b : Sender T RequestDetails H) → SkimsSender table receiver n a b → IsAlike a b
+  skim_alike zero a b e = subst (IsAlike a) (sym e) (record { rows = refl; row = refl; borrowed = refl })
+  skim_alike (suc n) a b (slot, f, d, more) =
+      let r = skim_alike n (without_first receiver a) b more in
+      record {
+        rows = r.rows ∙ length-set_two a.messages.queues receiver 0 _;
+        row = r.row ∙ row_length a.messages.queues receiver 0 _ [] receiver;
+        borrowed = r.borrowed;
+      }
+
+  -- one more leaves it
+  pub skim_more : (n : ℕ) (a b : Sender T RequestDetails H) → SkimsSender table receiver n a b → (slot : ℕ)
+      → slice_get (queue_at b.messages receiver 0) 0 ≡ Some slot → is_waited table b slot ≡ false
+      → SkimsSender table receiver (suc n) a (without_first receiver b)
+  skim_more zero a b e slot f d = (
+    slot,
+    ap (λ (x : Sender T RequestDetails H). slice_get (queue_at x.messages receiver 0) 0) (sym e)
+        ∙ f,
+    ap (λ (x : Sender T RequestDetails H). is_waited table x slot) (sym e) ∙ d,
+    ap (without_first receiver) e,
+  )
+  skim_more (suc n) a b (first, g, h, more) slot f d = (first, g, h, skim_more n (without_first receiver a) b more slot f d)
+
+  module _ (most : ℕ) where
+    -- what leaves the queue from one sender, as steps over all senders
+    pub to_senders : (n : ℕ) (a : List (Sender T RequestDetails H)) (l : ℕ) → l < length a → borrowed_from a receiver 0 l < most
+        → (x : Sender T RequestDetails H) → SkimsSender table receiver n (sender_of l a) x
+        → (ls : List ℕ) × SkimsSenders table receiver most ls a (slice_set a l x)
+    to_senders zero a l there few x e = ([], ap (slice_set a l) e ∙ set-get_or a l no_sender)
+    to_senders (suc n) a l there few x (slot, f, d, more) =
+        let y = without_first receiver (sender_of l a) in
+        let b = slice_set a l y in
+        let is : sender_of l b ≡ y = get_or-set_same a l y no_sender there in
+        let r = to_senders n b l (omega (arith, there, length-set a l y))
+        (omega (arith, few, ap (λ (x : Sender T RequestDetails H). borrowed_at x.messages receiver 0) is)) x
+        (subst (λ z. SkimsSender table receiver n z x) (sym is) more) in
+        (l ∷ r.0, (slot, there, few, f, d, subst (SkimsSenders table receiver most r.0 b) (set_again a l y x) r.1))
+
+    -- steps after steps
+    pub then_more : (ls ms : List ℕ) (a b c : List (Sender T RequestDetails H)) → SkimsSenders table receiver most ls a b
+        → SkimsSenders table receiver most ms b c → SkimsSenders table receiver most (ls ++ ms) a c
+    then_more [] ms a b c e more = subst (λ a. SkimsSenders table receiver most ms a c) e more
+    then_more (l ∷ ls) ms a b c (slot, there, few, f, d, first) more =
+        (slot, there, few, f, d, then_more ls ms (slice_set a l (without_first receiver (sender_of l a))) b c first more)
+
+    -- before the first sender
+    pub skimmed_none : (a : List (Sender T RequestDetails H)) → Reaches a receiver 0 → IsSkimmedBelow table receiver most 0 a a
+    skimmed_none a reach = record { senders = []; steps = refl; many = refl; reaches = reach; fronts = λ l h. absurd (omega (arith, h)) }
+
+    -- the receiver may have no more from a sender
+    pub skimmed_full : (n : ℕ) (a b : List (Sender T RequestDetails H)) → IsSkimmedBelow table receiver most n a b
+        → most ≤ borrowed_from b receiver 0 n → IsSkimmedBelow table receiver most (n + 1) a b
+    skimmed_full n a b so full = record {
+      senders = so.senders;
+      steps = so.steps;
+      many = so.many;
+      reaches = so.reaches;
+      fronts = λ l h few. last_or_before n l h (λ g. so.fronts l g few)
+          (λ e. absurd (omega (arith, full, few, ap (borrowed_from b receiver 0) e)));
+    }
+
+    -- or the sender was skimmed
+    pub skimmed_sender : (n : ℕ) (a b : List (Sender T RequestDetails H)) → IsSkimmedBelow table receiver most n a b → n < length b
+        → borrowed_from b receiver 0 n < most
+        → (x : Sender T RequestDetails H) (k : ℕ) → SkimsSender table receiver k (sender_of n b) x → IsFrontAlive table receiver x
+        → IsSkimmedBelow table receiver most (n + 1) a (slice_set b n x)
+    skimmed_sender n a b so there few x k steps front =
+        let more = to_senders k b n there few x steps in
+        let alike = skim_alike k (sender_of n b) x steps in
+        let here : sender_of n (slice_set b n x) ≡ x = get_or-set_same b n x no_sender there in
+        record {
+          senders = so.senders ++ more.0;
+          steps = then_more so.senders more.0 a b (slice_set b n x) so.steps more.1;
+          many = length-set b n x ∙ so.many;
+          reaches = λ l h. ⊎_elim
+              (λ e. let is : sender_of l (slice_set b n x) ≡ x = ap (λ l. sender_of l (slice_set b n x)) e ∙ here in
+              let was = so.reaches n there in (
+                omega (arith, was.0, alike.rows, ap (λ (y : Sender T RequestDetails H). length y.messages.queues) is),
+                omega (
+                  arith,
+                  was.1,
+                  alike.row,
+                  ap (λ (y : Sender T RequestDetails H). length (slice_index_or y.messages.queues receiver [])) is,
+                ),
+              ))
+              (λ e. let is : sender_of l (slice_set b n x) ≡ sender_of l b = get_or-set_other b n l x no_sender e in
+              let was = so.reaches l (omega (arith, h, length-set b n x)) in (
+                omega (arith, was.0, ap (λ (y : Sender T RequestDetails H). length y.messages.queues) is),
+                omega (arith, was.1, ap (λ (y : Sender T RequestDetails H). length (slice_index_or y.messages.queues receiver [])) is),
+              ))
+              (cases_eq l n);
+          fronts = λ l h room. ⊎_elim
+              (λ e. subst (IsFrontAlive table receiver) (sym (ap (λ l. sender_of l (slice_set b n x)) e ∙ here)) front)
+              (λ e. let is : sender_of l (slice_set b n x) ≡ sender_of l b = get_or-set_other b n l x no_sender e in
+              subst (IsFrontAlive table receiver) (sym is)
+              (last_or_before n l h (λ g. so.fronts l g (omega (
+                arith,
+                room,
+                ap (λ (y : Sender T RequestDetails H). borrowed_at y.messages receiver 0) is,
+              ))) (λ f. absurd (e f))))
+              (cases_eq l n);
+        }
+
+-- a queue without its first entry is shorter
+pub shorter : {X : Type 0} (xs ys : List X) (x : X) → ys ≡ drop 1 xs → slice_get xs 0 ≡ Some x → length ys < length xs
+shorter [] ys x e f = absurd (let g : None ≡ Some x = f in cc)
+shorter (y ∷ xs) ys x e f = omega (arith, ap length e)

@@ -1,0 +1,4 @@
+pub mod Sound
+pub mod Inserted
+pub mod View
+pub mod Refusals

@@ -1,0 +1,4 @@
+pub mod MayAnswer
+pub mod Sound
+pub mod View
+pub mod Fields

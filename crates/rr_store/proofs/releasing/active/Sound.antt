@@ -1,0 +1,201 @@
+-- An active request is released: what stays true.
+use Rattle.std.proofs.Common.{◌≡◌, ◌<◌, ◌+◌, ◌*◌, ℕ, Bool, true, false, List, [], ◌∷◌, Option, None, Some, length, map, refl, sym, ap, ◌∙◌, ⊎_elim, arith}
+use Rattle.std.specs.Prelude.{◌==◌, ◌&&◌, slice_get, slice_index, find}
+use Rattle.std.specs.Option.{option_map_or}
+use Rattle.std.specs.FinMap as fin_map
+use Rattle.std.proofs.lemmas.Bool.{cases_eq, eq-eqb, eqb-true, ne_eqb}
+use Rattle.rr_maps.specs.Maps.{mark}
+use Rattle.rr_table.specs.TableView.{TableEntry, removed}
+use Rattle.rr_sender.specs.Senders.{borrowed_at, set_two}
+use Rattle.rr_store.specs.declared.handle_entry.HandleEntry.{HandleEntry}
+use Rattle.rr_store.specs.declared.handle_entry.Stage.TheVariants as stage
+use Rattle.rr_store.specs.declared.details.RequestDetails.{RequestDetails}
+use Rattle.rr_store.specs.Parts.{Parts, ServerPart, Sender}
+use Rattle.rr_store.specs.Views.{sender_of}
+use Rattle.rr_store.specs.Sound.{IsSound, empty_hand, is_of_request, is_of_response, is_request_loan, is_pending, is_active_of, is_response_loan, is_received, is_in_sender, response_details, server_place}
+use Rattle.rr_store.specs.Frames.{moved}
+use Rattle.rr_store.specs.Dropping.{IsDropped}
+use Rattle.rr_store.proofs.base.senders.BorrowEnded.{one_less, less_rows, less_row, borrowed_less, borrowed_le}
+use Rattle.rr_store.proofs.base.hands.Dropping.{dropped_sound}
+use Rattle.rr_store.proofs.base.lists.Found.{found_passes, found_somewhere}
+use Rattle.rr_store.proofs.base.senders.GivenBack.{less, senders_less, less_senders, same_of, held_less}
+use Rattle.rr_store.proofs.base.views.Counts.{listed}
+use Rattle.rr_store.proofs.base.hands.Hands.{count-cons, senders_same, removed_sound}
+use Rattle.rr_store.proofs.releasing.active.MayAnswer.{not_marked, as_many_rows, as_many_marks}
+use Rattle.rr_store.proofs.releasing.request.Sound.{unmarked, request_there}
+
+module _ {Q QH P PH K : Type 0} (p : Parts Q QH P PH K) (sound : IsSound p empty_hand) where
+  -- a server with a receiver is connected
+  pub server_placed : (server : ℕ) → server_place p server < p.limits.max_servers → (i : ℕ) × (s : ServerPart K)
+      × (slice_get p.servers i ≡ Some s) × (s.port.id ≡ server) × (server_place p server ≡ s.receiver)
+  server_placed server h = go (find (λ s. s.port.id == server) p.servers) refl h
+    where
+      go : (o : Option (ServerPart K)) → find (λ s. s.port.id == server) p.servers ≡ o
+          → option_map_or (λ s. s.receiver) o p.limits.max_servers < p.limits.max_servers
+          → (i : ℕ) × (s : ServerPart K) × (slice_get p.servers i ≡ Some s) × (s.port.id ≡ server) × (server_place p server ≡ s.receiver)
+      go None e h = absurd (omega (arith, h))
+      go (Some s) e h =
+          let f = found_somewhere (λ s. s.port.id == server) p.servers s e in (
+            f.0,
+            s,
+            f.1,
+            eqb-true _ _ (found_passes (λ s. s.port.id == server) p.servers s e),
+            ap (λ o. option_map_or (λ s. s.receiver) o p.limits.max_servers) e,
+          )
+
+  -- a connected server is the one that is its receiver
+  pub server_is : (server : ℕ) → server_place p server < p.limits.max_servers → (i : ℕ) (d : ServerPart K) → slice_get p.servers i ≡ Some d
+      → (server_place p server == d.receiver) ≡ (d.port.id == server)
+  server_is server h i d e =
+      let f = server_placed server h in
+      let l : (j : ℕ) (b : ServerPart K) → slice_get p.servers j ≡ Some b
+      → slice_get (map (λ c. c.connected) p.servers) j ≡ Some b.connected = λ j b g. listed (λ c. c.connected) p.servers j b g in
+      ⊎_elim
+      (λ is. let same : f.1 ≡ d = let g : Some f.1 ≡ Some d = sym f.2 ∙ ap (slice_get p.servers) (sym is) ∙ e in cc in
+      eq-eqb (server_place p server) d.receiver (f.4 ∙ ap (λ (d : ServerPart K). d.receiver) same)
+      ∙ sym (eq-eqb d.port.id server (sym (ap (λ (d : ServerPart K). d.port.id) same) ∙ f.3)))
+      (λ n.
+      ne_eqb (server_place p server) d.receiver (λ g. n (sound.server_ports.receivers_once i f.0 d.connected f.1.connected (l i d e)
+      (l f.0 f.1 f.2) (sym g ∙ f.4)))
+      ∙ sym (ne_eqb d.port.id server (λ g. n (sound.server_ports.numbered_once i f.0 d.connected f.1.connected (l i d e) (l f.0 f.1 f.2)
+      (g ∙ sym f.3)))))
+      (cases_eq i f.0)
+
+  -- two servers of one receiver, which one of them has, are one
+  pub servers_apart : (server other : ℕ) → server_place p server < p.limits.max_servers
+      → (server == other) ≡ (server_place p server == server_place p other)
+  servers_apart server other h =
+      ⊎_elim
+      (λ e. eq-eqb server other e ∙ sym (eq-eqb (server_place p server) (server_place p other) (ap (server_place p) e)))
+      (λ n. ne_eqb server other n ∙ sym (ne_eqb (server_place p server) (server_place p other) (λ g.
+      let f = server_placed server h in
+      let o = server_placed other (omega (arith, h, g)) in
+      let l : (j : ℕ) (b : ServerPart K) → slice_get p.servers j ≡ Some b
+      → slice_get (map (λ c. c.connected) p.servers) j ≡ Some b.connected = λ j b g. listed (λ c. c.connected) p.servers j b g in
+      let at : f.0 ≡ o.0 = sound.server_ports.receivers_once f.0 o.0 f.1.connected o.1.connected (l f.0 f.1 f.2) (l o.0 o.1 o.2)
+      (sym f.4 ∙ g ∙ o.4) in
+      let same : f.1 ≡ o.1 = let e : Some f.1 ≡ Some o.1 = sym f.2 ∙ ap (slice_get p.servers) at ∙ o.2 in cc in
+      n (sym f.3 ∙ ap (λ (d : ServerPart K). d.port.id) same ∙ o.3))))
+      (cases_eq server other)
+
+module _ {Q QH P PH K : Type 0} (p : Parts Q QH P PH K) (sound : IsSound p empty_hand) (k : ℕ) (s : TableEntry HandleEntry)
+    (at : fin_map.get p.table.entries k ≡ Some s) (server loans : ℕ) (is : s.value.stage ≡ stage.ActiveRequest server loans) where
+  abbrev entry : HandleEntry
+  entry = s.value
+
+  abbrev taken : Parts Q QH P PH K
+  taken = record p { table = removed p.table k }
+
+  abbrev receiver : ℕ
+  receiver = server_place p server
+
+  in_hand : IsSound taken (entry ∷ [])
+  in_hand = removed_sound p [] k s at sound
+
+  spot : (entry.sender < length p.client_senders) × (0 < slice_index (sender_of entry.sender p.client_senders).messages.held entry.slot)
+  spot = request_there p sound k s at (ap is_of_request is)
+
+  abbrev borrowed : List (List ℕ)
+  borrowed = one_less (sender_of entry.sender p.client_senders).messages.borrowed receiver 0
+
+  abbrev pub senders : List (Sender Q RequestDetails QH)
+  senders = senders_less p.client_senders entry.sender entry.slot borrowed
+
+  abbrev pub marks : List (List Bool)
+  marks = set_two p.waiting entry.sender (entry.slot * p.limits.max_servers + receiver) false
+
+  -- the core without the active request
+  abbrev pub after_active : Parts Q QH P PH K
+  after_active = moved taken p.clients p.servers senders p.server_senders marks taken.table.entries p.next
+
+  pub inside : receiver < p.limits.max_servers
+  inside = sound.inserted.active_servers k server s at (ap (is_active_of server) is ∙ eq-eqb server server refl)
+
+  counted_here : mark (is_in_sender (is_active_of server) entry.sender entry) ≡ 1
+  counted_here = ap (λ g. mark (is_active_of server g && entry.sender == entry.sender)) is
+      ∙ ap mark (λ i. eq-eqb server server refl i && eq-eqb entry.sender entry.sender refl i)
+
+  -- the server has it from the client
+  pub has_active : 0 < borrowed_at (sender_of entry.sender p.client_senders).messages receiver 0
+  has_active = omega (
+    arith,
+    in_hand.stored.borrowed_requests entry.sender server spot.0,
+    count-cons (is_in_sender (is_active_of server) entry.sender) entry [],
+    counted_here,
+  )
+
+  same : {Y : Type 0} (f : Sender Q RequestDetails QH → Y) → f (less p.client_senders entry.sender entry.slot borrowed) ≡ f
+      (sender_of entry.sender p.client_senders) → (l : ℕ) → f (sender_of l senders) ≡ f (sender_of l p.client_senders)
+  same = same_of p.client_senders entry.sender entry.slot borrowed
+
+  dropped : IsDropped taken entry p.clients p.servers senders p.server_senders marks
+  dropped = record {
+    frame = record {
+      clients_alike = refl;
+      servers_alike = refl;
+      client_senders_alike = less_senders p.client_senders entry.sender entry.slot borrowed
+          (less_rows (sender_of entry.sender p.client_senders).messages.borrowed receiver 0)
+          (less_row (sender_of entry.sender p.client_senders).messages.borrowed receiver 0);
+      server_senders_alike = senders_same p.server_senders;
+      marks = as_many_rows p.waiting entry.sender (entry.slot * p.limits.max_servers + receiver);
+      marks_each = as_many_marks p.waiting entry.sender (entry.slot * p.limits.max_servers + receiver);
+      numbers = omega arith;
+    };
+    loans_made = sound.sized.loans_made;
+    requests_held = λ l i. omega (
+      arith,
+      held_less p.client_senders entry.sender entry.slot borrowed spot.0 spot.1 l i,
+      ap (λ g. mark (is_of_request g && (entry.sender == l && entry.slot == i))) is,
+    );
+    responses_held = λ l i. omega
+        (arith, unmarked (is_of_response entry.stage) (entry.sender == l && entry.slot == i) (ap is_of_response is));
+    all_request_details = λ l. same (λ x. x.messages.details) refl l;
+    all_response_details = λ l. refl;
+    requests_wait = λ l. same (λ x. x.messages.queues) refl l;
+    responses_used = λ l i. omega arith;
+    responses_wait = λ l receiver channel i. omega arith;
+    responses_none = λ l receiver channel e. e;
+    requests_borrowed = borrowed_le p.client_senders entry.sender entry.slot receiver 0 spot.0 spot.1 has_active;
+    responses_borrowed = λ l receiver channel. omega arith;
+    awaited = λ l i r e. not_marked p.waiting entry.sender (entry.slot * p.limits.max_servers + receiver) l (i * p.limits.max_servers + r)
+        e;
+    client_counts = λ i d e. (
+      d,
+      e,
+      refl,
+      omega (arith, unmarked (is_request_loan entry.stage) (entry.sender == d.sender) (ap is_request_loan is)),
+      omega (arith, unmarked (is_pending entry.stage) (entry.sender == d.sender) (ap is_pending is)),
+    );
+    server_counts = λ i d e. (
+      d,
+      e,
+      refl,
+      omega (
+        arith,
+        unmarked (is_response_loan entry.stage) (entry.sender == d.sender)
+            (ap is_response_loan is),
+      ),
+    );
+    loans_from = λ n other loans t e _. ap (λ g. is_response_loan g && (response_details p entry.sender entry.slot).active_request == n) is;
+    request_borrows = λ l other h. omega (
+      arith,
+      borrowed_less p.client_senders entry.sender entry.slot receiver 0 spot.0 spot.1 has_active l (server_place p other) 0,
+      ap (λ g. mark (is_active_of other g && entry.sender == l)) is,
+      swapped (server == other) (receiver == server_place p other) (entry.sender == l) (servers_apart p sound server other inside),
+    );
+    response_borrows = λ l i channel d h e. omega (
+      arith,
+      unmarked (is_received entry.stage) (entry.sender == l && ((response_details p entry.sender entry.slot).client == d.port.id
+          && (response_details p entry.sender entry.slot).channel == channel)) (ap is_received is),
+    );
+  }
+    where
+      swapped : (a b c : Bool) → a ≡ b → mark (a && c) ≡ mark (c && (b && 0 == 0))
+      swapped true b true e = ap (λ b. mark (b && 0 == 0)) e
+      swapped true b false e = refl
+      swapped false b true e = ap (λ b. mark (b && 0 == 0)) e
+      swapped false b false e = refl
+
+  -- the core stays sound
+  pub active_sound : IsSound after_active empty_hand
+  active_sound = dropped_sound taken entry [] in_hand p.clients p.servers senders p.server_senders marks dropped

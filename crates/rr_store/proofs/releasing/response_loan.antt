@@ -1,0 +1,6 @@
+pub mod Sound
+pub mod Asked
+pub mod Taken
+pub mod Place
+pub mod View
+pub mod Fields

@@ -1,0 +1,131 @@
+-- Where the active request of a response in hand stands.
+use Rattle.std.proofs.Common.{◌≡◌, ◌<◌, ◌+◌, ◌*◌, ℕ, true, [], ◌∷◌, Option, None, Some, length, refl, sym, ap, ◌∙◌, subst, arith}
+use Rattle.std.specs.Prelude.{◌==◌, IfSome, IsSomeAnd, slice_get, find}
+use Rattle.std.specs.Option.{option_map_or}
+use Rattle.std.specs.FinMap as fin_map
+use Rattle.std.proofs.lemmas.Bool.{eq-eqb, eqb-true}
+use Rattle.std.proofs.lemmas.Option.{slice_get-get_or, get_or_from_slice_get, slice_get_within}
+use Rattle.rr_maps.specs.Maps.{mark}
+use Rattle.rr_table.specs.TableView.{TableEntry}
+use Rattle.rr_table.specs.declared.place.Place.{Place}
+use Rattle.rr_store.specs.declared.handle_entry.HandleEntry.{HandleEntry}
+use Rattle.rr_store.specs.declared.handle_entry.Stage.TheVariants as stage
+use Rattle.rr_store.specs.Ending.{IsAskedPlace}
+use Rattle.rr_store.specs.declared.details.RequestDetails.{RequestDetails}
+use Rattle.rr_store.specs.Parts.{Parts, Connected, ClientPart, ServerPart, Sender}
+use Rattle.rr_store.specs.Views.{sender_of, no_sender}
+use Rattle.rr_store.specs.Sound.{IsSound, Hand, is_of_request, is_response_loan, is_response_at, request_uses, response_uses, response_details, server_place, place_at}
+use Rattle.rr_store.proofs.base.lists.Adding.{mapped}
+use Rattle.rr_store.proofs.base.views.Agreeing.{request_sender}
+use Rattle.rr_store.proofs.base.senders.Entries.{found_alone}
+use Rattle.rr_store.proofs.base.views.Counts.{listed}
+use Rattle.rr_store.proofs.base.hands.Hands.{count-cons}
+use Rattle.rr_store.proofs.base.hands.Stages.{handle_uses_request, response_loan_is_response}
+
+module _ {Q QH P PH K : Type 0} (p : Parts Q QH P PH K) (hand : Hand) (sound : IsSound p hand) where
+  -- the client of a sender, and that it is the one with its number
+  pub client_of_sender : (l : ℕ) → l < length p.client_senders → (i : ℕ) × (c : ClientPart K) × (slice_get p.clients i ≡ Some c)
+      × (c.sender ≡ l)
+      × (c.port.id ≡ (sender_of l p.client_senders).owner)
+      × (c.port.pool_size ≡ length (sender_of l p.client_senders).messages.held) × (find (λ d. d.port.id == c.port.id) p.clients ≡ Some c)
+  client_of_sender l within =
+      let b = sound.client_ports.ported l within in
+      let x = mapped (λ (c : ClientPart K). c.connected) p.clients b.0 b.1 b.2 in
+      let sender : x.0.sender ≡ l = ap (λ (c : Connected K). c.sender) x.2 ∙ b.3 in
+      let own = sound.client_ports.own b.0 b.1 b.2 in
+      let at_sender : sender_of b.1.sender p.client_senders ≡ sender_of l p.client_senders = ap (λ l. sender_of l p.client_senders) b.3 in (
+        b.0,
+        x.0,
+        x.1,
+        sender,
+        ap (λ (c : Connected K). c.port.id) x.2 ∙ sym own.1 ∙ ap (λ x. x.owner) at_sender,
+        ap (λ (c : Connected K). c.port.pool_size) x.2 ∙ sym own.2 ∙ ap (λ x. length x.messages.held) at_sender,
+        found_alone (λ (d : ClientPart K). d.port.id == x.0.port.id) p.clients b.0 x.0 x.1 (eq-eqb x.0.port.id x.0.port.id refl)
+            (λ j d e same. sound.client_ports.numbered_once j b.0 d.connected x.0.connected
+            (listed (λ (c : ClientPart K). c.connected) p.clients j d e)
+            (listed (λ (c : ClientPart K). c.connected) p.clients b.0 x.0 x.1) (eqb-true d.port.id x.0.port.id same)),
+      )
+
+  -- a server that stands at an index is the one with its number
+  pub server_alone : (i : ℕ) (c : ServerPart K) → slice_get p.servers i ≡ Some c → find (λ d. d.port.id == c.port.id) p.servers ≡ Some c
+  server_alone i c at =
+      found_alone (λ (d : ServerPart K). d.port.id == c.port.id) p.servers i c at (eq-eqb c.port.id c.port.id refl)
+      (λ j d e same. sound.server_ports.numbered_once j i d.connected c.connected
+      (listed (λ (c : ServerPart K). c.connected) p.servers j d e)
+      (listed (λ (c : ServerPart K). c.connected) p.servers i c at) (eqb-true d.port.id c.port.id same))
+
+module _ {Q QH P PH K : Type 0} (p : Parts Q QH P PH K) (hand : Hand) (sound : IsSound p hand) where
+  -- a sender of clients is the one with its owner
+  pub owner_alone : (sender : ℕ) → sender < length p.client_senders
+      → find (λ l. l.owner == (sender_of sender p.client_senders).owner) p.client_senders ≡ Some (sender_of sender p.client_senders)
+  owner_alone sender there =
+      found_alone (λ (l : Sender Q RequestDetails QH). l.owner == (sender_of sender p.client_senders).owner) p.client_senders sender
+      (sender_of sender p.client_senders) (slice_get-get_or p.client_senders sender no_sender there)
+      (eq-eqb (sender_of sender p.client_senders).owner (sender_of sender p.client_senders).owner refl)
+      (λ k l e same. sound.client_ports.owned_once k sender (slice_get_within p.client_senders k l e) there
+      (ap (λ (l : Sender Q RequestDetails QH). l.owner) (get_or_from_slice_get p.client_senders k l no_sender e)
+      ∙ eqb-true l.owner (sender_of sender p.client_senders).owner same))
+
+module _ {Q QH P PH K : Type 0} (q : Parts Q QH P PH K) (entry : HandleEntry)
+    (sound : IsSound q (entry ∷ [])) (loan : is_response_loan entry.stage ≡ true)
+    (index : ℕ) (c : ServerPart K) (at : slice_get q.servers index ≡ Some c) (sends : c.sender ≡ entry.sender) where
+  -- a response in hand is used
+  pub in_use : 0 < response_uses q entry.sender entry.slot
+  in_use =
+      let here : is_response_at entry.sender entry.slot entry ≡ true = rw (response_loan_is_response entry.stage loan)
+      (rw (eq-eqb entry.sender entry.sender refl) (rw (eq-eqb entry.slot entry.slot refl) refl)) in
+      omega (
+        arith,
+        sound.counted.responses entry.sender entry.slot,
+        count-cons (is_response_at entry.sender entry.slot) entry [],
+        ap mark here,
+      )
+
+  -- its server
+  pub server_is : (response_details q entry.sender entry.slot).server ≡ c.port.id
+  server_is =
+      let own = sound.server_ports.own index c.connected (listed (λ (c : ServerPart K). c.connected) q.servers index c at) in
+      sound.addressed.responses entry.sender entry.slot in_use ∙ sym (ap (λ l. (sender_of l q.server_senders).owner) sends) ∙ own.1
+
+  module _ (server loans : ℕ) (t : TableEntry HandleEntry) (here : fin_map.get q.table.entries
+      (response_details q entry.sender entry.slot).active_request ≡ Some t) (is : t.value.stage ≡ stage.ActiveRequest server loans) where
+    -- the place that is looked at is the one in which it stands
+    pub asked_place_is : (place : Place) → IsAskedPlace q.client_senders (response_details q entry.sender entry.slot) c.receiver place
+        → place ≡ t.place
+    asked_place_is place told =
+        let of_request : is_of_request t.value.stage ≡ true = ap is_of_request is in
+        let asked = (response_details q entry.sender entry.slot).active_request in
+        let a = sound.numbered.answering entry.sender entry.slot asked server loans t in_use here is refl in
+        let uses : 0 < request_uses q t.value.sender t.value.slot = handle_uses_request q (entry ∷ []) sound.counted asked t here of_request
+        in
+        let r = sound.addressed.answers entry.sender entry.slot t.value.sender t.value.slot in_use uses a.0 in
+        let found = owner_alone q (entry ∷ []) sound t.value.sender (request_sender q (entry ∷ []) sound.counted asked t here of_request) in
+        let its : place ≡ record {
+          row = (sender_of t.value.sender q.client_senders).row;
+          index = (c.receiver + 1) * length (sender_of t.value.sender q.client_senders).messages.held +
+              (response_details q entry.sender entry.slot).channel;
+        } =
+        subst (λ o. IsSomeAnd o (λ (l : Sender Q RequestDetails QH). ◌≡◌ {A = Place} place
+        (record { row = l.row; index = (c.receiver + 1) * length l.messages.held + (response_details q entry.sender entry.slot).channel })))
+        (ap (λ n. find (λ (l : Sender Q RequestDetails QH). l.owner == n) q.client_senders) r.1 ∙ found) told in
+        let serves : server_place q server ≡ c.receiver =
+        ap (λ n. server_place q n) (sym a.1 ∙ server_is)
+        ∙ ap (λ o. option_map_or (λ (s : ServerPart K). s.receiver) o q.limits.max_servers) (server_alone q (entry ∷ []) sound index c at)
+        in
+        its
+        ∙ ap (λ j. record {
+          row = (sender_of t.value.sender q.client_senders).row;
+          index = (c.receiver + 1) * length (sender_of t.value.sender q.client_senders).messages.held + j;
+        }) r.0
+        ∙ ap (λ r. record {
+          row = (sender_of t.value.sender q.client_senders).row;
+          index = (r + 1) * length (sender_of t.value.sender q.client_senders).messages.held + t.value.slot;
+        }) (sym serves)
+        ∙ sym (sound.inserted.placed asked t here ∙ ap (λ g. place_at q g t.value.sender t.value.slot) is)
+
+    -- whatever place is told
+    pub asked_right : (place : Option Place)
+        → IfSome place (IsAskedPlace q.client_senders (response_details q entry.sender entry.slot) c.receiver)
+        → IfSome place (λ r. r ≡ t.place)
+    asked_right None told = tt
+    asked_right (Some place) told = asked_place_is place told

@@ -1,0 +1,4 @@
+pub mod Queues
+pub mod All
+pub mod Sender
+pub mod One

@@ -1,0 +1,31 @@
+//! The details of a message beside its body and its user header.
+
+/// Of a request. Its channel is its slot.
+#[derive(Clone, Copy, Debug)]
+pub struct RequestDetails {
+    /// The request's number.
+    pub number: u64,
+    /// The client that loaned it.
+    pub client: u64,
+    /// How many requests its client had loaned before it.
+    pub request_id: u64,
+}
+
+/// Of a response.
+#[derive(Clone, Copy, Debug)]
+pub struct ResponseDetails {
+    /// The response's number.
+    pub number: u64,
+    /// The server that loaned it.
+    pub server: u64,
+    /// The active request that it was loaned from.
+    pub active_request: u64,
+    /// The request that it answers.
+    pub request: u64,
+    /// That request's id.
+    pub request_id: u64,
+    /// That request's client.
+    pub client: u64,
+    /// That request's channel.
+    pub channel: usize,
+}
