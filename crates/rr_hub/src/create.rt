@@ -1,18 +1,14 @@
 //! Creating ports.
-ghost use Rattle.std.specs.Prelude.{◌≡◌, None, Some, length, IsTrue, IfOk, OnOk, OnErr};
+ghost use Rattle.std.specs.Prelude.{IsTrue};
 ghost use Rattle.rr_slots.specs.Families.{takes_len};
-ghost use Rattle.rr_protocol.specs.Creation.{CreatesClient, client_refusal, with_client};
-ghost use Rattle.rr_protocol.specs.Limits.{worst_case_requests};
+ghost use Rattle.rr_protocol.specs.Creation.{CreatesClient, CreatesServer};
 
 use crate::state::Core;
-use rr_protocol::{BackpressureFn, ClientCreateError, ClientSettings};
-use rr_slots::Body;
-use rr_store::create::{
-    client_port, client_store, free_receiver, insert_client, pool_size, worst_case_requests,
+use rr_creating::{create_client, create_server};
+use rr_protocol::{
+    BackpressureFn, ClientCreateError, ClientSettings, ServerCreateError, ServerSettings,
 };
-use std::alloc::AllocError;
-
-mod server;
+use rr_slots::Body;
 
 impl<QB: Body, QH: Default + Drop, PB: Body, PH: Default + Drop, K: BackpressureFn> Core<
     QB,
@@ -30,56 +26,19 @@ impl<QB: Body, QH: Default + Drop, PB: Body, PH: Default + Drop, K: Backpressure
         requires { IsTrue (takes_len QB.family settings.initial_max_slice_len) }
         ensures { CreatesClient self.old settings result self.new }
     {
-        match self.client_refusal() {
-            Some(refusal) => Err(refusal),
-            None => match self.add_client(settings) {
-                Ok(number) => Ok(number),
-                Err(_) => Err(ClientCreateError::UnableToCreateDataSegment),
-            },
-        }
+        create_client(&mut self.parts, self.alloc, settings)
     }
 
-    /// Adds a client. `Err` if memory was refused; nothing has changed then.
-    fn add_client(&mut self, settings: ClientSettings<K>) -> Result<u64, AllocError>
-        requires len { IsTrue (takes_len QB.family settings.initial_max_slice_len) }
-        requires due { client_refusal self.old ≡ None }
-        ensures number { IfOk result (λ number. number ≡ self.old.next) }
-        ensures ok { OnOk result (self.new ≡ with_client self.old settings) }
-        ensures err { OnErr result (self.new ≡ self.old) }
+    /// Creates a server under the next number.
+    ///
+    /// `UnableToCreatePortTag` if no number is left, `ExceedsMaxSupportedServers` if as many servers are connected as may be,
+    /// `UnableToCreateDataSegment` if the worst-case number of responses is more than a `usize` counts, or memory was refused;
+    /// nothing has changed then. The initial length is one that the body's family takes. After iceoryx2's
+    /// `PortFactoryServer::create`.
+    pub fn create_server(&mut self, settings: ServerSettings<K>) -> Result<u64, ServerCreateError>
+        requires { IsTrue (takes_len PB.family settings.initial_max_slice_len) }
+        ensures { CreatesServer self.old settings result self.new }
     {
-        let slots = pool_size(worst_case_requests(&self.limits), settings.pool);
-        let receiver = free_receiver(self.clients.as_slice(), self.limits.max_clients);
-        let store = client_store(
-            self.alloc,
-            &self.limits,
-            slots,
-            settings.initial_max_slice_len,
-        )?;
-        let number = self.next;
-        let port = client_port(number, settings, slots, self.client_senders.len(), receiver);
-        insert_client(
-            self.alloc,
-            &mut self.clients,
-            &mut self.client_senders,
-            &mut self.waiting,
-            &mut self.table,
-            port,
-            store,
-        )?;
-        self.next += 1;
-        Ok(number)
-    }
-
-    /// The first reason against one more client.
-    fn client_refusal(&self) -> Option<ClientCreateError>
-        ensures { result ≡ client_refusal self.now }
-    {
-        if self.numbers_left() == 0 {
-            return Some(ClientCreateError::UnableToCreatePortTag);
-        }
-        if self.limits.max_clients <= self.clients.len() {
-            return Some(ClientCreateError::ExceedsMaxSupportedClients);
-        }
-        None
+        create_server(&mut self.parts, self.alloc, settings)
     }
 }

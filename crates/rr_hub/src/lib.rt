@@ -2,7 +2,6 @@
 #![tactic(auto)]
 
 mod create;
-mod handle_id;
 mod loan;
 mod making;
 mod query;
@@ -12,11 +11,11 @@ mod send;
 mod state;
 mod write;
 
-pub use handle_id::HandleId;
 pub use rr_protocol::{
     AllocationStrategy, BackpressureAction, BackpressureFn, BackpressureInfo, BackpressureStrategy,
     ClientCreateError, ClientSettings, ConnectionFailure, HubCreateError, Kind, Limits, LoanError,
     ReceiveError, RequestHeader, RequestSendError, ResponseHeader, SendError, ServerCreateError,
     ServerSettings, UniqueClientId, UniqueNodeId, UniqueServerId,
 };
+pub use rr_store::HandleId;
 pub use state::Core;

@@ -5,9 +5,9 @@ ghost use Rattle.rr_protocol.specs.Queries.{kind_at};
 ghost use Rattle.rr_protocol.specs.State.{numbers_left};
 
 use crate::state::Core;
+use rr_creating::new_store;
 use rr_protocol::{BackpressureFn, HubCreateError, Limits, UniqueNodeId};
 use rr_slots::Body;
-use rr_table::Table;
 use std::alloc::Global;
 
 /// How many numbers a hub gives: 2^62.
@@ -24,22 +24,9 @@ impl<QB: Body, QH: Default + Drop, PB: Body, PH: Default + Drop, K: Backpressure
     pub fn new(alloc: Global, limits: Limits, node_id: UniqueNodeId) -> Result<Self, HubCreateError>
         ensures { CreatesHub limits node_id.0 result }
     {
-        match limits.refusal() {
-            Some(refusal) => Err(refusal),
-            None => Ok(Core {
-                alloc,
-                limits,
-                node_id,
-                next: 0,
-                clients: Vec::new(alloc),
-                servers: Vec::new(alloc),
-                client_senders: Vec::new(alloc),
-                server_senders: Vec::new(alloc),
-                waiting: Vec::new(alloc),
-                table: Table::new(alloc),
-                spare_request_header: QH::default(),
-                spare_response_header: PH::default(),
-            }),
+        match new_store(alloc, limits, node_id) {
+            Ok(parts) => Ok(Core { alloc, parts }),
+            Err(refusal) => Err(refusal),
         }
     }
 
@@ -47,7 +34,7 @@ impl<QB: Body, QH: Default + Drop, PB: Body, PH: Default + Drop, K: Backpressure
     pub fn numbers_left(&self) -> u64
         ensures { result ≡ numbers_left self.now }
     {
-        NUMBERS - self.next
+        NUMBERS - self.parts.next_number()
     }
 
     /// The number that is given next, if one is left. It names nothing yet.
@@ -55,6 +42,6 @@ impl<QB: Body, QH: Default + Drop, PB: Body, PH: Default + Drop, K: Backpressure
         ensures number { result ≡ self.now.next }
         ensures free { kind_at self.now result ≡ None }
     {
-        self.next
+        self.parts.next_number()
     }
 }

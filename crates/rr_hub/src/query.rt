@@ -5,12 +5,14 @@ ghost use Rattle.rr_protocol.specs.Messages.{request_in, response_in};
 ghost use Rattle.rr_protocol.specs.Queries.{kind_at};
 ghost use Rattle.rr_protocol.specs.State.{handle_at, pending_at, active_at};
 
-use crate::handle_id::HandleId;
 use crate::state::Core;
 use rr_protocol::{BackpressureFn, Kind};
+use rr_querying::{
+    is_active_connected_at, is_pending_connected_at, kind_of, request_body_at, request_number_at,
+    response_body_at,
+};
 use rr_slots::Body;
-use rr_store::query::{is_any_marked, is_client_value, is_server_value};
-use rr_table::Place;
+use rr_store::HandleId;
 
 impl<QB: Body, QH: Default + Drop, PB: Body, PH: Default + Drop, K: BackpressureFn> Core<
     QB,
@@ -25,16 +27,7 @@ impl<QB: Body, QH: Default + Drop, PB: Body, PH: Default + Drop, K: Backpressure
     pub fn kind(&self, id: &HandleId) -> Option<Kind>
         ensures { result ≡ kind_at self.now id.now }
     {
-        if is_client_value(self.clients.as_slice(), id.number) {
-            return Some(Kind::Client);
-        }
-        if is_server_value(self.servers.as_slice(), id.number) {
-            return Some(Kind::Server);
-        }
-        match self.table.get(id.number, id.hint) {
-            Some(entry) => Some(entry.stage.kind()),
-            None => None,
-        }
+        kind_of(&self.parts, id.number(), id.hint())
     }
 
     /// The body of a handle's request, as far as it was written.
@@ -45,10 +38,8 @@ impl<QB: Body, QH: Default + Drop, PB: Body, PH: Default + Drop, K: Backpressure
         ensures asked { IsSomeAnd (option_and_then request_in (handle_at self.now id.now)) (λ m. QB.asked_len result.now ≡ m.content.asked_len) }
         ensures elements { IsSomeAnd (option_and_then request_in (handle_at self.now id.now)) (λ m. QB.elements result.now ≡ m.content.elements) }
     {
-        match self.table.get(id.number, id.hint) {
-            Some(entry) => self.client_senders[entry.sender].messages.body(entry.slot),
-            None => unreachable!(),
-        }
+        let place = self.parts.place(id.number(), id.hint());
+        request_body_at(&self.parts, id.number(), place)
     }
 
     /// The body of a handle's response, as far as it was written.
@@ -59,10 +50,8 @@ impl<QB: Body, QH: Default + Drop, PB: Body, PH: Default + Drop, K: Backpressure
         ensures asked { IsSomeAnd (option_and_then response_in (handle_at self.now id.now)) (λ m. PB.asked_len result.now ≡ m.content.asked_len) }
         ensures elements { IsSomeAnd (option_and_then response_in (handle_at self.now id.now)) (λ m. PB.elements result.now ≡ m.content.elements) }
     {
-        match self.table.get(id.number, id.hint) {
-            Some(entry) => self.server_senders[entry.sender].messages.body(entry.slot),
-            None => unreachable!(),
-        }
+        let place = self.parts.place(id.number(), id.hint());
+        response_body_at(&self.parts, id.number(), place)
     }
 
     /// Whether a connected server may still answer a pending response's request.
@@ -72,14 +61,8 @@ impl<QB: Body, QH: Default + Drop, PB: Body, PH: Default + Drop, K: Backpressure
         requires { kind_at self.now id.now ≡ Some Kind.PendingResponse }
         ensures { IsSomeAnd (pending_at self.now id.now) (λ pending. result ≡ nat_lt 0 (length pending.servers)) }
     {
-        match self.table.get(id.number, id.hint) {
-            Some(entry) => is_any_marked(
-                self.servers.as_slice(),
-                self.waiting[entry.sender].as_slice(),
-                entry.slot * self.limits.max_servers,
-            ),
-            None => unreachable!(),
-        }
+        let place = self.parts.place(id.number(), id.hint());
+        is_pending_connected_at(&self.parts, id.number(), place)
     }
 
     /// Whether the pending response of an active request's request lives.
@@ -89,23 +72,8 @@ impl<QB: Body, QH: Default + Drop, PB: Body, PH: Default + Drop, K: Backpressure
         requires { kind_at self.now id.now ≡ Some Kind.ActiveRequest }
         ensures { IsSomeAnd (active_at self.now id.now) (λ active. result ≡ is_alive self.now active.message.number) }
     {
-        match self.table.get(id.number, id.hint) {
-            Some(entry) => {
-                let row = self.client_senders[entry.sender].row;
-                let details = self.client_senders[entry.sender]
-                    .messages
-                    .details(entry.slot);
-                let own = Place {
-                    row,
-                    index: entry.slot,
-                };
-                match self.table.get_at(details.number, own) {
-                    Some(request) => request.stage.is_pending(),
-                    None => false,
-                }
-            }
-            None => unreachable!(),
-        }
+        let place = self.parts.place(id.number(), id.hint());
+        is_active_connected_at(&self.parts, id.number(), place)
     }
 
     /// The number of the request that a server received as an active request.
@@ -115,12 +83,7 @@ impl<QB: Body, QH: Default + Drop, PB: Body, PH: Default + Drop, K: Backpressure
         requires { IsSome (active_at self.now id.now) }
         ensures { IsSomeAnd (active_at self.now id.now) (λ active. result ≡ active.message.number) }
     {
-        match self.table.get(id.number, id.hint) {
-            Some(entry) => self.client_senders[entry.sender]
-                .messages
-                .details(entry.slot)
-                .number,
-            None => unreachable!(),
-        }
+        let place = self.parts.place(id.number(), id.hint());
+        request_number_at(&self.parts, id.number(), place)
     }
 }

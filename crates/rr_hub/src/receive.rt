@@ -1,18 +1,15 @@
-//! Receiving responses, and from which sender a receiver takes next.
-ghost use Rattle.std.specs.Prelude.{◌≡◌, Some};
+//! Receiving.
+ghost use Rattle.std.specs.Prelude.{◌≡◌, ◌<◌, Some};
 ghost use Rattle.rr_protocol.specs.declared.kind.Kind.TheVariants as kind;
 ghost use Rattle.rr_protocol.specs.Queries.{kind_at};
-ghost use Rattle.rr_protocol.specs.Receives.{ReceivesResponse};
+ghost use Rattle.rr_protocol.specs.Receives.{ReceivesRequest, ReceivesResponse};
+ghost use Rattle.rr_protocol.specs.State.{numbers_left};
 
-use crate::handle_id::HandleId;
 use crate::state::Core;
 use rr_protocol::{BackpressureFn, ReceiveError};
+use rr_receiving::{receive_request, receive_response_at};
 use rr_slots::Body;
-use rr_store::receive::next_sender;
-use rr_store::{HandleEntry, Stage, index_of_sender};
-use rr_table::Place;
-
-mod request;
+use rr_store::HandleId;
 
 impl<QB: Body, QH: Default + Drop, PB: Body, PH: Default + Drop, K: BackpressureFn> Core<
     QB,
@@ -30,36 +27,22 @@ impl<QB: Body, QH: Default + Drop, PB: Body, PH: Default + Drop, K: Backpressure
         requires { kind_at self.old id.now ≡ Some kind.PendingResponse }
         ensures { ReceivesResponse self.old id.now result self.new }
     {
-        let request = match self.table.get(id.number, id.hint) {
-            Some(entry) => entry,
-            None => unreachable!(),
-        };
-        let receiver = match index_of_sender(self.clients.as_slice(), request.sender) {
-            Some(index) => self.clients[index].port.receiver,
-            None => unreachable!(),
-        };
-        let channel = request.slot;
-        let most = self.limits.max_borrowed_responses_per_pending_response;
-        match next_sender(&self.server_senders, receiver, channel, most) {
-            Ok(Some(sender)) => {
-                let slot = self.server_senders[sender].messages.take(receiver, channel);
-                let row = self.server_senders[sender].row;
-                let number = self.server_senders[sender].messages.details(slot).number;
-                let hint = Place { row, index: slot };
-                let stage = Stage::Response;
-                self.table.insert(
-                    hint,
-                    number,
-                    HandleEntry {
-                        stage,
-                        sender,
-                        slot,
-                    },
-                );
-                Ok(Some(HandleId::new(number, hint)))
-            }
-            Ok(None) => Ok(None),
-            Err(error) => Err(error),
-        }
+        let place = self.parts.place(id.number(), id.hint());
+        receive_response_at(&mut self.parts, id.number(), place)
+    }
+
+    /// Receives the oldest request of some client that a server, whose value lives, has not received yet. It has the next
+    /// number, of which one is left.
+    ///
+    /// Requests whose pending responses were released are dropped first, where they are the oldest of their clients, unless
+    /// the limits have fire-and-forget requests. `None` if no client's request waits then. `ExceedsMaxBorrows` if some waits,
+    /// but the server has as many requests of each such client as it may. It looks at each client that ever was at most
+    /// twice, and once at each request that it drops, and takes no memory. After iceoryx2's `Server::receive`.
+    pub fn receive_request(&mut self, server: u64) -> Result<Option<HandleId>, ReceiveError>
+        requires kind { kind_at self.old server ≡ Some kind.Server }
+        requires number { 0 < numbers_left self.old }
+        ensures { ReceivesRequest self.old server result self.new }
+    {
+        receive_request(&mut self.parts, server)
     }
 }

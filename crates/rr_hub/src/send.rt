@@ -1,3 +1,48 @@
 //! Sends.
-mod request;
-mod response;
+ghost use Rattle.std.specs.Prelude.{◌≡◌, Some};
+ghost use Rattle.rr_protocol.specs.declared.kind.Kind.TheVariants as kind;
+ghost use Rattle.rr_protocol.specs.Queries.{kind_at};
+ghost use Rattle.rr_protocol.specs.Sends.{SendsRequest, SendsResponse};
+
+use crate::state::Core;
+use rr_protocol::{BackpressureFn, RequestSendError, SendError};
+use rr_sending::{send_request_at, send_response_at};
+use rr_slots::Body;
+use rr_store::HandleId;
+
+impl<QB: Body, QH: Default + Drop, PB: Body, PH: Default + Drop, K: BackpressureFn> Core<
+    QB,
+    QH,
+    PB,
+    PH,
+    K,
+> {
+    /// Sends a request to every connected server, and tells how many queues took it. It is a pending response from then on,
+    /// and keeps its number.
+    ///
+    /// `ExceedsMaxActiveRequests` if the client has as many pending responses as it may, `UnableToDeliver` if the queue to
+    /// some server is full, may not overflow, and is not passed over. The request is released then, and no queue has it: each
+    /// answer about a full queue comes before the first delivery. It looks a few times at each connected server, and takes
+    /// no memory. After iceoryx2's `RequestMut::send`.
+    pub fn send_request(&mut self, id: &HandleId) -> Result<usize, RequestSendError>
+        requires { kind_at self.old id.now ≡ Some kind.RequestMut }
+        ensures { SendsRequest K.action self.old id.now result self.new }
+    {
+        let place = self.parts.place(id.number(), id.hint());
+        send_request_at(&mut self.parts, id.number(), place)
+    }
+
+    /// Sends a response to its request, if that is still a pending response of a connected client, and releases the handle.
+    /// Else the response is released alone.
+    ///
+    /// `UnableToDeliver` if the queue to the client's channel is full, may not overflow, and is not passed over. The response
+    /// is released then too, and the queue stays. It looks a few times at each connected port, once at each client that ever
+    /// was, and at one queue, and takes no memory. After iceoryx2's `ResponseMut::send`.
+    pub fn send_response(&mut self, id: &HandleId) -> Result<(), SendError>
+        requires { kind_at self.old id.now ≡ Some kind.ResponseMut }
+        ensures { SendsResponse K.action self.old id.now result self.new }
+    {
+        let place = self.parts.place(id.number(), id.hint());
+        send_response_at(&mut self.parts, id.number(), place)
+    }
+}

@@ -1,8 +1,7 @@
 //! What a hub's core keeps, and what contracts see of it.
-use rr_protocol::{BackpressureFn, Limits, UniqueNodeId};
+use rr_protocol::BackpressureFn;
 use rr_slots::Body;
-use rr_store::{ClientPort, HandleEntry, OwnedSender, RequestDetails, ResponseDetails, ServerPort};
-use rr_table::Table;
+use rr_store::Store;
 use std::alloc::Global;
 use std::marker::Model;
 
@@ -13,19 +12,7 @@ use std::marker::Model;
 #[derive(Drop)]
 pub struct Core<QB: Body, QH: Default + Drop, PB: Body, PH: Default + Drop, K: BackpressureFn> {
     pub(crate) alloc: Global,
-    pub(crate) limits: Limits,
-    pub(crate) node_id: UniqueNodeId,
-    pub(crate) next: u64,
-    pub(crate) clients: Vec<ClientPort<K>>,
-    pub(crate) servers: Vec<ServerPort<K>>,
-    pub(crate) client_senders: Vec<OwnedSender<QB, RequestDetails, QH>>,
-    pub(crate) server_senders: Vec<OwnedSender<PB, ResponseDetails, PH>>,
-    // For each client's sender, by slot and then by receiver, whether that server may still answer.
-    pub(crate) waiting: Vec<Vec<bool>>,
-    pub(crate) table: Table<HandleEntry>,
-    // What a slot that isn't there would show.
-    pub(crate) spare_request_header: QH,
-    pub(crate) spare_response_header: PH,
+    pub(crate) parts: Store<QB, QH, PB, PH, K>,
 }
 
 impl<QB: Body, QH: Default + Drop, PB: Body, PH: Default + Drop, K: BackpressureFn> Model
@@ -33,14 +20,13 @@ impl<QB: Body, QH: Default + Drop, PB: Body, PH: Default + Drop, K: Backpressure
     ghost use Rattle.rr_protocol.specs.State.{State};
     ghost use Rattle.rr_protocol.specs.Codes.{state_code};
     ghost use Rattle.rr_store.specs.Views.{state_of};
-    ghost use Rattle.rr_hub.specs.Inside.{parts_of};
-    ghost use Rattle.rr_hub.specs.Reaching.{IsCore};
+    ghost use Rattle.rr_store.specs.Reaching.{IsCore};
 
     ghost Value = { State QB.Item QH PB.Item PH K };
 
     ghost coded = { state_code QB.Item.code QH.code PB.Item.code PH.code K.code };
 
-    ghost view = { λ c. state_of (parts_of c) };
+    ghost view = { λ c. state_of c.parts };
 
-    ghost invariant = { λ c. IsCore (parts_of c) };
+    ghost invariant = { λ c. IsCore c.parts };
 }

@@ -6,12 +6,11 @@ ghost use Rattle.rr_protocol.specs.State.{handle_at, with_changed};
 ghost use Rattle.rr_protocol.specs.Writing.{is_complete, with_element, with_request_content, with_response_content, after_init};
 ghost use Rattle.rr_store.specs.Writing.{is_ready};
 
-use crate::handle_id::HandleId;
 use crate::state::Core;
 use rr_protocol::{BackpressureFn, Kind};
 use rr_slots::Body;
-use rr_store::HandleEntry;
-use rr_store::write::push_in;
+use rr_store::HandleId;
+use rr_writing::{assume_init_at, push_request_at, push_response_at};
 
 impl<QB: Body, QH: Default + Drop, PB: Body, PH: Default + Drop, K: BackpressureFn> Core<
     QB,
@@ -28,10 +27,8 @@ impl<QB: Body, QH: Default + Drop, PB: Body, PH: Default + Drop, K: Backpressure
         requires { kind_at self.old id.now ≡ Some Kind.RequestMutUninit }
         ensures { IsSomeAnd (option_and_then request_in (handle_at self.old id.now)) (λ m. (result ≡ not (is_complete m.content)) × (self.new ≡ (if result then with_changed self.old id.now (with_request_content (with_element item)) else self.old))) }
     {
-        match self.table.get(id.number, id.hint) {
-            Some(entry) => push_in(&mut self.client_senders, entry.sender, entry.slot, item),
-            None => unreachable!(),
-        }
+        let place = self.parts.place(id.number(), id.hint());
+        push_request_at(&mut self.parts, id.number(), place, item)
     }
 
     /// Appends an element to a response that is being written, and tells whether it had room: `false` where the body is
@@ -42,10 +39,8 @@ impl<QB: Body, QH: Default + Drop, PB: Body, PH: Default + Drop, K: Backpressure
         requires { kind_at self.old id.now ≡ Some Kind.ResponseMutUninit }
         ensures { IsSomeAnd (option_and_then response_in (handle_at self.old id.now)) (λ m. (result ≡ not (is_complete m.content)) × (self.new ≡ (if result then with_changed self.old id.now (with_response_content (with_element item)) else self.old))) }
     {
-        match self.table.get(id.number, id.hint) {
-            Some(entry) => push_in(&mut self.server_senders, entry.sender, entry.slot, item),
-            None => unreachable!(),
-        }
+        let place = self.parts.place(id.number(), id.hint());
+        push_response_at(&mut self.parts, id.number(), place, item)
     }
 
     /// Makes a message that is being written, and complete, one that can be sent.
@@ -56,16 +51,7 @@ impl<QB: Body, QH: Default + Drop, PB: Body, PH: Default + Drop, K: Backpressure
         requires complete { IsSomeAnd (handle_at self.old id.now) (λ handle. is_ready handle ≡ true) }
         ensures { self.new ≡ with_changed self.old id.now after_init }
     {
-        match self.table.get(id.number, id.hint) {
-            Some(entry) => {
-                let ready = HandleEntry {
-                    stage: entry.stage.initialised(),
-                    sender: entry.sender,
-                    slot: entry.slot,
-                };
-                self.table.set(id.number, id.hint, ready);
-            }
-            None => unreachable!(),
-        }
+        let place = self.parts.place(id.number(), id.hint());
+        assume_init_at(&mut self.parts, id.number(), place);
     }
 }

@@ -1,7 +1,7 @@
 -- The parts of a core after a response was loaned, and which active request it is loaned from.
-use Rattle.std.specs.Prelude.{ℕ, ◌+◌, ◌==◌, List, Option, Some, None, IsSome, option_and_then, slice_set}
+use Rattle.std.specs.Prelude.{ℕ, ◌+◌, ◌==◌, List, Option, Some, None, option_and_then, slice_set}
 use Rattle.std.specs.List.{position}
-use Rattle.rr_table.specs.TableView.{TableView, inserted, value_at}
+use Rattle.rr_table.specs.TableView.{inserted}
 use Rattle.rr_table.specs.declared.place.Place.{Place}
 use Rattle.rr_sender.specs.Senders.{loaned}
 use Rattle.rr_store.specs.declared.handle_entry.HandleEntry.{HandleEntry}
@@ -28,10 +28,6 @@ module _ {K : Type 0} where
   -- where the server of an active request stands
   abbrev pub server_index : List (ServerPort K) → HandleEntry → Option ℕ
   server_index servers entry = option_and_then (λ a. position (λ s. s.port.id == a.0) servers) (active_in entry.stage)
-
-  -- under a number stands an active request of one of the servers
-  abbrev pub IsActiveOfOne : TableView HandleEntry → List (ServerPort K) → ℕ → Type 0
-  IsActiveOfOne table servers n = IsSome (option_and_then (server_index servers) (value_at table n))
 
   -- a server that has one more response on loan
   abbrev pub with_one_response_loan : ServerPart K → ServerPart K

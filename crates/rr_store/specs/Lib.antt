@@ -20,3 +20,6 @@ pub mod Ending
 pub mod Clearing
 pub mod Delivering
 pub mod Skimming
+pub mod Inside
+pub mod Reaching
+pub mod Changes

@@ -10,8 +10,6 @@ use crate::OwnedSender;
 use rr_slots::{AcquireError, Body};
 use rr_table::Place;
 
-pub mod response;
-
 /// Loans a slot of a sender for a message of `len` elements, a length that the body's family takes. Returns the place of its
 /// handle.
 ///

@@ -27,18 +27,6 @@ pub fn clear_mark(
     marks[slot * receivers + receiver] = false;
 }
 
-/// The details of a message in a sender.
-pub fn details_in<B: Body, N: Copy, H: Drop>(
-    senders: &[OwnedSender<B, N, H>],
-    sender: usize,
-    slot: usize,
-) -> N
-    requires { IsSomeAnd (slice_get senders.now sender) (λ l. slot < length l.messages.held) }
-    ensures { IsSomeAnd (slice_get senders.now sender) (λ l. slice_get l.messages.details slot ≡ Some result) }
-{
-    senders[sender].messages.details(slot)
-}
-
 /// Where others send to the port with a number.
 pub fn receiver_of<P: ConnectedPort>(ports: &[P], id: u64) -> usize
     requires { IsSome (position (λ p. P.id p == id) ports.now) }
@@ -65,18 +53,6 @@ pub fn end_borrow_in<B: Body, N: Copy, H: Drop>(
     let sender = &mut senders[sender];
     sender.messages.end_borrow(receiver, channel);
     sender.messages.give_back(slot);
-}
-
-/// Holds a slot of a sender once less.
-pub fn give_back_in<B: Body, N: Copy, H: Drop>(
-    senders: &mut Vec<OwnedSender<B, N, H>>,
-    sender: usize,
-    slot: usize,
-)
-    requires { IsSomeAnd (slice_get senders.old.items sender) (λ l. 0 < slice_index l.messages.held slot) }
-    ensures { IsSomeAnd (slice_get senders.old.items sender) (λ l. senders.new.items ≡ slice_set senders.old.items sender (with_messages l (given_back l.messages slot))) }
-{
-    senders[sender].messages.give_back(slot);
 }
 
 /// Counts one request less on loan for the client that sends in a sender.

@@ -7,3 +7,4 @@ pub mod Distinct
 pub mod SetTwo
 pub mod ReadAt
 pub mod EachOnce
+pub mod Mapped

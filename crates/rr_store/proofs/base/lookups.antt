@@ -3,3 +3,4 @@ pub mod Shown
 pub mod Numbers
 pub mod Asking
 pub mod NextNumber
+pub mod Placed

@@ -3,3 +3,7 @@ pub mod Entries
 pub mod Ports
 pub mod GivenBack
 pub mod BorrowEnded
+pub mod Stored
+pub mod Marks
+pub mod Owners
+pub mod Written

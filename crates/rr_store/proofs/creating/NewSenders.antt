@@ -124,17 +124,6 @@ module _ {T N H : Type 0} (senders : List (Sender T N H)) (new : Sender T N H) {
         (λ h e g. absurd (omega (arith, some, ap (λ (x : Sender T N H). uses x.messages i) g)));
   }
 
--- every list looks like itself
-pub looks_like_itself : {T N H : Type 0} (senders : List (Sender T N H)) → LooksLike senders senders
-looks_like_itself senders = record {
-  held = λ l i. refl;
-  queues = λ l r c. refl;
-  borrowed = λ l r c. refl;
-  used = λ l i. refl;
-  noted = λ l i d some. refl;
-  owned = λ l i some. refl;
-}
-
 -- a row of marks of a list with a row of the same is one of the list's rows, or has that mark everywhere
 pub mark_of_more : {X : Type 0} (rows : List (List X)) (n l i : ℕ) (x : X) → at_two x (rows ++ replicate n x ∷ []) l i ≡ at_two x rows l i
 mark_of_more {X} rows n l i x =

@@ -1,9 +1,8 @@
 -- A request's own handle can stand in its own place alone.
-use Rattle.std.proofs.Common.{◌≡◌, ◌<◌, ℕ, Bool, true, false, List, None, Some, map, length, get_or, refl, sym, ap, ◌∙◌, subst, ⊎_elim, option_map}
-use Rattle.std.specs.Prelude.{is_some, option_and_then, slice_get}
+use Rattle.std.proofs.Common.{◌≡◌, ◌<◌, ℕ, Bool, true, false, None, Some, refl, sym, ap, ◌∙◌, subst, ⊎_elim, option_map}
+use Rattle.std.specs.Prelude.{is_some, option_and_then}
 use Rattle.std.specs.FinMap as fin_map
 use Rattle.std.proofs.lemmas.Bool.{false≢true}
-use Rattle.std.proofs.lemmas.Option.{get_or_from_slice_get}
 use Rattle.rr_table.specs.TableView.{TableEntry, kept_in, value_at, value_in}
 use Rattle.rr_table.specs.declared.place.Place.{Place}
 use Rattle.rr_table.proofs.Kept.{kept_in_own, kept_in_place}
@@ -13,29 +12,16 @@ use Rattle.rr_protocol.specs.Messages.{as_pending}
 use Rattle.rr_store.specs.declared.handle_entry.HandleEntry.{HandleEntry}
 use Rattle.rr_store.specs.declared.handle_entry.Stage.{Stage}
 use Rattle.rr_store.specs.declared.handle_entry.Stage.TheVariants as stage
-use Rattle.rr_store.specs.declared.details.RequestDetails.{RequestDetails}
-use Rattle.rr_store.specs.declared.port.OwnedSender.{OwnedSender}
-use Rattle.rr_store.specs.Ports.{sender_part}
-use Rattle.rr_store.specs.Parts.{Parts, Sender}
-use Rattle.rr_store.specs.Views.{sender_of, no_request, handle_in, handle_of, state_of}
+use Rattle.rr_store.specs.Parts.{Parts}
+use Rattle.rr_store.specs.Views.{handle_in, handle_of, state_of}
 use Rattle.rr_store.specs.Sound.{IsSound, Hand, is_of_request, is_pending, own_place, place_at, request_details, request_uses}
 use Rattle.rr_store.proofs.base.lookups.Looking.{table_entry_under, handle_at-state_of}
-use Rattle.rr_store.proofs.base.lookups.Shown.{sender_read}
 use Rattle.rr_store.proofs.base.hands.Stages.{handle_uses_request, pending_is_request}
 
 -- a boolean that is not true
 not_true : (b : Bool) → (b ≡ true → ⊥) → b ≡ false
 not_true true h = absurd (h refl)
 not_true false h = refl
-
-module _ {B H T : Type 0} (senders : List (OwnedSender B RequestDetails H T)) (i : ℕ) (sender : OwnedSender B RequestDetails H T)
-    (within : i < length senders) (is : sender ≡ get_or senders i sender) where
-  -- the details that was read of a slot
-  pub details_read : (slot : ℕ) (details : RequestDetails) → slice_get sender.messages.details slot ≡ Some details
-      → get_or (sender_of i (map sender_part senders)).messages.details slot no_request ≡ details
-  details_read slot details at = ap (λ (l : Sender T RequestDetails H). get_or l.messages.details slot no_request)
-      (sender_read senders i sender within is)
-      ∙ get_or_from_slice_get sender.messages.details slot details no_request at
 
 module _ {Q QH P PH K : Type 0} (p : Parts Q QH P PH K) where
   -- a pending response is what shows as one

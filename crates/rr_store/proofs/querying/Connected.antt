@@ -1,11 +1,10 @@
 -- Whether the other side of a request may still answer, or still waits.
-use Rattle.std.proofs.Common.{◌≡◌, ◌≢◌, ◌<◌, ◌≤◌, ◌+◌, ◌*◌, ℕ, Bool, true, false, cond, List, [], ◌∷◌, Option, None, Some, map, length, get_or, refl, sym, ap, ◌∙◌, subst, option_map, arith, Vec, Global}
+use Rattle.std.proofs.Common.{◌≡◌, ◌≢◌, ◌<◌, ◌≤◌, ◌+◌, ◌*◌, ℕ, Bool, true, false, cond, List, [], ◌∷◌, Option, Some, map, length, get_or, refl, sym, ap, ◌∙◌, subst, option_map, arith, Vec, Global}
 use Rattle.std.specs.Prelude.{IsSome, IsSomeAnd, is_some, nat_lt, option_and_then, slice_get, suc}
 use Rattle.std.specs.List.{list_any}
 use Rattle.std.proofs.Math.Nat.{mul-le-mul_right}
 use Rattle.std.proofs.lemmas.Bool.{false≢true}
 use Rattle.std.proofs.lemmas.List.{get_or-map}
-use Rattle.std.proofs.lemmas.Option.{slice_get-map}
 use Rattle.rr_table.specs.TableView.{value_at}
 use Rattle.rr_protocol.specs.declared.kind.Kind.{Kind}
 use Rattle.rr_protocol.specs.Messages.{as_pending, as_active}
@@ -17,11 +16,11 @@ use Rattle.rr_store.specs.declared.handle_entry.Stage.TheVariants as stage
 use Rattle.rr_store.specs.declared.port.ServerPort.{ServerPort}
 use Rattle.rr_store.specs.Ports.{server_part, marks_of}
 use Rattle.rr_store.specs.Kinds.{stage_kind}
-use Rattle.rr_store.specs.Parts.{Parts, Sender}
+use Rattle.rr_store.specs.Parts.{Parts}
 use Rattle.rr_store.specs.Views.{handle_in, state_of, is_awaited, waiting_at, request_at}
-use Rattle.rr_store.specs.Sound.{HasSenders, is_of_request}
+use Rattle.rr_store.specs.Sound.{is_of_request}
 use Rattle.rr_store.proofs.base.lookups.Looking.{list_any-map, some_pass, kind_shown}
-use Rattle.rr_store.proofs.base.lookups.Shown.{shown_there, not_there}
+use Rattle.rr_store.proofs.base.lookups.Shown.{shown_there}
 
 -- no element passes a test that each of them fails
 pub none_pass : {X : Type 0} (t : X → Bool) (xs : List X) → ((i : ℕ) (x : X) → slice_get xs i ≡ Some x → t x ≡ false)
@@ -60,16 +59,6 @@ active_stage stage.ResponseMutUninit h = absurd (let f : Kind.ResponseMutUninit 
 active_stage stage.ResponseMut h = absurd (let f : Kind.ResponseMut ≡ Kind.ActiveRequest = h in cc)
 active_stage stage.Response h = absurd (let f : Kind.Response ≡ Kind.ActiveRequest = h in cc)
 
--- where a server is sent to
-pub server_place_within : {T N H K : Type 0} (next ports : ℕ) (servers stored : List (ServerPort K)) (senders : List (Sender T N H))
-    → HasSenders next ports (map (λ s. s.connected) (map server_part servers)) senders
-    → stored ≡ servers → (i : ℕ) (s : ServerPort K) → slice_get stored i ≡ Some s → s.port.receiver < ports
-server_place_within next ports servers stored senders has is i s at =
-    has.placed i (server_part s).connected
-    (slice_get-map (λ s. s.connected) (map server_part servers) i
-    ∙ ap (option_map (λ s. s.connected)) (slice_get-map server_part servers i
-    ∙ ap (option_map server_part) (ap (λ xs. slice_get xs i) (sym is) ∙ at)))
-
 -- a row of marks that was read
 pub marks_read : (rows : List (Vec Bool Global)) (i : ℕ) (row : Vec Bool Global) (marks : List Bool) → i < length rows
     → row ≡ get_or rows i row → marks ≡ row.items → get_or (map marks_of rows) i [] ≡ marks
@@ -105,12 +94,6 @@ module _ {Q QH P PH K : Type 0} (p : Parts Q QH P PH K) where
     kind_there = ap (λ t. option_map kind_of (handle_at t n)) view ∙ ap (λ j. option_map kind_of (handle_at s j)) same
         ∙ handle_kind s m k client server is
 
-    -- a number of a kind that is a handle's has a handle
-    pub of_kind_there : value_at p.table n ≡ None → ⊥
-    of_kind_there h =
-        absurd (let f : None ≡ Some k = sym (ap (option_map kind_of) (not_there p s n m view same h))
-        ∙ handle_kind s m k client server is in cc)
-
     -- in the stage of its kind
     pub of_kind : (entry : HandleEntry) → value_at p.table n ≡ Some entry → stage_kind entry.stage ≡ k
     of_kind entry h = let f : Some (stage_kind entry.stage) ≡ Some k = sym (kind_shown p n entry h) ∙ kind_there in cc
@@ -127,10 +110,6 @@ module _ {Q QH P PH K : Type 0} (p : Parts Q QH P PH K) where
   active-handle_in stage.Response sender slot h = absurd (false≢true h)
 
   module _ (s : State Q QH P PH K) (n m : ℕ) (view : state_of p ≡ s) (same : n ≡ m) where
-    -- a number of an active request has a handle
-    pub active_there : IsSome (active_at s m) → value_at p.table n ≡ None → ⊥
-    active_there r h = false≢true (sym (ap (λ o. is_some (option_and_then as_active o)) (not_there p s n m view same h)) ∙ r)
-
     -- of one
     pub is_active : (entry : HandleEntry) → value_at p.table n ≡ Some entry → IsSome (active_at s m)
         → stage_kind entry.stage ≡ Kind.ActiveRequest

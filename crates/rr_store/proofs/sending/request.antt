@@ -5,3 +5,4 @@ pub mod Lists
 pub mod View
 pub mod Refusals
 pub mod Fields
+pub mod Stored

@@ -12,7 +12,7 @@ use Rattle.rr_store.specs.declared.handle_entry.HandleEntry.{HandleEntry}
 use Rattle.rr_store.specs.declared.handle_entry.Stage.TheVariants as stage
 use Rattle.rr_store.specs.Parts.{ClientPart, Parts, Sender}
 use Rattle.rr_store.specs.Sound.{IsSound, Hand, handles, is_of_response, is_request_loan, is_pending, is_active_of, is_received, is_request_at, is_response_at, is_active_at, is_loan_from, request_uses, response_uses, request_details, response_details, server_place, place_of, IsAddressed, IsSized, IsVacated, HaveValues}
-use Rattle.rr_store.specs.Frames.{SendersAlike, SameFrame}
+use Rattle.rr_store.specs.Frames.{SendersAlike}
 use Rattle.rr_store.specs.Hands.{IsInsertable}
 use Rattle.std.proofs.lemmas.Bool.{cases_eq}
 
@@ -38,18 +38,6 @@ senders_same senders = record
     { many = refl; each = λ l. record { owner = refl; row = refl; slots = refl; room = refl; shaped = λ r c k h. h } }
 
 module _ {Q QH P PH K : Type 0} (p : Parts Q QH P PH K) where
-  -- handles alone change
-  pub frame_same : SameFrame p p.clients p.servers p.client_senders p.server_senders p.waiting p.next
-  frame_same = record {
-    clients_alike = refl;
-    servers_alike = refl;
-    client_senders_alike = senders_same p.client_senders;
-    server_senders_alike = senders_same p.server_senders;
-    marks = refl;
-    marks_each = λ l. refl;
-    numbers = omega arith;
-  }
-
   -- what is true whatever handles stand in the table
   module _ (entries : fin_map.FinMap nat_cmp (TableEntry HandleEntry)) where
     abbrev replaced : Parts Q QH P PH K

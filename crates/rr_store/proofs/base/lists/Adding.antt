@@ -1,15 +1,13 @@
 -- Small facts on which adding a port rests.
-use Rattle.std.proofs.Common.{◌≡◌, ◌<◌, ◌≤◌, ◌+◌, ◌-◌, ◌*◌, ◌^◌, ℕ, Bool, true, false, cond, List, Option, None, Some, Result, Ok, Err, length, map, refl, sym, ap, ◌∙◌, ⊎_elim, option_map, arith}
-use Rattle.std.specs.Prelude.{OnErr, slice_get, ◌==◌, ◌||◌, nat_le}
-use Rattle.std.proofs.Math.Nat.{mul_comm, mul-add}
+use Rattle.std.proofs.Common.{◌≡◌, ◌<◌, ◌≤◌, ◌+◌, ◌-◌, ◌*◌, ◌^◌, ℕ, Bool, true, false, cond, List, Option, None, Some, length, map, refl, sym, ap, ◌∙◌, ⊎_elim, option_map, arith}
+use Rattle.std.specs.Prelude.{slice_get, ◌==◌, ◌||◌, nat_le}
 use Rattle.std.proofs.lemmas.Bool.{false≢true, eq-eqb, le-leb, cases_lt}
 use Rattle.std.proofs.lemmas.Option.{slice_get-map}
 use Rattle.std.proofs.lemmas.List.{length-map}
 use Rattle.rr_table.specs.TableView.{TableView}
 use Rattle.rr_store.specs.declared.handle_entry.HandleEntry.{HandleEntry}
-use Rattle.rr_store.specs.declared.details.RequestDetails.{RequestDetails}
 use Rattle.rr_store.specs.declared.details.ResponseDetails.{ResponseDetails}
-use Rattle.rr_store.specs.Parts.{Parts, Connected, ClientPart, ServerPart, Sender}
+use Rattle.rr_store.specs.Parts.{Parts, Connected, ServerPart, Sender}
 use Rattle.rr_store.specs.Sound.{HasSenders}
 use Rattle.rr_store.specs.Views.{state_of, client_of, server_of}
 use Rattle.rr_protocol.specs.State.{State, numbers_left}
@@ -19,11 +17,6 @@ use Rattle.rr_protocol.specs.declared.error.HubCreateError.{HubCreateError}
 use Rattle.rr_protocol.specs.declared.limits.Limits.{Limits}
 use Rattle.rr_protocol.specs.declared.settings.ServerSettings.{ServerSettings}
 use Rattle.rr_protocol.specs.declared.error.ClientCreateError.{ClientCreateError}
-
--- what holds anyway holds of an error
-pub on_err_any : {T E P : Type 0} (r : Result T E) → P → OnErr r P
-on_err_any (Ok t) p = tt
-on_err_any (Err e) p = p
 
 -- the first of two refusals, or none
 both_pass : (a b : Bool) (e f : ClientCreateError) → cond a (Some e) (cond b (Some f) None) ≡ None → (a ≡ false) × (b ≡ false)
@@ -71,13 +64,6 @@ fewer_servers p settings h = omega (arith, (server_not_refused (state_of p) sett
 pub fewer : {Q QH P PH K : Type 0} (p : Parts Q QH P PH K) → client_refusal (state_of p) ≡ None → length p.clients < p.limits.max_clients
 fewer p h = omega (arith, (not_refused (state_of p) h).1, length-map p.clients client_of)
 
--- the places of a row that aren't a request's own
-pub other_places : (servers slots : ℕ) → (servers + 1) * slots - slots ≡ slots * servers
-other_places servers slots = let e : (servers + 1) * slots ≡ slots * servers + slots = mul_out servers slots in omega (arith, e)
-  where
-    mul_out : (a b : ℕ) → (a + 1) * b ≡ b * a + b
-    mul_out a b = omega (arith, mul_comm (a + 1) b, mul-add b a 1)
-
 -- an element after a function of each
 pub mapped : {X Y : Type 0} (f : X → Y) (xs : List X) (i : ℕ) (y : Y) → slice_get (map f xs) i ≡ Some y → (x : X)
     × (slice_get xs i ≡ Some x) × (f x ≡ y)
@@ -88,25 +74,6 @@ mapped {X} {Y} f xs i y e = go (slice_get xs i) refl (sym (slice_get-map f xs i)
     go (Some x) h g = let is : Some (f x) ≡ Some y = g in let same : f x ≡ y = cc in (x, h, same)
 
 module _ {Q QH P PH K : Type 0} where
-  -- a core with other clients, senders, marks and handles
-  abbrev pub with_vectors : Parts Q QH P PH K → List (ClientPart K) → List (Sender Q RequestDetails QH) → List (List Bool)
-      → TableView HandleEntry → ℕ
-      → Parts Q QH P PH K
-  with_vectors p clients senders waiting table next = record p
-      { clients = clients; client_senders = senders; waiting = waiting; table = table; next = next }
-
-  -- with the same ones it is as it was
-  pub same_vectors : (p q : Parts Q QH P PH K) (clients : List (ClientPart K)) (senders : List (Sender Q RequestDetails QH))
-      (waiting : List (List Bool)) (table : TableView HandleEntry) (next : ℕ)
-      → clients ≡ q.clients → senders ≡ q.client_senders → waiting ≡ q.waiting → table ≡ q.table → next ≡ q.next
-      → q ≡ with_vectors p q.clients q.client_senders q.waiting q.table q.next
-      → with_vectors p clients senders waiting table next ≡ q
-  same_vectors p q clients senders waiting table next a b c d e is =
-      ap (λ x. with_vectors p x senders waiting table next) a ∙ ap (λ x. with_vectors p q.clients x waiting table next) b
-      ∙ ap (λ x. with_vectors p q.clients q.client_senders x table next) c
-      ∙ ap (λ x. with_vectors p q.clients q.client_senders q.waiting x next) d
-      ∙ ap (λ x. with_vectors p q.clients q.client_senders q.waiting q.table x) e ∙ sym is
-
   -- a core with other servers, senders of servers and handles
   abbrev pub with_servers : Parts Q QH P PH K → List (ServerPart K) → List (Sender P ResponseDetails PH) → TableView HandleEntry → ℕ
       → Parts Q QH P PH K
@@ -161,9 +128,6 @@ module _ (l : Limits) (h : hub_refusal l ≡ None) where
 
   pub some_responses : 0 < l.max_response_buffer_size
   some_responses = not_zero l.max_response_buffer_size (right_off _ _ (left_off _ _ (none_zero l h)))
-
-  pub some_borrows : 0 < l.max_borrowed_responses_per_pending_response
-  some_borrows = not_zero l.max_borrowed_responses_per_pending_response (right_off _ _ (none_zero l h))
 
   pub makes_requests : 0 < l.max_active_requests_per_client
   makes_requests = not_zero l.max_active_requests_per_client (right_off _ _ (left_off _ _ (left_off _ _ (none_zero l h))))

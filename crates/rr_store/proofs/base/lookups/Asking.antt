@@ -1,6 +1,6 @@
 -- The port and the sender that a call works on, and answers about a value that is there.
-use Rattle.std.proofs.Common.{◌≡◌, ◌<◌, ◌≤◌, ◌+◌, ◌*◌, ◌^◌, ℕ, Bool, true, false, cond, List, Option, None, Some, Result, Ok, Err, option_map, find, length, get_or, map, refl, sym, ap, ◌∙◌, mul-add, ⊎_elim, arith}
-use Rattle.std.specs.Prelude.{◌==◌, ◌||◌, slice_get}
+use Rattle.std.proofs.Common.{◌≡◌, ◌<◌, ◌≤◌, ◌+◌, ◌*◌, ◌^◌, ℕ, Bool, true, false, cond, List, Option, None, Some, Result, Ok, Err, length, get_or, map, refl, sym, ap, ◌∙◌, mul-add, ⊎_elim, arith}
+use Rattle.std.specs.Prelude.{◌||◌, slice_get}
 use Rattle.std.specs.List.{position}
 use Rattle.std.proofs.Math.Nat.{mul_comm, le-mul_of_pos_right}
 use Rattle.std.proofs.lemmas.List.{length-map}
@@ -12,15 +12,13 @@ use Rattle.rr_protocol.specs.declared.limits.Limits.{Limits}
 use Rattle.rr_protocol.specs.Limits.{worst_case_requests, worst_case_responses, has_zero_limit, is_too_large, hub_refusal}
 use Rattle.rr_protocol.specs.Loans.{IsLoanRefusal}
 use Rattle.rr_protocol.specs.Ports.{Port}
-use Rattle.rr_store.specs.declared.port.ClientPort.{ClientPort}
-use Rattle.rr_store.specs.declared.port.ServerPort.{ServerPort}
 use Rattle.rr_store.specs.declared.port.OwnedSender.{OwnedSender}
-use Rattle.rr_store.specs.Ports.{client_part, server_part, sender_part}
-use Rattle.rr_store.specs.Views.{client_of, server_of, sender_of, no_sender}
+use Rattle.rr_store.specs.Ports.{sender_part}
+use Rattle.rr_store.specs.Views.{sender_of, no_sender}
 use Rattle.rr_protocol.proofs.Growth.{large_borrows}
 use Rattle.rr_store.proofs.base.lists.Adding.{some_clients, makes_channels}
 use Rattle.rr_store.proofs.base.views.Counts.{listed}
-use Rattle.rr_store.proofs.base.lists.Replaced.{Standing, standing, find_mapped}
+use Rattle.rr_store.proofs.base.lists.Replaced.{Standing, standing}
 
 -- a refusal that is due
 pub due_refusal : {K : Type 0} (o : Option LoanError) (port : Port K) (len : ℕ) (error : LoanError) → o ≡ Some error
@@ -40,33 +38,6 @@ standing_at test i slice items o e f h = standing test items i (ap (position tes
 -- what is read there
 pub read_at : {X : Type 0} (items : List X) (i : ℕ) (x y : X) → slice_get items i ≡ Some x → y ≡ get_or items i y → y ≡ x
 read_at items i x y at e = e ∙ get_or_from_slice_get items i x y at
-
-module _ {K : Type 0} where
-  -- the client that is found is the one that contracts see
-  pub client_seen : (n : ℕ) (clients : List (ClientPort K)) (i : ℕ) (it : Standing (λ x. x.port.id == n) clients i)
-      → find (λ c. c.id == n) (map client_of (map client_part clients)) ≡ Some (client_of (client_part it.it))
-  client_seen n clients i it =
-      find_mapped client_of (λ c. c.id == n) (map client_part clients)
-      ∙ ap (option_map client_of) (find_mapped client_part (λ c. c.port.id == n) clients ∙ ap (option_map client_part) it.found)
-
-  pub server_seen : (n : ℕ) (servers : List (ServerPort K)) (i : ℕ) (it : Standing (λ x. x.port.id == n) servers i)
-      → find (λ c. c.id == n) (map server_of (map server_part servers)) ≡ Some (server_of (server_part it.it))
-  server_seen n servers i it =
-      find_mapped server_of (λ c. c.id == n) (map server_part servers)
-      ∙ ap (option_map server_of) (find_mapped server_part (λ c. c.port.id == n) servers ∙ ap (option_map server_part) it.found)
-
-  -- and no client is
-  pub no_client_seen : (n : ℕ) (clients : List (ClientPort K)) → find (λ x. x.port.id == n) clients ≡ None
-      → find (λ c. c.id == n) (map client_of (map client_part clients)) ≡ None
-  no_client_seen n clients none =
-      find_mapped client_of (λ c. c.id == n) (map client_part clients)
-      ∙ ap (option_map client_of) (find_mapped client_part (λ c. c.port.id == n) clients ∙ ap (option_map client_part) none)
-
-  pub no_server_seen : (n : ℕ) (servers : List (ServerPort K)) → find (λ x. x.port.id == n) servers ≡ None
-      → find (λ c. c.id == n) (map server_of (map server_part servers)) ≡ None
-  no_server_seen n servers none =
-      find_mapped server_of (λ c. c.id == n) (map server_part servers)
-      ∙ ap (option_map server_of) (find_mapped server_part (λ c. c.port.id == n) servers ∙ ap (option_map server_part) none)
 
 -- the sender at an index
 pub sender_is : {B N H T : Type 0} (senders : List (OwnedSender B N H T)) (l : ℕ) (x : OwnedSender B N H T) → l < length senders

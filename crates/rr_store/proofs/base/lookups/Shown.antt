@@ -1,24 +1,19 @@
 -- The message of a handle that was looked up: what of it is seen, and that its sender and slot are there.
-use Rattle.std.proofs.Common.{◌≡◌, ◌<◌, ℕ, true, List, None, Some, map, length, get_or, refl, sym, ap, ◌∙◌, subst, ⊎_elim, arith}
-use Rattle.std.specs.Prelude.{IsSome, IsSomeAnd, is_some, option_and_then, slice_get, slice_index}
+use Rattle.std.proofs.Common.{◌≡◌, ◌<◌, ℕ, true, List, Some, length, refl, sym, ap, ◌∙◌, subst, ⊎_elim, arith}
+use Rattle.std.specs.Prelude.{IsSome, IsSomeAnd, is_some, option_and_then, slice_index}
 use Rattle.std.proofs.lemmas.Bool.{cases_lt, eq-eqb, false≢true}
-use Rattle.std.proofs.lemmas.List.{get_or-map, get_or_past}
-use Rattle.std.proofs.lemmas.Option.{get_or_from_slice_get}
-use Rattle.rr_slots.specs.Pools.{Written, nothing_written}
+use Rattle.std.proofs.lemmas.List.{get_or_past}
 use Rattle.rr_table.specs.TableView.{value_at}
 use Rattle.rr_maps.proofs.MapLaws.{tally-at}
-use Rattle.rr_sender.specs.Senders.{content_at}
 use Rattle.rr_protocol.specs.Messages.{RequestMessage, ResponseMessage, request_in, response_in}
 use Rattle.rr_protocol.specs.State.{State, handle_at}
 use Rattle.rr_store.specs.declared.handle_entry.HandleEntry.{HandleEntry}
 use Rattle.rr_store.specs.declared.handle_entry.Stage.{Stage}
 use Rattle.rr_store.specs.declared.handle_entry.Stage.TheVariants as stage
-use Rattle.rr_store.specs.declared.port.OwnedSender.{OwnedSender}
-use Rattle.rr_store.specs.Ports.{sender_part}
-use Rattle.rr_store.specs.Parts.{Parts, Sender}
-use Rattle.rr_store.specs.Views.{no_sender, sender_of, handle_in, request_at, response_at, state_of}
+use Rattle.rr_store.specs.Parts.{Parts}
+use Rattle.rr_store.specs.Views.{sender_of, handle_in, request_at, response_at, state_of}
 use Rattle.rr_store.specs.Sound.{IsCounted, Hand, is_of_request, is_of_response, has_request_at, has_response_at}
-use Rattle.rr_store.proofs.base.lookups.Looking.{table_entry_under, shown, nothing_shown}
+use Rattle.rr_store.proofs.base.lookups.Looking.{table_entry_under, shown}
 use Rattle.rr_store.proofs.base.views.Agreeing.{sender_within}
 
 -- a slot that is held is one of the slots
@@ -27,18 +22,6 @@ held_within held slot some =
     ⊎_elim (λ h. h)
     (λ h. absurd (omega (arith, some, get_or_past held slot 0 h)))
     (cases_lt slot (length held))
-
-module _ {B T N H : Type 0} (senders : List (OwnedSender B N H T)) (i : ℕ) (sender : OwnedSender B N H T) (within : i < length senders)
-    (is : sender ≡ get_or senders i sender) where
-  -- a sender that was read
-  pub sender_read : sender_of i (map sender_part senders) ≡ sender_part sender
-  sender_read = get_or-map sender_part senders i sender no_sender within ∙ ap sender_part (sym is)
-
-  -- what was read of a slot
-  pub content_read : (slot : ℕ) (w : Written T) → slice_get sender.messages.contents slot ≡ Some w
-      → content_at (sender_of i (map sender_part senders)).messages slot ≡ w
-  content_read slot w at = ap (λ (l : Sender T N H). content_at l.messages slot) sender_read
-      ∙ get_or_from_slice_get sender.messages.contents slot w (nothing_written 0) at
 
 module _ {Q QH P PH K : Type 0} (p : Parts Q QH P PH K) where
   -- the request of a handle of one, and that only such a handle has one
@@ -87,18 +70,6 @@ module _ {Q QH P PH K : Type 0} (p : Parts Q QH P PH K) where
     pub shown_there : (entry : HandleEntry) → value_at p.table n ≡ Some entry → handle_at s m ≡ Some
         (handle_in p entry.stage entry.sender entry.slot)
     shown_there entry h = sym (ap (λ t. handle_at t n) view ∙ ap (handle_at s) same) ∙ shown p n entry h
-
-    -- and that it shows nothing
-    pub not_there : value_at p.table n ≡ None → handle_at s m ≡ None
-    not_there h = sym (ap (λ t. handle_at t n) view ∙ ap (handle_at s) same) ∙ nothing_shown p n h
-
-    -- a number of a request has a handle
-    pub request_there : IsSome (option_and_then request_in (handle_at s m)) → value_at p.table n ≡ None → ⊥
-    request_there r h = false≢true (sym (ap (λ o. is_some (option_and_then request_in o)) (not_there h)) ∙ r)
-
-    -- so does a number of a response
-    pub response_there : IsSome (option_and_then response_in (handle_at s m)) → value_at p.table n ≡ None → ⊥
-    response_there r h = false≢true (sym (ap (λ o. is_some (option_and_then response_in o)) (not_there h)) ∙ r)
 
     module _ (entry : HandleEntry) (h : value_at p.table n ≡ Some entry) where
       -- what is found under a number of a request is a handle of one

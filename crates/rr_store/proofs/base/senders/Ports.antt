@@ -17,13 +17,6 @@ module _ {X : Type 0} (test : X → Bool) (i : ℕ) (slice items : List X) (o : 
   index_is : position test items ≡ Some i
   index_is = ap (position test) (sym same) ∙ sym told ∙ is
 
-  -- what is asked of the first port that passes is true of the one that was read
-  pub of_sender : IsSomeAnd (position test items) (λ j. IsSomeAnd (slice_get items j) (R j)) → R i x
-  of_sender all =
-      let S : Option ℕ → Type 0 = λ p. IsSomeAnd p (λ j. IsSomeAnd (slice_get items j) (R j)) in
-      let T : Option X → Type 0 = λ p. IsSomeAnd p (R i) in
-      subst (R i) (sym (read_at items i it.it x it.at read)) (subst T it.at (subst S index_is all))
-
   -- and the other way about
   pub to_sender : R i x → IsSomeAnd (position test items) (λ j. IsSomeAnd (slice_get items j) (R j))
   to_sender r =
@@ -82,10 +75,3 @@ module _ {X : Type 0} (xs ys : List X) (i : ℕ) (x : X) (set : ys ≡ slice_set
   stands =
       ap (λ zs. slice_get zs i) set ∙ slice_get-get_or (slice_set xs i x) i x (omega (arith, there, length-set xs i x))
       ∙ ap Some (get_or-set_same xs i x x there)
-
-  -- what is asked of the element that was put in
-  pub of_set : IsSomeAnd (slice_get ys i) R → R x
-  of_set told = subst (λ o. IsSomeAnd o R) stands told
-
-  pub to_set : R x → IsSomeAnd (slice_get ys i) R
-  to_set r = subst (λ o. IsSomeAnd o R) (sym stands) r

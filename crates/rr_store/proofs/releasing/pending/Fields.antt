@@ -1,23 +1,18 @@
 -- The fields of a core after the release of a pending response, as parts.
-use Rattle.std.proofs.Common.{◌≡◌, ◌<◌, ℕ, Bool, true, List, Some, length, map, refl, sym, ap, ◌∙◌, subst}
-use Rattle.std.specs.Prelude.{IsSomeAnd, slice_index, slice_get, slice_set}
+use Rattle.std.proofs.Common.{◌≡◌, ◌<◌, ℕ, Bool, true, Some, length, refl, ap, ◌∙◌, subst}
+use Rattle.std.specs.Prelude.{IsSomeAnd, slice_index}
 use Rattle.std.specs.FinMap as fin_map
 use Rattle.std.proofs.lemmas.Bool.{false≢true}
-use Rattle.rr_table.specs.TableView.{TableEntry, TableView, removed, value_at}
+use Rattle.rr_table.specs.TableView.{TableEntry, value_at}
 use Rattle.rr_protocol.specs.State.{State, handle_at}
 use Rattle.rr_store.specs.declared.handle_entry.HandleEntry.{HandleEntry}
 use Rattle.rr_store.specs.declared.handle_entry.Stage.{Stage}
 use Rattle.rr_store.specs.declared.handle_entry.Stage.TheVariants as stage
-use Rattle.rr_store.specs.declared.details.RequestDetails.{RequestDetails}
-use Rattle.rr_store.specs.declared.details.ResponseDetails.{ResponseDetails}
-use Rattle.rr_store.specs.Clearing.{is_pending_response, channel_cleared, without_pending}
-use Rattle.rr_store.specs.Parts.{ClientPart, Sender, Parts}
+use Rattle.rr_store.specs.Clearing.{is_pending_response}
+use Rattle.rr_store.specs.Parts.{Parts}
 use Rattle.rr_store.specs.Views.{sender_of, handle_in, state_of}
 use Rattle.rr_store.specs.Sound.{IsSound, empty_hand, is_of_request}
-use Rattle.rr_store.specs.Loaning as part
-use Rattle.rr_store.specs.Releasing.{given_back}
 use Rattle.rr_store.proofs.base.lookups.Looking.{table_entry_under}
-use Rattle.rr_store.proofs.releasing.pending.Sound.{after_pending}
 use Rattle.rr_store.proofs.releasing.request.Fields.{of_handle}
 use Rattle.rr_store.proofs.releasing.request.Sound.{request_there}
 
@@ -63,41 +58,3 @@ module _ {Q QH P PH K : Type 0} (p : Parts Q QH P PH K) where
         sender = subst (λ (v : HandleEntry). v.sender < length p.client_senders) f.2 spot.0;
         slot = subst (λ (v : HandleEntry). 0 < slice_index (sender_of v.sender p.client_senders).messages.held v.slot) f.2 spot.1;
       }
-
-  -- a core with other clients and senders
-  abbrev pub with_all_senders : List (ClientPart K) → List (Sender Q RequestDetails QH) → List (Sender P ResponseDetails PH)
-      → TableView HandleEntry
-      → Parts Q QH P PH K
-  with_all_senders clients senders others table = record p {
-    clients = clients;
-    client_senders = senders;
-    server_senders = others;
-    table = table;
-  }
-
-  -- the parts without the pending response
-  pub pending_parts : (sound : IsSound p empty_hand) (k : ℕ) (entry : HandleEntry) (f : PendingFound k entry) (index : ℕ) (c : ClientPart K)
-      (there : slice_get p.clients index ≡ Some c) (sends : c.sender ≡ f.table_entry.value.sender)
-      (receiver : ℕ) → receiver ≡ c.receiver
-      → (clients : List (ClientPart K)) (senders : List (Sender Q RequestDetails QH)) (others : List (Sender P ResponseDetails PH))
-      (table : TableView HandleEntry)
-      → clients ≡ slice_set p.clients index (without_pending c)
-      → senders ≡ slice_set p.client_senders entry.sender (part.with_messages (sender_of entry.sender p.client_senders)
-      (given_back (sender_of entry.sender p.client_senders).messages entry.slot))
-      → others ≡ map (channel_cleared receiver entry.slot) p.server_senders
-      → table ≡ removed p.table k
-      → with_all_senders clients senders others table ≡ after_pending p sound k f.table_entry f.at f.hint f.connections f.pending index c
-      there sends
-  pending_parts sound k entry f index c there sends receiver its clients senders others table cs ls os ts =
-      ap (λ x. with_all_senders x senders others table) cs
-      ∙ ap (λ x. with_all_senders (slice_set p.clients index (without_pending c)) x others table)
-      (ls ∙ ap (λ (h : HandleEntry). slice_set p.client_senders h.sender
-      (part.with_messages (sender_of h.sender p.client_senders) (given_back (sender_of h.sender p.client_senders).messages h.slot)))
-      (sym f.is))
-      ∙ ap (λ x. with_all_senders after.clients after.client_senders x table)
-      (os ∙ ap (λ r. map (channel_cleared r entry.slot) p.server_senders) its
-      ∙ ap (λ (h : HandleEntry). map (channel_cleared c.receiver h.slot) p.server_senders) (sym f.is))
-      ∙ ap (with_all_senders after.clients after.client_senders after.server_senders) ts
-    where
-      after : Parts Q QH P PH K
-      after = after_pending p sound k f.table_entry f.at f.hint f.connections f.pending index c there sends

@@ -1,33 +1,26 @@
 -- The fields of a core after a release, as parts.
-use Rattle.std.proofs.Common.{◌≡◌, ◌<◌, ℕ, true, List, None, Some, length, map, refl, sym, ap, ◌∙◌, subst}
-use Rattle.std.specs.Prelude.{◌==◌, IsSomeAnd, slice_get, slice_index, slice_set}
-use Rattle.std.specs.List.{position}
+use Rattle.std.proofs.Common.{◌≡◌, ◌<◌, ℕ, true, List, Some, length, map, refl, sym, ap, ◌∙◌, subst}
+use Rattle.std.specs.Prelude.{IsSomeAnd, slice_get, slice_index, slice_set}
 use Rattle.std.specs.FinMap as fin_map
-use Rattle.std.proofs.lemmas.Bool.{eq-eqb, eqb-true}
-use Rattle.rr_table.specs.TableView.{TableEntry, TableView, removed, value_at}
+use Rattle.rr_table.specs.TableView.{TableEntry, value_at}
 use Rattle.rr_sender.specs.Senders.{Messages}
 use Rattle.rr_protocol.specs.Messages.{Handle}
 use Rattle.rr_protocol.specs.State.{State, handle_at}
 use Rattle.rr_store.specs.declared.handle_entry.HandleEntry.{HandleEntry}
 use Rattle.rr_store.specs.declared.handle_entry.Stage.{Stage}
 use Rattle.rr_store.specs.declared.handle_entry.Stage.TheVariants as stage
-use Rattle.rr_store.specs.declared.details.RequestDetails.{RequestDetails}
-use Rattle.rr_store.specs.declared.port.ClientPort.{ClientPort}
 use Rattle.rr_store.specs.declared.port.OwnedSender.{OwnedSender}
-use Rattle.rr_store.specs.Ports.{client_part, sender_part}
-use Rattle.rr_store.specs.Parts.{Connected, ClientPart, Sender, Parts}
+use Rattle.rr_store.specs.Ports.{sender_part}
+use Rattle.rr_store.specs.Parts.{Sender, Parts}
 use Rattle.rr_store.specs.Views.{sender_of, handle_in, state_of}
 use Rattle.rr_store.specs.Sound.{IsSound, empty_hand, is_request_loan}
 use Rattle.rr_store.specs.Loaning as part
-use Rattle.rr_store.specs.Releasing.{is_loaned_request, given_back, without_loan}
+use Rattle.rr_store.specs.Releasing.{is_loaned_request}
 use Rattle.rr_store.specs.Writing.{with_messages}
-use Rattle.rr_store.proofs.base.lists.Adding.{mapped, with_vectors, same_vectors}
-use Rattle.rr_store.proofs.base.views.Counts.{listed}
 use Rattle.rr_store.proofs.base.lookups.Looking.{table_entry_under}
 use Rattle.rr_store.proofs.base.lists.Replaced.{map-set_one}
-use Rattle.rr_store.proofs.releasing.request.Sound.{after_loan, request_there}
-use Rattle.rr_store.proofs.base.senders.Ports.{sender_found}
-use Rattle.rr_store.proofs.base.lookups.Shown.{shown_there, not_there}
+use Rattle.rr_store.proofs.releasing.request.Sound.{request_there}
+use Rattle.rr_store.proofs.base.lookups.Shown.{shown_there}
 use Rattle.rr_store.proofs.base.hands.Stages.{loan_is_request}
 use Rattle.rr_store.proofs.writing.View.{stored_sender}
 
@@ -50,34 +43,6 @@ module _ {B N H T : Type 0} (senders : List (OwnedSender B N H T)) (l : ℕ) (th
       ap (map sender_part) is ∙ map-set_one sender_part senders l (with_messages x.0 (change x.0.messages))
       ∙ ap (λ y. slice_set (map sender_part senders) l (part.with_messages y (change y.messages))) x.2
 
--- the client that sends in a sender, as it is stored and as a part
-pub record Sending {K : Type 0} (clients : List (ClientPort K)) (l : ℕ) : Type 0 where
-  pub index : ℕ
-  pub it : ClientPort K
-  pub found : position (λ (c : ClientPort K). c.port.sender == l) clients ≡ Some index
-  pub at : slice_get clients index ≡ Some it
-  pub there : slice_get (map client_part clients) index ≡ Some (client_part it)
-  pub sends : it.port.sender ≡ l
-
-module _ {Q QH P PH K : Type 0} (p : Parts Q QH P PH K) (sound : IsSound p empty_hand) (clients : List (ClientPort K))
-    (are : p.clients ≡ map client_part clients) where
-  -- each sender has one
-  pub client_sending : (l : ℕ) → l < length p.client_senders → Sending clients l
-  client_sending l h =
-      let b = sound.client_ports.ported l h in
-      let c = mapped (λ (c : ClientPart K). c.connected) p.clients b.0 b.1 b.2 in
-      let x = mapped client_part clients b.0 c.0 (ap (λ (cs : List (ClientPart K)). slice_get cs b.0) (sym are) ∙ c.1) in
-      let sender : x.0.port.sender ≡ l = ap (λ (c : ClientPart K). c.sender) x.2 ∙ ap (λ (c : Connected K). c.sender) c.2 ∙ b.3 in
-      let r = sender_found (λ (c : ClientPort K). c.port.sender == l) clients b.0 x.0 x.1 (eq-eqb x.0.port.sender l sender) in
-      record {
-        index = r.0;
-        it = r.2.it;
-        found = r.1;
-        at = r.2.at;
-        there = listed client_part clients r.0 r.2.it r.2.at;
-        sends = eqb-true _ _ r.2.passes;
-      }
-
 module _ {Q QH P PH K : Type 0} (p : Parts Q QH P PH K) where
   -- contracts see a request on loan where its stage is one
   loaned_stage : (g : Stage) (sender slot : ℕ) → is_loaned_request (handle_in p g sender slot) ≡ true → is_request_loan g ≡ true
@@ -94,10 +59,6 @@ module _ {Q QH P PH K : Type 0} (p : Parts Q QH P PH K) where
     -- what is asked of the handle under a number
     pub of_handle : (entry : HandleEntry) → value_at p.table n ≡ Some entry → R (handle_in p entry.stage entry.sender entry.slot)
     of_handle entry h = subst (λ o. IsSomeAnd o R) (shown_there p s n m view same entry h) told
-
-    -- there is one
-    pub handle_there : value_at p.table n ≡ None → ⊥
-    handle_there h = subst (λ o. IsSomeAnd o R) (not_there p s n m view same h) told
 
   -- the entry of a request on loan, and that its sender and slot are there
   pub record LoanFound (n : ℕ) (entry : HandleEntry) : Type 0 where
@@ -125,21 +86,3 @@ module _ {Q QH P PH K : Type 0} (p : Parts Q QH P PH K) where
         sender = subst (λ (v : HandleEntry). v.sender < length p.client_senders) f.2 spot.0;
         slot = subst (λ (v : HandleEntry). 0 < slice_index (sender_of v.sender p.client_senders).messages.held v.slot) f.2 spot.1;
       }
-
-  -- the parts without the request
-  pub loan_parts : (sound : IsSound p empty_hand) (k : ℕ) (s : TableEntry HandleEntry) (at : fin_map.get p.table.entries k ≡ Some s)
-      (loan : is_request_loan s.value.stage ≡ true)
-      (index : ℕ) (c : ClientPart K) (there : slice_get p.clients index ≡ Some c) (sends : c.sender ≡ s.value.sender) (entry : HandleEntry)
-      → s.value ≡ entry
-      → (clients : List (ClientPart K)) (senders : List (Sender Q RequestDetails QH)) (table : TableView HandleEntry)
-      → clients ≡ slice_set p.clients index (without_loan c)
-      → senders ≡ slice_set p.client_senders entry.sender (part.with_messages (sender_of entry.sender p.client_senders)
-      (given_back (sender_of entry.sender p.client_senders).messages entry.slot))
-      → table ≡ removed p.table k
-      → with_vectors p clients senders p.waiting table p.next ≡ after_loan p sound k s at loan index c there sends
-  loan_parts sound k s at loan index c there sends entry is clients senders table cs ls ts =
-      same_vectors p (after_loan p sound k s at loan index c there sends) clients senders p.waiting table p.next cs
-      (ls ∙ ap (λ (h : HandleEntry). slice_set p.client_senders h.sender
-      (part.with_messages (sender_of h.sender p.client_senders) (given_back (sender_of h.sender p.client_senders).messages h.slot)))
-      (sym is))
-      refl ts refl refl

@@ -1,9 +1,8 @@
 -- The fields of a core after the release of a response on loan, as parts.
-use Rattle.std.proofs.Common.{◌≡◌, ◌<◌, ℕ, true, List, [], ◌∷◌, Option, Some, length, map, refl, sym, ap, ◌∙◌, subst, arith}
-use Rattle.std.specs.Prelude.{◌==◌, IfSome, IsSomeAnd, slice_get, slice_index, slice_set}
-use Rattle.std.specs.List.{position}
+use Rattle.std.proofs.Common.{◌≡◌, ◌<◌, ℕ, true, List, [], ◌∷◌, Option, Some, length, refl, sym, ap, ◌∙◌, subst, arith}
+use Rattle.std.specs.Prelude.{IfSome, IsSomeAnd, slice_get, slice_index, slice_set}
 use Rattle.std.specs.FinMap as fin_map
-use Rattle.std.proofs.lemmas.Bool.{eq-eqb, eqb-true}
+use Rattle.std.proofs.lemmas.Bool.{eq-eqb}
 use Rattle.rr_maps.specs.Maps.{mark}
 use Rattle.rr_table.specs.TableView.{TableEntry, TableView, removed, value_at}
 use Rattle.rr_table.specs.declared.place.Place.{Place}
@@ -13,54 +12,22 @@ use Rattle.rr_store.specs.declared.handle_entry.HandleEntry.{HandleEntry}
 use Rattle.rr_store.specs.declared.handle_entry.Stage.{Stage}
 use Rattle.rr_store.specs.declared.handle_entry.Stage.TheVariants as stage
 use Rattle.rr_store.specs.declared.details.ResponseDetails.{ResponseDetails}
-use Rattle.rr_store.specs.declared.port.ServerPort.{ServerPort}
 use Rattle.rr_store.specs.Ending.{IsAskedPlace, IsLoanEnded, found_under}
-use Rattle.rr_store.specs.Ports.{server_part}
 use Rattle.rr_store.specs.Loaning as part
-use Rattle.rr_store.specs.Parts.{Connected, ServerPart, Sender, Parts}
+use Rattle.rr_store.specs.Parts.{ServerPart, Sender, Parts}
 use Rattle.rr_store.specs.Views.{sender_of, handle_in, state_of}
 use Rattle.rr_store.specs.Sound.{IsSound, empty_hand, is_in_sender, is_response_loan, response_details}
 use Rattle.rr_store.specs.Releasing.{is_loaned_response, given_back, without_response_loan}
-use Rattle.rr_store.proofs.base.lists.Adding.{mapped, with_servers, same_servers}
+use Rattle.rr_store.proofs.base.lists.Adding.{with_servers, same_servers}
 use Rattle.rr_store.proofs.releasing.response_loan.View.{response_loan_gone}
 use Rattle.rr_store.proofs.releasing.response_loan.Place.{asked_right}
 use Rattle.rr_store.proofs.releasing.response_loan.Taken.{ended, ended_well}
-use Rattle.rr_store.proofs.base.views.Counts.{listed}
 use Rattle.rr_store.proofs.base.hands.Hands.{count-cons, removed_sound}
 use Rattle.rr_store.proofs.base.lookups.Looking.{table_entry_under}
 use Rattle.rr_store.proofs.releasing.View.{removed_view}
 use Rattle.rr_store.proofs.releasing.request.Fields.{of_handle}
 use Rattle.rr_store.proofs.releasing.response.Sound.{response_there}
-use Rattle.rr_store.proofs.base.senders.Ports.{sender_found}
 use Rattle.rr_store.proofs.base.hands.Stages.{response_loan_is_response}
-
--- the server that sends in a sender, as it is stored and as a part
-pub record Sending {K : Type 0} (servers : List (ServerPort K)) (l : ℕ) : Type 0 where
-  pub index : ℕ
-  pub it : ServerPort K
-  pub found : position (λ (s : ServerPort K). s.port.sender == l) servers ≡ Some index
-  pub at : slice_get servers index ≡ Some it
-  pub there : slice_get (map server_part servers) index ≡ Some (server_part it)
-  pub sends : it.port.sender ≡ l
-
-module _ {Q QH P PH K : Type 0} (p : Parts Q QH P PH K) (sound : IsSound p empty_hand) where
-  -- each sender has one
-  pub server_sending : (servers : List (ServerPort K)) → p.servers ≡ map server_part servers → (l : ℕ) → l < length p.server_senders
-      → Sending servers l
-  server_sending servers are l h =
-      let b = sound.server_ports.ported l h in
-      let c = mapped (λ (c : ServerPart K). c.connected) p.servers b.0 b.1 b.2 in
-      let x = mapped server_part servers b.0 c.0 (ap (λ (cs : List (ServerPart K)). slice_get cs b.0) (sym are) ∙ c.1) in
-      let sender : x.0.port.sender ≡ l = ap (λ (c : ServerPart K). c.sender) x.2 ∙ ap (λ (c : Connected K). c.sender) c.2 ∙ b.3 in
-      let r = sender_found (λ (c : ServerPort K). c.port.sender == l) servers b.0 x.0 x.1 (eq-eqb x.0.port.sender l sender) in
-      record {
-        index = r.0;
-        it = r.2.it;
-        found = r.1;
-        at = r.2.at;
-        there = listed server_part servers r.0 r.2.it r.2.at;
-        sends = eqb-true _ _ r.2.passes;
-      }
 
 module _ {Q QH P PH K : Type 0} (p : Parts Q QH P PH K) where
   -- contracts see a response on loan where its stage is one

@@ -1,5 +1,5 @@
 -- Which sends of requests are refused, and to how many queues a request comes.
-use Rattle.std.proofs.Common.{◌≡◌, ℕ, Bool, cond, List, Option, None, Some, option_map, length, map, nat_le, sym, ap, ◌∙◌, subst}
+use Rattle.std.proofs.Common.{◌≡◌, ℕ, Bool, cond, List, Option, None, Some, option_map, length, nat_le, sym, ap, ◌∙◌, subst}
 use Rattle.std.specs.Prelude.{◌==◌, ◌&&◌, not, IsSomeAnd, slice_get, count_by, option_and_then}
 use Rattle.std.specs.List.{list_any}
 use Rattle.std.specs.FinMap as fin_map
@@ -18,14 +18,13 @@ use Rattle.rr_protocol.specs.Messages.{Handle, RequestMut, RequestMessage, as_re
 use Rattle.rr_protocol.specs.Ports.{Client}
 use Rattle.rr_protocol.specs.Sends.{is_blocked, is_request_list_blocked, is_request_refused, request_send_refusal, connections_of}
 use Rattle.rr_protocol.specs.State.{State, IsRequestMutAnd, client_at, handle_at}
+use Rattle.rr_store.specs.Changes.{is_closed_to, is_open_to, request_send_limit}
 use Rattle.rr_store.specs.declared.handle_entry.HandleEntry.{HandleEntry}
 use Rattle.rr_store.specs.declared.details.RequestDetails.{RequestDetails}
-use Rattle.rr_store.specs.declared.port.ServerPort.{ServerPort}
-use Rattle.rr_store.specs.Ports.{server_part}
 use Rattle.rr_store.specs.Parts.{Parts, ClientPart, ServerPart as Server}
 use Rattle.rr_store.specs.Views.{sender_of, state_of, client_of, handle_in, request_at}
 use Rattle.rr_store.specs.Sound.{IsSound, empty_hand}
-use Rattle.rr_store.specs.Sending.{request_held, is_blocked_at, is_refused_at}
+use Rattle.rr_store.specs.Sending.{request_held}
 use Rattle.rr_store.proofs.base.senders.Entries.{found_alone}
 use Rattle.rr_store.proofs.base.views.Counts.{listed, pendings_counted}
 use Rattle.rr_store.proofs.base.lists.Replaced.{map_same, find_mapped}
@@ -96,43 +95,33 @@ module _ {Q QH P PH K : Type 0} (p : Parts Q QH P PH K) (sound : IsSound p empty
       ∙ ap (λ n. not overflow && nat_le n (length queue)) (sym (view.shaped p sound k sender slot 0 s at_s is index c there
       sends).capacity_is)
 
-  module _ (action : K → ℕ → ℕ → BackpressureAction) (servers : List (ServerPort K)) (are : p.servers ≡ map server_part servers) where
-    refused_stored : is_request_refused action (state_of p) (client_of c) message ≡ list_any
-        (is_refused_at action c.port overflow m) servers
-    refused_stored =
-        let test : RequestKey → Bool = λ key. is_request_list_blocked (state_of p) key && not (discards action c.port key.server) in
-        let stored : Server K → Bool = λ d. is_blocked overflow m.capacity (queue_at m d.receiver 0)
-        && not (discards action c.port d.port.id) in
-        ap (list_any test) (view.reach_is p sound k sender slot 0 s at_s is index c there sends)
-        ∙ any-map (λ (d : Server K). request_key message.client d.port.id) test p.servers
-        ∙ any_same (λ d. test (request_key message.client d.port.id)) stored p.servers
-        (λ i d at. ap (λ b. b && not (discards action c.port d.port.id)) (blocked_stored i d at))
-        ∙ ap (list_any stored) are
-        ∙ any-map server_part stored servers
+  -- whether a queue refuses the request, and how many take it
+  refused_parts : (action : K → ℕ → ℕ → BackpressureAction) → is_request_refused action (state_of p) (client_of c) message
+      ≡ list_any (λ d. is_closed_to p sender d && not (discards action c.port d.port.id)) p.servers
+  refused_parts action =
+      let test : RequestKey → Bool = λ key. is_request_list_blocked (state_of p) key && not (discards action c.port key.server) in
+      let stored : Server K → Bool = λ d. is_closed_to p sender d && not (discards action c.port d.port.id) in
+      ap (list_any test) (view.reach_is p sound k sender slot 0 s at_s is index c there sends)
+      ∙ any-map (λ (d : Server K). request_key message.client d.port.id) test p.servers
+      ∙ any_same (λ d. test (request_key message.client d.port.id)) stored p.servers
+      (λ i d at. ap (λ b. b && not (discards action c.port d.port.id)) (blocked_stored i d at))
 
-    -- the reasons by what is stored
-    abbrev pub stored_refusal : Bool → Option RequestSendError
-    stored_refusal refused =
-        cond (nat_le p.limits.max_active_requests_per_client c.pendings) (Some RequestSendError.ExceedsMaxActiveRequests)
-        (cond refused (Some (RequestSendError.SendError SendError.UnableToDeliver)) None)
-
-    pub refusal_stored : request_send_refusal action (state_of p) (client_of c) message ≡ stored_refusal
-        (list_any (is_refused_at action c.port overflow m) servers)
-    refusal_stored =
-        ap {B = Option RequestSendError} (λ n. cond (nat_le p.limits.max_active_requests_per_client n)
-        (Some RequestSendError.ExceedsMaxActiveRequests)
-        (cond (is_request_refused action (state_of p) (client_of c) message)
-        (Some (RequestSendError.SendError SendError.UnableToDeliver)) None)) (pendings_counted p sound index c there)
-        ∙ ap stored_refusal refused_stored
-
-  -- to how many queues the request comes
-  pub connections_stored : (servers : List (ServerPort K)) → p.servers ≡ map server_part servers
-      → connections_of (state_of p) message ≡ count_by (λ d. not (is_blocked_at overflow m d.port.receiver)) servers
-  connections_stored servers are =
+  pub connections_parts : connections_of (state_of p) message ≡ count_by (is_open_to p sender) p.servers
+  connections_parts =
       let test : RequestKey → Bool = λ key. not (is_request_list_blocked (state_of p) key) in
-      let stored : Server K → Bool = λ d. not (is_blocked overflow m.capacity (queue_at m d.receiver 0)) in
       ap (count_by test) (view.reach_is p sound k sender slot 0 s at_s is index c there sends)
       ∙ count-map (λ (d : Server K). request_key message.client d.port.id) test p.servers
-      ∙ count_same (λ d. test (request_key message.client d.port.id)) stored p.servers (λ i d at. ap not (blocked_stored i d at))
-      ∙ ap (count_by stored) are
-      ∙ count-map server_part stored servers
+      ∙ count_same (λ d. test (request_key message.client d.port.id)) (is_open_to p sender) p.servers
+      (λ i d at. ap not (blocked_stored i d at))
+
+  -- the reasons against sending it
+  pub refusal_parts : (action : K → ℕ → ℕ → BackpressureAction)
+      → request_send_refusal action (state_of p) (client_of c) message ≡ request_send_limit p action c sender
+  refusal_parts action =
+      ap {B = Option RequestSendError} (λ n. cond (nat_le p.limits.max_active_requests_per_client n)
+      (Some RequestSendError.ExceedsMaxActiveRequests)
+      (cond (is_request_refused action (state_of p) (client_of c) message)
+      (Some (RequestSendError.SendError SendError.UnableToDeliver)) None)) (pendings_counted p sound index c there)
+      ∙ ap {B = Option RequestSendError} (λ b. cond (nat_le p.limits.max_active_requests_per_client c.pendings)
+      (Some RequestSendError.ExceedsMaxActiveRequests)
+      (cond b (Some (RequestSendError.SendError SendError.UnableToDeliver)) None)) (refused_parts action)

@@ -1,7 +1,7 @@
 -- The fields of a core as a response is sent, as parts.
-use Rattle.std.proofs.Common.{◌≡◌, ◌<◌, ◌+◌, ◌^◌, ℕ, Bool, true, List, Option, None, Some, option_map, length, map, refl, sym, ap, ◌∙◌, subst, arith}
+use Rattle.std.proofs.Common.{◌≡◌, ◌<◌, ◌+◌, ◌^◌, ℕ, Bool, true, List, Option, None, Some, option_map, length, refl, sym, ap, ◌∙◌, subst, arith}
 use Rattle.std.specs.Prelude.{◌==◌, IsSomeAnd, option_and_then, slice_get, slice_index, slice_set}
-use Rattle.std.proofs.lemmas.List.{length-map, length-set}
+use Rattle.std.proofs.lemmas.List.{length-set}
 use Rattle.rr_table.specs.TableView.{value_at}
 use Rattle.rr_sender.specs.Senders.{Messages, uses}
 use Rattle.rr_protocol.specs.declared.kind.Kind.{Kind}
@@ -14,12 +14,8 @@ use Rattle.rr_protocol.specs.State.{State, IsResponseMutAnd, handle_at, server_a
 use Rattle.rr_store.specs.declared.handle_entry.HandleEntry.{HandleEntry}
 use Rattle.rr_store.specs.declared.handle_entry.Stage.{Stage}
 use Rattle.rr_store.specs.declared.handle_entry.Stage.TheVariants as stage
-use Rattle.rr_store.specs.declared.details.RequestDetails.{RequestDetails}
 use Rattle.rr_store.specs.declared.details.ResponseDetails.{ResponseDetails}
-use Rattle.rr_store.specs.declared.port.ClientPort.{ClientPort}
-use Rattle.rr_store.specs.declared.port.OwnedSender.{OwnedSender}
 use Rattle.rr_store.specs.Delivering.{HasQueue, delivered, is_refused_in, reached}
-use Rattle.rr_store.specs.Ports.{client_part, sender_part}
 use Rattle.rr_store.specs.Kinds.{stage_kind}
 use Rattle.rr_store.specs.Loaning as part
 use Rattle.rr_store.specs.Parts.{Parts, ServerPart, Sender}
@@ -30,7 +26,6 @@ use Rattle.rr_store.proofs.releasing.response_loan.Fields.{ResponseLoanFound}
 use Rattle.rr_store.proofs.releasing.response_loan.Place.{server_alone}
 use Rattle.rr_store.proofs.sending.response.Refusals.{used_once, has_queue, refused_is, server_is}
 use Rattle.rr_store.proofs.querying.Connected.{handle_kind}
-use Rattle.rr_store.proofs.base.views.Counts.{listed}
 use Rattle.rr_store.proofs.base.lookups.Looking.{shown}
 use Rattle.rr_store.proofs.base.lists.Replaced.{find_mapped, set_alike}
 
@@ -70,15 +65,6 @@ held_as_were m overflow channel slot None = refl
 held_as_were m overflow channel slot (Some receiver) = refl
 
 module _ {Q QH P PH K : Type 0} (p : Parts Q QH P PH K) (sound : IsSound p empty_hand) where
-  -- each client's sender is there
-  pub senders_there : {B : Type 0} (clients : List (ClientPort K)) (senders : List (OwnedSender B RequestDetails QH Q))
-      → p.clients ≡ map client_part clients → p.client_senders ≡ map sender_part senders
-      → (i : ℕ) (c : ClientPort K) → slice_get clients i ≡ Some c → c.port.sender < length senders
-  senders_there clients senders cs ls i c at =
-      let there : slice_get p.clients i ≡ Some (client_part c) = ap (λ xs. slice_get xs i) cs ∙ listed client_part clients i c at in
-      let own = sound.client_ports.own i (client_part c).connected (listed (λ c. c.connected) p.clients i (client_part c) there) in
-      omega (arith, own.0, ap length ls, length-map senders sender_part)
-
   module _ (k : ℕ) (entry : HandleEntry) (f : ResponseLoanFound p k entry) (index : ℕ) (c : ServerPart K)
       (there : slice_get p.servers index ≡ Some c)
       (sends : c.sender ≡ entry.sender) where

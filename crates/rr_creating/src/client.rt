@@ -1,0 +1,57 @@
+//! Creating clients.
+ghost use Rattle.std.specs.Prelude.{◌≡◌, None, IsTrue, IfOk, OnErr, OnOk};
+ghost use Rattle.rr_slots.specs.Families.{takes_len};
+ghost use Rattle.rr_protocol.specs.Creation.{CreatesClient, client_refusal, with_client};
+ghost use Rattle.rr_store.specs.Reaching.{IsCore};
+ghost use Rattle.rr_store.specs.Views.{state_of};
+
+use rr_protocol::{BackpressureFn, ClientCreateError, ClientSettings};
+use rr_slots::Body;
+use rr_store::Store;
+use rr_store::create::{client_store, pool_size, worst_case_requests};
+use std::alloc::{AllocError, Global};
+
+/// Creates a client under the next number.
+///
+/// Returns `UnableToCreatePortTag` if no number is left, `ExceedsMaxSupportedClients` if as many clients are connected as may
+/// be, `UnableToCreateDataSegment` if memory was refused; nothing has changed then. The initial length is one that the body's
+/// family takes.
+pub fn create_client<QB: Body, QH: Default + Drop, PB: Body, PH: Default + Drop, K: BackpressureFn>(
+    store: &mut Store<QB, QH, PB, PH, K>,
+    alloc: Global,
+    settings: ClientSettings<K>,
+) -> Result<u64, ClientCreateError>
+    requires core { IsCore store.old }
+    requires len { IsTrue (takes_len QB.family settings.initial_max_slice_len) }
+    ensures core { IsCore store.new }
+    ensures view { CreatesClient (state_of store.old) settings result (state_of store.new) }
+{
+    match store.client_refusal() {
+        Some(refusal) => Err(refusal),
+        None => match add_client(store, alloc, settings) {
+            Ok(number) => Ok(number),
+            Err(_) => Err(ClientCreateError::UnableToCreateDataSegment),
+        },
+    }
+}
+
+/// Adds a client. Returns `AllocError` if memory was refused; nothing has changed then.
+fn add_client<QB: Body, QH: Default + Drop, PB: Body, PH: Default + Drop, K: BackpressureFn>(
+    store: &mut Store<QB, QH, PB, PH, K>,
+    alloc: Global,
+    settings: ClientSettings<K>,
+) -> Result<u64, AllocError>
+    requires core { IsCore store.old }
+    requires len { IsTrue (takes_len QB.family settings.initial_max_slice_len) }
+    requires due { client_refusal (state_of store.old) ≡ None }
+    ensures core { IsCore store.new }
+    ensures number { IfOk result (λ number. number ≡ store.old.next) }
+    ensures ok { OnOk result (state_of store.new ≡ with_client (state_of store.old) settings) }
+    ensures err { OnErr result (store.new ≡ store.old) }
+{
+    let limits = store.limits();
+    let slots = pool_size(worst_case_requests(&limits), settings.pool);
+    let receiver = store.free_client_receiver();
+    let client = client_store(alloc, &limits, slots, settings.initial_max_slice_len)?;
+    store.add_client(alloc, settings, slots, receiver, client)
+}

@@ -1,0 +1,27 @@
+//! Making a store.
+ghost use Rattle.std.specs.Prelude.{IfOk};
+ghost use Rattle.std.specs.Result.{result_map_both};
+ghost use Rattle.rr_protocol.specs.Creation.{CreatesHub};
+ghost use Rattle.rr_store.specs.Reaching.{IsCore};
+ghost use Rattle.rr_store.specs.Views.{state_of};
+
+use rr_protocol::{BackpressureFn, HubCreateError, Limits, UniqueNodeId};
+use rr_slots::Body;
+use rr_store::Store;
+use std::alloc::Global;
+
+/// Makes a store without ports. Returns `ZeroLimit` and `LimitsTooLarge` as `Limits::refusal` tells; making it takes no
+/// memory.
+pub fn new_store<QB: Body, QH: Default + Drop, PB: Body, PH: Default + Drop, K: BackpressureFn>(
+    alloc: Global,
+    limits: Limits,
+    node_id: UniqueNodeId,
+) -> Result<Store<QB, QH, PB, PH, K>, HubCreateError>
+    ensures core { IfOk result (λ store. IsCore store) }
+    ensures view { CreatesHub limits node_id.0 (result_map_both (λ store. state_of store) (λ error. error) result) }
+{
+    match limits.refusal() {
+        Some(refusal) => Err(refusal),
+        None => Ok(Store::new(alloc, limits, node_id)),
+    }
+}

@@ -1,0 +1,63 @@
+-- The marks of a pending response's request are read.
+use Rattle.std.proofs.Common.{◌≡◌, ◌≤◌, ◌<◌, ◌+◌, ◌*◌, ℕ, Bool, [], Some, length, refl, arith}
+use Rattle.std.specs.Prelude.{IsSomeAnd, nat_lt, slice_get, slice_index_or}
+use Rattle.std.specs.FinMap as fin_map
+use Rattle.rr_table.specs.TableView.{table_entry, value_at}
+use Rattle.rr_table.specs.declared.place.Place.{Place}
+use Rattle.rr_protocol.specs.declared.kind.Kind.{Kind}
+use Rattle.rr_protocol.specs.Queries.{kind_at}
+use Rattle.rr_protocol.specs.State.{pending_at}
+use Rattle.rr_store.specs.declared.handle_entry.HandleEntry.{HandleEntry}
+use Rattle.rr_store.specs.Kinds.{stage_kind}
+use Rattle.rr_store.specs.Parts.{Parts, ServerPart}
+use Rattle.rr_store.specs.Reaching.{IsCore}
+use Rattle.rr_store.specs.Sound.{empty_hand}
+use Rattle.rr_store.specs.Views.{sender_of, state_of, waiting_at}
+use Rattle.rr_store.proofs.base.lookups.Placed.{value_there}
+use Rattle.rr_store.proofs.base.lookups.Shown.{request_spot}
+use Rattle.rr_store.proofs.base.views.Counts.{listed}
+use Rattle.rr_store.proofs.querying.Connected.{mark_within, marks_before, of_kind, of_pending, pending_has_request}
+
+module _ {Q QH P PH K : Type 0} (p : Parts Q QH P PH K) (core : IsCore p) (n : ℕ) (place : Place) (entry : HandleEntry)
+    (at : fin_map.get p.table.entries n ≡ Some (table_entry place entry))
+    (kind : kind_at (state_of p) n ≡ Some Kind.PendingResponse) where
+  -- the handle is under its number
+  here : value_at p.table n ≡ Some entry
+  here = value_there p.table n place entry at
+
+  -- it is a pending response
+  is : stage_kind entry.stage ≡ Kind.PendingResponse
+  is = of_kind p (state_of p) n n refl refl Kind.PendingResponse (λ e. cc) (λ e. cc) kind entry here
+
+  -- its sender and its slot are there
+  spot : (entry.sender < length p.client_senders) × (entry.slot < length (sender_of entry.sender p.client_senders).messages.held)
+  spot = request_spot p empty_hand core.sound.counted n entry here (pending_has_request entry.stage is)
+
+  -- as many marks as the slots of the sender have receivers
+  many : length (slice_index_or p.waiting entry.sender [])
+      ≡ length (sender_of entry.sender p.client_senders).messages.held * p.limits.max_servers
+  many = core.sound.sized.waiting_slots entry.sender spot.0
+
+  -- the sender whose marks are asked for
+  pub sender_asked : entry.sender < length p.waiting
+  sender_asked = omega (arith, spot.0, core.sound.sized.waiting)
+
+  -- where the marks of the slot begin
+  pub start_asked : entry.slot * p.limits.max_servers ≤ length (slice_index_or p.waiting entry.sender [])
+  start_asked =
+      marks_before entry.slot (length (sender_of entry.sender p.client_senders).messages.held) p.limits.max_servers
+      (length (slice_index_or p.waiting entry.sender [])) spot.1 many
+
+  -- the mark of each server
+  pub marks_asked : (i : ℕ) (s : ServerPart K) → slice_get p.servers i ≡ Some s
+      → entry.slot * p.limits.max_servers + s.receiver < length (slice_index_or p.waiting entry.sender [])
+  marks_asked i s there =
+      mark_within entry.slot (length (sender_of entry.sender p.client_senders).messages.held) p.limits.max_servers s.receiver
+      (length (slice_index_or p.waiting entry.sender [])) spot.1
+      (core.sound.server_ports.placed i s.connected (listed (λ (s : ServerPart K). s.connected) p.servers i s there)) many
+
+  -- what the marks tell
+  pub told_then : (told : Bool) → told ≡ nat_lt 0 (length (waiting_at p entry.sender entry.slot))
+      → IsSomeAnd (pending_at (state_of p) n) (λ pending. told ≡ nat_lt 0 (length pending.servers))
+  told_then told tells =
+      of_pending p (state_of p) n n refl refl entry here (λ servers. told ≡ nat_lt 0 (length servers)) is tells

@@ -1,0 +1,54 @@
+//! Whether the other side of a request is still there.
+ghost use Rattle.std.specs.Prelude.{◌≡◌, false, nat_lt, length, Some, IsSomeAnd};
+ghost use Rattle.rr_protocol.specs.Counts.{is_alive};
+ghost use Rattle.rr_protocol.specs.Queries.{kind_at};
+ghost use Rattle.rr_protocol.specs.State.{active_at, pending_at};
+ghost use Rattle.rr_store.specs.Reaching.{IsCore};
+ghost use Rattle.rr_store.specs.Views.{state_of};
+ghost use Rattle.rr_table.specs.TableView.{IsAt};
+
+use rr_protocol::{BackpressureFn, Kind};
+use rr_slots::Body;
+use rr_store::Store;
+use rr_table::Place;
+
+/// Returns whether a connected server may still answer the request of the pending response that stands in this place. Looks
+/// once at each connected server.
+pub fn is_pending_connected_at<
+    QB: Body,
+    QH: Default + Drop,
+    PB: Body,
+    PH: Default + Drop,
+    K: BackpressureFn,
+>(store: &Store<QB, QH, PB, PH, K>, number: u64, place: Place) -> bool
+    requires core { IsCore store.now }
+    requires at { IsAt store.now.table number place }
+    requires kind { kind_at (state_of store.now) number ≡ Some Kind.PendingResponse }
+    ensures { IsSomeAnd (pending_at (state_of store.now) number) (λ pending. result ≡ nat_lt 0 (length pending.servers)) }
+{
+    let entry = store.at(number, place);
+    store.is_answerable(entry.sender, entry.slot)
+}
+
+/// Returns whether the pending response lives whose request was received as the active request that stands in this place.
+/// Looks at the one place where that handle can stand.
+pub fn is_active_connected_at<
+    QB: Body,
+    QH: Default + Drop,
+    PB: Body,
+    PH: Default + Drop,
+    K: BackpressureFn,
+>(store: &Store<QB, QH, PB, PH, K>, number: u64, place: Place) -> bool
+    requires core { IsCore store.now }
+    requires at { IsAt store.now.table number place }
+    requires kind { kind_at (state_of store.now) number ≡ Some Kind.ActiveRequest }
+    ensures { IsSomeAnd (active_at (state_of store.now) number) (λ active. result ≡ is_alive (state_of store.now) active.message.number) }
+{
+    let entry = store.at(number, place);
+    let details = store.request_details(entry.sender, entry.slot);
+    let own = store.own_place(entry.sender, entry.slot);
+    match store.get_at(details.number, own) {
+        Some(request) => request.stage.is_pending(),
+        None => false,
+    }
+}

@@ -1,0 +1,106 @@
+use Rattle.std.proofs.Common.{Ok, ap, ◌∙◌}
+use Rattle.rr_receiving.proofs.steps.Response.{client_asked, queues_asked, none_then, error_then, sender_asked, queue_asked, entry_asked}
+use Rattle.rr_receiving.proofs.steps.Response.{count_asked, taken_sender_asked, slot_asked, place_asked, vacant_asked, fresh_asked}
+use Rattle.rr_receiving.proofs.steps.Response.{core_then, receives_then}
+use Rattle.rr_receiving.proofs.response.receive_response_at.Goals as goal
+
+pub at-request-requires : goal.at-request-requires
+at-request-requires g c = c.requires.at
+
+pub receiver_of_sender-receiver-requires : goal.receiver_of_sender-receiver-requires
+receiver_of_sender-receiver-requires g c =
+    client_asked c.args.store.now c.requires.core c.args.number c.args.place _ c.at-request.ensures c.requires.kind
+
+pub next_response_sender-requires : goal.next_response_sender-requires
+next_response_sender-requires g c =
+    queues_asked c.args.store.now c.requires.core c.args.number c.args.place _ c.at-request.ensures c.requires.kind _
+    c.receiver_of_sender-receiver.ensures
+
+pub take_response-slot-requires-clause-sender : goal.take_response-slot-requires-clause-sender
+take_response-slot-requires-clause-sender g c =
+    sender_asked c.args.store.now c.requires.core c.args.number c.args.place _ c.at-request.ensures c.requires.kind _
+    c.receiver_of_sender-receiver.ensures _ c.next_response_sender.ensures _ (c.in-Ok-Some.is ∙ ap Ok c.in-Ok-Some.field-0-is)
+
+pub take_response-slot-requires-clause-queue : goal.take_response-slot-requires-clause-queue
+take_response-slot-requires-clause-queue g c =
+    queue_asked c.args.store.now c.requires.core c.args.number c.args.place _ c.at-request.ensures c.requires.kind _
+    c.receiver_of_sender-receiver.ensures _ c.next_response_sender.ensures _ (c.in-Ok-Some.is ∙ ap Ok c.in-Ok-Some.field-0-is)
+
+pub take_response-slot-requires-clause-entry : goal.take_response-slot-requires-clause-entry
+take_response-slot-requires-clause-entry g c =
+    entry_asked c.args.store.now c.requires.core c.args.number c.args.place _ c.at-request.ensures c.requires.kind _
+    c.receiver_of_sender-receiver.ensures _ c.next_response_sender.ensures _ (c.in-Ok-Some.is ∙ ap Ok c.in-Ok-Some.field-0-is)
+
+pub take_response-slot-requires-clause-fits : goal.take_response-slot-requires-clause-fits
+take_response-slot-requires-clause-fits g c =
+    count_asked c.args.store.now c.requires.core c.args.number c.args.place _ c.at-request.ensures c.requires.kind _
+    c.receiver_of_sender-receiver.ensures _ c.next_response_sender.ensures _ (c.in-Ok-Some.is ∙ ap Ok c.in-Ok-Some.field-0-is)
+
+pub response_details-details-requires-clause-sender : goal.response_details-details-requires-clause-sender
+response_details-details-requires-clause-sender g c =
+    taken_sender_asked c.args.store.now c.requires.core c.args.number c.args.place _ c.at-request.ensures c.requires.kind _
+    c.receiver_of_sender-receiver.ensures _ c.next_response_sender.ensures _ (c.in-Ok-Some.is ∙ ap Ok c.in-Ok-Some.field-0-is) _ _
+    c.take_response-slot.ensures.first c.take_response-slot.ensures.within c.take_response-slot.ensures.taken
+
+pub response_details-details-requires-clause-slot : goal.response_details-details-requires-clause-slot
+response_details-details-requires-clause-slot g c =
+    slot_asked c.args.store.now c.requires.core c.args.number c.args.place _ c.at-request.ensures c.requires.kind _
+    c.receiver_of_sender-receiver.ensures _ c.next_response_sender.ensures _ (c.in-Ok-Some.is ∙ ap Ok c.in-Ok-Some.field-0-is) _ _
+    c.take_response-slot.ensures.first c.take_response-slot.ensures.within c.take_response-slot.ensures.taken
+
+pub response_place-own-requires : goal.response_place-own-requires
+response_place-own-requires g c =
+    taken_sender_asked c.args.store.now c.requires.core c.args.number c.args.place _ c.at-request.ensures c.requires.kind _
+    c.receiver_of_sender-receiver.ensures _ c.next_response_sender.ensures _ (c.in-Ok-Some.is ∙ ap Ok c.in-Ok-Some.field-0-is) _ _
+    c.take_response-slot.ensures.first c.take_response-slot.ensures.within c.take_response-slot.ensures.taken
+
+pub insert-requires-clause-place : goal.insert-requires-clause-place
+insert-requires-clause-place g c =
+    place_asked c.args.store.now c.requires.core c.args.number c.args.place _ c.at-request.ensures c.requires.kind _
+    c.receiver_of_sender-receiver.ensures _ c.next_response_sender.ensures _ (c.in-Ok-Some.is ∙ ap Ok c.in-Ok-Some.field-0-is) _ _
+    c.take_response-slot.ensures.first c.take_response-slot.ensures.within c.take_response-slot.ensures.taken _ _
+    c.response_details-details.ensures c.response_place-own.ensures
+
+pub insert-requires-clause-vacant : goal.insert-requires-clause-vacant
+insert-requires-clause-vacant g c =
+    vacant_asked c.args.store.now c.requires.core c.args.number c.args.place _ c.at-request.ensures c.requires.kind _
+    c.receiver_of_sender-receiver.ensures _ c.next_response_sender.ensures _ (c.in-Ok-Some.is ∙ ap Ok c.in-Ok-Some.field-0-is) _ _
+    c.take_response-slot.ensures.first c.take_response-slot.ensures.within c.take_response-slot.ensures.taken _ _
+    c.response_details-details.ensures c.response_place-own.ensures
+
+pub insert-requires-clause-fresh : goal.insert-requires-clause-fresh
+insert-requires-clause-fresh g c =
+    fresh_asked c.args.store.now c.requires.core c.args.number c.args.place _ c.at-request.ensures c.requires.kind _
+    c.receiver_of_sender-receiver.ensures _ c.next_response_sender.ensures _ (c.in-Ok-Some.is ∙ ap Ok c.in-Ok-Some.field-0-is) _ _
+    c.take_response-slot.ensures.first c.take_response-slot.ensures.within c.take_response-slot.ensures.taken _ _
+    c.response_details-details.ensures c.response_place-own.ensures
+
+pub returns-in-Ok-Some-clause-core : goal.returns-in-Ok-Some-clause-core
+returns-in-Ok-Some-clause-core g c =
+    core_then c.args.store.now c.requires.core c.args.number c.args.place _ c.at-request.ensures c.requires.kind _
+    c.receiver_of_sender-receiver.ensures _ c.next_response_sender.ensures _ (c.in-Ok-Some.is ∙ ap Ok c.in-Ok-Some.field-0-is) _ _
+    c.take_response-slot.ensures.first c.take_response-slot.ensures.within c.take_response-slot.ensures.taken _ _
+    c.response_details-details.ensures c.response_place-own.ensures _ c.insert.ensures _ c.new.ensures
+
+pub returns-in-Ok-Some-clause-receives : goal.returns-in-Ok-Some-clause-receives
+returns-in-Ok-Some-clause-receives g c =
+    receives_then c.args.store.now c.requires.core c.args.number c.args.place _ c.at-request.ensures c.requires.kind _
+    c.receiver_of_sender-receiver.ensures _ c.next_response_sender.ensures _ (c.in-Ok-Some.is ∙ ap Ok c.in-Ok-Some.field-0-is) _ _
+    c.take_response-slot.ensures.first c.take_response-slot.ensures.within c.take_response-slot.ensures.taken _ _
+    c.response_details-details.ensures c.response_place-own.ensures _ c.insert.ensures _ c.new.ensures
+
+pub returns-in-Ok-None-clause-core : goal.returns-in-Ok-None-clause-core
+returns-in-Ok-None-clause-core g c = c.requires.core
+
+pub returns-in-Ok-None-clause-receives : goal.returns-in-Ok-None-clause-receives
+returns-in-Ok-None-clause-receives g c =
+    none_then c.args.store.now c.requires.core c.args.number c.args.place _ c.at-request.ensures c.requires.kind _
+    c.receiver_of_sender-receiver.ensures _ c.next_response_sender.ensures (c.in-Ok-None.is ∙ ap Ok c.in-Ok-None.field-0-is)
+
+pub returns-in-Err-clause-core : goal.returns-in-Err-clause-core
+returns-in-Err-clause-core g c = c.requires.core
+
+pub returns-in-Err-clause-receives : goal.returns-in-Err-clause-receives
+returns-in-Err-clause-receives g c =
+    error_then c.args.store.now c.requires.core c.args.number c.args.place _ c.at-request.ensures c.requires.kind _
+    c.receiver_of_sender-receiver.ensures _ c.next_response_sender.ensures c.in-Err.error c.in-Err.is

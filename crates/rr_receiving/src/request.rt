@@ -1,0 +1,51 @@
+//! Receiving requests.
+ghost use Rattle.std.specs.Prelude.{◌≡◌, ◌<◌, Some};
+ghost use Rattle.rr_protocol.specs.declared.kind.Kind.TheVariants as kind;
+ghost use Rattle.rr_protocol.specs.Queries.{kind_at};
+ghost use Rattle.rr_protocol.specs.Receives.{ReceivesRequest};
+ghost use Rattle.rr_protocol.specs.State.{numbers_left};
+ghost use Rattle.rr_store.specs.Reaching.{IsCore};
+ghost use Rattle.rr_store.specs.Views.{state_of};
+
+use rr_protocol::{BackpressureFn, ReceiveError};
+use rr_slots::Body;
+use rr_store::{HandleEntry, HandleId, Stage, Store};
+
+/// Receives the oldest request of some client that a server, whose value lives, has not received yet. It has the next number,
+/// of which one is left.
+///
+/// Requests whose pending responses were released are dropped first, where they are the oldest of their clients, unless the
+/// limits have fire-and-forget requests. `None` if no client's request waits then. `ExceedsMaxBorrows` if some waits, but the
+/// server has as many requests of each such client as it may. It looks at each client that ever was at most twice, and once
+/// at each request that it drops, and takes no memory. After iceoryx2's `Server::receive`.
+pub fn receive_request<
+    QB: Body,
+    QH: Default + Drop,
+    PB: Body,
+    PH: Default + Drop,
+    K: BackpressureFn,
+>(store: &mut Store<QB, QH, PB, PH, K>, server: u64) -> Result<Option<HandleId>, ReceiveError>
+    requires core { IsCore store.old }
+    requires kind { kind_at (state_of store.old) server ≡ Some kind.Server }
+    requires number { 0 < numbers_left (state_of store.old) }
+    ensures core { IsCore store.new }
+    ensures receives { ReceivesRequest (state_of store.old) server result (state_of store.new) }
+{
+    let receiver = store.server_receiver(server);
+    store.skim_requests(receiver);
+    match store.next_request_sender(receiver) {
+        Ok(Some(sender)) => {
+            let slot = store.take_request(sender, receiver);
+            let own = store.active_place(sender, receiver, slot);
+            let entry = HandleEntry {
+                stage: Stage::ActiveRequest(server, 0),
+                sender,
+                slot,
+            };
+            let number = store.add(own, entry);
+            Ok(Some(HandleId::new(number, own)))
+        }
+        Ok(None) => Ok(None),
+        Err(error) => Err(error),
+    }
+}

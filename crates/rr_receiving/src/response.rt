@@ -1,0 +1,56 @@
+//! Receiving responses.
+ghost use Rattle.std.specs.Prelude.{◌≡◌, Some};
+ghost use Rattle.rr_protocol.specs.declared.kind.Kind.TheVariants as kind;
+ghost use Rattle.rr_protocol.specs.Queries.{kind_at};
+ghost use Rattle.rr_protocol.specs.Receives.{ReceivesResponse};
+ghost use Rattle.rr_store.specs.Reaching.{IsCore};
+ghost use Rattle.rr_store.specs.Views.{state_of};
+ghost use Rattle.rr_table.specs.TableView.{IsAt};
+
+use rr_protocol::{BackpressureFn, ReceiveError};
+use rr_slots::Body;
+use rr_store::{HandleEntry, HandleId, Stage, Store};
+use rr_table::Place;
+
+/// Receives the oldest response of some server that the pending response in this place has not received yet. It keeps its
+/// number.
+///
+/// `None` if no server's response waits. `ExceedsMaxBorrows` if some waits, but the client has as many responses from each
+/// such server on this channel as it may. Nothing has changed then. It looks once at each server that ever was, and takes no
+/// memory. After iceoryx2's `PendingResponse::receive`.
+pub fn receive_response_at<
+    QB: Body,
+    QH: Default + Drop,
+    PB: Body,
+    PH: Default + Drop,
+    K: BackpressureFn,
+>(
+    store: &mut Store<QB, QH, PB, PH, K>,
+    number: u64,
+    place: Place,
+) -> Result<Option<HandleId>, ReceiveError>
+    requires core { IsCore store.old }
+    requires at { IsAt store.old.table number place }
+    requires kind { kind_at (state_of store.old) number ≡ Some kind.PendingResponse }
+    ensures core { IsCore store.new }
+    ensures receives { ReceivesResponse (state_of store.old) number result (state_of store.new) }
+{
+    let request = store.at(number, place);
+    let receiver = store.receiver_of_sender(request.sender);
+    match store.next_response_sender(receiver, request.slot) {
+        Ok(Some(sender)) => {
+            let slot = store.take_response(sender, receiver, request.slot);
+            let details = store.response_details(sender, slot);
+            let own = store.response_place(sender, slot);
+            let entry = HandleEntry {
+                stage: Stage::Response,
+                sender,
+                slot,
+            };
+            store.insert(details.number, own, entry);
+            Ok(Some(HandleId::new(details.number, own)))
+        }
+        Ok(None) => Ok(None),
+        Err(error) => Err(error),
+    }
+}

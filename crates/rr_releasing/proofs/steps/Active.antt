@@ -1,0 +1,115 @@
+-- An active request leaves its place, its server's count, its slot and its mark.
+use Rattle.std.proofs.Common.{◌≡◌, ◌<◌, ◌+◌, ◌*◌, ℕ, true, [], Some, length, refl, sym, ap, ◌∙◌, subst, arith}
+use Rattle.std.specs.Prelude.{◌==◌, IsSome, IsSomeAnd, slice_get, slice_index, slice_index_or}
+use Rattle.std.specs.List.{position}
+use Rattle.std.specs.FinMap as fin_map
+use Rattle.std.proofs.lemmas.Bool.{eq-eqb, eqb-true}
+use Rattle.rr_table.specs.TableView.{table_entry}
+use Rattle.rr_table.specs.declared.place.Place.{Place}
+use Rattle.rr_sender.specs.Senders.{borrowed_at}
+use Rattle.rr_protocol.specs.Releases.{after_release}
+use Rattle.rr_protocol.specs.State.{handle_at}
+use Rattle.rr_laws.specs.Reached.{IsReached}
+use Rattle.rr_laws.proofs.Leaving.{after_release_reached}
+use Rattle.rr_store.specs.declared.handle_entry.HandleEntry.{HandleEntry}
+use Rattle.rr_store.specs.Changes.{with_requests, without_handle, without_mark}
+use Rattle.rr_store.specs.Parts.{ServerPart, Parts}
+use Rattle.rr_store.specs.Reaching.{IsCore}
+use Rattle.rr_store.specs.Releasing.{borrow_ended, is_active_request, server_of_stage}
+use Rattle.rr_store.specs.Sound.{IsSound, empty_hand, server_place}
+use Rattle.rr_store.specs.Views.{sender_of, state_of}
+use Rattle.rr_store.proofs.base.lookups.Placed.{value_there}
+use Rattle.rr_store.proofs.base.lookups.Shown.{held_within}
+use Rattle.rr_store.proofs.base.senders.Owners.{First, first_by}
+use Rattle.rr_store.proofs.base.senders.Ports.{of_found}
+use Rattle.rr_store.proofs.releasing.active.Fields.{ActiveFound, active_found}
+use Rattle.rr_store.proofs.querying.Connected.{mark_within}
+use Rattle.rr_store.proofs.releasing.active.Sound.{after_active, active_sound, server_placed, server_is}
+use Rattle.rr_store.proofs.releasing.active.View.{active_view}
+use Rattle.rr_store.proofs.releasing.response.Fields.{queue_there}
+
+module _ {Q QH P PH K : Type 0} (p : Parts Q QH P PH K) (core : IsCore p) (n : ℕ) (place : Place) (entry : HandleEntry)
+    (taken : fin_map.get p.table.entries n ≡ Some (table_entry place entry))
+    (kind : IsSomeAnd (handle_at (state_of p) n) (λ handle. is_active_request handle ≡ true)) where
+  found : ActiveFound p n entry
+  found = active_found p core.sound (state_of p) n n refl refl kind entry (value_there p.table n place entry taken)
+
+  abbrev its : ℕ
+  its = server_place p found.server
+
+  module _ (q : Parts Q QH P PH K) (gone : q ≡ without_handle p n) (number : ℕ) (named : number ≡ server_of_stage entry.stage) where
+    server : First (λ (s : ServerPart K). s.port.id) (λ (s : ServerPart K). s.port.id == number) p.servers number
+    server =
+        let at = server_placed p core.sound found.server found.receiver in
+        first_by (λ (s : ServerPart K). s.port.id) p.servers number at.0 at.1 at.2 (at.3 ∙ sym (named ∙ found.of_stage))
+
+    pub server_asked : IsSome (position (λ (s : ServerPart K). s.port.id == number) q.servers)
+    server_asked =
+        subst (λ (q : Parts Q QH P PH K). IsSome (position (λ (s : ServerPart K). s.port.id == number) q.servers)) (sym gone)
+        (subst IsSome (sym server.found) refl)
+
+    module _ (receiver : ℕ) (told : IsSomeAnd (position (λ (s : ServerPart K). s.port.id == number) q.servers)
+        (λ i. IsSomeAnd (slice_get q.servers i) (λ s. receiver ≡ s.receiver))) where
+      receiver_is : receiver ≡ its
+      receiver_is =
+          let here = of_found (λ (s : ServerPart K). s.port.id == number) p.servers server.index server.it server.found server.at
+          (λ _ s. receiver ≡ s.receiver)
+          (subst (λ (q : Parts Q QH P PH K). IsSomeAnd (position (λ (s : ServerPart K). s.port.id == number) q.servers)
+          (λ i. IsSomeAnd (slice_get q.servers i) (λ s. receiver ≡ s.receiver))) gone told) in
+          let same = server_is p core.sound found.server found.receiver server.index server.it server.at
+          ∙ eq-eqb server.it.port.id found.server (server.is ∙ named ∙ found.of_stage) in
+          here ∙ sym (eqb-true _ _ same)
+
+      here : 0 < borrowed_at (sender_of entry.sender p.client_senders).messages receiver 0
+      here = subst (λ r. 0 < borrowed_at (sender_of entry.sender p.client_senders).messages r 0) (sym receiver_is) found.some
+
+      pub sender_asked : entry.sender < length q.client_senders
+      sender_asked = subst (λ (q : Parts Q QH P PH K). entry.sender < length q.client_senders) (sym gone) found.sender
+
+      pub queue_asked : (receiver < length (sender_of entry.sender q.client_senders).messages.queues)
+          × (0 < length (slice_index_or (sender_of entry.sender q.client_senders).messages.queues receiver []))
+      queue_asked =
+          subst (λ (q : Parts Q QH P PH K). (receiver < length (sender_of entry.sender q.client_senders).messages.queues)
+          × (0 < length (slice_index_or (sender_of entry.sender q.client_senders).messages.queues receiver []))) (sym gone)
+          (queue_there (sender_of entry.sender p.client_senders).messages (core.sound.sized.client_senders entry.sender found.sender) receiver 0
+          here)
+
+      pub counted_asked : (0 < borrowed_at (sender_of entry.sender q.client_senders).messages receiver 0)
+          × (0 < slice_index (sender_of entry.sender q.client_senders).messages.held entry.slot)
+      counted_asked =
+          subst (λ (q : Parts Q QH P PH K). (0 < borrowed_at (sender_of entry.sender q.client_senders).messages receiver 0)
+          × (0 < slice_index (sender_of entry.sender q.client_senders).messages.held entry.slot)) (sym gone) (here, found.slot)
+
+      module _ (r : Parts Q QH P PH K) (ended : r ≡ with_requests q entry.sender (λ m. borrow_ended m receiver 0 entry.slot)) where
+        steps : r ≡ with_requests (without_handle p n) entry.sender (λ m. borrow_ended m its 0 entry.slot)
+        steps = ended ∙ ap (λ q. with_requests q entry.sender (λ m. borrow_ended m receiver 0 entry.slot)) gone
+            ∙ ap (λ x. with_requests (without_handle p n) entry.sender (λ m. borrow_ended m x 0 entry.slot)) receiver_is
+
+        pub mark_asked : entry.slot * r.limits.max_servers + receiver < length (slice_index_or r.waiting entry.sender [])
+        mark_asked =
+            subst (λ (r : Parts Q QH P PH K). entry.slot * r.limits.max_servers + receiver < length (slice_index_or r.waiting entry.sender []))
+            (sym steps)
+            (mark_within entry.slot (length (sender_of entry.sender p.client_senders).messages.held) p.limits.max_servers receiver
+            (length (slice_index_or p.waiting entry.sender []))
+            (held_within (sender_of entry.sender p.client_senders).messages.held entry.slot found.slot)
+            (omega (arith, receiver_is, found.receiver)) (core.sound.sized.waiting_slots entry.sender found.sender))
+
+        module _ (t : Parts Q QH P PH K) (cleared : t ≡ without_mark r entry.sender (entry.slot * r.limits.max_servers + receiver)) where
+          after : t ≡ after_active p core.sound n found.table_entry found.at found.server found.loans found.active
+          after =
+              cleared ∙ ap (λ (r : Parts Q QH P PH K). without_mark r entry.sender (entry.slot * r.limits.max_servers + receiver)) steps
+              ∙ ap (λ x. without_mark (with_requests (without_handle p n) entry.sender (λ m. borrow_ended m its 0 entry.slot)) entry.sender
+              (entry.slot * p.limits.max_servers + x)) receiver_is
+              ∙ ap (λ (h : HandleEntry). without_mark (with_requests (without_handle p n) h.sender (λ m. borrow_ended m its 0 h.slot)) h.sender
+              (h.slot * p.limits.max_servers + its)) (sym found.is)
+
+          pub view_then : state_of t ≡ after_release (state_of p) n
+          view_then = ap state_of after
+              ∙ active_view p core.sound n found.table_entry found.at found.server found.loans found.active
+
+          pub core_then : IsCore t
+          core_then = record {
+            sound = subst (λ q. IsSound q empty_hand) (sym after)
+                (active_sound p core.sound n found.table_entry found.at found.server found.loans found.active);
+            reached = subst (λ s. IsReached s) (sym view_then) (after_release_reached (state_of p) n core.reached);
+          }

@@ -1,0 +1,116 @@
+-- A received response leaves its place, its client's count and its slot.
+use Rattle.std.proofs.Common.{◌≡◌, ◌<◌, ℕ, true, [], Some, length, refl, sym, ap, ◌∙◌, subst}
+use Rattle.std.specs.Prelude.{◌==◌, IsSome, IsSomeAnd, slice_get, slice_index, slice_index_or}
+use Rattle.std.specs.List.{position}
+use Rattle.std.specs.FinMap as fin_map
+use Rattle.rr_table.specs.TableView.{table_entry}
+use Rattle.rr_table.specs.declared.place.Place.{Place}
+use Rattle.rr_sender.specs.Senders.{borrowed_at}
+use Rattle.rr_protocol.specs.Releases.{after_release}
+use Rattle.rr_protocol.specs.State.{handle_at}
+use Rattle.rr_laws.specs.Reached.{IsReached}
+use Rattle.rr_laws.proofs.Leaving.{after_release_reached}
+use Rattle.rr_store.specs.declared.details.ResponseDetails.{ResponseDetails}
+use Rattle.rr_store.specs.declared.handle_entry.HandleEntry.{HandleEntry}
+use Rattle.rr_store.specs.Changes.{with_responses, without_handle}
+use Rattle.rr_store.specs.Parts.{ClientPart, Parts}
+use Rattle.rr_store.specs.Reaching.{IsCore}
+use Rattle.rr_store.specs.Releasing.{borrow_ended, is_received_response}
+use Rattle.rr_store.specs.Sound.{IsSound, empty_hand, response_details}
+use Rattle.rr_store.specs.Views.{sender_of, state_of}
+use Rattle.rr_store.proofs.base.lookups.Placed.{value_there}
+use Rattle.rr_store.proofs.base.lookups.Shown.{held_within}
+use Rattle.rr_store.proofs.base.senders.Owners.{First, first_by}
+use Rattle.rr_store.proofs.base.senders.Ports.{of_found}
+use Rattle.rr_store.proofs.releasing.response.Fields.{ReceivedFound, received_found, queue_there}
+use Rattle.rr_store.proofs.releasing.response.Sound.{after_received, has_received, received_sound, received_view}
+
+module _ {Q QH P PH K : Type 0} (p : Parts Q QH P PH K) (core : IsCore p) (n : ℕ) (place : Place) (entry : HandleEntry)
+    (taken : fin_map.get p.table.entries n ≡ Some (table_entry place entry))
+    (kind : IsSomeAnd (handle_at (state_of p) n) (λ handle. is_received_response handle ≡ true)) where
+  found : ReceivedFound p n entry
+  found = received_found p core.sound (state_of p) n n refl refl kind entry (value_there p.table n place entry taken)
+
+  module _ (q : Parts Q QH P PH K) (gone : q ≡ without_handle p n) where
+    pub sender_asked : entry.sender < length q.server_senders
+    sender_asked = subst (λ (q : Parts Q QH P PH K). entry.sender < length q.server_senders) (sym gone) found.sender
+
+    pub slot_asked : entry.slot < length (sender_of entry.sender q.server_senders).messages.held
+    slot_asked =
+        subst (λ (q : Parts Q QH P PH K). entry.slot < length (sender_of entry.sender q.server_senders).messages.held) (sym gone)
+        (held_within (sender_of entry.sender p.server_senders).messages.held entry.slot found.slot)
+
+    module _ (details : ResponseDetails) (are : details ≡ response_details q entry.sender entry.slot) where
+      details_are : response_details p entry.sender entry.slot ≡ details
+      details_are = sym (are ∙ ap (λ q. response_details q entry.sender entry.slot) gone)
+
+      client : First (λ (c : ClientPart K). c.port.id) (λ (c : ClientPart K). c.port.id == details.client) p.clients details.client
+      client =
+          let r = core.sound.numbered.received n found.table_entry found.at found.got in
+          first_by (λ (c : ClientPart K). c.port.id) p.clients details.client r.0 r.1 r.2
+          (r.3 ∙ ap (λ (h : HandleEntry). (response_details p h.sender h.slot).client) found.is
+          ∙ ap (λ (d : ResponseDetails). d.client) details_are)
+
+      its_client : client.it.port.id ≡ (response_details p found.table_entry.value.sender found.table_entry.value.slot).client
+      its_client =
+          client.is ∙ sym (ap (λ (d : ResponseDetails). d.client) details_are)
+          ∙ sym (ap (λ (h : HandleEntry). (response_details p h.sender h.slot).client) found.is)
+
+      pub client_asked : IsSome (position (λ (c : ClientPart K). c.port.id == details.client) q.clients)
+      client_asked =
+          subst (λ (q : Parts Q QH P PH K). IsSome (position (λ (c : ClientPart K). c.port.id == details.client) q.clients)) (sym gone)
+          (subst IsSome (sym client.found) refl)
+
+      module _ (receiver : ℕ) (told : IsSomeAnd (position (λ (c : ClientPart K). c.port.id == details.client) q.clients)
+          (λ i. IsSomeAnd (slice_get q.clients i) (λ c. receiver ≡ c.receiver))) where
+        receiver_is : receiver ≡ client.it.receiver
+        receiver_is =
+            of_found (λ (c : ClientPart K). c.port.id == details.client) p.clients client.index client.it client.found client.at
+            (λ _ c. receiver ≡ c.receiver)
+            (subst (λ (q : Parts Q QH P PH K). IsSomeAnd (position (λ (c : ClientPart K). c.port.id == details.client) q.clients)
+            (λ i. IsSomeAnd (slice_get q.clients i) (λ c. receiver ≡ c.receiver))) gone told)
+
+        here : 0 < borrowed_at (sender_of entry.sender p.server_senders).messages receiver details.channel
+        here =
+            subst (λ (d : ResponseDetails). 0 < borrowed_at (sender_of entry.sender p.server_senders).messages receiver d.channel) details_are
+            (subst (λ r. 0 < borrowed_at (sender_of entry.sender p.server_senders).messages r
+            (response_details p entry.sender entry.slot).channel) (sym receiver_is)
+            (subst (λ (h : HandleEntry). 0 < borrowed_at (sender_of h.sender p.server_senders).messages client.it.receiver
+            (response_details p h.sender h.slot).channel) found.is
+            (has_received p core.sound n found.table_entry found.at found.got client.index client.it client.at its_client)))
+
+        pub queue_asked : (receiver < length (sender_of entry.sender q.server_senders).messages.queues)
+            × (details.channel < length (slice_index_or (sender_of entry.sender q.server_senders).messages.queues receiver []))
+        queue_asked =
+            subst (λ (q : Parts Q QH P PH K). (receiver < length (sender_of entry.sender q.server_senders).messages.queues)
+            × (details.channel < length (slice_index_or (sender_of entry.sender q.server_senders).messages.queues receiver []))) (sym gone)
+            (queue_there (sender_of entry.sender p.server_senders).messages (core.sound.sized.server_senders entry.sender found.sender)
+            receiver details.channel here)
+
+        pub counted_asked : (0 < borrowed_at (sender_of entry.sender q.server_senders).messages receiver details.channel)
+            × (0 < slice_index (sender_of entry.sender q.server_senders).messages.held entry.slot)
+        counted_asked =
+            subst (λ (q : Parts Q QH P PH K). (0 < borrowed_at (sender_of entry.sender q.server_senders).messages receiver details.channel)
+            × (0 < slice_index (sender_of entry.sender q.server_senders).messages.held entry.slot)) (sym gone) (here, found.slot)
+
+        module _ (t : Parts Q QH P PH K)
+            (ended : t ≡ with_responses q entry.sender (λ m. borrow_ended m receiver details.channel entry.slot)) where
+          after : t ≡ after_received p core.sound n found.table_entry found.at found.got client.index client.it client.at its_client
+          after =
+              ended ∙ ap (λ q. with_responses q entry.sender (λ m. borrow_ended m receiver details.channel entry.slot)) gone
+              ∙ ap (λ x. with_responses (without_handle p n) entry.sender (λ m. borrow_ended m x details.channel entry.slot)) receiver_is
+              ∙ ap (λ (d : ResponseDetails). with_responses (without_handle p n) entry.sender
+              (λ m. borrow_ended m client.it.receiver d.channel entry.slot)) (sym details_are)
+              ∙ ap (λ (h : HandleEntry). with_responses (without_handle p n) h.sender
+              (λ m. borrow_ended m client.it.receiver (response_details p h.sender h.slot).channel h.slot)) (sym found.is)
+
+          pub view_then : state_of t ≡ after_release (state_of p) n
+          view_then = ap state_of after
+              ∙ received_view p core.sound n found.table_entry found.at found.got client.index client.it client.at its_client
+
+          pub core_then : IsCore t
+          core_then = record {
+            sound = subst (λ q. IsSound q empty_hand) (sym after)
+                (received_sound p core.sound n found.table_entry found.at found.got client.index client.it client.at its_client);
+            reached = subst (λ s. IsReached s) (sym view_then) (after_release_reached (state_of p) n core.reached);
+          }

@@ -1,0 +1,109 @@
+-- A response on loan leaves its place, its slot, and the counts of its server and of its active request.
+use Rattle.std.proofs.Common.{◌≡◌, ◌<◌, ℕ, true, Option, Some, length, refl, sym, ap, ◌∙◌, subst}
+use Rattle.std.specs.Prelude.{◌==◌, IfSome, IsSomeAnd, slice_get, slice_index}
+use Rattle.std.specs.List.{position}
+use Rattle.std.specs.FinMap as fin_map
+use Rattle.rr_table.specs.TableView.{table_entry}
+use Rattle.rr_table.specs.declared.place.Place.{Place}
+use Rattle.rr_protocol.specs.Releases.{after_release}
+use Rattle.rr_protocol.specs.State.{handle_at}
+use Rattle.rr_laws.specs.Reached.{IsReached}
+use Rattle.rr_laws.proofs.Leaving.{after_release_reached}
+use Rattle.rr_store.specs.declared.details.ResponseDetails.{ResponseDetails}
+use Rattle.rr_store.specs.declared.handle_entry.HandleEntry.{HandleEntry}
+use Rattle.rr_store.specs.Changes.{with_responses, with_server_at, without_handle}
+use Rattle.rr_store.specs.Ending.{IsAskedPlace, IsLoanEnded, found_under}
+use Rattle.rr_store.specs.Parts.{ServerPart, Parts}
+use Rattle.rr_store.specs.Reaching.{IsCore}
+use Rattle.rr_store.specs.Releasing.{given_back, is_loaned_response, without_response_loan}
+use Rattle.rr_store.specs.Sound.{IsSound, empty_hand, response_details}
+use Rattle.rr_store.specs.Views.{sender_of, state_of}
+use Rattle.rr_store.proofs.base.lookups.Placed.{value_there}
+use Rattle.rr_store.proofs.base.lookups.Shown.{held_within}
+use Rattle.rr_store.proofs.base.senders.Owners.{First, server_of_sender}
+use Rattle.rr_store.proofs.base.senders.Ports.{of_found, to_found}
+use Rattle.rr_store.proofs.releasing.response_loan.Fields.{ResponseLoanFound, response_loan_found, has_loan, response_loan_parts}
+
+module _ {Q QH P PH K : Type 0} (p : Parts Q QH P PH K) (core : IsCore p) (n : ℕ) (place : Place) (entry : HandleEntry)
+    (taken : fin_map.get p.table.entries n ≡ Some (table_entry place entry))
+    (kind : IsSomeAnd (handle_at (state_of p) n) (λ handle. is_loaned_response handle ≡ true)) where
+  found : ResponseLoanFound p n entry
+  found = response_loan_found p core.sound (state_of p) n n refl refl kind entry (value_there p.table n place entry taken)
+
+  server : First (λ (s : ServerPart K). s.sender) (λ (s : ServerPart K). s.sender == entry.sender) p.servers entry.sender
+  server = server_of_sender p empty_hand core.sound entry.sender found.sender
+
+  -- what the server that sends from the sender has or becomes
+  abbrev Ends : Parts Q QH P PH K → (ℕ → ServerPart K → Type 0) → Type 0
+  Ends q R = IsSomeAnd (position (λ (s : ServerPart K). s.sender == entry.sender) q.servers) (λ i. IsSomeAnd (slice_get q.servers i) (R i))
+
+  module _ (q : Parts Q QH P PH K) (gone : q ≡ without_handle p n) where
+    pub sender_asked : entry.sender < length q.server_senders
+    sender_asked = subst (λ (q : Parts Q QH P PH K). entry.sender < length q.server_senders) (sym gone) found.sender
+
+    pub slot_asked : entry.slot < length (sender_of entry.sender q.server_senders).messages.held
+    slot_asked =
+        subst (λ (q : Parts Q QH P PH K). entry.slot < length (sender_of entry.sender q.server_senders).messages.held) (sym gone)
+        (held_within (sender_of entry.sender p.server_senders).messages.held entry.slot found.slot)
+
+    pub held_asked : 0 < slice_index (sender_of entry.sender q.server_senders).messages.held entry.slot
+    held_asked = subst (λ (q : Parts Q QH P PH K). 0 < slice_index (sender_of entry.sender q.server_senders).messages.held entry.slot)
+        (sym gone) found.slot
+
+    module _ (details : ResponseDetails) (are : details ≡ response_details q entry.sender entry.slot)
+        (r : Parts Q QH P PH K) (given : r ≡ with_responses q entry.sender (λ m. given_back m entry.slot)) where
+      details_are : response_details p entry.sender entry.slot ≡ details
+      details_are = sym (are ∙ ap (λ q. response_details q entry.sender entry.slot) gone)
+
+      abbrev freed : Parts Q QH P PH K
+      freed = with_responses (without_handle p n) entry.sender (λ m. given_back m entry.slot)
+
+      r_is : r ≡ freed
+      r_is = given ∙ ap (λ q. with_responses q entry.sender (λ m. given_back m entry.slot)) gone
+
+      pub server_asked : Ends r (λ _ s. 0 < s.loans)
+      server_asked =
+          subst (λ r. Ends r (λ _ s. 0 < s.loans)) (sym r_is)
+          (to_found (λ (s : ServerPart K). s.sender == entry.sender) p.servers server.index server.it server.found server.at (λ _ s. 0 < s.loans)
+          (has_loan p core.sound n entry found server.index server.it server.at server.is))
+
+      module _ (receiver : ℕ) (s : Parts Q QH P PH K) (its : Ends r (λ _ c. receiver ≡ c.receiver))
+          (counted : Ends r (λ i c. s ≡ with_server_at r i (without_response_loan c))) where
+        abbrev loan_ended : Parts Q QH P PH K
+        loan_ended = with_server_at freed server.index (without_response_loan server.it)
+
+        receiver_is : receiver ≡ server.it.receiver
+        receiver_is =
+            of_found (λ (s : ServerPart K). s.sender == entry.sender) p.servers server.index server.it server.found server.at
+            (λ _ c. receiver ≡ c.receiver) (subst (λ r. Ends r (λ _ c. receiver ≡ c.receiver)) r_is its)
+
+        s_is : s ≡ loan_ended
+        s_is =
+            of_found (λ (s : ServerPart K). s.sender == entry.sender) p.servers server.index server.it server.found server.at
+            (λ i c. s ≡ with_server_at freed i (without_response_loan c))
+            (subst (λ r. Ends r (λ i c. s ≡ with_server_at r i (without_response_loan c))) r_is counted)
+
+        module _ (t : Parts Q QH P PH K) (rest : t ≡ record s { table = t.table })
+            (ended : (at : Option Place) × IfSome at (IsAskedPlace s.client_senders details receiver)
+            × IsLoanEnded details.active_request (found_under s.table details.active_request at) s.table t.table) where
+          t_is : t ≡ record loan_ended { table = t.table }
+          t_is = rest ∙ ap (λ (s : Parts Q QH P PH K). record s { table = t.table }) s_is
+
+          both : IsSound (record loan_ended { table = t.table }) empty_hand
+              × (state_of (record loan_ended { table = t.table }) ≡ after_release (state_of p) n)
+          both =
+              response_loan_parts p core.sound n entry found server.index server.it server.at server.is details details_are
+              loan_ended.servers loan_ended.server_senders t.table refl refl ended.0
+              (subst (λ x. IfSome ended.0 (IsAskedPlace p.client_senders details x)) receiver_is
+              (subst (λ (s : Parts Q QH P PH K). IfSome ended.0 (IsAskedPlace s.client_senders details receiver)) s_is ended.1))
+              (subst (λ (s : Parts Q QH P PH K). IsLoanEnded details.active_request (found_under s.table details.active_request ended.0) s.table
+              t.table) s_is ended.2)
+
+          pub view_then : state_of t ≡ after_release (state_of p) n
+          view_then = ap state_of t_is ∙ both.1
+
+          pub core_then : IsCore t
+          core_then = record {
+            sound = subst (λ q. IsSound q empty_hand) (sym t_is) both.0;
+            reached = subst (λ s. IsReached s) (sym view_then) (after_release_reached (state_of p) n core.reached);
+          }

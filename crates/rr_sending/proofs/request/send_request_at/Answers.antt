@@ -1,0 +1,81 @@
+use Rattle.rr_sending.proofs.steps.Request.{sender_asked, client_asked, queues_asked, loan_asked, refused, takes_asked, marks_asked, rows_asked, counts_asked, still_there, sends, core_then}
+use Rattle.rr_sending.proofs.request.send_request_at.Goals as goal
+
+pub request_send_limit-requires-clause-sender : goal.request_send_limit-requires-clause-sender
+request_send_limit-requires-clause-sender g c =
+    sender_asked c.args.store.now c.requires.core c.args.number c.args.place c.at-entry.result c.at-entry.ensures c.requires.kind
+    g.K.BackpressureFn.action
+
+pub request_send_limit-requires-clause-client : goal.request_send_limit-requires-clause-client
+request_send_limit-requires-clause-client g c =
+    client_asked c.args.store.now c.requires.core c.args.number c.args.place c.at-entry.result c.at-entry.ensures c.requires.kind
+    g.K.BackpressureFn.action
+
+pub request_send_limit-requires-clause-queues : goal.request_send_limit-requires-clause-queues
+request_send_limit-requires-clause-queues g c =
+    queues_asked c.args.store.now c.requires.core c.args.number c.args.place c.at-entry.result c.at-entry.ensures c.requires.kind
+    g.K.BackpressureFn.action
+
+pub release_request_at-requires-clause-at : goal.release_request_at-requires-clause-at
+release_request_at-requires-clause-at g c =
+    (c.at-entry.result, c.at-entry.ensures)
+
+pub release_request_at-requires-clause-kind : goal.release_request_at-requires-clause-kind
+release_request_at-requires-clause-kind g c =
+    loan_asked c.args.store.now c.requires.core c.args.number c.args.place c.at-entry.result c.at-entry.ensures c.requires.kind
+    g.K.BackpressureFn.action
+
+pub returns-in-Some-clause-sends : goal.returns-in-Some-clause-sends
+returns-in-Some-clause-sends g c =
+    refused c.args.store.now c.requires.core c.args.number c.args.place c.at-entry.result c.at-entry.ensures c.requires.kind
+    g.K.BackpressureFn.action _ c.request_send_limit.ensures c.in-Some.refusal c.in-Some.is c.release_request_at.new.store
+    c.release_request_at.ensures.view
+
+pub queue_request-connections-requires-clause-sender : goal.queue_request-connections-requires-clause-sender
+queue_request-connections-requires-clause-sender g c =
+    sender_asked c.args.store.now c.requires.core c.args.number c.args.place c.at-entry.result c.at-entry.ensures c.requires.kind
+    g.K.BackpressureFn.action
+
+pub queue_request-connections-requires-clause-queues : goal.queue_request-connections-requires-clause-queues
+queue_request-connections-requires-clause-queues g c =
+    queues_asked c.args.store.now c.requires.core c.args.number c.args.place c.at-entry.result c.at-entry.ensures c.requires.kind
+    g.K.BackpressureFn.action
+
+pub queue_request-connections-requires-clause-takes : goal.queue_request-connections-requires-clause-takes
+queue_request-connections-requires-clause-takes g c =
+    takes_asked c.args.store.now c.requires.core c.args.number c.args.place c.at-entry.result c.at-entry.ensures c.requires.kind
+    g.K.BackpressureFn.action _ c.request_send_limit.ensures c.in_default.is
+
+pub queue_request-connections-requires-clause-marks : goal.queue_request-connections-requires-clause-marks
+queue_request-connections-requires-clause-marks g c =
+    marks_asked c.args.store.now c.requires.core c.args.number c.args.place c.at-entry.result c.at-entry.ensures c.requires.kind
+    g.K.BackpressureFn.action _ c.request_send_limit.ensures c.in_default.is
+
+pub queue_request-connections-requires-clause-rows : goal.queue_request-connections-requires-clause-rows
+queue_request-connections-requires-clause-rows g c =
+    rows_asked c.args.store.now c.requires.core c.args.number c.args.place c.at-entry.result c.at-entry.ensures c.requires.kind
+    g.K.BackpressureFn.action _ c.request_send_limit.ensures c.in_default.is
+
+pub count_as_sent-requires : goal.count_as_sent-requires
+count_as_sent-requires g c =
+    counts_asked c.args.store.now c.requires.core c.args.number c.args.place c.at-entry.result c.at-entry.ensures c.requires.kind
+    g.K.BackpressureFn.action _ c.request_send_limit.ensures c.in_default.is _ c.queue_request-connections.ensures.count _
+    c.queue_request-connections.ensures.queued
+
+pub replace-requires : goal.replace-requires
+replace-requires g c =
+    still_there c.args.store.now c.requires.core c.args.number c.args.place c.at-entry.result c.at-entry.ensures c.requires.kind
+    g.K.BackpressureFn.action _ c.request_send_limit.ensures c.in_default.is _ c.queue_request-connections.ensures.count _
+    c.queue_request-connections.ensures.queued _ c.count_as_sent.ensures
+
+pub returns-clause-core : goal.returns-clause-core
+returns-clause-core g c =
+    core_then c.args.store.now c.requires.core c.args.number c.args.place c.at-entry.result c.at-entry.ensures c.requires.kind
+    g.K.BackpressureFn.action _ c.request_send_limit.ensures c.in_default.is _ c.queue_request-connections.ensures.count _
+    c.queue_request-connections.ensures.queued _ c.count_as_sent.ensures _ c.replace.ensures
+
+pub returns-clause-sends : goal.returns-clause-sends
+returns-clause-sends g c =
+    sends c.args.store.now c.requires.core c.args.number c.args.place c.at-entry.result c.at-entry.ensures c.requires.kind
+    g.K.BackpressureFn.action _ c.request_send_limit.ensures c.in_default.is _ c.queue_request-connections.ensures.count _
+    c.queue_request-connections.ensures.queued _ c.count_as_sent.ensures _ c.replace.ensures

@@ -1,0 +1,100 @@
+use Rattle.rr_sending.proofs.steps.Response.{sender_asked, slot_asked, loan_asked, clients_asked, server_asked, queue_asked, takes_asked, refused, sender_still, held_still, loan_counted, sends, core_then}
+use Rattle.rr_sending.proofs.response.send_response_at.Goals as goal
+
+pub response_details-details-requires-clause-sender : goal.response_details-details-requires-clause-sender
+response_details-details-requires-clause-sender g c =
+    sender_asked c.args.store.now c.requires.core c.args.number c.args.place c.at-entry.result c.at-entry.ensures c.requires.kind
+    g.K.BackpressureFn.action
+
+pub response_details-details-requires-clause-slot : goal.response_details-details-requires-clause-slot
+response_details-details-requires-clause-slot g c =
+    slot_asked c.args.store.now c.requires.core c.args.number c.args.place c.at-entry.result c.at-entry.ensures c.requires.kind
+    g.K.BackpressureFn.action
+
+pub reached_receiver-reach-requires : goal.reached_receiver-reach-requires
+reached_receiver-reach-requires g c =
+    clients_asked c.args.store.now c.requires.core c.args.number c.args.place c.at-entry.result c.at-entry.ensures c.requires.kind
+    g.K.BackpressureFn.action
+
+pub is_response_refused-requires-clause-sender : goal.is_response_refused-requires-clause-sender
+is_response_refused-requires-clause-sender g c =
+    sender_asked c.args.store.now c.requires.core c.args.number c.args.place c.at-entry.result c.at-entry.ensures c.requires.kind
+    g.K.BackpressureFn.action
+
+pub is_response_refused-requires-clause-server : goal.is_response_refused-requires-clause-server
+is_response_refused-requires-clause-server g c =
+    server_asked c.args.store.now c.requires.core c.args.number c.args.place c.at-entry.result c.at-entry.ensures c.requires.kind
+    g.K.BackpressureFn.action
+
+pub is_response_refused-requires-clause-queue : goal.is_response_refused-requires-clause-queue
+is_response_refused-requires-clause-queue g c =
+    queue_asked c.args.store.now c.requires.core c.args.number c.args.place c.at-entry.result c.at-entry.ensures c.requires.kind
+    g.K.BackpressureFn.action _ c.response_details-details.ensures _ c.reached_receiver-reach.ensures
+
+pub release_response_loan_at-requires-clause-at : goal.release_response_loan_at-requires-clause-at
+release_response_loan_at-requires-clause-at g c =
+    (c.at-entry.result, c.at-entry.ensures)
+
+pub release_response_loan_at-requires-clause-kind : goal.release_response_loan_at-requires-clause-kind
+release_response_loan_at-requires-clause-kind g c =
+    loan_asked c.args.store.now c.requires.core c.args.number c.args.place c.at-entry.result c.at-entry.ensures c.requires.kind
+    g.K.BackpressureFn.action
+
+pub returns-then-is_response_refused-clause-core : goal.returns-then-is_response_refused-clause-core
+returns-then-is_response_refused-clause-core g c =
+    c.release_response_loan_at.ensures.core
+
+pub returns-then-is_response_refused-clause-sends : goal.returns-then-is_response_refused-clause-sends
+returns-then-is_response_refused-clause-sends g c =
+    refused c.args.store.now c.requires.core c.args.number c.args.place c.at-entry.result c.at-entry.ensures c.requires.kind
+    g.K.BackpressureFn.action _ c.response_details-details.ensures _ c.reached_receiver-reach.ensures _ c.is_response_refused.ensures
+    c.if-is_response_refused.true c.release_response_loan_at.new.store c.release_response_loan_at.ensures.view
+
+pub deliver_response-requires-clause-sender : goal.deliver_response-requires-clause-sender
+deliver_response-requires-clause-sender g c =
+    sender_asked c.args.store.now c.requires.core c.args.number c.args.place c.at-entry.result c.at-entry.ensures c.requires.kind
+    g.K.BackpressureFn.action
+
+pub deliver_response-requires-clause-queue : goal.deliver_response-requires-clause-queue
+deliver_response-requires-clause-queue g c =
+    queue_asked c.args.store.now c.requires.core c.args.number c.args.place c.at-entry.result c.at-entry.ensures c.requires.kind
+    g.K.BackpressureFn.action _ c.response_details-details.ensures _ c.reached_receiver-reach.ensures
+
+pub deliver_response-requires-clause-takes : goal.deliver_response-requires-clause-takes
+deliver_response-requires-clause-takes g c =
+    takes_asked c.args.store.now c.requires.core c.args.number c.args.place c.at-entry.result c.at-entry.ensures c.requires.kind
+    g.K.BackpressureFn.action _ c.response_details-details.ensures _ c.reached_receiver-reach.ensures
+
+pub give_back_response-requires-clause-sender : goal.give_back_response-requires-clause-sender
+give_back_response-requires-clause-sender g c =
+    sender_still c.args.store.now c.requires.core c.args.number c.args.place c.at-entry.result c.at-entry.ensures c.requires.kind
+    g.K.BackpressureFn.action _ c.response_details-details.ensures _ c.reached_receiver-reach.ensures _ c.is_response_refused.ensures _
+    c.deliver_response.ensures _ c.take.ensures.gone
+
+pub give_back_response-requires-clause-held : goal.give_back_response-requires-clause-held
+give_back_response-requires-clause-held g c =
+    held_still c.args.store.now c.requires.core c.args.number c.args.place c.at-entry.result c.at-entry.ensures c.requires.kind
+    g.K.BackpressureFn.action _ c.response_details-details.ensures _ c.reached_receiver-reach.ensures _ c.is_response_refused.ensures _
+    c.deliver_response.ensures _ c.take.ensures.gone
+
+pub end_response_loan-receiver-requires : goal.end_response_loan-receiver-requires
+end_response_loan-receiver-requires g c =
+    loan_counted c.args.store.now c.requires.core c.args.number c.args.place c.at-entry.result c.at-entry.ensures c.requires.kind
+    g.K.BackpressureFn.action _ c.response_details-details.ensures _ c.reached_receiver-reach.ensures _ c.is_response_refused.ensures _
+    c.deliver_response.ensures _ c.take.ensures.gone _ c.give_back_response.ensures
+
+pub returns-clause-core : goal.returns-clause-core
+returns-clause-core g c =
+    core_then c.args.store.now c.requires.core c.args.number c.args.place c.at-entry.result c.at-entry.ensures c.requires.kind
+    g.K.BackpressureFn.action _ c.response_details-details.ensures _ c.reached_receiver-reach.ensures _ c.is_response_refused.ensures _
+    c.deliver_response.ensures _ c.take.ensures.gone _ c.give_back_response.ensures _ _ c.end_response_loan-receiver.ensures.receiver
+    c.end_response_loan-receiver.ensures.counted _ c.end_loan_from.ensures.rest c.end_loan_from.ensures.ended
+    c.if-is_response_refused.false
+
+pub returns-clause-sends : goal.returns-clause-sends
+returns-clause-sends g c =
+    sends c.args.store.now c.requires.core c.args.number c.args.place c.at-entry.result c.at-entry.ensures c.requires.kind
+    g.K.BackpressureFn.action _ c.response_details-details.ensures _ c.reached_receiver-reach.ensures _ c.is_response_refused.ensures _
+    c.deliver_response.ensures _ c.take.ensures.gone _ c.give_back_response.ensures _ _ c.end_response_loan-receiver.ensures.receiver
+    c.end_response_loan-receiver.ensures.counted _ c.end_loan_from.ensures.rest c.end_loan_from.ensures.ended
+    c.if-is_response_refused.false

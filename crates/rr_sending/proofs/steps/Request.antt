@@ -1,0 +1,199 @@
+-- A request that can be sent comes to all connected servers, its client counts it, and it becomes a pending response.
+use Rattle.std.proofs.Common.{◌≡◌, ◌<◌, ◌+◌, ◌*◌, ◌^◌, ℕ, true, [], None, Some, Ok, Err, length, refl, sym, ap, ◌∙◌, subst, arith}
+use Rattle.std.specs.Prelude.{◌==◌, IsSomeAnd, count_by, slice_get, slice_index, slice_index_or, Option}
+use Rattle.std.specs.List.{position}
+use Rattle.std.specs.FinMap as fin_map
+use Rattle.std.proofs.lemmas.List.{length-map}
+use Rattle.std.proofs.lemmas.Option.{slice_get_within}
+use Rattle.std.proofs.Math.Nat.{le-mul_of_pos_right}
+use Rattle.rr_table.specs.TableView.{IsAt, TableEntry, table_entry, value_at}
+use Rattle.rr_table.specs.declared.place.Place.{Place}
+use Rattle.rr_sender.specs.Senders.{uses}
+use Rattle.rr_protocol.specs.declared.error.RequestSendError.{RequestSendError}
+use Rattle.rr_protocol.specs.declared.kind.Kind.{Kind}
+use Rattle.rr_protocol.specs.declared.settings.BackpressureAction.{BackpressureAction}
+use Rattle.rr_protocol.specs.Queries.{kind_at}
+use Rattle.rr_protocol.specs.Releases.{after_release}
+use Rattle.rr_protocol.specs.Sends.{SendsRequest, connections_of, request_send_refusal, with_sent_request}
+use Rattle.rr_protocol.specs.State.{handle_at}
+use Rattle.rr_laws.proofs.Sending.{sends_request_reached}
+use Rattle.rr_store.specs.declared.handle_entry.HandleEntry.{HandleEntry}
+use Rattle.rr_store.specs.declared.handle_entry.Stage.TheVariants as stage
+use Rattle.rr_store.specs.Changes.{is_open_to, request_send_limit, with_client_at, with_handle, with_request_queued}
+use Rattle.rr_store.specs.Parts.{ClientPart, ServerPart, Parts}
+use Rattle.rr_store.specs.Reaching.{IsCore}
+use Rattle.rr_store.specs.Releasing.{is_loaned_request}
+use Rattle.rr_store.specs.Sending.{pending_held, request_held, with_one_sent, with_request_sent}
+use Rattle.rr_store.specs.Sound.{IsSound, empty_hand, is_in_sender, is_of_request, is_pending}
+use Rattle.rr_store.specs.Views.{handle_in, request_at, sender_of, state_of}
+use Rattle.rr_store.proofs.base.lists.Adding.{makes_requests, some_loans}
+use Rattle.rr_store.proofs.base.lists.Tallies.{tally_below}
+use Rattle.rr_store.proofs.base.lookups.Asking.{countable}
+use Rattle.rr_store.proofs.base.lookups.Looking.{shown}
+use Rattle.rr_store.proofs.base.lookups.Placed.{value_there}
+use Rattle.rr_store.proofs.base.lookups.Shown.{request_held as has_value, request_spot}
+use Rattle.rr_store.proofs.base.senders.Owners.{First, client_of_sender}
+use Rattle.rr_store.proofs.base.senders.Ports.{of_found, to_found}
+use Rattle.rr_store.proofs.querying.Connected.{mark_within, of_kind}
+use Rattle.rr_store.proofs.sending.request.Fields.{request_stage}
+use Rattle.rr_store.proofs.sending.request.Inserted.{sent_sound, taken, taken_sound, used_once}
+use Rattle.rr_store.proofs.sending.request.MayAnswer.{servers_placed}
+use Rattle.rr_store.proofs.sending.request.Refusals as refusals
+use Rattle.rr_store.proofs.sending.request.Sound as sent
+use Rattle.rr_store.proofs.sending.request.View.{sent_view}
+
+module _ {Q QH P PH K : Type 0} (p : Parts Q QH P PH K) (core : IsCore p) (n : ℕ) (place : Place) (entry : HandleEntry)
+    (at : fin_map.get p.table.entries n ≡ Some (table_entry place entry)) (kind : kind_at (state_of p) n ≡ Some Kind.RequestMut)
+    (action : K → ℕ → ℕ → BackpressureAction) where
+  value : value_at p.table n ≡ Some entry
+  value = value_there p.table n place entry at
+
+  stage_is : entry.stage ≡ stage.RequestMut
+  stage_is = request_stage entry.stage (of_kind p (state_of p) n n refl refl Kind.RequestMut (λ e. cc) (λ e. cc) kind entry value)
+
+  is : entry ≡ request_held entry.sender entry.slot
+  is = ap (λ g. record { stage = g; sender = entry.sender; slot = entry.slot }) stage_is
+
+  -- its sender and slot are there
+  spot : (entry.sender < length p.client_senders) × (entry.slot < length (sender_of entry.sender p.client_senders).messages.held)
+  spot = request_spot p empty_hand core.sound.counted n entry value (ap is_of_request stage_is)
+
+  pub sender_asked : entry.sender < length p.client_senders
+  sender_asked = spot.0
+
+  client : First (λ (c : ClientPart K). c.sender) (λ (c : ClientPart K). c.sender == entry.sender) p.clients entry.sender
+  client = client_of_sender p empty_hand core.sound entry.sender spot.0
+
+  -- what the client that sends from the sender has or becomes
+  abbrev Ends : Parts Q QH P PH K → (ℕ → ClientPart K → Type 0) → Type 0
+  Ends q R = IsSomeAnd (position (λ (c : ClientPart K). c.sender == entry.sender) q.clients) (λ i. IsSomeAnd (slice_get q.clients i) (R i))
+
+  pub client_asked : IsSomeAnd (position (λ (c : ClientPart K). c.sender == entry.sender) p.clients) (λ i. i < length p.clients)
+  client_asked = subst (λ o. IsSomeAnd o (λ i. i < length p.clients)) (sym client.found) (slice_get_within p.clients client.index client.it client.at)
+
+  -- each server has a queue
+  pub queues_asked : (i : ℕ) (s : ServerPart K) → slice_get p.servers i ≡ Some s
+      → (s.receiver < length (sender_of entry.sender p.client_senders).messages.queues)
+      × (0 < length (slice_index_or (sender_of entry.sender p.client_senders).messages.queues s.receiver []))
+  queues_asked i s here =
+      let placed = servers_placed p empty_hand core.sound i s here in
+      let shape = core.sound.sized.client_senders entry.sender spot.0 in
+      (omega (arith, placed, shape.queues), omega (arith, shape.queue_channels s.receiver placed))
+
+  -- a request that can be sent is on loan
+  pub loan_asked : IsSomeAnd (handle_at (state_of p) n) (λ handle. is_loaned_request handle ≡ true)
+  loan_asked =
+      subst (λ o. IsSomeAnd o (λ handle. is_loaned_request handle ≡ true)) (sym (shown p n entry value))
+      (ap (λ g. is_loaned_request (handle_in p g entry.sender entry.slot)) stage_is)
+
+  module _ (limit : Option RequestSendError) (limited : Ends p (λ _ c. limit ≡ request_send_limit p action c entry.sender)) where
+    limit_is : limit ≡ request_send_limit p action client.it entry.sender
+    limit_is = of_found (λ (c : ClientPart K). c.sender == entry.sender) p.clients client.index client.it client.found client.at
+        (λ _ c. limit ≡ request_send_limit p action c entry.sender) limited
+
+    -- a refusal equals a release
+    pub refused : (e : RequestSendError) → limit ≡ Some e → (t : Parts Q QH P PH K) → state_of t ≡ after_release (state_of p) n
+        → SendsRequest action (state_of p) n (Err e) (state_of t)
+    refused e some t gone =
+        refusals.told p core.sound n entry.sender entry.slot (table_entry place entry) at is client.index client.it client.at client.is
+        (λ s m client message. (request_send_refusal action s client message ≡ Some e) × (state_of t ≡ after_release s m)) (state_of p) n
+        refl refl (
+          refusals.refusal_parts p core.sound n entry.sender entry.slot (table_entry place entry) at is client.index client.it client.at
+              client.is action ∙ sym limit_is ∙ some,
+          gone,
+        )
+
+    module _ (none : limit ≡ None) where
+      -- the slot can take one entry more for each server
+      few : length p.servers + 1 < 2 ^ 64
+      few = omega (
+        arith,
+        core.sound.server_ports.few,
+        length-map p.servers (λ (s : ServerPart K). s.connected),
+        countable p.limits core.sound.sized.limits_fit,
+        some_loans p.limits core.sound.sized.limits_fit,
+        le-mul_of_pos_right (p.limits.max_servers * 2) (makes_requests p.limits core.sound.sized.limits_fit),
+      )
+
+      pub takes_asked : (0 < (sender_of entry.sender p.client_senders).messages.capacity)
+          × (0 < slice_index (sender_of entry.sender p.client_senders).messages.held entry.slot)
+          × (uses (sender_of entry.sender p.client_senders).messages entry.slot + length p.servers < 2 ^ 64)
+      takes_asked = (
+        omega (arith, (core.sound.sized.client_senders entry.sender spot.0).capacity_is, makes_requests p.limits core.sound.sized.limits_fit),
+        has_value p empty_hand core.sound.counted n entry value (ap is_of_request stage_is),
+        omega (
+          arith,
+          used_once p core.sound n entry.sender entry.slot 0 (table_entry place entry) at is client.index client.it client.at client.is,
+          few,
+        ),
+      )
+
+      pub marks_asked : (i : ℕ) (s : ServerPart K) → slice_get p.servers i ≡ Some s
+          → entry.slot * p.limits.max_servers + s.receiver < length (slice_index_or p.waiting entry.sender [])
+      marks_asked i s here =
+          mark_within entry.slot (length (sender_of entry.sender p.client_senders).messages.held) p.limits.max_servers s.receiver
+          (length (slice_index_or p.waiting entry.sender [])) spot.1 (servers_placed p empty_hand core.sound i s here)
+          (core.sound.sized.waiting_slots entry.sender spot.0)
+
+      pub rows_asked : entry.sender < length p.waiting
+      rows_asked = omega (arith, spot.0, core.sound.sized.waiting)
+
+      module _ (connections : ℕ) (count : connections ≡ count_by (is_open_to p entry.sender) p.servers) (q : Parts Q QH P PH K)
+          (queued : q ≡ with_request_queued p entry.sender entry.slot) where
+        pub counts_asked : Ends q (λ _ c. (0 < c.loans) × (c.pendings + 1 < 2 ^ 64))
+        counts_asked =
+            subst (λ q. Ends q (λ _ c. (0 < c.loans) × (c.pendings + 1 < 2 ^ 64))) (sym queued)
+            (to_found (λ (c : ClientPart K). c.sender == entry.sender) p.clients client.index client.it client.found client.at
+            (λ _ c. (0 < c.loans) × (c.pendings + 1 < 2 ^ 64)) (
+              sent.has_loan (taken p core.sound n entry.sender entry.slot 0 (table_entry place entry) at is client.index client.it client.at
+                  client.is) entry.sender entry.slot 0
+                  (taken_sound p core.sound n entry.sender entry.slot 0 (table_entry place entry) at is client.index client.it client.at
+                  client.is)
+                  (used_once p core.sound n entry.sender entry.slot 0 (table_entry place entry) at is client.index client.it client.at client.is)
+                  client.index client.it client.at client.is,
+              omega (
+                arith,
+                core.sound.stored.pendings client.index client.it client.at,
+                tally_below (λ (s : TableEntry HandleEntry). is_in_sender is_pending client.it.sender s.value) p.next p.table.entries
+                    core.sound.numbered.fresh,
+                core.sound.sized.next_fits,
+              ),
+            ))
+
+        module _ (r : Parts Q QH P PH K) (counted : Ends q (λ i c. r ≡ with_client_at q i (with_one_sent c))) where
+          r_is : r ≡ with_client_at (with_request_queued p entry.sender entry.slot) client.index (with_one_sent client.it)
+          r_is =
+              of_found (λ (c : ClientPart K). c.sender == entry.sender) p.clients client.index client.it client.found client.at
+              (λ i c. r ≡ with_client_at (with_request_queued p entry.sender entry.slot) i (with_one_sent c))
+              (subst (λ q. Ends q (λ i c. r ≡ with_client_at q i (with_one_sent c))) queued counted)
+
+          pub still_there : IsAt r.table n place
+          still_there = subst (λ (r : Parts Q QH P PH K). IsAt r.table n place) (sym r_is) (entry, at)
+
+          module _ (t : Parts Q QH P PH K) (replaced : t ≡ with_handle r n place (pending_held entry.sender entry.slot connections)) where
+            after : t ≡ with_request_sent p client.index client.it n entry.sender entry.slot connections place
+            after = replaced ∙ ap (λ r. with_handle r n place (pending_held entry.sender entry.slot connections)) r_is
+
+            count_is : connections ≡ connections_of (state_of p) (request_at p entry.sender entry.slot)
+            count_is = count ∙ sym (refusals.connections_parts p core.sound n entry.sender entry.slot (table_entry place entry) at is
+                client.index client.it client.at client.is)
+
+            pub sends : SendsRequest action (state_of p) n (Ok connections) (state_of t)
+            sends =
+                refusals.told p core.sound n entry.sender entry.slot (table_entry place entry) at is client.index client.it client.at client.is
+                (λ s m client message. (request_send_refusal action s client message ≡ None) × (connections ≡ connections_of s message)
+                × (state_of t ≡ with_sent_request s m message)) (state_of p) n refl refl (
+                  refusals.refusal_parts p core.sound n entry.sender entry.slot (table_entry place entry) at is client.index client.it client.at
+                      client.is action ∙ sym limit_is ∙ none,
+                  count_is,
+                  ap state_of after ∙ sent_view p core.sound n entry.sender entry.slot connections (table_entry place entry) at is client.index
+                      client.it client.at client.is count_is,
+                )
+
+            pub core_then : IsCore t
+            core_then = record {
+              sound = subst (λ q. IsSound q empty_hand) (sym after)
+                  (sent_sound p core.sound n entry.sender entry.slot connections (table_entry place entry) at is client.index client.it client.at
+                  client.is);
+              reached = sends_request_reached (state_of p) core.reached n action (Ok connections) (state_of t) sends;
+            }

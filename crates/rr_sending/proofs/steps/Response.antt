@@ -1,0 +1,191 @@
+-- A response that can be sent comes to the queue that it reaches, and its handle, its hold and its loans end.
+use Rattle.std.proofs.Common.{◌≡◌, ◌<◌, ◌+◌, ◌^◌, ℕ, Bool, true, false, Option, Some, Ok, length, refl, sym, ap, ◌∙◌, subst}
+use Rattle.std.specs.Prelude.{◌==◌, IfSome, IsSomeAnd, slice_get, slice_index}
+use Rattle.std.specs.List.{position}
+use Rattle.std.specs.FinMap as fin_map
+use Rattle.std.proofs.lemmas.Option.{slice_get_within}
+use Rattle.rr_table.specs.TableView.{table_entry, value_at}
+use Rattle.rr_table.specs.declared.place.Place.{Place}
+use Rattle.rr_sender.specs.Senders.{Messages, uses}
+use Rattle.rr_protocol.specs.declared.error.SendError.{SendError}
+use Rattle.rr_protocol.specs.declared.kind.Kind.{Kind}
+use Rattle.rr_protocol.specs.declared.settings.BackpressureAction.{BackpressureAction}
+use Rattle.rr_protocol.specs.Queries.{kind_at}
+use Rattle.rr_protocol.specs.Releases.{after_release}
+use Rattle.rr_protocol.specs.Sends.{is_response_refused, with_response_put}
+use Rattle.rr_protocol.specs.State.{IsResponseMutAnd, handle_at}
+use Rattle.rr_laws.proofs.Sending.{sends_response_reached}
+use Rattle.rr_store.specs.declared.details.ResponseDetails.{ResponseDetails}
+use Rattle.rr_store.specs.declared.handle_entry.HandleEntry.{HandleEntry}
+use Rattle.rr_store.specs.Changes.{with_responses, with_server_at, without_handle}
+use Rattle.rr_store.specs.Delivering.{HasQueue, is_refused_in, reached, with_delivered}
+use Rattle.rr_store.specs.Ending.{IsAskedPlace, IsLoanEnded, found_under}
+use Rattle.rr_store.specs.Kinds.{stage_kind}
+use Rattle.rr_store.specs.Parts.{ClientPart, ServerPart, Parts}
+use Rattle.rr_store.specs.Reaching.{IsCore}
+use Rattle.rr_store.specs.Releasing.{given_back, is_loaned_response, without_response_loan}
+use Rattle.rr_store.specs.Sound.{IsSound, empty_hand, response_details}
+use Rattle.rr_store.specs.Views.{response_at, sender_of, server_of, state_of}
+use Rattle.rr_store.proofs.base.lookups.Placed.{value_there}
+use Rattle.rr_store.proofs.base.lookups.Shown.{held_within}
+use Rattle.rr_store.proofs.base.senders.Owners.{First, server_of_sender}
+use Rattle.rr_store.proofs.base.senders.Ports.{of_found, to_found}
+use Rattle.rr_store.proofs.base.views.Counts.{listed}
+use Rattle.rr_store.proofs.querying.Connected.{of_kind}
+use Rattle.rr_store.proofs.releasing.response_loan.Fields.{ResponseLoanFound, response_loan_found, has_loan}
+use Rattle.rr_store.proofs.sending.response.Fields as fields
+use Rattle.rr_store.proofs.sending.response.Refusals.{has_capacity, sent_parts}
+
+module _ {Q QH P PH K : Type 0} (p : Parts Q QH P PH K) (core : IsCore p) (n : ℕ) (place : Place) (entry : HandleEntry)
+    (at : fin_map.get p.table.entries n ≡ Some (table_entry place entry)) (kind : kind_at (state_of p) n ≡ Some Kind.ResponseMut)
+    (action : K → ℕ → ℕ → BackpressureAction) where
+  value : value_at p.table n ≡ Some entry
+  value = value_there p.table n place entry at
+
+  kind_is : stage_kind entry.stage ≡ Kind.ResponseMut
+  kind_is = of_kind p (state_of p) n n refl refl Kind.ResponseMut (λ e. cc) (λ e. cc) kind entry value
+
+  -- a response that can be sent is on loan
+  pub loan_asked : IsSomeAnd (handle_at (state_of p) n) (λ handle. is_loaned_response handle ≡ true)
+  loan_asked = fields.loaned_kind (state_of p) n kind
+
+  found : ResponseLoanFound p n entry
+  found = response_loan_found p core.sound (state_of p) n n refl refl loan_asked entry value
+
+  server : First (λ (s : ServerPart K). s.sender) (λ (s : ServerPart K). s.sender == entry.sender) p.servers entry.sender
+  server = server_of_sender p empty_hand core.sound entry.sender found.sender
+
+  -- what the server that sends from the sender has or becomes
+  abbrev Ends : Parts Q QH P PH K → (ℕ → ServerPart K → Type 0) → Type 0
+  Ends q R = IsSomeAnd (position (λ (s : ServerPart K). s.sender == entry.sender) q.servers) (λ i. IsSomeAnd (slice_get q.servers i) (R i))
+
+  abbrev m : Messages P ResponseDetails PH
+  m = (sender_of entry.sender p.server_senders).messages
+
+  abbrev overflow : Bool
+  overflow = p.limits.enable_safe_overflow_for_responses
+
+  pub sender_asked : entry.sender < length p.server_senders
+  sender_asked = found.sender
+
+  pub slot_asked : entry.slot < length (sender_of entry.sender p.server_senders).messages.held
+  slot_asked = held_within (sender_of entry.sender p.server_senders).messages.held entry.slot found.slot
+
+  pub clients_asked : (i : ℕ) (c : ClientPart K) → slice_get p.clients i ≡ Some c → c.sender < length p.client_senders
+  clients_asked i c here = (core.sound.client_ports.own i c.connected (listed (λ (c : ClientPart K). c.connected) p.clients i c here)).0
+
+  pub server_asked : IsSomeAnd (position (λ (s : ServerPart K). s.sender == entry.sender) p.servers) (λ i. i < length p.servers)
+  server_asked =
+      subst (λ o. IsSomeAnd o (λ i. i < length p.servers)) (sym server.found) (slice_get_within p.servers server.index server.it server.at)
+
+  module _ (details : ResponseDetails) (are : details ≡ response_details p entry.sender entry.slot) (reach : Option ℕ)
+      (told : reach ≡ reached p.clients p.client_senders p.table details) where
+    pub queue_asked : HasQueue (sender_of entry.sender p.server_senders).messages details.channel reach
+    queue_asked = fields.queue_asked p core.sound n entry found server.index server.it server.at server.is details (sym are) reach told
+
+    pub takes_asked : (0 < (sender_of entry.sender p.server_senders).messages.capacity)
+        × (0 < slice_index (sender_of entry.sender p.server_senders).messages.held entry.slot)
+        × (uses (sender_of entry.sender p.server_senders).messages entry.slot + 1 < 2 ^ 64)
+    takes_asked = (
+      has_capacity p core.sound n entry found server.index server.it server.at server.is,
+      (fields.slot_asked p core.sound n entry found server.index server.it server.at server.is).0,
+      (fields.slot_asked p core.sound n entry found server.index server.it server.at server.is).1,
+    )
+
+    module _ (r : Bool) (refusal : Ends p (λ _ s. r ≡ is_refused_in action s.port m overflow details reach)) where
+      refused_is : r ≡ is_response_refused action (state_of p) (server_of server.it) (response_at p entry.sender entry.slot)
+      refused_is =
+          of_found (λ (s : ServerPart K). s.sender == entry.sender) p.servers server.index server.it server.found server.at
+          (λ _ s. r ≡ is_refused_in action s.port m overflow details reach) refusal
+          ∙ fields.refused_then p core.sound n entry found server.index server.it server.at server.is action details (sym are) reach told m refl
+
+      -- a refusal equals a release
+      pub refused : r ≡ true → (t : Parts Q QH P PH K) → state_of t ≡ after_release (state_of p) n
+          → IsResponseMutAnd (state_of p) n (λ server message. (is_response_refused action (state_of p) server message ≡ true)
+          × (SendError.UnableToDeliver ≡ SendError.UnableToDeliver) × (state_of t ≡ after_release (state_of p) n))
+      refused is t gone =
+          fields.of_sent p core.sound n entry found server.index server.it server.at server.is
+          (λ s j server message. (is_response_refused action s server message ≡ true)
+          × (SendError.UnableToDeliver ≡ SendError.UnableToDeliver) × (state_of t ≡ after_release s j)) value kind_is
+          (sym refused_is ∙ is, refl, gone) (state_of p) n refl refl
+
+      module _ (q : Parts Q QH P PH K) (put : q ≡ with_delivered p entry.sender details.channel entry.slot reach) (v : Parts Q QH P PH K)
+          (gone : v ≡ without_handle q n) where
+        abbrev delivered : Parts Q QH P PH K
+        delivered = with_delivered p entry.sender details.channel entry.slot reach
+
+        v_is : v ≡ without_handle delivered n
+        v_is = gone ∙ ap (λ q. without_handle q n) put
+
+        held : (entry.sender < length delivered.server_senders)
+            × (0 < slice_index (sender_of entry.sender delivered.server_senders).messages.held entry.slot)
+        held = fields.held_then p core.sound n entry found server.index server.it server.at server.is overflow details.channel reach
+            delivered.server_senders refl
+
+        pub sender_still : entry.sender < length v.server_senders
+        sender_still = subst (λ (v : Parts Q QH P PH K). entry.sender < length v.server_senders) (sym v_is) held.0
+
+        pub held_still : 0 < slice_index (sender_of entry.sender v.server_senders).messages.held entry.slot
+        held_still = subst (λ (v : Parts Q QH P PH K). 0 < slice_index (sender_of entry.sender v.server_senders).messages.held entry.slot)
+            (sym v_is) held.1
+
+        module _ (s : Parts Q QH P PH K) (given : s ≡ with_responses v entry.sender (λ m. given_back m entry.slot)) where
+          abbrev freed : Parts Q QH P PH K
+          freed = with_responses (without_handle delivered n) entry.sender (λ m. given_back m entry.slot)
+
+          s_is : s ≡ freed
+          s_is = given ∙ ap (λ v. with_responses v entry.sender (λ m. given_back m entry.slot)) v_is
+
+          pub loan_counted : Ends s (λ _ c. 0 < c.loans)
+          loan_counted =
+              subst (λ s. Ends s (λ _ c. 0 < c.loans)) (sym s_is)
+              (to_found (λ (s : ServerPart K). s.sender == entry.sender) p.servers server.index server.it server.found server.at
+              (λ _ s. 0 < s.loans) (has_loan p core.sound n entry found server.index server.it server.at server.is))
+
+          module _ (receiver : ℕ) (u : Parts Q QH P PH K) (its : Ends s (λ _ c. receiver ≡ c.receiver))
+              (counted : Ends s (λ i c. u ≡ with_server_at s i (without_response_loan c))) where
+            abbrev loan_ended : Parts Q QH P PH K
+            loan_ended = with_server_at freed server.index (without_response_loan server.it)
+
+            receiver_is : receiver ≡ server.it.receiver
+            receiver_is =
+                of_found (λ (s : ServerPart K). s.sender == entry.sender) p.servers server.index server.it server.found server.at
+                (λ _ c. receiver ≡ c.receiver) (subst (λ s. Ends s (λ _ c. receiver ≡ c.receiver)) s_is its)
+
+            u_is : u ≡ loan_ended
+            u_is =
+                of_found (λ (s : ServerPart K). s.sender == entry.sender) p.servers server.index server.it server.found server.at
+                (λ i c. u ≡ with_server_at freed i (without_response_loan c))
+                (subst (λ s. Ends s (λ i c. u ≡ with_server_at s i (without_response_loan c))) s_is counted)
+
+            module _ (t : Parts Q QH P PH K) (rest : t ≡ record u { table = t.table })
+                (ended : (at : Option Place) × IfSome at (IsAskedPlace u.client_senders details receiver)
+                × IsLoanEnded details.active_request (found_under u.table details.active_request at) u.table t.table) where
+              t_is : t ≡ record loan_ended { table = t.table }
+              t_is = rest ∙ ap (λ (u : Parts Q QH P PH K). record u { table = t.table }) u_is
+
+              both : IsSound (record loan_ended { table = t.table }) empty_hand
+                  × (state_of (record loan_ended { table = t.table })
+                  ≡ after_release (record (state_of p) { responses = with_response_put (state_of p) (response_at p entry.sender entry.slot) }) n)
+              both =
+                  sent_parts p core.sound n entry found server.index server.it server.at server.is details (sym are) reach told
+                  loan_ended.servers delivered.server_senders loan_ended.server_senders t.table refl refl refl ended.0
+                  (subst (λ x. IfSome ended.0 (IsAskedPlace p.client_senders details x)) receiver_is
+                  (subst (λ (u : Parts Q QH P PH K). IfSome ended.0 (IsAskedPlace u.client_senders details receiver)) u_is ended.1))
+                  (subst (λ (u : Parts Q QH P PH K). IsLoanEnded details.active_request
+                  (found_under u.table details.active_request ended.0) u.table t.table) u_is ended.2)
+
+              pub sends : r ≡ false → IsResponseMutAnd (state_of p) n (λ server message.
+                  (is_response_refused action (state_of p) server message ≡ false)
+                  × (state_of t ≡ after_release (record (state_of p) { responses = with_response_put (state_of p) message }) n))
+              sends is =
+                  fields.of_sent p core.sound n entry found server.index server.it server.at server.is
+                  (λ s j server message. (is_response_refused action s server message ≡ false)
+                  × (state_of t ≡ after_release (record s { responses = with_response_put s message }) j)) value kind_is
+                  (sym refused_is ∙ is, ap state_of t_is ∙ both.1) (state_of p) n refl refl
+
+              pub core_then : r ≡ false → IsCore t
+              core_then is = record {
+                sound = subst (λ q. IsSound q empty_hand) (sym t_is) both.0;
+                reached = sends_response_reached (state_of p) core.reached n {U = ℕ} action (Ok 0) (state_of t) (sends is);
+              }

@@ -1,0 +1,49 @@
+//! Sends of responses.
+ghost use Rattle.std.specs.Prelude.{◌≡◌, Some};
+ghost use Rattle.rr_protocol.specs.declared.kind.Kind.TheVariants as kind;
+ghost use Rattle.rr_protocol.specs.Queries.{kind_at};
+ghost use Rattle.rr_protocol.specs.Sends.{SendsResponse};
+ghost use Rattle.rr_store.specs.Reaching.{IsCore};
+ghost use Rattle.rr_store.specs.Views.{state_of};
+ghost use Rattle.rr_table.specs.TableView.{IsAt};
+
+use rr_protocol::{BackpressureFn, SendError};
+use rr_releasing::release_response_loan_at;
+use rr_slots::Body;
+use rr_store::Store;
+use rr_table::Place;
+
+/// Sends the response that stands in this place to its request, if that is still a pending response of a connected client,
+/// and releases the handle. Else the response is released alone.
+///
+/// # Errors
+///
+/// - `UnableToDeliver` if the queue to the client's channel is full, may not overflow, and is not passed over. The response is
+///   released then too, and the queue is unchanged.
+pub fn send_response_at<
+    QB: Body,
+    QH: Default + Drop,
+    PB: Body,
+    PH: Default + Drop,
+    K: BackpressureFn,
+>(store: &mut Store<QB, QH, PB, PH, K>, number: u64, place: Place) -> Result<(), SendError>
+    requires core { IsCore store.old }
+    requires at { IsAt store.old.table number place }
+    requires kind { kind_at (state_of store.old) number ≡ Some kind.ResponseMut }
+    ensures core { IsCore store.new }
+    ensures sends { SendsResponse K.action (state_of store.old) number result (state_of store.new) }
+{
+    let entry = store.at(number, place);
+    let details = store.response_details(entry.sender, entry.slot);
+    let reach = store.reached_receiver(details);
+    if store.is_response_refused(entry.sender, details, reach) {
+        release_response_loan_at(store, number, place);
+        return Err(SendError::UnableToDeliver);
+    }
+    store.deliver_response(entry, details.channel, reach);
+    store.take(number, place);
+    store.give_back_response(entry.sender, entry.slot);
+    let receiver = store.end_response_loan(entry.sender);
+    store.end_loan_from(details, receiver);
+    Ok(())
+}

@@ -1,0 +1,27 @@
+-- The handle that a place has.
+use Rattle.std.proofs.Common.{◌≡◌, ℕ, Option, None, Some, refl, ap, ◌∙◌}
+use Rattle.std.specs.Prelude.{option_map}
+use Rattle.std.specs.FinMap as fin_map
+use Rattle.rr_table.specs.TableView.{TableEntry, TableView, table_entry, value_at, IsAt}
+use Rattle.rr_table.specs.declared.place.Place.{Place}
+
+module _ {E : Type 0} (t : TableView E) (n : ℕ) where
+  -- where a number was found, it stands
+  pub found_at : (place : Place) → option_map (λ (s : TableEntry E). s.place) (fin_map.get t.entries n) ≡ Some place → IsAt t n place
+  found_at place h = go (fin_map.get t.entries n) refl h
+    where
+      go : (o : Option (TableEntry E)) → fin_map.get t.entries n ≡ o → option_map (λ s. s.place) o ≡ Some place → IsAt t n place
+      go None at e = absurd (let f : None ≡ Some place = e in cc)
+      go (Some s) at e = let is : s.place ≡ place = cc in (s.value, at ∙ ap (λ p. Some (table_entry p s.value)) is)
+
+  -- where it was not, nothing is under it
+  pub found_none : option_map (λ (s : TableEntry E). s.place) (fin_map.get t.entries n) ≡ None → value_at t n ≡ None
+  found_none h = go (fin_map.get t.entries n) h
+    where
+      go : (o : Option (TableEntry E)) → option_map (λ s. s.place) o ≡ None → option_map (λ (s : TableEntry E). s.value) o ≡ None
+      go None e = refl
+      go (Some s) e = absurd (let f : Some s.place ≡ None = e in cc)
+
+  -- its value is under it
+  pub value_there : (place : Place) (value : E) → fin_map.get t.entries n ≡ Some (table_entry place value) → value_at t n ≡ Some value
+  value_there place value at = ap (option_map (λ (s : TableEntry E). s.value)) at

@@ -1,0 +1,35 @@
+-- A sender that is stored, and the senders after its messages changed.
+use Rattle.std.proofs.Common.{◌≡◌, ◌<◌, ℕ, List, Some, length, map, get_or, sym, ap, ◌∙◌}
+use Rattle.std.specs.Prelude.{slice_get, slice_index_or, slice_set}
+use Rattle.std.proofs.lemmas.Option.{get_or_from_slice_get}
+use Rattle.rr_sender.specs.Senders.{Messages}
+use Rattle.rr_store.specs.declared.port.OwnedSender.{OwnedSender}
+use Rattle.rr_store.specs.Loaning as part
+use Rattle.rr_store.specs.Ports.{sender_part}
+use Rattle.rr_store.specs.Views.{sender_of}
+use Rattle.rr_store.specs.Writing.{with_messages}
+use Rattle.rr_store.proofs.base.lists.Replaced.{map-set_one}
+use Rattle.rr_store.proofs.base.lookups.Asking.{sender_is, senders_many}
+
+module _ {B N H T : Type 0} (items : List (OwnedSender B N H T)) (sender : ℕ) (x : OwnedSender B N H T)
+    (there : sender < length (map sender_part items)) (read : x ≡ get_or items sender x) where
+  -- a sender that was read
+  pub stored_is : sender_of sender (map sender_part items) ≡ sender_part x
+  stored_is = sender_is items sender x (senders_many items sender there) read
+
+  -- the details that were read of a slot
+  pub details_are : (slot : ℕ) (details none : N) → slice_get x.messages.details slot ≡ Some details
+      → details ≡ slice_index_or (sender_of sender (map sender_part items)).messages.details slot none
+  details_are slot details none at =
+      sym (get_or_from_slice_get x.messages.details slot details none at)
+      ∙ ap (λ l. slice_index_or l.messages.details slot none) (sym stored_is)
+
+  -- the senders after its messages changed
+  pub stored_set : (m : Messages T N H) (change : Messages T N H → Messages T N H) → m ≡ change x.messages
+      → map sender_part (slice_set items sender (with_messages x m))
+      ≡ slice_set (map sender_part items) sender
+      (part.with_messages (sender_of sender (map sender_part items)) (change (sender_of sender (map sender_part items)).messages))
+  stored_set m change is =
+      ap (λ m. map sender_part (slice_set items sender (with_messages x m))) is
+      ∙ map-set_one sender_part items sender (with_messages x (change x.messages))
+      ∙ ap (λ y. slice_set (map sender_part items) sender (part.with_messages y (change y.messages))) (sym stored_is)

@@ -1,0 +1,25 @@
+use Rattle.std.proofs.Common.{◌≡◌, ◌<◌, map, ap, ◌∙◌}
+use Rattle.std.specs.Prelude.{◌==◌, slice_set}
+use Rattle.rr_store.specs.Changes.{with_client_at}
+use Rattle.rr_store.specs.Clearing.{with_pending_ended, without_pending}
+use Rattle.rr_store.specs.Inside.{parts_of}
+use Rattle.rr_store.specs.Parts.{ClientPart}
+use Rattle.rr_store.specs.Ports.{client_part}
+use Rattle.rr_store.proofs.base.lists.Mapped.{of_mapped, to_mapped}
+use Rattle.rr_store.proofs.base.lists.Replaced.{map-set_one}
+use Rattle.rr_store.proofs.store.Store.end_pending.Goals as goal
+
+pub end_pending-requires : goal.end_pending-requires
+end_pending-requires g c =
+    of_mapped client_part (λ (x : ClientPart _). x.sender == c.args.sender) c.self.inside.clients.items (λ _ x. 0 < x.pendings)
+    (λ _ x. 0 < x.pendings) (λ i x h. h) (rw (← c.self.view_is) at c.requires)
+
+pub returns : goal.returns
+returns g c =
+    let items = c.self.inside.clients.items in
+    rw (← c.self.view_is) (to_mapped client_part (λ (x : ClientPart _). x.sender == c.args.sender) items
+    (λ i x. (c.end_pending.result ≡ x.receiver) × (_ ≡ with_client_at (parts_of c.self.inside) i (without_pending x)))
+    (λ i x. (c.end_pending.result ≡ x.port.receiver) × (_ ≡ slice_set items i (with_pending_ended x)))
+    (λ i x is.
+    (is.0, ap (λ cs. record (parts_of c.self.inside) { clients = cs }) (ap (map client_part) is.1 ∙ map-set_one client_part items i _)))
+    c.end_pending.ensures)

@@ -1,0 +1,133 @@
+-- What each call of a store changes of its parts.
+use Rattle.std.specs.Prelude.{ℕ, ◌+◌, ◌&&◌, ◌||◌, Bool, List, [], ◌∷◌, ◌++◌, length, not, if◌then◌else◌, Option, Some, None, drop, false, nat_le, map, slice_index_or, slice_set}
+use Rattle.std.specs.List.{list_any}
+use Rattle.rr_table.specs.declared.place.Place.{Place}
+use Rattle.rr_table.specs.TableView.{inserted, removed, with_row}
+use Rattle.rr_sender.specs.Senders.{Messages, queue_at, set_two, taken}
+use Rattle.rr_protocol.specs.Backpressure.{discards}
+use Rattle.rr_protocol.specs.declared.settings.BackpressureAction.{BackpressureAction}
+use Rattle.rr_protocol.specs.declared.error.LoanError.{LoanError}
+use Rattle.rr_protocol.specs.declared.error.RequestSendError.{RequestSendError}
+use Rattle.rr_protocol.specs.declared.error.SendError.{SendError}
+use Rattle.rr_protocol.specs.Limits.{max_loaned_responses}
+use Rattle.rr_protocol.specs.Loans.{is_too_long}
+use Rattle.rr_protocol.specs.declared.settings.ClientSettings.{ClientSettings}
+use Rattle.rr_protocol.specs.declared.settings.ServerSettings.{ServerSettings}
+use Rattle.rr_store.specs.declared.details.RequestDetails.{RequestDetails}
+use Rattle.rr_store.specs.declared.details.ResponseDetails.{ResponseDetails}
+use Rattle.rr_store.specs.declared.handle_entry.HandleEntry.{HandleEntry}
+use Rattle.rr_store.specs.Clearing.{channel_cleared}
+use Rattle.rr_store.specs.Creating.{client_port, server_port}
+use Rattle.rr_store.specs.Loaning.{with_messages}
+use Rattle.rr_store.specs.Parts.{Parts, ClientPart, ServerPart, Sender}
+use Rattle.rr_store.specs.Sending.{is_blocked_at, server_marks, server_places, with_marks, with_puts}
+use Rattle.rr_store.specs.Views.{sender_of}
+
+module _ {Q QH P PH K : Type 0} (p : Parts Q QH P PH K) where
+  -- with a handle under a number, in a place
+  abbrev pub with_handle : ℕ → Place → HandleEntry → Parts Q QH P PH K
+  with_handle n place entry = record p { table = inserted p.table n place entry }
+
+  -- with a handle under the next number, in a place
+  abbrev pub with_new_handle : Place → HandleEntry → Parts Q QH P PH K
+  with_new_handle place entry = record p { next = p.next + 1; table = inserted p.table p.next place entry }
+
+  -- without the handle under a number
+  abbrev pub without_handle : ℕ → Parts Q QH P PH K
+  without_handle n = record p { table = removed p.table n }
+
+  -- with the messages of a client's sender changed
+  abbrev pub with_requests : ℕ → (Messages Q RequestDetails QH → Messages Q RequestDetails QH) → Parts Q QH P PH K
+  with_requests sender change =
+      record p { client_senders = slice_set p.client_senders sender (with_messages (sender_of sender p.client_senders) (change (sender_of sender p.client_senders).messages)) }
+
+  -- with the messages of a server's sender changed
+  abbrev pub with_responses : ℕ → (Messages P ResponseDetails PH → Messages P ResponseDetails PH) → Parts Q QH P PH K
+  with_responses sender change =
+      record p { server_senders = slice_set p.server_senders sender (with_messages (sender_of sender p.server_senders) (change (sender_of sender p.server_senders).messages)) }
+
+  -- with another client, or server, at an index
+  abbrev pub with_client_at : ℕ → ClientPart K → Parts Q QH P PH K
+  with_client_at index client = record p { clients = slice_set p.clients index client }
+
+  abbrev pub with_server_at : ℕ → ServerPart K → Parts Q QH P PH K
+  with_server_at index server = record p { servers = slice_set p.servers index server }
+
+  -- with nothing in the queues from all servers to a client's channel
+  abbrev pub with_channel_cleared : ℕ → ℕ → Parts Q QH P PH K
+  with_channel_cleared receiver channel = record p { server_senders = map (channel_cleared receiver channel) p.server_senders }
+
+  -- without the mark at an index of a sender's
+  abbrev pub without_mark : ℕ → ℕ → Parts Q QH P PH K
+  without_mark sender index = record p { waiting = set_two p.waiting sender index false }
+
+  -- the first reason of its own by which a client doesn't loan a request of so many elements
+  abbrev pub request_loan_limit : ClientPart K → ℕ → Option LoanError
+  request_loan_limit c len =
+      if is_too_long c.port len then Some LoanError.ExceedsMaxLoanSize
+      else if nat_le p.limits.max_loaned_requests c.loans then Some LoanError.ExceedsMaxLoans
+      else None
+
+  -- the same of a server and a response from an active request that has so many on loan
+  abbrev pub response_loan_limit : ServerPart K → ℕ → ℕ → Option LoanError
+  response_loan_limit s len loans =
+      if is_too_long s.port len then Some LoanError.ExceedsMaxLoanSize
+      else if nat_le s.max_loaned_responses_per_request loans || nat_le (max_loaned_responses p.limits s.max_loaned_responses_per_request) s.loans then Some LoanError.ExceedsMaxLoans
+      else None
+
+  -- whether the queue from a client's sender to a server can take no more, and drops nothing for it
+  abbrev pub is_closed_to : ℕ → ServerPart K → Bool
+  is_closed_to sender s = is_blocked_at p.limits.enable_safe_overflow_for_requests (sender_of sender p.client_senders).messages s.receiver
+
+  -- whether it takes one more
+  abbrev pub is_open_to : ℕ → ServerPart K → Bool
+  is_open_to sender s = not (is_closed_to sender s)
+
+  -- the first reason of a client against one more request from its sender
+  abbrev pub request_send_limit : (K → ℕ → ℕ → BackpressureAction) → ClientPart K → ℕ → Option RequestSendError
+  request_send_limit action c sender =
+      if nat_le p.limits.max_active_requests_per_client c.pendings then Some RequestSendError.ExceedsMaxActiveRequests
+      else if list_any (λ s. is_closed_to sender s && not (discards action c.port s.port.id)) p.servers then Some (RequestSendError.SendError SendError.UnableToDeliver)
+      else None
+
+  -- with a request in the queues to all connected servers, which may answer it
+  abbrev pub with_request_queued : ℕ → ℕ → Parts Q QH P PH K
+  with_request_queued sender slot =
+      record p {
+        client_senders = slice_set p.client_senders sender
+            (with_messages (sender_of sender p.client_senders) (with_puts p.limits.enable_safe_overflow_for_requests slot (sender_of sender p.client_senders).messages (server_places p)));
+        waiting = slice_set p.waiting sender (with_marks (slice_index_or p.waiting sender []) (server_marks p slot));
+      }
+
+  -- with other senders of clients
+  abbrev pub with_request_senders : List (Sender Q RequestDetails QH) → Parts Q QH P PH K
+  with_request_senders senders = record p { client_senders = senders }
+
+  -- with the oldest request of a queue, in this slot, taken out of it; and with the oldest response
+  abbrev pub with_first_request_taken : ℕ → ℕ → ℕ → Parts Q QH P PH K
+  with_first_request_taken sender receiver slot = with_requests sender (λ m. taken m receiver 0 slot (drop 1 (queue_at m receiver 0)))
+
+  abbrev pub with_first_response_taken : ℕ → ℕ → ℕ → ℕ → Parts Q QH P PH K
+  with_first_response_taken sender receiver channel slot =
+      with_responses sender (λ m. taken m receiver channel slot (drop 1 (queue_at m receiver channel)))
+
+  -- with a client under the next number, that has so many slots and is this receiver
+  abbrev pub with_new_client : ClientSettings K → ℕ → ℕ → Messages Q RequestDetails QH → List Bool → ℕ → Parts Q QH P PH K
+  with_new_client settings slots receiver messages marks row_len =
+      record p {
+        next = p.next + 1;
+        clients = p.clients ++ record { connected = record { port = record (client_port p settings) { pool_size = slots }; sender = length p.client_senders; receiver = receiver; loans = 0 }; loans_made = 0; pendings = 0 } ∷ [];
+        client_senders = p.client_senders ++ record { owner = p.next; row = length p.table.rows; messages = messages } ∷ [];
+        waiting = p.waiting ++ marks ∷ [];
+        table = with_row p.table row_len;
+      }
+
+  -- with a server under the next number, that may have so many responses on loan for each request
+  abbrev pub with_new_server : ServerSettings K → ℕ → ℕ → ℕ → Messages P ResponseDetails PH → Parts Q QH P PH K
+  with_new_server settings loans slots receiver messages =
+      record p {
+        next = p.next + 1;
+        servers = p.servers ++ record { connected = record { port = record (server_port p settings) { pool_size = slots }; sender = length p.server_senders; receiver = receiver; loans = 0 }; max_loaned_responses_per_request = loans } ∷ [];
+        server_senders = p.server_senders ++ record { owner = p.next; row = length p.table.rows; messages = messages } ∷ [];
+        table = with_row p.table slots;
+      }

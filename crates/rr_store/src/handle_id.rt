@@ -1,0 +1,43 @@
+//! By what a caller names a handle.
+ghost use Rattle.std.specs.Prelude.{◌≡◌};
+
+use rr_table::Place;
+use std::marker::Model;
+
+/// The number of a handle, and where it is kept. Contracts see the number alone.
+///
+/// The place is a hint: it is tried first and checked, so that a wrong one costs a walk and nothing else. Our own.
+#[derive(Drop)]
+pub struct HandleId {
+    number: u64,
+    hint: Place,
+}
+
+impl Model for HandleId {
+    ghost use Rattle.std.specs.Prelude.{ℕ};
+
+    ghost Value = { ℕ };
+
+    ghost view = { λ id. id.number };
+}
+
+impl HandleId {
+    /// The id of the handle with this number, which is looked for here first.
+    pub fn new(number: u64, hint: Place) -> Self
+        ensures { result ≡ number }
+    {
+        HandleId { number, hint }
+    }
+
+    /// The number.
+    pub fn number(&self) -> u64
+        ensures { result ≡ self.now }
+    {
+        self.number
+    }
+
+    /// Where it is looked for first.
+    pub fn hint(&self) -> Place {
+        self.hint
+    }
+}

@@ -1,0 +1,52 @@
+//! What a core keeps, as one value.
+use crate::{ClientPort, HandleEntry, OwnedSender, RequestDetails, ResponseDetails, ServerPort};
+use rr_protocol::{BackpressureFn, Limits, UniqueNodeId};
+use rr_slots::Body;
+use rr_table::Table;
+use std::marker::Model;
+
+mod creating;
+mod handles;
+mod loaning;
+mod querying;
+mod receiving;
+mod releasing;
+mod sending;
+mod writing;
+
+/// All ports, handles and messages of a service. Contracts see them as parts, of which nothing is claimed: each method
+/// changes one thing.
+///
+/// A message stands once, in a slot of the sender of the port that sends it. A handle is an entry of the table, under its
+/// number; it names its message by sender and slot, as entries of queues do by slot.
+#[derive(Drop)]
+pub struct Store<QB: Body, QH: Default + Drop, PB: Body, PH: Default + Drop, K: BackpressureFn> {
+    pub(crate) limits: Limits,
+    pub(crate) node_id: UniqueNodeId,
+    pub(crate) next: u64,
+    pub(crate) clients: Vec<ClientPort<K>>,
+    pub(crate) servers: Vec<ServerPort<K>>,
+    pub(crate) client_senders: Vec<OwnedSender<QB, RequestDetails, QH>>,
+    pub(crate) server_senders: Vec<OwnedSender<PB, ResponseDetails, PH>>,
+    // For each client's sender, by slot and then by receiver, whether that server may still answer.
+    pub(crate) waiting: Vec<Vec<bool>>,
+    pub(crate) table: Table<HandleEntry>,
+    // What a slot that isn't there would show.
+    pub(crate) spare_request_header: QH,
+    pub(crate) spare_response_header: PH,
+}
+
+impl<QB: Body, QH: Default + Drop, PB: Body, PH: Default + Drop, K: BackpressureFn> Model
+    for Store<QB, QH, PB, PH, K> {
+    ghost use Rattle.std.specs.Coded.{codes};
+    ghost use Rattle.rr_table.specs.TableView.{table_code};
+    ghost use Rattle.rr_store.specs.Parts.{Parts};
+    ghost use Rattle.rr_store.specs.Inside.{parts_of};
+    ghost use Rattle.rr_store.specs.contracts.handle_entry.HandleEntry as handle_entry;
+
+    ghost Value = { Parts QB.Item QH PB.Item PH K };
+
+    ghost coded = { Prim.hlevel (codes, table_code handle_entry.the_row.coded) };
+
+    ghost view = { λ s. parts_of s };
+}

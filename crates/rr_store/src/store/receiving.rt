@@ -1,0 +1,124 @@
+//! What a receiver takes.
+ghost use Rattle.std.specs.Prelude.{◌≡◌, ◌==◌, ◌+◌, ◌*◌, ◌<◌, ◌^◌, [], Some, IsSome, IsSomeAnd, false, true, length, slice_get, slice_index_or};
+ghost use Rattle.std.specs.List.{position};
+ghost use Rattle.rr_store.specs.Changes.{with_first_request_taken, with_first_response_taken, with_request_senders};
+ghost use Rattle.rr_store.specs.Receiving.{IsNextSender, Reaches, borrowed_from, queue_from};
+ghost use Rattle.rr_store.specs.Skimming.{IsSkimmedBelow};
+ghost use Rattle.rr_store.specs.Sound.{response_place};
+ghost use Rattle.rr_store.specs.Views.{sender_of};
+
+use crate::index_of_sender;
+use crate::receive::next_sender;
+use crate::receive::request::{active_place, skim};
+use crate::store::Store;
+use rr_protocol::{BackpressureFn, ReceiveError};
+use rr_slots::Body;
+use rr_table::Place;
+
+impl<QB: Body, QH: Default + Drop, PB: Body, PH: Default + Drop, K: BackpressureFn> Store<
+    QB,
+    QH,
+    PB,
+    PH,
+    K,
+> {
+    /// Returns which receiver the client is that sends from a sender.
+    #[inline(always)]
+    pub fn receiver_of_sender(&self, sender: usize) -> usize
+        requires { IsSome (position (λ c. c.sender == sender) self.now.clients) }
+        ensures { IsSomeAnd (position (λ c. c.sender == sender) self.now.clients) (λ i. IsSomeAnd (slice_get self.now.clients i) (λ c. result ≡ c.receiver)) }
+    {
+        match index_of_sender(self.clients.as_slice(), sender) {
+            Some(index) => self.clients[index].port.receiver,
+            None => unreachable!(),
+        }
+    }
+
+    /// Returns from which server's sender a client takes its next response on a channel.
+    #[inline(always)]
+    pub fn next_response_sender(
+        &self,
+        receiver: usize,
+        channel: usize,
+    ) -> Result<Option<usize>, ReceiveError>
+        requires { Reaches self.now.server_senders receiver channel }
+        ensures { IsNextSender self.now.server_senders receiver channel self.now.limits.max_borrowed_responses_per_pending_response result }
+    {
+        let most = self.limits.max_borrowed_responses_per_pending_response;
+        next_sender(&self.server_senders, receiver, channel, most)
+    }
+
+    /// Returns from which client's sender a server takes its next request.
+    #[inline(always)]
+    pub fn next_request_sender(&self, receiver: usize) -> Result<Option<usize>, ReceiveError>
+        requires { Reaches self.now.client_senders receiver 0 }
+        ensures { IsNextSender self.now.client_senders receiver 0 self.now.limits.max_active_requests_per_client result }
+    {
+        let most = self.limits.max_active_requests_per_client;
+        next_sender(&self.client_senders, receiver, 0, most)
+    }
+
+    /// Takes the oldest response out of a client's queue on a channel, and returns its slot.
+    #[inline(always)]
+    pub fn take_response(&mut self, sender: usize, receiver: usize, channel: usize) -> usize
+        requires sender { sender < length self.old.server_senders }
+        requires queue { (receiver < length (sender_of sender self.old.server_senders).messages.queues) × (channel < length (slice_index_or (sender_of sender self.old.server_senders).messages.queues receiver [])) }
+        requires entry { 0 < length (queue_from self.old.server_senders receiver channel sender) }
+        requires fits { borrowed_from self.old.server_senders receiver channel sender + 1 < 2 ^ 64 }
+        ensures first { slice_get (queue_from self.old.server_senders receiver channel sender) 0 ≡ Some result }
+        ensures within { result < length (sender_of sender self.old.server_senders).messages.held }
+        ensures taken { self.new ≡ with_first_response_taken self.old sender receiver channel result }
+    {
+        self.server_senders[sender].messages.take(receiver, channel)
+    }
+
+    /// Takes the oldest request out of a server's queue, and returns its slot.
+    #[inline(always)]
+    pub fn take_request(&mut self, sender: usize, receiver: usize) -> usize
+        requires sender { sender < length self.old.client_senders }
+        requires queue { (receiver < length (sender_of sender self.old.client_senders).messages.queues) × (0 < length (slice_index_or (sender_of sender self.old.client_senders).messages.queues receiver [])) }
+        requires entry { 0 < length (queue_from self.old.client_senders receiver 0 sender) }
+        requires fits { borrowed_from self.old.client_senders receiver 0 sender + 1 < 2 ^ 64 }
+        ensures first { slice_get (queue_from self.old.client_senders receiver 0 sender) 0 ≡ Some result }
+        ensures within { result < length (sender_of sender self.old.client_senders).messages.held }
+        ensures taken { self.new ≡ with_first_request_taken self.old sender receiver result }
+    {
+        self.client_senders[sender].messages.take(receiver, 0)
+    }
+
+    /// Returns where the handle of a response stands.
+    #[inline(always)]
+    pub fn response_place(&self, sender: usize, slot: usize) -> Place
+        requires { sender < length self.now.server_senders }
+        ensures { result ≡ response_place self.now sender slot }
+    {
+        let row = self.server_senders[sender].row;
+        Place { row, index: slot }
+    }
+
+    /// Returns where a server's handle of a request stands.
+    #[inline(always)]
+    pub fn active_place(&self, sender: usize, receiver: usize, slot: usize) -> Place
+        requires sender { sender < length self.now.client_senders }
+        requires receiver { receiver + 1 < 2 ^ 64 }
+        requires index { (receiver + 1) * length (sender_of sender self.now.client_senders).messages.held + slot < 2 ^ 64 }
+        ensures { result ≡ record { row = (sender_of sender self.now.client_senders).row; index = (receiver + 1) * length (sender_of sender self.now.client_senders).messages.held + slot } }
+    {
+        active_place(self.client_senders.as_slice(), sender, receiver, slot)
+    }
+
+    /// Drops the requests that nobody waits for from the fronts of the queues to a server, where it may have one more, unless
+    /// the limits have fire-and-forget requests.
+    #[inline(always)]
+    pub fn skim_requests(&mut self, receiver: usize)
+        requires { Reaches self.old.client_senders receiver 0 }
+        ensures rest { self.new ≡ with_request_senders self.old self.new.client_senders }
+        ensures kept { self.old.limits.enable_fire_and_forget_requests ≡ true → self.new ≡ self.old }
+        ensures skimmed { self.old.limits.enable_fire_and_forget_requests ≡ false → IsSkimmedBelow self.old.table receiver self.old.limits.max_active_requests_per_client (length self.old.client_senders) self.old.client_senders self.new.client_senders }
+    {
+        if !self.limits.enable_fire_and_forget_requests {
+            let most = self.limits.max_active_requests_per_client;
+            skim(&mut self.client_senders, &self.table, receiver, most);
+        }
+    }
+}

@@ -1,0 +1,123 @@
+//! What a send changes.
+ghost use Rattle.std.specs.Prelude.{◌≡◌, ◌==◌, ◌+◌, ◌*◌, ◌<◌, ◌^◌, ℕ, [], Some, IsSomeAnd, count_by, length, not, slice_get, slice_index, slice_index_or};
+ghost use Rattle.std.specs.List.{position};
+ghost use Rattle.rr_sender.specs.Senders.{uses};
+ghost use Rattle.rr_store.specs.Changes.{is_open_to, request_send_limit, with_client_at, with_request_queued};
+ghost use Rattle.rr_store.specs.Delivering.{HasQueue, is_refused_in, reached, with_delivered};
+ghost use Rattle.rr_store.specs.Parts.{ClientPart, ServerPart};
+ghost use Rattle.rr_store.specs.Sending.{with_one_sent};
+ghost use Rattle.rr_store.specs.Views.{sender_of};
+
+use crate::send::{request as of_request, response as of_response};
+use crate::store::Store;
+use crate::{HandleEntry, ResponseDetails, index_of_sender};
+use rr_protocol::{BackpressureFn, RequestSendError, SendError};
+use rr_slots::Body;
+
+impl<QB: Body, QH: Default + Drop, PB: Body, PH: Default + Drop, K: BackpressureFn> Store<
+    QB,
+    QH,
+    PB,
+    PH,
+    K,
+> {
+    /// Returns the first reason against one more request from a sender: its client has too many pending responses, or the
+    /// queue to some server is full, may not overflow, and is not passed over.
+    #[inline(always)]
+    pub fn request_send_limit(&self, sender: usize) -> Option<RequestSendError>
+        requires sender { sender < length self.now.client_senders }
+        requires client { IsSomeAnd (position (λ c. c.sender == sender) self.now.clients) (λ i. i < length self.now.clients) }
+        requires queues { (i : ℕ) (s : ServerPart K) → slice_get self.now.servers i ≡ Some s → (s.receiver < length (sender_of sender self.now.client_senders).messages.queues) × (0 < length (slice_index_or (sender_of sender self.now.client_senders).messages.queues s.receiver [])) }
+        ensures { IsSomeAnd (position (λ c. c.sender == sender) self.now.clients) (λ i. IsSomeAnd (slice_get self.now.clients i) (λ c. result ≡ request_send_limit self.now K.action c sender)) }
+    {
+        let client = match index_of_sender(self.clients.as_slice(), sender) {
+            Some(index) => &self.clients[index],
+            None => unreachable!(),
+        };
+        if self.limits.max_active_requests_per_client <= client.pendings {
+            return Some(RequestSendError::ExceedsMaxActiveRequests);
+        }
+        let messages = &self.client_senders[sender].messages;
+        let overflow = self.limits.enable_safe_overflow_for_requests;
+        let servers = self.servers.as_slice();
+        if of_request::is_refused(messages, &client.port, servers, overflow) {
+            return Some(RequestSendError::SendError(SendError::UnableToDeliver));
+        }
+        None
+    }
+
+    /// Puts a request into the queue to each connected server, notes that these may answer it, and returns how many queues
+    /// took it.
+    #[inline(always)]
+    pub fn queue_request(&mut self, sender: usize, slot: usize) -> usize
+        requires sender { sender < length self.old.client_senders }
+        requires queues { (i : ℕ) (s : ServerPart K) → slice_get self.old.servers i ≡ Some s → (s.receiver < length (sender_of sender self.old.client_senders).messages.queues) × (0 < length (slice_index_or (sender_of sender self.old.client_senders).messages.queues s.receiver [])) }
+        requires takes { (0 < (sender_of sender self.old.client_senders).messages.capacity) × (0 < slice_index (sender_of sender self.old.client_senders).messages.held slot) × (uses (sender_of sender self.old.client_senders).messages slot + length self.old.servers < 2 ^ 64) }
+        requires marks { (i : ℕ) (s : ServerPart K) → slice_get self.old.servers i ≡ Some s → slot * self.old.limits.max_servers + s.receiver < length (slice_index_or self.old.waiting sender []) }
+        requires rows { sender < length self.old.waiting }
+        ensures count { result ≡ count_by (is_open_to self.old sender) self.old.servers }
+        ensures queued { self.new ≡ with_request_queued self.old sender slot }
+    {
+        let overflow = self.limits.enable_safe_overflow_for_requests;
+        let receivers = self.limits.max_servers;
+        let servers = self.servers.as_slice();
+        let messages = &self.client_senders[sender].messages;
+        let count = of_request::open_count(messages, servers, overflow);
+        of_request::put_in(&mut self.client_senders, sender, slot, servers, overflow);
+        of_request::set_marks_in(&mut self.waiting, sender, slot, receivers, servers);
+        count
+    }
+
+    /// Counts one request less on loan, and one pending response more, for the client that sends from a sender.
+    #[inline(always)]
+    pub fn count_as_sent(&mut self, sender: usize)
+        requires { IsSomeAnd (position (λ c. c.sender == sender) self.old.clients) (λ i. IsSomeAnd (slice_get self.old.clients i) (λ c. (0 < c.loans) × (c.pendings + 1 < 2 ^ 64))) }
+        ensures { IsSomeAnd (position (λ c. c.sender == sender) self.old.clients) (λ i. IsSomeAnd (slice_get self.old.clients i) (λ c. self.new ≡ with_client_at self.old i (with_one_sent c))) }
+    {
+        of_request::count_as_sent(&mut self.clients, sender);
+    }
+
+    /// Returns which receiver the client of a response is. `None` if it isn't connected, or if its request has no pending
+    /// response any more.
+    #[inline(always)]
+    pub fn reached_receiver(&self, details: ResponseDetails) -> Option<usize>
+        requires { (i : ℕ) (c : ClientPart K) → slice_get self.now.clients i ≡ Some c → c.sender < length self.now.client_senders }
+        ensures { result ≡ reached self.now.clients self.now.client_senders self.now.table details }
+    {
+        of_response::reached_receiver(&self.clients, &self.client_senders, &self.table, details)
+    }
+
+    /// Returns whether the queue that a response reaches is full, may not overflow, and is not passed over.
+    #[inline(always)]
+    pub fn is_response_refused(
+        &self,
+        sender: usize,
+        details: ResponseDetails,
+        reach: Option<usize>,
+    ) -> bool
+        requires sender { sender < length self.now.server_senders }
+        requires server { IsSomeAnd (position (λ s. s.sender == sender) self.now.servers) (λ i. i < length self.now.servers) }
+        requires queue { HasQueue (sender_of sender self.now.server_senders).messages details.channel reach }
+        ensures { IsSomeAnd (position (λ s. s.sender == sender) self.now.servers) (λ i. IsSomeAnd (slice_get self.now.servers i) (λ s. result ≡ is_refused_in K.action s.port (sender_of sender self.now.server_senders).messages self.now.limits.enable_safe_overflow_for_responses details reach)) }
+    {
+        let server = match index_of_sender(self.servers.as_slice(), sender) {
+            Some(index) => &self.servers[index],
+            None => unreachable!(),
+        };
+        let messages = &self.server_senders[sender].messages;
+        let overflow = self.limits.enable_safe_overflow_for_responses;
+        of_response::is_refused(&server.port, messages, reach, details, overflow)
+    }
+
+    /// Puts a response into the queue that it reaches, if it reaches one.
+    #[inline(always)]
+    pub fn deliver_response(&mut self, entry: HandleEntry, channel: usize, reach: Option<usize>)
+        requires sender { entry.sender < length self.old.server_senders }
+        requires queue { HasQueue (sender_of entry.sender self.old.server_senders).messages channel reach }
+        requires takes { (0 < (sender_of entry.sender self.old.server_senders).messages.capacity) × (0 < slice_index (sender_of entry.sender self.old.server_senders).messages.held entry.slot) × (uses (sender_of entry.sender self.old.server_senders).messages entry.slot + 1 < 2 ^ 64) }
+        ensures { self.new ≡ with_delivered self.old entry.sender channel entry.slot reach }
+    {
+        let overflow = self.limits.enable_safe_overflow_for_responses;
+        of_response::deliver_in(&mut self.server_senders, entry, channel, reach, overflow);
+    }
+}

@@ -1,0 +1,38 @@
+//! Messages that were written whole.
+ghost use Rattle.std.specs.Prelude.{◌≡◌, ◌⊎◌, true, Some, IsSomeAnd};
+ghost use Rattle.rr_protocol.specs.Queries.{kind_at};
+ghost use Rattle.rr_protocol.specs.State.{handle_at, with_changed};
+ghost use Rattle.rr_protocol.specs.Writing.{after_init};
+ghost use Rattle.rr_store.specs.Reaching.{IsCore};
+ghost use Rattle.rr_store.specs.Views.{state_of};
+ghost use Rattle.rr_store.specs.Writing.{is_ready};
+ghost use Rattle.rr_table.specs.TableView.{IsAt};
+
+use rr_protocol::{BackpressureFn, Kind};
+use rr_slots::Body;
+use rr_store::{HandleEntry, Store};
+use rr_table::Place;
+
+/// Makes the message that is being written in this place, and complete, one that can be sent.
+pub fn assume_init_at<
+    QB: Body,
+    QH: Default + Drop,
+    PB: Body,
+    PH: Default + Drop,
+    K: BackpressureFn,
+>(store: &mut Store<QB, QH, PB, PH, K>, number: u64, place: Place)
+    requires core { IsCore store.old }
+    requires at { IsAt store.old.table number place }
+    requires uninit { (kind_at (state_of store.old) number ≡ Some Kind.RequestMutUninit) ⊎ (kind_at (state_of store.old) number ≡ Some Kind.ResponseMutUninit) }
+    requires complete { IsSomeAnd (handle_at (state_of store.old) number) (λ handle. is_ready handle ≡ true) }
+    ensures core { IsCore store.new }
+    ensures view { state_of store.new ≡ with_changed (state_of store.old) number after_init }
+{
+    let entry = store.at(number, place);
+    let ready = HandleEntry {
+        stage: entry.stage.initialised(),
+        sender: entry.sender,
+        slot: entry.slot,
+    };
+    store.replace(number, place, ready);
+}

@@ -1,0 +1,10 @@
+//! Writing of loaned messages in a store, each as the message machine writes it.
+#![tactic(auto)]
+
+mod initialising;
+mod request;
+mod response;
+
+pub use initialising::assume_init_at;
+pub use request::push_request_at;
+pub use response::push_response_at;

@@ -1,0 +1,33 @@
+//! Writing of responses.
+ghost use Rattle.std.specs.Prelude.{◌≡◌, not, true, Some, IsSomeAnd, if◌then◌else◌, option_and_then};
+ghost use Rattle.rr_protocol.specs.Messages.{response_in};
+ghost use Rattle.rr_protocol.specs.Queries.{kind_at};
+ghost use Rattle.rr_protocol.specs.State.{handle_at, with_changed};
+ghost use Rattle.rr_protocol.specs.Writing.{is_complete, with_element, with_response_content};
+ghost use Rattle.rr_store.specs.Reaching.{IsCore};
+ghost use Rattle.rr_store.specs.Views.{state_of};
+ghost use Rattle.rr_table.specs.TableView.{IsAt};
+
+use rr_protocol::{BackpressureFn, Kind};
+use rr_slots::Body;
+use rr_store::Store;
+use rr_table::Place;
+
+/// Appends an element to the response that is being written in this place, and tells whether it had room: `false` where the
+/// body is complete, and then nothing changes.
+pub fn push_response_at<
+    QB: Body,
+    QH: Default + Drop,
+    PB: Body,
+    PH: Default + Drop,
+    K: BackpressureFn,
+>(store: &mut Store<QB, QH, PB, PH, K>, number: u64, place: Place, item: PB::Item) -> bool
+    requires core { IsCore store.old }
+    requires at { IsAt store.old.table number place }
+    requires kind { kind_at (state_of store.old) number ≡ Some Kind.ResponseMutUninit }
+    ensures core { IsCore store.new }
+    ensures view { IsSomeAnd (option_and_then response_in (handle_at (state_of store.old) number)) (λ m. (result ≡ not (is_complete m.content)) × (state_of store.new ≡ (if result then with_changed (state_of store.old) number (with_response_content (with_element item)) else state_of store.old))) }
+{
+    let entry = store.at(number, place);
+    store.push_response(entry.sender, entry.slot, item)
+}
