@@ -1,7 +1,8 @@
 //! Creating ports.
-ghost use Rattle.std.specs.Prelude.{IsTrue};
+ghost use Rattle.std.specs.Prelude.{◌≡◌, None, IfOk, IsTrue};
 ghost use Rattle.rr_slots.specs.Families.{takes_len};
 ghost use Rattle.rr_protocol.specs.Creation.{CreatesClient, CreatesServer};
+ghost use Rattle.rr_protocol.specs.Queries.{kind_at};
 
 use crate::state::Core;
 use rr_creating::{create_client, create_server};
@@ -24,7 +25,8 @@ impl<QB: Body, QH: Default + Drop, PB: Body, PH: Default + Drop, K: Backpressure
     /// body's family takes. After iceoryx2's `PortFactoryClient::create`.
     pub fn create_client(&mut self, settings: ClientSettings<K>) -> Result<u64, ClientCreateError>
         requires { IsTrue (takes_len QB.family settings.initial_max_slice_len) }
-        ensures { CreatesClient self.old settings result self.new }
+        ensures creates { CreatesClient self.old settings result self.new }
+        ensures unnamed { IfOk result (λ number. kind_at self.old number ≡ None) }
     {
         create_client(&mut self.parts, self.alloc, settings)
     }
@@ -37,7 +39,8 @@ impl<QB: Body, QH: Default + Drop, PB: Body, PH: Default + Drop, K: Backpressure
     /// `PortFactoryServer::create`.
     pub fn create_server(&mut self, settings: ServerSettings<K>) -> Result<u64, ServerCreateError>
         requires { IsTrue (takes_len PB.family settings.initial_max_slice_len) }
-        ensures { CreatesServer self.old settings result self.new }
+        ensures creates { CreatesServer self.old settings result self.new }
+        ensures unnamed { IfOk result (λ number. kind_at self.old number ≡ None) }
     {
         create_server(&mut self.parts, self.alloc, settings)
     }

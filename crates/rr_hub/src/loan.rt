@@ -1,5 +1,5 @@
 //! Loans.
-ghost use Rattle.std.specs.Prelude.{◌≡◌, ◌≢◌, ◌<◌, Some, Err, IsTrue};
+ghost use Rattle.std.specs.Prelude.{◌≡◌, ◌≢◌, ◌<◌, None, Some, Err, IfOk, IsTrue};
 ghost use Rattle.rr_slots.specs.Families.{takes_len};
 ghost use Rattle.rr_protocol.specs.declared.kind.Kind.TheVariants as kind;
 ghost use Rattle.rr_protocol.specs.Loans.{LoansRequest, LoansResponse};
@@ -27,11 +27,13 @@ impl<QB: Body, QH: Default + Drop, PB: Body, PH: Default + Drop, K: Backpressure
     /// many requests on loan as it may; `OutOfMemory` if its live requests fill its pool, or a longer slice found no memory,
     /// neither of which comes for up to the initial slice length from a pool of the worst-case size. Nothing has changed then.
     /// After iceoryx2's `Client::loan_uninit`.
+    #[inline(always)]
     pub fn loan_request(&mut self, client: u64, len: usize) -> Result<HandleId, LoanError>
         requires kind { kind_at self.old client ≡ Some kind.Client }
         requires number { 0 < numbers_left self.old }
         requires len { IsTrue (takes_len QB.family len) }
         ensures loans { LoansRequest QH.is_default self.old client len result self.new }
+        ensures unnamed { IfOk result (λ number. kind_at self.old number ≡ None) }
         ensures unreduced { ClientHasPool self.old.limits self.old client len → result ≢ Err LoanError.OutOfMemory }
     {
         loan_request(&mut self.parts, client, len)
@@ -44,14 +46,21 @@ impl<QB: Body, QH: Default + Drop, PB: Body, PH: Default + Drop, K: Backpressure
     /// request has as many responses on loan as it may, or its server has; `OutOfMemory` if the server's live responses fill
     /// its pool, or a longer slice found no memory, neither of which comes for up to the initial slice length from a pool of the
     /// worst-case size. Nothing has changed then. After iceoryx2's `ActiveRequest::loan_uninit`.
+    #[inline(always)]
     pub fn loan_response(&mut self, active: &HandleId, len: usize) -> Result<HandleId, LoanError>
         requires kind { kind_at self.old active.now ≡ Some kind.ActiveRequest }
         requires number { 0 < numbers_left self.old }
         requires len { IsTrue (takes_len PB.family len) }
         ensures loans { LoansResponse PH.is_default self.old active.now len result self.new }
+        ensures unnamed { IfOk result (λ number. kind_at self.old number ≡ None) }
         ensures unreduced { ServerHasPool self.old.limits self.old active.now len → result ≢ Err LoanError.OutOfMemory }
     {
-        let place = self.parts.place(active.number(), active.hint());
-        loan_response_at(&mut self.parts, active.number(), place, len)
+        let hint = active.hint();
+        if self.parts.is_at(active.number(), hint) {
+            loan_response_at(&mut self.parts, active.number(), hint, len)
+        } else {
+            let place = self.parts.place_of(active.number());
+            loan_response_at(&mut self.parts, active.number(), place, len)
+        }
     }
 }

@@ -24,6 +24,7 @@ impl<QB: Body, QH: Default + Drop, PB: Body, PH: Default + Drop, K: Backpressure
     /// What a number names: a client or a server whose value lives, or a handle. `None` if it names nothing.
     ///
     /// It walks over the ports, and finds a handle at its hint. Our own.
+    #[inline(always)]
     pub fn kind(&self, id: &HandleId) -> Option<Kind>
         ensures { result ≡ kind_at self.now id.now }
     {
@@ -33,57 +34,87 @@ impl<QB: Body, QH: Default + Drop, PB: Body, PH: Default + Drop, K: Backpressure
     /// The body of a handle's request, as far as it was written.
     ///
     /// After iceoryx2's `payload` of `RequestMut`, `PendingResponse` and `ActiveRequest`.
+    #[inline(always)]
     pub fn request_body(&self, id: &HandleId) -> &QB
         requires { IsSome (option_and_then request_in (handle_at self.now id.now)) }
         ensures asked { IsSomeAnd (option_and_then request_in (handle_at self.now id.now)) (λ m. QB.asked_len result.now ≡ m.content.asked_len) }
         ensures elements { IsSomeAnd (option_and_then request_in (handle_at self.now id.now)) (λ m. QB.elements result.now ≡ m.content.elements) }
     {
-        let place = self.parts.place(id.number(), id.hint());
-        request_body_at(&self.parts, id.number(), place)
+        let hint = id.hint();
+        if self.parts.is_at(id.number(), hint) {
+            request_body_at(&self.parts, id.number(), hint)
+        } else {
+            let place = self.parts.place_of(id.number());
+            request_body_at(&self.parts, id.number(), place)
+        }
     }
 
     /// The body of a handle's response, as far as it was written.
     ///
     /// After iceoryx2's `payload` of `ResponseMut` and `Response`.
+    #[inline(always)]
     pub fn response_body(&self, id: &HandleId) -> &PB
         requires { IsSome (option_and_then response_in (handle_at self.now id.now)) }
         ensures asked { IsSomeAnd (option_and_then response_in (handle_at self.now id.now)) (λ m. PB.asked_len result.now ≡ m.content.asked_len) }
         ensures elements { IsSomeAnd (option_and_then response_in (handle_at self.now id.now)) (λ m. PB.elements result.now ≡ m.content.elements) }
     {
-        let place = self.parts.place(id.number(), id.hint());
-        response_body_at(&self.parts, id.number(), place)
+        let hint = id.hint();
+        if self.parts.is_at(id.number(), hint) {
+            response_body_at(&self.parts, id.number(), hint)
+        } else {
+            let place = self.parts.place_of(id.number());
+            response_body_at(&self.parts, id.number(), place)
+        }
     }
 
     /// Whether a connected server may still answer a pending response's request.
     ///
     /// It looks once at each connected server. After iceoryx2's `PendingResponse::is_connected`.
+    #[inline(always)]
     pub fn is_pending_connected(&self, id: &HandleId) -> bool
         requires { kind_at self.now id.now ≡ Some Kind.PendingResponse }
         ensures { IsSomeAnd (pending_at self.now id.now) (λ pending. result ≡ nat_lt 0 (length pending.servers)) }
     {
-        let place = self.parts.place(id.number(), id.hint());
-        is_pending_connected_at(&self.parts, id.number(), place)
+        let hint = id.hint();
+        if self.parts.is_at(id.number(), hint) {
+            is_pending_connected_at(&self.parts, id.number(), hint)
+        } else {
+            let place = self.parts.place_of(id.number());
+            is_pending_connected_at(&self.parts, id.number(), place)
+        }
     }
 
     /// Whether the pending response of an active request's request lives.
     ///
     /// It looks at the one place where that handle can stand. After iceoryx2's `ActiveRequest::is_connected`.
+    #[inline(always)]
     pub fn is_active_connected(&self, id: &HandleId) -> bool
         requires { kind_at self.now id.now ≡ Some Kind.ActiveRequest }
         ensures { IsSomeAnd (active_at self.now id.now) (λ active. result ≡ is_alive self.now active.message.number) }
     {
-        let place = self.parts.place(id.number(), id.hint());
-        is_active_connected_at(&self.parts, id.number(), place)
+        let hint = id.hint();
+        if self.parts.is_at(id.number(), hint) {
+            is_active_connected_at(&self.parts, id.number(), hint)
+        } else {
+            let place = self.parts.place_of(id.number());
+            is_active_connected_at(&self.parts, id.number(), place)
+        }
     }
 
     /// The number of the request that a server received as an active request.
     ///
     /// Our own: iceoryx2 has no numbers of requests.
+    #[inline(always)]
     pub fn request_number(&self, id: &HandleId) -> u64
         requires { IsSome (active_at self.now id.now) }
         ensures { IsSomeAnd (active_at self.now id.now) (λ active. result ≡ active.message.number) }
     {
-        let place = self.parts.place(id.number(), id.hint());
-        request_number_at(&self.parts, id.number(), place)
+        let hint = id.hint();
+        if self.parts.is_at(id.number(), hint) {
+            request_number_at(&self.parts, id.number(), hint)
+        } else {
+            let place = self.parts.place_of(id.number());
+            request_number_at(&self.parts, id.number(), place)
+        }
     }
 }

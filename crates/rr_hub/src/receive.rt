@@ -1,5 +1,5 @@
 //! Receiving.
-ghost use Rattle.std.specs.Prelude.{◌≡◌, ◌<◌, Some};
+ghost use Rattle.std.specs.Prelude.{◌≡◌, ◌<◌, None, Some, IfOk, IfSome};
 ghost use Rattle.rr_protocol.specs.declared.kind.Kind.TheVariants as kind;
 ghost use Rattle.rr_protocol.specs.Queries.{kind_at};
 ghost use Rattle.rr_protocol.specs.Receives.{ReceivesRequest, ReceivesResponse};
@@ -23,12 +23,18 @@ impl<QB: Body, QH: Default + Drop, PB: Body, PH: Default + Drop, K: Backpressure
     /// `None` if no server's response waits. `ExceedsMaxBorrows` if some waits, but the client has as many responses from each
     /// such server on this channel as it may. Nothing has changed then. It looks once at each server that ever was, and takes
     /// no memory. After iceoryx2's `PendingResponse::receive`.
+    #[inline(always)]
     pub fn receive_response(&mut self, id: &HandleId) -> Result<Option<HandleId>, ReceiveError>
         requires { kind_at self.old id.now ≡ Some kind.PendingResponse }
         ensures { ReceivesResponse self.old id.now result self.new }
     {
-        let place = self.parts.place(id.number(), id.hint());
-        receive_response_at(&mut self.parts, id.number(), place)
+        let hint = id.hint();
+        if self.parts.is_at(id.number(), hint) {
+            receive_response_at(&mut self.parts, id.number(), hint)
+        } else {
+            let place = self.parts.place_of(id.number());
+            receive_response_at(&mut self.parts, id.number(), place)
+        }
     }
 
     /// Receives the oldest request of some client that a server, whose value lives, has not received yet. It has the next
@@ -38,10 +44,12 @@ impl<QB: Body, QH: Default + Drop, PB: Body, PH: Default + Drop, K: Backpressure
     /// the limits have fire-and-forget requests. `None` if no client's request waits then. `ExceedsMaxBorrows` if some waits,
     /// but the server has as many requests of each such client as it may. It looks at each client that ever was at most
     /// twice, and once at each request that it drops, and takes no memory. After iceoryx2's `Server::receive`.
+    #[inline(always)]
     pub fn receive_request(&mut self, server: u64) -> Result<Option<HandleId>, ReceiveError>
         requires kind { kind_at self.old server ≡ Some kind.Server }
         requires number { 0 < numbers_left self.old }
-        ensures { ReceivesRequest self.old server result self.new }
+        ensures receives { ReceivesRequest self.old server result self.new }
+        ensures unnamed { IfOk result (λ handle. IfSome handle (λ number. kind_at self.old number ≡ None)) }
     {
         receive_request(&mut self.parts, server)
     }

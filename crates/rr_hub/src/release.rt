@@ -22,11 +22,17 @@ impl<QB: Body, QH: Default + Drop, PB: Body, PH: Default + Drop, K: Backpressure
     /// received, and nobody waits for the request any more. An active request's server will not answer it any more, but for
     /// responses that are on loan from it already. It walks over the ports, and with a pending response over the servers that
     /// ever were, and takes no memory. After the drops of iceoryx2's handles.
+    #[inline(always)]
     pub fn release(&mut self, id: &HandleId)
         requires { IsSome (handle_at self.old id.now) }
         ensures { self.new ≡ after_release self.old id.now }
     {
-        let place = self.parts.place(id.number(), id.hint());
-        release_at(&mut self.parts, id.number(), place);
+        let hint = id.hint();
+        if self.parts.is_at(id.number(), hint) {
+            release_at(&mut self.parts, id.number(), hint);
+        } else {
+            let place = self.parts.place_of(id.number());
+            release_at(&mut self.parts, id.number(), place);
+        }
     }
 }

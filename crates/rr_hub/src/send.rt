@@ -24,12 +24,18 @@ impl<QB: Body, QH: Default + Drop, PB: Body, PH: Default + Drop, K: Backpressure
     /// some server is full, may not overflow, and is not passed over. The request is released then, and no queue has it: each
     /// answer about a full queue comes before the first delivery. It looks a few times at each connected server, and takes
     /// no memory. After iceoryx2's `RequestMut::send`.
+    #[inline(always)]
     pub fn send_request(&mut self, id: &HandleId) -> Result<usize, RequestSendError>
         requires { kind_at self.old id.now ≡ Some kind.RequestMut }
         ensures { SendsRequest K.action self.old id.now result self.new }
     {
-        let place = self.parts.place(id.number(), id.hint());
-        send_request_at(&mut self.parts, id.number(), place)
+        let hint = id.hint();
+        if self.parts.is_at(id.number(), hint) {
+            send_request_at(&mut self.parts, id.number(), hint)
+        } else {
+            let place = self.parts.place_of(id.number());
+            send_request_at(&mut self.parts, id.number(), place)
+        }
     }
 
     /// Sends a response to its request, if that is still a pending response of a connected client, and releases the handle.
@@ -38,11 +44,17 @@ impl<QB: Body, QH: Default + Drop, PB: Body, PH: Default + Drop, K: Backpressure
     /// `UnableToDeliver` if the queue to the client's channel is full, may not overflow, and is not passed over. The response
     /// is released then too, and the queue stays. It looks a few times at each connected port, once at each client that ever
     /// was, and at one queue, and takes no memory. After iceoryx2's `ResponseMut::send`.
+    #[inline(always)]
     pub fn send_response(&mut self, id: &HandleId) -> Result<(), SendError>
         requires { kind_at self.old id.now ≡ Some kind.ResponseMut }
         ensures { SendsResponse K.action self.old id.now result self.new }
     {
-        let place = self.parts.place(id.number(), id.hint());
-        send_response_at(&mut self.parts, id.number(), place)
+        let hint = id.hint();
+        if self.parts.is_at(id.number(), hint) {
+            send_response_at(&mut self.parts, id.number(), hint)
+        } else {
+            let place = self.parts.place_of(id.number());
+            send_response_at(&mut self.parts, id.number(), place)
+        }
     }
 }

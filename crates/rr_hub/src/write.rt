@@ -23,35 +23,53 @@ impl<QB: Body, QH: Default + Drop, PB: Body, PH: Default + Drop, K: Backpressure
     /// complete, and then nothing changes.
     ///
     /// Our own: it stands for writes through the `MaybeUninit` that iceoryx2's `RequestMutUninit::payload_mut` lends.
+    #[inline(always)]
     pub fn push_request(&mut self, id: &HandleId, item: QB::Item) -> bool
         requires { kind_at self.old id.now ≡ Some Kind.RequestMutUninit }
         ensures { IsSomeAnd (option_and_then request_in (handle_at self.old id.now)) (λ m. (result ≡ not (is_complete m.content)) × (self.new ≡ (if result then with_changed self.old id.now (with_request_content (with_element item)) else self.old))) }
     {
-        let place = self.parts.place(id.number(), id.hint());
-        push_request_at(&mut self.parts, id.number(), place, item)
+        let hint = id.hint();
+        if self.parts.is_at(id.number(), hint) {
+            push_request_at(&mut self.parts, id.number(), hint, item)
+        } else {
+            let place = self.parts.place_of(id.number());
+            push_request_at(&mut self.parts, id.number(), place, item)
+        }
     }
 
     /// Appends an element to a response that is being written, and tells whether it had room: `false` where the body is
     /// complete, and then nothing changes.
     ///
     /// Our own: it stands for writes through the `MaybeUninit` that iceoryx2's `ResponseMutUninit::payload_mut` lends.
+    #[inline(always)]
     pub fn push_response(&mut self, id: &HandleId, item: PB::Item) -> bool
         requires { kind_at self.old id.now ≡ Some Kind.ResponseMutUninit }
         ensures { IsSomeAnd (option_and_then response_in (handle_at self.old id.now)) (λ m. (result ≡ not (is_complete m.content)) × (self.new ≡ (if result then with_changed self.old id.now (with_response_content (with_element item)) else self.old))) }
     {
-        let place = self.parts.place(id.number(), id.hint());
-        push_response_at(&mut self.parts, id.number(), place, item)
+        let hint = id.hint();
+        if self.parts.is_at(id.number(), hint) {
+            push_response_at(&mut self.parts, id.number(), hint, item)
+        } else {
+            let place = self.parts.place_of(id.number());
+            push_response_at(&mut self.parts, id.number(), place, item)
+        }
     }
 
     /// Makes a message that is being written, and complete, one that can be sent.
     ///
     /// After iceoryx2's `RequestMutUninit::assume_init` and `ResponseMutUninit::assume_init`.
+    #[inline(always)]
     pub fn assume_init(&mut self, id: &HandleId)
         requires uninit { (kind_at self.old id.now ≡ Some Kind.RequestMutUninit) ⊎ (kind_at self.old id.now ≡ Some Kind.ResponseMutUninit) }
         requires complete { IsSomeAnd (handle_at self.old id.now) (λ handle. is_ready handle ≡ true) }
         ensures { self.new ≡ with_changed self.old id.now after_init }
     {
-        let place = self.parts.place(id.number(), id.hint());
-        assume_init_at(&mut self.parts, id.number(), place);
+        let hint = id.hint();
+        if self.parts.is_at(id.number(), hint) {
+            assume_init_at(&mut self.parts, id.number(), hint);
+        } else {
+            let place = self.parts.place_of(id.number());
+            assume_init_at(&mut self.parts, id.number(), place);
+        }
     }
 }

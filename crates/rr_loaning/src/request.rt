@@ -23,6 +23,7 @@ use rr_store::{HandleEntry, HandleId, Stage, Store};
 /// - `OutOfMemory` if the client's live requests fill its pool, or a longer slice found no memory.
 ///
 /// The store is unchanged then.
+#[inline(always)]
 pub fn loan_request<QB: Body, QH: Default + Drop, PB: Body, PH: Default + Drop, K: BackpressureFn>(
     store: &mut Store<QB, QH, PB, PH, K>,
     client: u64,

@@ -25,6 +25,7 @@ use rr_table::Place;
 /// - `OutOfMemory` if the server's live responses fill its pool, or a longer slice found no memory.
 ///
 /// The store is unchanged then.
+#[inline(always)]
 pub fn loan_response_at<
     QB: Body,
     QH: Default + Drop,

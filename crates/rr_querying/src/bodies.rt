@@ -12,6 +12,7 @@ use rr_store::Store;
 use rr_table::Place;
 
 /// Returns the body of the request of the handle that stands in this place, as far as it was written.
+#[inline(always)]
 pub fn request_body_at<
     QB: Body,
     QH: Default + Drop,
@@ -30,6 +31,7 @@ pub fn request_body_at<
 }
 
 /// Returns the body of the response of the handle that stands in this place, as far as it was written.
+#[inline(always)]
 pub fn response_body_at<
     QB: Body,
     QH: Default + Drop,

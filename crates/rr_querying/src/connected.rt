@@ -14,6 +14,7 @@ use rr_table::Place;
 
 /// Returns whether a connected server may still answer the request of the pending response that stands in this place. Looks
 /// once at each connected server.
+#[inline(always)]
 pub fn is_pending_connected_at<
     QB: Body,
     QH: Default + Drop,
@@ -32,6 +33,7 @@ pub fn is_pending_connected_at<
 
 /// Returns whether the pending response lives whose request was received as the active request that stands in this place.
 /// Looks at the one place where that handle can stand.
+#[inline(always)]
 pub fn is_active_connected_at<
     QB: Body,
     QH: Default + Drop,

@@ -11,6 +11,7 @@ use rr_table::Place;
 /// Returns what a number names: a client or a server whose value lives, or a handle. `None` if it names nothing.
 ///
 /// Walks over the ports, and finds a handle at its hint. Walks over the table only if the handle doesn't stand there.
+#[inline(always)]
 pub fn kind_of<QB: Body, QH: Default + Drop, PB: Body, PH: Default + Drop, K: BackpressureFn>(
     store: &Store<QB, QH, PB, PH, K>,
     number: u64,

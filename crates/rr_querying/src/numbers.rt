@@ -11,6 +11,7 @@ use rr_store::Store;
 use rr_table::Place;
 
 /// Returns the number of the request that was received as the active request that stands in this place.
+#[inline(always)]
 pub fn request_number_at<
     QB: Body,
     QH: Default + Drop,

@@ -18,6 +18,7 @@ use rr_store::{HandleEntry, HandleId, Stage, Store};
 /// limits have fire-and-forget requests. `None` if no client's request waits then. `ExceedsMaxBorrows` if some waits, but the
 /// server has as many requests of each such client as it may. It looks at each client that ever was at most twice, and once
 /// at each request that it drops, and takes no memory. After iceoryx2's `Server::receive`.
+#[inline(always)]
 pub fn receive_request<
     QB: Body,
     QH: Default + Drop,

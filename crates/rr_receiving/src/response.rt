@@ -18,6 +18,7 @@ use rr_table::Place;
 /// `None` if no server's response waits. `ExceedsMaxBorrows` if some waits, but the client has as many responses from each
 /// such server on this channel as it may. Nothing has changed then. It looks once at each server that ever was, and takes no
 /// memory. After iceoryx2's `PendingResponse::receive`.
+#[inline(always)]
 pub fn receive_response_at<
     QB: Body,
     QH: Default + Drop,

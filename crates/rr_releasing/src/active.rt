@@ -14,6 +14,7 @@ use rr_table::Place;
 
 /// Releases the active request that stands in this place: its slot is given back, its server has one less from its client,
 /// and may not answer it any more.
+#[inline(always)]
 pub fn release_active_at<
     QB: Body,
     QH: Default + Drop,

@@ -14,6 +14,7 @@ use rr_table::Place;
 
 /// Releases the pending response that stands in this place: its slot is given back, its client has one less, and the
 /// responses on its channel that were not received are dropped.
+#[inline(always)]
 pub fn release_pending_at<
     QB: Body,
     QH: Default + Drop,

@@ -14,6 +14,7 @@ use rr_table::Place;
 
 /// Releases the received response that stands in this place: its slot is given back, and its client has one less from its
 /// channel.
+#[inline(always)]
 pub fn release_received_at<
     QB: Body,
     QH: Default + Drop,

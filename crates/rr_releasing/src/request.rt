@@ -13,6 +13,7 @@ use rr_store::Store;
 use rr_table::Place;
 
 /// Releases the request on loan that stands in this place: its slot is given back, and its client has one less.
+#[inline(always)]
 pub fn release_request_at<
     QB: Body,
     QH: Default + Drop,

@@ -14,6 +14,7 @@ use rr_table::Place;
 
 /// Releases the response on loan that stands in this place: its slot is given back, its server has one less on loan, and so
 /// has its active request, if that is not released yet.
+#[inline(always)]
 pub fn release_response_loan_at<
     QB: Body,
     QH: Default + Drop,

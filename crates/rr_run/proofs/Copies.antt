@@ -144,19 +144,19 @@ module _ {T H K : Type 0} where
         pushed s n (λ c. ResponseMutUninit (record m { content = c })) f v (λ change c. refl)
         (with_response_content (with_element v)) refl b new told.0 told.1
 
-  module _ (IsDefault : H → Type 0) (old : State T H T H K) (n k : ℕ) (mid : State T H T H K) (free : kind_at old old.next ≡ None) where
+  module _ (IsDefault : H → Type 0) (old : State T H T H K) (n k : ℕ) (mid : State T H T H K) (free : kind_at old k ≡ None) where
     -- a loan of a request
     pub fresh_request : LoansRequest IsDefault old n 1 (Ok k) mid → (m : RequestMessage T H)
         × IsFresh mid k (λ c. RequestMutUninit (record m { content = c }))
     fresh_request loans =
         let l = some_and (client_at old n) _ loans in
-        let a = no_port old old.next free in
+        let a = no_port old k free in
         let m = l.2.2 in (
           record { number = old.next; client = l.0.id; request_id = l.0.loans_made; channel = m.0; content = empty_content m.1 1 },
           record {
             apart = (
-              ap (λ t. is_client_value t k) m.4 ∙ counted_held k l.0.id old.clients ∙ ap (is_client_value old) l.2.1 ∙ a.0,
-              ap (λ t. is_server_value t k) m.4 ∙ ap (is_server_value old) l.2.1 ∙ a.1,
+              ap (λ t. is_client_value t k) m.4 ∙ counted_held k l.0.id old.clients ∙ a.0,
+              ap (λ t. is_server_value t k) m.4 ∙ a.1,
             );
             header = m.1;
             at = ap (λ t. handle_at t k) m.4 ∙ get-insert_same old.handles old.next _ k l.2.1;
@@ -169,7 +169,7 @@ module _ {T H K : Type 0} where
     fresh_response loans =
         let i = some_and (active_at old n) _ loans in
         let l = some_and (server_at old i.0.server) _ i.2 in
-        let a = no_port old old.next free in
+        let a = no_port old k free in
         let m = l.2.2 in (
           record {
             number = old.next;
@@ -183,8 +183,8 @@ module _ {T H K : Type 0} where
           },
           record {
             apart = (
-              ap (λ t. is_client_value t k) m.2 ∙ ap (is_client_value old) l.2.1 ∙ a.0,
-              ap (λ t. is_server_value t k) m.2 ∙ ap (is_server_value old) l.2.1 ∙ a.1,
+              ap (λ t. is_client_value t k) m.2 ∙ a.0,
+              ap (λ t. is_server_value t k) m.2 ∙ a.1,
             );
             header = m.0;
             at = ap (λ t. handle_at t k) m.2 ∙ get-insert_same old.handles old.next _ k l.2.1;

@@ -5,7 +5,7 @@ use Rattle.std.proofs.lemmas.Bool.{cases_eq}
 use Rattle.std.proofs.lemmas.List.{length-set, get_or-set_same, get_or-set_other}
 use Rattle.rr_slots.specs.Pools.{Slots, held_once_more, given_back}
 use Rattle.rr_sender.specs.declared.sender.Head.{Head}
-use Rattle.rr_sender.specs.Senders.{times, all_entries, at_two, set_two, with_queue, taken}
+use Rattle.rr_sender.specs.Senders.{times, all_entries, at_two, set_two, with_held, with_queue, taken}
 use Rattle.rr_sender.specs.Links.{Sent, with_entries, with_count}
 use Rattle.rr_sender.specs.Parts.{held_of, messages, IsSound}
 use Rattle.rr_sender.proofs.EntryLaws.{mark, mark-same, mark-other, times-push, times-first, times-set_two, times-at_two}
@@ -139,6 +139,46 @@ module _ {T N H : Type 0} (pool : Slots T) (heads : List (Head N H)) (s : Sent) 
         (within_holders pool heads s sound slot entry_holds)
         (omega (arith, rest 0 slot, mark-same slot, held_is pool heads s sound slot))
         (λ k other. omega (arith, rest 0 k, mark-other slot k (λ e. other (sym e)))))
+
+  -- a handle became an entry
+  module _ (slot : ℕ) (held : 0 < get_or (held_of pool.holders s.queues) slot 0) where
+    abbrev longer : List ℕ
+    longer = at_two [] s.queues receiver channel ++ slot ∷ []
+
+    more : (k : ℕ) → times k (all_entries (set_two s.queues receiver channel longer)) ≡ times k (all_entries s.queues) + mark slot k
+    more k = omega (
+      arith,
+      times-set_two s.queues receiver channel at inside k longer,
+      times-push k (at_two [] s.queues receiver channel) slot,
+      times-at_two s.queues receiver channel at inside k,
+    )
+
+    pub sound-pass : IsSound pool heads (with_entries s receiver channel longer)
+    sound-pass = record {
+      covered = λ k. ⊎_elim
+          (λ e. omega (
+            arith,
+            more slot,
+            mark-same slot,
+            held,
+            held_is pool heads s sound slot,
+            ap (λ j. times j (all_entries (set_two s.queues receiver channel longer))) e,
+            ap (λ j. get_or pool.holders j 0) e,
+          ))
+          (λ n. omega (arith, more k, mark-other slot k (λ e. n (sym e)), sound.covered k))
+          (cases_eq k slot);
+      one_body_each = sound.one_body_each;
+      one_head_each = sound.one_head_each;
+    }
+
+    pub state-pass : messages pool heads (with_entries s receiver channel longer)
+        ≡ with_held (with_queue (messages pool heads s) receiver channel longer) slot (get_or (held_of pool.holders s.queues) slot 0 - 1)
+    state-pass = ap (λ hs. record (with_queue (messages pool heads s) receiver channel longer) { held = hs })
+        (held_becomes pool.holders pool.holders s.queues (set_two s.queues receiver channel longer) refl slot
+        (get_or (held_of pool.holders s.queues) slot 0 - 1)
+        (within_holders pool heads s sound slot (omega (arith, held, held_is pool heads s sound slot)))
+        (omega (arith, more slot, mark-same slot, held_is pool heads s sound slot))
+        (λ k other. omega (arith, more k, mark-other slot k (λ e. other (sym e)))))
 
   -- there was none
   module _ (none : slice_get (at_two [] s.queues receiver channel) 0 ≡ None) where

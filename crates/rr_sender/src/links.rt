@@ -49,6 +49,7 @@ impl Links {
     }
 
     /// Enters a slot at the end of a queue that is not full.
+    #[inline(always)]
     pub(crate) fn push(&mut self, receiver: usize, channel: usize, slot: usize)
         requires receiver { receiver < length self.old.queues }
         requires channel { channel < length (slice_index_or self.old.queues receiver []) }
@@ -60,6 +61,7 @@ impl Links {
     }
 
     /// Takes the oldest entry of a queue. `None` where it has none, and nothing changes then.
+    #[inline(always)]
     pub(crate) fn pop(&mut self, receiver: usize, channel: usize) -> Option<usize>
         requires receiver { receiver < length self.old.queues }
         requires channel { channel < length (slice_index_or self.old.queues receiver []) }
@@ -71,6 +73,7 @@ impl Links {
     }
 
     /// The oldest entry of a queue, which stays. `None` where it has none.
+    #[inline(always)]
     pub(crate) fn first(&self, receiver: usize, channel: usize) -> Option<usize>
         requires receiver { receiver < length self.now.queues }
         requires channel { channel < length (slice_index_or self.now.queues receiver []) }
@@ -81,6 +84,7 @@ impl Links {
     }
 
     /// Whether a queue has as many entries as its capacity.
+    #[inline(always)]
     pub(crate) fn is_full(&self, receiver: usize, channel: usize) -> bool
         requires receiver { receiver < length self.now.queues }
         requires channel { channel < length (slice_index_or self.now.queues receiver []) }
@@ -92,6 +96,7 @@ impl Links {
     }
 
     /// How many entries a queue has.
+    #[inline(always)]
     pub(crate) fn len(&self, receiver: usize, channel: usize) -> usize
         requires receiver { receiver < length self.now.queues }
         requires channel { channel < length (slice_index_or self.now.queues receiver []) }
@@ -102,6 +107,7 @@ impl Links {
     }
 
     /// Whether a receiver's channel has no entry, for each of its channels. It looks at none of them.
+    #[inline(always)]
     pub(crate) fn is_empty(&self, receiver: usize) -> bool
         requires { receiver < length self.now.queues }
         ensures { IsTrue result ↔ All (λ queue. queue ≡ []) (slice_index_or self.now.queues receiver []) }
@@ -111,6 +117,7 @@ impl Links {
     }
 
     /// How many a receiver has from a channel.
+    #[inline(always)]
     pub(crate) fn borrowed(&self, receiver: usize, channel: usize) -> usize
         requires receiver { receiver < length self.now.queues }
         requires channel { channel < length (slice_index_or self.now.queues receiver []) }
@@ -121,6 +128,7 @@ impl Links {
     }
 
     /// Sets that a receiver has so many from a channel.
+    #[inline(always)]
     pub(crate) fn set_borrowed(&mut self, receiver: usize, channel: usize, count: usize)
         requires receiver { receiver < length self.old.queues }
         requires channel { channel < length (slice_index_or self.old.queues receiver []) }

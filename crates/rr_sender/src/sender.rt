@@ -87,6 +87,7 @@ impl<B: Body, N: Copy, H: Drop> Sender<B, N, H> {
     /// `Full` exactly if each slot has a handle or an entry. `NoRoom` if `len` is above the room and memory was refused.
     /// Nothing has changed on either. A slot that entries alone still hold is not free, since its message may be received:
     /// that is our own.
+    #[inline(always)]
     pub fn loan(&mut self, len: usize, details: N, user_header: H) -> Result<usize, AcquireError>
         requires { IsTrue (takes_len B.family len) }
         ensures free { IfOk result (λ slot. slice_get self.old.held slot ≡ Some 0) }
@@ -109,6 +110,7 @@ impl<B: Body, N: Copy, H: Drop> Sender<B, N, H> {
     }
 
     /// One more handle holds a slot that a handle holds.
+    #[inline(always)]
     pub fn hold(&mut self, slot: usize)
         requires held { 0 < slice_index self.old.held slot }
         requires fits { uses self.old slot + 1 < 2 ^ 64 }
@@ -118,6 +120,7 @@ impl<B: Body, N: Copy, H: Drop> Sender<B, N, H> {
     }
 
     /// One handle less holds a slot. The slot is free once no handle and no entry holds it.
+    #[inline(always)]
     pub fn give_back(&mut self, slot: usize)
         requires { 0 < slice_index self.old.held slot }
         ensures { self.new ≡ with_held self.old slot (slice_index self.old.held slot - 1) }
@@ -126,6 +129,7 @@ impl<B: Body, N: Copy, H: Drop> Sender<B, N, H> {
     }
 
     /// How many slots there are.
+    #[inline(always)]
     pub fn slots(&self) -> usize
         ensures { result ≡ length self.now.held }
     {
@@ -133,6 +137,7 @@ impl<B: Body, N: Copy, H: Drop> Sender<B, N, H> {
     }
 
     /// How many slots no handle and no entry holds.
+    #[inline(always)]
     pub fn free_slots(&self) -> usize
         ensures free { result + used_count self.now ≡ length self.now.held }
         ensures contents { length self.now.contents ≡ length self.now.held }
@@ -143,6 +148,7 @@ impl<B: Body, N: Copy, H: Drop> Sender<B, N, H> {
     }
 
     /// The details of a slot's message.
+    #[inline(always)]
     pub fn details(&self, slot: usize) -> N
         requires { slot < length self.now.held }
         ensures { slice_get self.now.details slot ≡ Some result }
@@ -151,6 +157,7 @@ impl<B: Body, N: Copy, H: Drop> Sender<B, N, H> {
     }
 
     /// The user header of a slot's message.
+    #[inline(always)]
     pub fn user_header(&self, slot: usize) -> &H
         requires { slot < length self.now.held }
         ensures { slice_get self.now.user_headers slot ≡ Some result.now }
@@ -159,6 +166,7 @@ impl<B: Body, N: Copy, H: Drop> Sender<B, N, H> {
     }
 
     /// The body in a slot, whether it is held or not.
+    #[inline(always)]
     pub fn body(&self, slot: usize) -> &B
         requires { slot < length self.now.held }
         ensures { slice_get self.now.contents slot ≡ Some (written B.asked_len B.elements result.now) }

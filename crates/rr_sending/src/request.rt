@@ -22,6 +22,7 @@ use rr_table::Place;
 /// - `UnableToDeliver` if the queue to some server is full, may not overflow, and is not passed over.
 ///
 /// The request is released then, and no queue has it.
+#[inline(always)]
 pub fn send_request_at<
     QB: Body,
     QH: Default + Drop,

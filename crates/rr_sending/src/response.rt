@@ -20,6 +20,7 @@ use rr_table::Place;
 ///
 /// - `UnableToDeliver` if the queue to the client's channel is full, may not overflow, and is not passed over. The response is
 ///   released then too, and the queue is unchanged.
+#[inline(always)]
 pub fn send_response_at<
     QB: Body,
     QH: Default + Drop,
@@ -40,9 +41,8 @@ pub fn send_response_at<
         release_response_loan_at(store, number, place);
         return Err(SendError::UnableToDeliver);
     }
-    store.deliver_response(entry, details.channel, reach);
     store.take(number, place);
-    store.give_back_response(entry.sender, entry.slot);
+    store.hand_over_response(entry, details.channel, reach);
     let receiver = store.end_response_loan(entry.sender);
     store.end_loan_from(details, receiver);
     Ok(())

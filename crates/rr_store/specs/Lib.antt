@@ -12,6 +12,7 @@ pub mod Kept
 pub mod Loaning
 pub mod Rewrites
 pub mod Receiving
+pub mod Asked
 pub mod Answering
 pub mod Dropping
 pub mod Releasing

@@ -29,6 +29,7 @@ pub enum Stage {
 
 impl Stage {
     /// The kind of the handle.
+    #[inline(always)]
     pub fn kind(self) -> Kind
         ensures { result ≡ stage_kind self }
     {
@@ -44,6 +45,7 @@ impl Stage {
     }
 
     /// The stage once a message that was being written can be sent. Other stages stay.
+    #[inline(always)]
     pub fn initialised(self) -> Self
         ensures { result ≡ initialised self }
     {
@@ -55,6 +57,7 @@ impl Stage {
     }
 
     /// The server of an active request, and how many responses it has on loan from it.
+    #[inline(always)]
     pub fn active(self) -> Option<(u64, usize)>
         ensures { result ≡ active_in self }
     {
@@ -65,6 +68,7 @@ impl Stage {
     }
 
     /// The server that received an active request. 0 in other stages.
+    #[inline(always)]
     pub fn server(self) -> u64
         ensures { result ≡ server_of_stage self }
     {
@@ -75,6 +79,7 @@ impl Stage {
     }
 
     /// Whether the handle is a pending response.
+    #[inline(always)]
     pub fn is_pending(self) -> bool
         ensures { result ≡ is_pending self }
     {

@@ -30,6 +30,7 @@ impl HandleId {
     }
 
     /// The number.
+    #[inline(always)]
     pub fn number(&self) -> u64
         ensures { result ≡ self.now }
     {
@@ -37,6 +38,7 @@ impl HandleId {
     }
 
     /// Where it is looked for first.
+    #[inline(always)]
     pub fn hint(&self) -> Place {
         self.hint
     }

@@ -19,6 +19,7 @@ use rr_table::Place;
 /// - `NoRoom` if the slot has less room than `len`, and memory was refused.
 ///
 /// The senders are unchanged then.
+#[inline(always)]
 pub fn loan_from<B: Body, N: Copy, H: Drop>(
     senders: &mut Vec<OwnedSender<B, N, H>>,
     sender: usize,

@@ -5,6 +5,7 @@ ghost use Rattle.std.specs.List.{list_any};
 use crate::{ClientPort, ServerPort};
 
 /// Whether one of the clients has this number and lives by value.
+#[inline(always)]
 pub fn is_client_value<K: Drop>(clients: &[ClientPort<K>], number: u64) -> bool
     ensures { result ≡ list_any (λ c. c.port.id == number && c.port.has_value) clients.now }
 {
@@ -14,6 +15,7 @@ pub fn is_client_value<K: Drop>(clients: &[ClientPort<K>], number: u64) -> bool
 }
 
 /// Whether one of the servers has this number and lives by value.
+#[inline(always)]
 pub fn is_server_value<K: Drop>(servers: &[ServerPort<K>], number: u64) -> bool
     ensures { result ≡ list_any (λ s. s.port.id == number && s.port.has_value) servers.now }
 {
@@ -23,6 +25,7 @@ pub fn is_server_value<K: Drop>(servers: &[ServerPort<K>], number: u64) -> bool
 }
 
 /// Whether one of the servers has a mark, where the marks by receiver begin at an index.
+#[inline(always)]
 pub fn is_any_marked<K: Drop>(servers: &[ServerPort<K>], marks: &[bool], start: usize) -> bool
     requires { (i : ℕ) (s : ServerPort K) → slice_get servers.now i ≡ Some s → start + s.port.receiver < length marks.now }
     ensures { result ≡ list_any (λ s. slice_index_or marks.now (start + s.port.receiver) false) servers.now }

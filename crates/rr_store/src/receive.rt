@@ -12,6 +12,7 @@ pub mod request;
 /// Some sender from which a message waits for a receiver on a channel, of which it may have `most` from each.
 ///
 /// `None` if no message waits, `ExceedsMaxBorrows` if messages wait alone where the receiver has so many.
+#[inline(always)]
 pub fn next_sender<B: Body, N: Copy, H: Drop>(
     senders: &Vec<OwnedSender<B, N, H>>,
     receiver: usize,

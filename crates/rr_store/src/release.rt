@@ -13,6 +13,7 @@ pub mod pending;
 pub mod response_loan;
 
 /// Takes the mark of a slot and of a receiver from the marks of a sender.
+#[inline(always)]
 pub fn clear_mark(
     waiting: &mut Vec<Vec<bool>>,
     sender: usize,
@@ -28,6 +29,7 @@ pub fn clear_mark(
 }
 
 /// Where others send to the port with a number.
+#[inline(always)]
 pub fn receiver_of<P: ConnectedPort>(ports: &[P], id: u64) -> usize
     requires { IsSome (position (λ p. P.id p == id) ports.now) }
     ensures { IsSomeAnd (position (λ p. P.id p == id) ports.now) (λ i. IsSomeAnd (slice_get ports.now i) (λ p. result ≡ P.receiver p)) }
@@ -39,6 +41,7 @@ pub fn receiver_of<P: ConnectedPort>(ports: &[P], id: u64) -> usize
 }
 
 /// Counts one message less that a receiver has from a channel of a sender, and holds the message's slot once less.
+#[inline(always)]
 pub fn end_borrow_in<B: Body, N: Copy, H: Drop>(
     senders: &mut Vec<OwnedSender<B, N, H>>,
     sender: usize,
@@ -56,6 +59,7 @@ pub fn end_borrow_in<B: Body, N: Copy, H: Drop>(
 }
 
 /// Counts one request less on loan for the client that sends in a sender.
+#[inline(always)]
 pub fn end_request_loan<K: Drop>(clients: &mut Vec<ClientPort<K>>, sender: usize)
     requires { IsSomeAnd (position (λ c. c.port.sender == sender) clients.old.items) (λ i. IsSomeAnd (slice_get clients.old.items i) (λ c. 0 < c.port.loans)) }
     ensures { IsSomeAnd (position (λ c. c.port.sender == sender) clients.old.items) (λ i. IsSomeAnd (slice_get clients.old.items i) (λ c. clients.new.items ≡ slice_set clients.old.items i (with_loan_ended c))) }

@@ -9,6 +9,7 @@ use crate::OwnedSender;
 use rr_slots::Body;
 
 /// Appends an element to what stands in a slot of a sender, unless it is complete, and tells whether it did.
+#[inline(always)]
 pub fn push_in<B: Body, N: Copy, H: Drop>(
     senders: &mut Vec<OwnedSender<B, N, H>>,
     sender: usize,

@@ -14,6 +14,7 @@ use rr_store::{HandleEntry, Store};
 use rr_table::Place;
 
 /// Makes the message that is being written in this place, and complete, one that can be sent.
+#[inline(always)]
 pub fn assume_init_at<
     QB: Body,
     QH: Default + Drop,

@@ -15,6 +15,7 @@ use rr_table::Place;
 
 /// Appends an element to the request that is being written in this place, and tells whether it had room: `false` where the
 /// body is complete, and then nothing changes.
+#[inline(always)]
 pub fn push_request_at<
     QB: Body,
     QH: Default + Drop,

@@ -17,6 +17,7 @@ use Rattle.rr_protocol.specs.State.{client_at, numbers_left}
 use Rattle.rr_laws.proofs.Loaning.{loans_request_reached}
 use Rattle.rr_store.specs.declared.details.RequestDetails.{RequestDetails}
 use Rattle.rr_store.specs.declared.handle_entry.Stage.TheVariants as stage
+use Rattle.rr_store.specs.Asked.{CanInsert}
 use Rattle.rr_store.specs.Changes.{request_loan_limit, with_client_at, with_new_handle, with_requests}
 use Rattle.rr_store.specs.Loaning.{loan_details, with_one_loan, with_request_loan}
 use Rattle.rr_store.specs.Parts.{ClientPart, Parts}
@@ -173,7 +174,7 @@ module _ {Q QH P PH K : Type 0} (p : Parts Q QH P PH K) (core : IsCore p) (n : �
               r_is = of_index (λ c. r ≡ with_client_at loan_made index (with_one_loan c))
                   (subst (λ q. IsSomeAnd (slice_get q.clients index) (λ c. r ≡ with_client_at q index (with_one_loan c))) q_is counted)
 
-              pub place_asked : IsInside r.table place
+              place_asked : IsInside r.table place
               place_asked =
                   let rows = core.sound.inserted.client_rows stands.it.sender own.0 in
                   subst (λ (r : Parts Q QH P PH K). IsInside r.table place) (sym r_is) (
@@ -181,19 +182,22 @@ module _ {Q QH P PH K : Type 0} (p : Parts Q QH P PH K) (core : IsCore p) (n : �
                     in_row _ _ _ _ (slice_get_within _ place.index 0 its_free) (ap (λ r. slice_index_or p.table.rows r 0) its_row ∙ rows.1),
                   )
 
-              pub vacant_asked : IsVacant r.table place
+              vacant_asked : IsVacant r.table place
               vacant_asked =
                   subst (λ (r : Parts Q QH P PH K). IsVacant r.table place) (sym r_is) (λ k s e at.
                   own_vacant p core.sound stands.it.sender place.index own.0 (slice_get_within _ place.index 0 its_free)
                   (get_or_from_slice_get _ place.index 0 0 its_free) k s e
                   (at ∙ ap (λ r. record { row = r; index = place.index }) its_row))
 
-              pub fresh_asked : fin_map.get r.table.entries r.next ≡ None
+              fresh_asked : fin_map.get r.table.entries r.next ≡ None
               fresh_asked = subst (λ (r : Parts Q QH P PH K). fin_map.get r.table.entries r.next ≡ None) (sym r_is)
                   (core.sound.numbered.fresh p.next (omega arith))
 
-              pub number_fits : r.next + 1 < 2 ^ 64
+              number_fits : r.next + 1 < 2 ^ 64
               number_fits = subst (λ (r : Parts Q QH P PH K). r.next + 1 < 2 ^ 64) (sym r_is) (omega (arith, core.sound.sized.next_fits))
+
+              pub add_asked : CanInsert r.table r.next place × (r.next + 1 < 2 ^ 64)
+              add_asked = (record { inside = place_asked; vacant = vacant_asked; fresh = fresh_asked }, number_fits)
 
               module _ (full : IsErrOf (Ok place) AcquireError.Full
                   ↔ (used_count (sender_of sender p.client_senders).messages ≡ length (sender_of sender p.client_senders).messages.held))

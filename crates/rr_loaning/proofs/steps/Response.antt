@@ -21,6 +21,7 @@ use Rattle.rr_store.specs.Answering.{active_entry, active_in, response_loan_deta
 use Rattle.rr_store.specs.declared.details.ResponseDetails.{ResponseDetails}
 use Rattle.rr_store.specs.declared.handle_entry.HandleEntry.{HandleEntry}
 use Rattle.rr_store.specs.declared.handle_entry.Stage.TheVariants as stage
+use Rattle.rr_store.specs.Asked.{CanInsert}
 use Rattle.rr_store.specs.Changes.{response_loan_limit, with_handle, with_new_handle, with_responses, with_server_at}
 use Rattle.rr_store.specs.Parts.{ServerPart, Parts}
 use Rattle.rr_store.specs.Reaching.{IsCore}
@@ -253,7 +254,7 @@ module _ {Q QH P PH K : Type 0} (p : Parts Q QH P PH K) (core : IsCore p) (n : �
                   s_is = replaced ∙ ap (λ r. with_handle r n place (active_entry server entry.sender entry.slot (loans + 1))) r_is
                       ∙ ap (λ x. with_handle counts n place (active_entry x entry.sender entry.slot (loans + 1))) (sym named)
 
-                  pub place_asked : IsInside s.table own_place
+                  place_asked : IsInside s.table own_place
                   place_asked =
                       let rows = core.sound.inserted.server_rows stands.it.sender own.0 in
                       subst (λ (s : Parts Q QH P PH K). IsInside s.table own_place) (sym s_is) (
@@ -269,7 +270,7 @@ module _ {Q QH P PH K : Type 0} (p : Parts Q QH P PH K) (core : IsCore p) (n : �
                   none_held : slice_index (sender_of stands.it.sender p.server_senders).messages.held own_place.index ≡ 0
                   none_held = get_or_from_slice_get _ own_place.index 0 0 its_free
 
-                  pub vacant_asked : IsVacant s.table own_place
+                  vacant_asked : IsVacant s.table own_place
                   vacant_asked =
                       subst (λ (s : Parts Q QH P PH K). IsVacant s.table own_place) (sym s_is) (λ k e here same.
                       let place_is : e.place ≡ response_loan_place p stands.it own_place.index = same
@@ -280,13 +281,16 @@ module _ {Q QH P PH K : Type 0} (p : Parts Q QH P PH K) (core : IsCore p) (n : �
                       (λ before. response_vacant p core.sound stands.it.sender own_place.index own.0 none_held k e before.1 place_is)
                       (get-insert_cases p.table.entries n (table_entry place more) k e here))
 
-                  pub fresh_asked : fin_map.get s.table.entries s.next ≡ None
+                  fresh_asked : fin_map.get s.table.entries s.next ≡ None
                   fresh_asked = subst (λ (s : Parts Q QH P PH K). fin_map.get s.table.entries s.next ≡ None) (sym s_is)
                       (get-insert_other p.table.entries n (table_entry place more) p.next (λ e. omega (arith, e, given))
                       ∙ core.sound.numbered.fresh p.next (omega arith))
 
-                  pub number_fits : s.next + 1 < 2 ^ 64
+                  number_fits : s.next + 1 < 2 ^ 64
                   number_fits = subst (λ (s : Parts Q QH P PH K). s.next + 1 < 2 ^ 64) (sym s_is) (omega (arith, core.sound.sized.next_fits))
+
+                  pub add_asked : CanInsert s.table s.next own_place × (s.next + 1 < 2 ^ 64)
+                  add_asked = (record { inside = place_asked; vacant = vacant_asked; fresh = fresh_asked }, number_fits)
 
                   module _ (full : IsErrOf (Ok own_place) AcquireError.Full
                       ↔ (used_count (sender_of sender p.server_senders).messages ≡ length (sender_of sender p.server_senders).messages.held))

@@ -16,6 +16,7 @@ use Rattle.rr_protocol.specs.Receives.{ReceivesRequest, ReceivesUnskimmed}
 use Rattle.rr_protocol.specs.State.{State, numbers_left}
 use Rattle.rr_laws.proofs.Receiving.{receives_request_reached, skims_reached}
 use Rattle.rr_store.specs.Answering.{active_entry}
+use Rattle.rr_store.specs.Asked.{CanInsert, CanTake}
 use Rattle.rr_store.specs.Changes.{with_first_request_taken, with_new_handle, with_request_senders}
 use Rattle.rr_store.specs.Parts.{Parts, ServerPart}
 use Rattle.rr_store.specs.Reaching.{IsCore}
@@ -133,23 +134,27 @@ module _ {Q QH P PH K : Type 0} (p : Parts Q QH P PH K) (core : IsCore p) (n : �
           here = next (Ok (Some sender)) is
 
           -- it is one of the senders
-          pub sender_asked : sender < length q.client_senders
+          sender_asked : sender < length q.client_senders
           sender_asked = here.0
 
           -- it has a queue to the receiver
-          pub queue_asked : (receiver < length (sender_of sender q.client_senders).messages.queues)
+          queue_asked : (receiver < length (sender_of sender q.client_senders).messages.queues)
               × (0 < length (slice_index_or (sender_of sender q.client_senders).messages.queues receiver []))
           queue_asked = skimmed_queues_asked sender here.0
 
           -- something waits there
-          pub entry_asked : 0 < length (queue_from q.client_senders receiver 0 sender)
+          entry_asked : 0 < length (queue_from q.client_senders receiver 0 sender)
           entry_asked = subst (λ r. 0 < length (queue_from q.client_senders r 0 sender)) (sym receiver_is) here.1
 
           -- one more can be counted
-          pub count_asked : borrowed_from q.client_senders receiver 0 sender + 1 < 2 ^ 64
+          count_asked : borrowed_from q.client_senders receiver 0 sender + 1 < 2 ^ 64
           count_asked =
               subst (λ r. borrowed_from q.client_senders r 0 sender + 1 < 2 ^ 64) (sym receiver_is)
               (omega (arith, here.2, requests_fit q.limits ready.sound.sized.limits_fit))
+
+          -- so the entry can become a handle
+          pub take_asked : CanTake q.client_senders sender receiver 0
+          take_asked = record { there = sender_asked; queue = queue_asked; entry = entry_asked; fits = count_asked }
 
           module _ (left : 0 < numbers_left (state_of p)) (slot : ℕ) (r : Parts Q QH P PH K)
               (first : slice_get (queue_from q.client_senders receiver 0 sender) 0 ≡ Some slot)
@@ -210,18 +215,22 @@ module _ {Q QH P PH K : Type 0} (p : Parts Q QH P PH K) (core : IsCore p) (n : �
                 (own_place q ready.sound server.index server.it still) within)
 
             -- the sender is still there
-            pub taken_sender_asked : sender < length r.client_senders
+            taken_sender_asked : sender < length r.client_senders
             taken_sender_asked =
                 subst (λ (r : Parts Q QH P PH K). sender < length r.client_senders) (sym r_is)
                 (subst (λ k. sender < k) (sym (length-set q.client_senders sender _)) here.0)
 
             -- the receiver can be counted on from
-            pub receiver_asked : receiver + 1 < 2 ^ 64
+            receiver_asked : receiver + 1 < 2 ^ 64
             receiver_asked = omega (arith, inside.1, fits)
 
             -- and so can the index
-            pub index_asked : (receiver + 1) * length (sender_of sender r.client_senders).messages.held + slot < 2 ^ 64
+            index_asked : (receiver + 1) * length (sender_of sender r.client_senders).messages.held + slot < 2 ^ 64
             index_asked = subst (λ k. (receiver + 1) * k + slot < 2 ^ 64) (sym slots_are) (omega (arith, inside.0, fits))
+
+            pub active_place_asked : (sender < length r.client_senders) × (receiver + 1 < 2 ^ 64)
+                × ((receiver + 1) * length (sender_of sender r.client_senders).messages.held + slot < 2 ^ 64)
+            active_place_asked = (taken_sender_asked, receiver_asked, index_asked)
 
             module _ (own : Place) (stands : own ≡ record {
               row = (sender_of sender r.client_senders).row;
@@ -244,14 +253,14 @@ module _ {Q QH P PH K : Type 0} (p : Parts Q QH P PH K) (core : IsCore p) (n : �
                   own_is ∙ ap (λ x. record { row = (sender_of sender q.client_senders).row; index = (x + 1) * slots + slot }) placed
 
               -- it is one of the table's
-              pub place_asked : IsInside r.table own
+              place_asked : IsInside r.table own
               place_asked =
                   let rows = ready.sound.inserted.client_rows sender here.0 in
                   subst (λ (t : TableView _). IsInside t own) (sym table_is)
                   (subst (λ x. IsInside q.table x) (sym own_is) (rows.0, omega (arith, inside.0, rows.1)))
 
               -- nothing stands there
-              pub vacant_asked : IsVacant r.table own
+              vacant_asked : IsVacant r.table own
               vacant_asked =
                   subst (λ (t : TableView _). IsVacant t own) (sym table_is)
                   (subst (λ x. IsVacant q.table x) (sym active_is)
@@ -259,13 +268,16 @@ module _ {Q QH P PH K : Type 0} (p : Parts Q QH P PH K) (core : IsCore p) (n : �
                   (ap (λ x. slice_get (queue_from q.client_senders x 0 sender) 0) (sym placed) ∙ first)))
 
               -- the next number has no handle
-              pub fresh_asked : fin_map.get r.table.entries r.next ≡ None
+              fresh_asked : fin_map.get r.table.entries r.next ≡ None
               fresh_asked =
                   ap (λ (r : Parts Q QH P PH K). fin_map.get r.table.entries r.next) r_is ∙ ready.sound.numbered.fresh q.next (omega arith)
 
               -- and can be counted on from
-              pub number_asked : r.next + 1 < 2 ^ 64
+              number_asked : r.next + 1 < 2 ^ 64
               number_asked = omega (arith, below, next_is)
+
+              pub add_asked : CanInsert r.table r.next own × (r.next + 1 < 2 ^ 64)
+              add_asked = (record { inside = place_asked; vacant = vacant_asked; fresh = fresh_asked }, number_asked)
 
               module _ (number : ℕ) (t : Parts Q QH P PH K) (given : number ≡ r.next)
                   (added : t ≡ with_new_handle r own (active_entry n sender slot 0)) (k : ℕ) (numbered : k ≡ number) where

@@ -14,6 +14,7 @@ use Rattle.rr_protocol.specs.Receives.{ReceivesResponse}
 use Rattle.rr_laws.proofs.Receiving.{receives_response_reached}
 use Rattle.rr_store.specs.declared.details.ResponseDetails.{ResponseDetails}
 use Rattle.rr_store.specs.declared.handle_entry.HandleEntry.{HandleEntry}
+use Rattle.rr_store.specs.Asked.{CanInsert, CanTake}
 use Rattle.rr_store.specs.Changes.{with_first_response_taken, with_handle}
 use Rattle.rr_store.specs.Kinds.{stage_kind}
 use Rattle.rr_store.specs.Parts.{ClientPart, Parts}
@@ -101,23 +102,27 @@ module _ {Q QH P PH K : Type 0} (p : Parts Q QH P PH K) (core : IsCore p) (n : �
         here = next (Ok (Some sender)) is
 
         -- it is one of the senders
-        pub sender_asked : sender < length p.server_senders
+        sender_asked : sender < length p.server_senders
         sender_asked = here.0
 
         -- it has a queue to the receiver
-        pub queue_asked : (receiver < length (sender_of sender p.server_senders).messages.queues)
+        queue_asked : (receiver < length (sender_of sender p.server_senders).messages.queues)
             × (entry.slot < length (slice_index_or (sender_of sender p.server_senders).messages.queues receiver []))
         queue_asked = queues_asked sender here.0
 
         -- something waits there
-        pub entry_asked : 0 < length (queue_from p.server_senders receiver entry.slot sender)
+        entry_asked : 0 < length (queue_from p.server_senders receiver entry.slot sender)
         entry_asked = subst (λ r. 0 < length (queue_from p.server_senders r entry.slot sender)) (sym receiver_is) here.1
 
         -- one more can be counted
-        pub count_asked : borrowed_from p.server_senders receiver entry.slot sender + 1 < 2 ^ 64
+        count_asked : borrowed_from p.server_senders receiver entry.slot sender + 1 < 2 ^ 64
         count_asked =
             subst (λ r. borrowed_from p.server_senders r entry.slot sender + 1 < 2 ^ 64) (sym receiver_is)
             (omega (arith, here.2, borrows_fit p.limits core.sound.sized.limits_fit))
+
+        -- so the entry can become a handle
+        pub take_asked : CanTake p.server_senders sender receiver entry.slot
+        take_asked = record { there = sender_asked; queue = queue_asked; entry = entry_asked; fits = count_asked }
 
         module _ (slot : ℕ) (q : Parts Q QH P PH K)
             (first : slice_get (queue_from p.server_senders receiver entry.slot sender) 0 ≡ Some slot)
@@ -176,24 +181,27 @@ module _ {Q QH P PH K : Type 0} (p : Parts Q QH P PH K) (core : IsCore p) (n : �
                 entry.slot slot asks.inside first_is (λ x. x.row) refl sender)
 
             -- it is one of the table's
-            pub place_asked : IsInside q.table own
+            place_asked : IsInside q.table own
             place_asked =
                 let rows = core.sound.inserted.server_rows sender here.0 in
                 subst (λ (t : TableView HandleEntry). IsInside t own) (sym table_is)
                 (subst (λ x. IsInside p.table x) (sym own_is) (rows.0, omega (arith, within, rows.1)))
 
             -- nothing stands there
-            pub vacant_asked : IsVacant q.table own
+            vacant_asked : IsVacant q.table own
             vacant_asked =
                 subst (λ (t : TableView HandleEntry). IsVacant t own) (sym table_is)
                 (subst (λ x. IsVacant p.table x) (sym own_is)
                 (response_vacant p core.sound sender slot here.0 (not_held p core.sound sender slot waits)))
 
             -- the number has no handle
-            pub fresh_asked : fin_map.get q.table.entries details.number ≡ None
+            fresh_asked : fin_map.get q.table.entries details.number ≡ None
             fresh_asked =
                 ap (λ (t : TableView HandleEntry). fin_map.get t.entries details.number) table_is
                 ∙ ap (λ (d : ResponseDetails). fin_map.get p.table.entries d.number) details_are ∙ no_handle p core.sound sender slot waits
+
+            pub insert_asked : CanInsert q.table details.number own
+            insert_asked = record { inside = place_asked; vacant = vacant_asked; fresh = fresh_asked }
 
             module _ (t : Parts Q QH P PH K) (put : t ≡ with_handle q details.number own (received_held p sender slot)) (k : ℕ)
                 (numbered : k ≡ details.number) where

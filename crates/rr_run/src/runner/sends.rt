@@ -120,8 +120,6 @@ fn written_request<T: Copy + Default, B: Body<Item = T>, H: Copy + Default, K: B
     requires number { 0 < numbers_left core.old }
     ensures { WritesRequest H.is_default core.old client item result core.new }
 {
-    // No port has the number that the loan gets.
-    core.next_number();
     let id = core.loan_request(client, 1)?;
     core.push_request(&id, item);
     core.assume_init(&id);
@@ -138,8 +136,6 @@ fn written_response<T: Copy + Default, B: Body<Item = T>, H: Copy + Default, K: 
     requires number { 0 < numbers_left core.old }
     ensures { WritesResponse H.is_default core.old active.now item result core.new }
 {
-    // No port has the number that the loan gets.
-    core.next_number();
     let id = core.loan_response(active, 1)?;
     core.push_response(&id, item);
     core.assume_init(&id);

@@ -1,6 +1,6 @@
 //! The queues to each receiver.
 ghost use Rattle.std.specs.Prelude.{◌≡◌, ◌+◌, ◌-◌, ◌<◌, ◌≤◌, ◌^◌, ◌↔◌, ◌++◌, ◌∷◌, [], All, IfSome, IsTrue, Some, drop, length, slice_get, slice_index, slice_index_or};
-ghost use Rattle.rr_sender.specs.Senders.{borrowed_at, is_full, put, queue_at, taken, uses, with_borrowed, with_queue};
+ghost use Rattle.rr_sender.specs.Senders.{borrowed_at, is_full, put, queue_at, taken, uses, with_borrowed, with_held, with_queue};
 
 use crate::sender::Sender;
 use rr_slots::Body;
@@ -10,6 +10,7 @@ impl<B: Body, N: Copy, H: Drop> Sender<B, N, H> {
     /// oldest entry with `overflow`, and stays as it is without.
     ///
     /// The new entry holds the slot, and an entry that is given up holds its own no more. After iceoryx2's safe overflow.
+    #[inline(always)]
     pub fn put(&mut self, receiver: usize, channel: usize, slot: usize, overflow: bool)
         requires receiver { receiver < length self.old.queues }
         requires channel { channel < length (slice_index_or self.old.queues receiver []) }
@@ -27,6 +28,7 @@ impl<B: Body, N: Copy, H: Drop> Sender<B, N, H> {
     }
 
     /// Enters a slot that a handle holds at the end of a queue that is not full.
+    #[inline(always)]
     fn enter(&mut self, receiver: usize, channel: usize, slot: usize)
         requires receiver { receiver < length self.old.queues }
         requires channel { channel < length (slice_index_or self.old.queues receiver []) }
@@ -39,7 +41,44 @@ impl<B: Body, N: Copy, H: Drop> Sender<B, N, H> {
         self.links.push(receiver, channel, slot);
     }
 
+    /// Makes a handle's hold of a slot the hold of an entry at the end of a queue, of which the capacity is not zero. A full queue
+    /// gives up its oldest entry with `overflow`; without, it stays as it is, and the hold is given back.
+    ///
+    /// One step less than `put` and `give_back`: the slot is held as often as before.
+    #[inline(always)]
+    pub fn hand_over(&mut self, receiver: usize, channel: usize, slot: usize, overflow: bool)
+        requires receiver { receiver < length self.old.queues }
+        requires channel { channel < length (slice_index_or self.old.queues receiver []) }
+        requires capacity { 0 < self.old.capacity }
+        requires held { 0 < slice_index self.old.held slot }
+        ensures { self.new ≡ with_held (with_queue self.old receiver channel (put overflow self.old.capacity (queue_at self.old receiver channel) slot)) slot (slice_index self.old.held slot - 1) }
+    {
+        if self.is_full(receiver, channel) {
+            if overflow {
+                self.drop_first(receiver, channel);
+                self.pass(receiver, channel, slot);
+            } else {
+                self.give_back(slot);
+            }
+        } else {
+            self.pass(receiver, channel, slot);
+        }
+    }
+
+    /// Makes a handle's hold of a slot the hold of an entry at the end of a queue that is not full.
+    #[inline(always)]
+    fn pass(&mut self, receiver: usize, channel: usize, slot: usize)
+        requires receiver { receiver < length self.old.queues }
+        requires channel { channel < length (slice_index_or self.old.queues receiver []) }
+        requires room { length (queue_at self.old receiver channel) < self.old.capacity }
+        requires held { 0 < slice_index self.old.held slot }
+        ensures { self.new ≡ with_held (with_queue self.old receiver channel (queue_at self.old receiver channel ++ slot ∷ [])) slot (slice_index self.old.held slot - 1) }
+    {
+        self.links.push(receiver, channel, slot);
+    }
+
     /// The slot of a queue's oldest entry, which stays. `None` where it has none.
+    #[inline(always)]
     pub fn first(&self, receiver: usize, channel: usize) -> Option<usize>
         requires receiver { receiver < length self.now.queues }
         requires channel { channel < length (slice_index_or self.now.queues receiver []) }
@@ -52,6 +91,7 @@ impl<B: Body, N: Copy, H: Drop> Sender<B, N, H> {
     /// Takes the oldest entry of a queue that has one, and answers its slot.
     ///
     /// What held the slot as an entry holds it as a handle from now on, and the receiver has one more from this channel.
+    #[inline(always)]
     pub fn take(&mut self, receiver: usize, channel: usize) -> usize
         requires receiver { receiver < length self.old.queues }
         requires channel { channel < length (slice_index_or self.old.queues receiver []) }
@@ -72,6 +112,7 @@ impl<B: Body, N: Copy, H: Drop> Sender<B, N, H> {
     }
 
     /// Drops the oldest entry of a queue, which holds its slot no more. Nothing changes where there is none.
+    #[inline(always)]
     pub fn drop_first(&mut self, receiver: usize, channel: usize)
         requires receiver { receiver < length self.old.queues }
         requires channel { channel < length (slice_index_or self.old.queues receiver []) }
@@ -84,6 +125,7 @@ impl<B: Body, N: Copy, H: Drop> Sender<B, N, H> {
     }
 
     /// Drops each entry of a queue, one step an entry. None of them holds its slot any more.
+    #[inline(always)]
     pub fn clear_queue(&mut self, receiver: usize, channel: usize)
         requires receiver { receiver < length self.old.queues }
         requires channel { channel < length (slice_index_or self.old.queues receiver []) }
@@ -96,6 +138,7 @@ impl<B: Body, N: Copy, H: Drop> Sender<B, N, H> {
     }
 
     /// How many entries a queue has.
+    #[inline(always)]
     fn len(&self, receiver: usize, channel: usize) -> usize
         requires receiver { receiver < length self.now.queues }
         requires channel { channel < length (slice_index_or self.now.queues receiver []) }
@@ -105,6 +148,7 @@ impl<B: Body, N: Copy, H: Drop> Sender<B, N, H> {
     }
 
     /// Whether a queue has as many entries as its capacity.
+    #[inline(always)]
     pub fn is_full(&self, receiver: usize, channel: usize) -> bool
         requires receiver { receiver < length self.now.queues }
         requires channel { channel < length (slice_index_or self.now.queues receiver []) }
@@ -115,6 +159,7 @@ impl<B: Body, N: Copy, H: Drop> Sender<B, N, H> {
     }
 
     /// Whether a queue has an entry.
+    #[inline(always)]
     pub fn has_entries(&self, receiver: usize, channel: usize) -> bool
         requires receiver { receiver < length self.now.queues }
         requires channel { channel < length (slice_index_or self.now.queues receiver []) }
@@ -124,6 +169,7 @@ impl<B: Body, N: Copy, H: Drop> Sender<B, N, H> {
     }
 
     /// Whether some channel to a receiver has an entry. It looks at none of them.
+    #[inline(always)]
     pub fn has_any(&self, receiver: usize) -> bool
         requires { receiver < length self.now.queues }
         ensures { ¬ IsTrue result ↔ All (λ queue. queue ≡ []) (slice_index_or self.now.queues receiver []) }
@@ -132,6 +178,7 @@ impl<B: Body, N: Copy, H: Drop> Sender<B, N, H> {
     }
 
     /// How many messages a receiver took from a channel and has not given back.
+    #[inline(always)]
     pub fn borrowed(&self, receiver: usize, channel: usize) -> usize
         requires receiver { receiver < length self.now.queues }
         requires channel { channel < length (slice_index_or self.now.queues receiver []) }
@@ -141,6 +188,7 @@ impl<B: Body, N: Copy, H: Drop> Sender<B, N, H> {
     }
 
     /// A receiver has one less from a channel. Its handle on the slot is given back by `give_back`.
+    #[inline(always)]
     pub fn end_borrow(&mut self, receiver: usize, channel: usize)
         requires receiver { receiver < length self.old.queues }
         requires channel { channel < length (slice_index_or self.old.queues receiver []) }

@@ -1,12 +1,12 @@
 -- A response that can be sent comes to the queue that it reaches, and its handle, its hold and its loans end.
-use Rattle.std.proofs.Common.{◌≡◌, ◌<◌, ◌+◌, ◌^◌, ℕ, Bool, true, false, Option, Some, Ok, length, refl, sym, ap, ◌∙◌, subst}
+use Rattle.std.proofs.Common.{◌≡◌, ◌<◌, ℕ, Bool, true, false, Option, Some, Ok, length, refl, sym, ap, ◌∙◌, subst}
 use Rattle.std.specs.Prelude.{◌==◌, IfSome, IsSomeAnd, slice_get, slice_index}
 use Rattle.std.specs.List.{position}
 use Rattle.std.specs.FinMap as fin_map
 use Rattle.std.proofs.lemmas.Option.{slice_get_within}
 use Rattle.rr_table.specs.TableView.{table_entry, value_at}
 use Rattle.rr_table.specs.declared.place.Place.{Place}
-use Rattle.rr_sender.specs.Senders.{Messages, uses}
+use Rattle.rr_sender.specs.Senders.{Messages}
 use Rattle.rr_protocol.specs.declared.error.SendError.{SendError}
 use Rattle.rr_protocol.specs.declared.kind.Kind.{Kind}
 use Rattle.rr_protocol.specs.declared.settings.BackpressureAction.{BackpressureAction}
@@ -83,15 +83,6 @@ module _ {Q QH P PH K : Type 0} (p : Parts Q QH P PH K) (core : IsCore p) (n : �
     pub queue_asked : HasQueue (sender_of entry.sender p.server_senders).messages details.channel reach
     queue_asked = fields.queue_asked p core.sound n entry found server.index server.it server.at server.is details (sym are) reach told
 
-    pub takes_asked : (0 < (sender_of entry.sender p.server_senders).messages.capacity)
-        × (0 < slice_index (sender_of entry.sender p.server_senders).messages.held entry.slot)
-        × (uses (sender_of entry.sender p.server_senders).messages entry.slot + 1 < 2 ^ 64)
-    takes_asked = (
-      has_capacity p core.sound n entry found server.index server.it server.at server.is,
-      (fields.slot_asked p core.sound n entry found server.index server.it server.at server.is).0,
-      (fields.slot_asked p core.sound n entry found server.index server.it server.at server.is).1,
-    )
-
     module _ (r : Bool) (refusal : Ends p (λ _ s. r ≡ is_refused_in action s.port m overflow details reach)) where
       refused_is : r ≡ is_response_refused action (state_of p) (server_of server.it) (response_at p entry.sender entry.slot)
       refused_is =
@@ -109,32 +100,34 @@ module _ {Q QH P PH K : Type 0} (p : Parts Q QH P PH K) (core : IsCore p) (n : �
           × (SendError.UnableToDeliver ≡ SendError.UnableToDeliver) × (state_of t ≡ after_release s j)) value kind_is
           (sym refused_is ∙ is, refl, gone) (state_of p) n refl refl
 
-      module _ (q : Parts Q QH P PH K) (put : q ≡ with_delivered p entry.sender details.channel entry.slot reach) (v : Parts Q QH P PH K)
-          (gone : v ≡ without_handle q n) where
+      module _ (v : Parts Q QH P PH K) (gone : v ≡ without_handle p n) where
         abbrev delivered : Parts Q QH P PH K
         delivered = with_delivered p entry.sender details.channel entry.slot reach
 
-        v_is : v ≡ without_handle delivered n
-        v_is = gone ∙ ap (λ q. without_handle q n) put
-
-        held : (entry.sender < length delivered.server_senders)
-            × (0 < slice_index (sender_of entry.sender delivered.server_senders).messages.held entry.slot)
-        held = fields.held_then p core.sound n entry found server.index server.it server.at server.is overflow details.channel reach
-            delivered.server_senders refl
-
         pub sender_still : entry.sender < length v.server_senders
-        sender_still = subst (λ (v : Parts Q QH P PH K). entry.sender < length v.server_senders) (sym v_is) held.0
+        sender_still = subst (λ (v : Parts Q QH P PH K). entry.sender < length v.server_senders) (sym gone) found.sender
 
-        pub held_still : 0 < slice_index (sender_of entry.sender v.server_senders).messages.held entry.slot
-        held_still = subst (λ (v : Parts Q QH P PH K). 0 < slice_index (sender_of entry.sender v.server_senders).messages.held entry.slot)
-            (sym v_is) held.1
+        pub queue_still : HasQueue (sender_of entry.sender v.server_senders).messages details.channel reach
+        queue_still =
+            subst (λ (v : Parts Q QH P PH K). HasQueue (sender_of entry.sender v.server_senders).messages details.channel reach) (sym gone)
+            queue_asked
 
-        module _ (s : Parts Q QH P PH K) (given : s ≡ with_responses v entry.sender (λ m. given_back m entry.slot)) where
+        pub takes_still : (0 < (sender_of entry.sender v.server_senders).messages.capacity)
+            × (0 < slice_index (sender_of entry.sender v.server_senders).messages.held entry.slot)
+        takes_still =
+            subst (λ (v : Parts Q QH P PH K). (0 < (sender_of entry.sender v.server_senders).messages.capacity)
+            × (0 < slice_index (sender_of entry.sender v.server_senders).messages.held entry.slot)) (sym gone)
+            (has_capacity p core.sound n entry found server.index server.it server.at server.is, found.slot)
+
+        module _ (s : Parts Q QH P PH K)
+            (given : s ≡ with_responses (with_delivered v entry.sender details.channel entry.slot reach) entry.sender
+            (λ m. given_back m entry.slot)) where
           abbrev freed : Parts Q QH P PH K
           freed = with_responses (without_handle delivered n) entry.sender (λ m. given_back m entry.slot)
 
           s_is : s ≡ freed
-          s_is = given ∙ ap (λ v. with_responses v entry.sender (λ m. given_back m entry.slot)) v_is
+          s_is = given ∙ ap (λ v. with_responses (with_delivered v entry.sender details.channel entry.slot reach) entry.sender
+              (λ m. given_back m entry.slot)) gone
 
           pub loan_counted : Ends s (λ _ c. 0 < c.loans)
           loan_counted =

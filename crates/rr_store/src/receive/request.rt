@@ -9,6 +9,7 @@ use rr_slots::Body;
 use rr_table::{Place, Table};
 
 /// Drops the requests that nobody waits for from the fronts of the queues to a receiver, where it may have one more.
+#[inline(always)]
 pub fn skim<B: Body, H: Drop>(
     senders: &mut Vec<OwnedSender<B, RequestDetails, H>>,
     table: &Table<HandleEntry>,
@@ -26,6 +27,7 @@ pub fn skim<B: Body, H: Drop>(
 }
 
 /// Drops the requests that nobody waits for from the front of a queue.
+#[inline(always)]
 pub fn skim_sender<B: Body, H: Drop>(
     sender: &mut OwnedSender<B, RequestDetails, H>,
     table: &Table<HandleEntry>,
@@ -45,6 +47,7 @@ pub fn skim_sender<B: Body, H: Drop>(
 }
 
 /// Whether the pending response of the request in a slot lives. It looks at the one place where that handle can stand.
+#[inline(always)]
 pub fn is_waited<B: Body, H: Drop>(
     sender: &OwnedSender<B, RequestDetails, H>,
     table: &Table<HandleEntry>,
@@ -62,6 +65,7 @@ pub fn is_waited<B: Body, H: Drop>(
 }
 
 /// Returns the place in the table of a handle by which a server has the request in a slot.
+#[inline(always)]
 pub fn active_place<B: Body, H: Drop>(
     senders: &[OwnedSender<B, RequestDetails, H>],
     sender: usize,

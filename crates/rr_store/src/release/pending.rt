@@ -9,6 +9,7 @@ use crate::{ClientPort, OwnedSender, index_of_sender};
 use rr_slots::Body;
 
 /// Counts one pending response less for the client that sends in a sender. Returns that client's index as a receiver.
+#[inline(always)]
 pub fn end_pending<K: Drop>(clients: &mut Vec<ClientPort<K>>, sender: usize) -> usize
     requires { IsSomeAnd (position (λ c. c.port.sender == sender) clients.old.items) (λ i. IsSomeAnd (slice_get clients.old.items i) (λ c. 0 < c.pendings)) }
     ensures { IsSomeAnd (position (λ c. c.port.sender == sender) clients.old.items) (λ i. IsSomeAnd (slice_get clients.old.items i) (λ c. (result ≡ c.port.receiver) × (clients.new.items ≡ slice_set clients.old.items i (with_pending_ended c)))) }
@@ -24,6 +25,7 @@ pub fn end_pending<K: Drop>(clients: &mut Vec<ClientPort<K>>, sender: usize) -> 
 }
 
 /// Drops what waits in the senders for a receiver on a channel.
+#[inline(always)]
 pub fn clear_channel<B: Body, N: Copy, H: Drop>(
     senders: &mut Vec<OwnedSender<B, N, H>>,
     receiver: usize,

@@ -1,8 +1,11 @@
 //! Releases of responses on loan.
-ghost use Rattle.std.specs.Prelude.{◌≡◌, ◌==◌, ◌<◌, Option, None, IfSome, IsSomeAnd, map, slice_get, slice_set};
+ghost use Rattle.std.specs.Prelude.{◌≡◌, ◌==◌, ◌<◌, Option, None, Some, IfSome, IsSomeAnd, map, slice_get, slice_set};
 ghost use Rattle.std.specs.List.{position};
 ghost use Rattle.rr_table.specs.declared.place.Place as place;
-ghost use Rattle.rr_store.specs.Ending.{IsAskedPlace, IsLoanEnded, found_under, with_response_loan_ended};
+ghost use Rattle.std.specs.FinMap as fin_map;
+ghost use Rattle.rr_table.specs.TableView.{table_entry};
+ghost use Rattle.rr_store.specs.Answering.{active_in};
+ghost use Rattle.rr_store.specs.Ending.{IsAskedPlace, IsCountedLess, IsLoanEnded, found_under, with_response_loan_ended};
 ghost use Rattle.rr_store.specs.Ports.{sender_part};
 
 use crate::{HandleEntry, OwnedSender, ResponseDetails, ServerPort, Stage, index_of_sender};
@@ -10,6 +13,7 @@ use rr_slots::Body;
 use rr_table::{Place, Table};
 
 /// Counts one response less on loan for the server that sends in a sender, and returns its index as a receiver.
+#[inline(always)]
 pub fn end_response_loan<K: Drop>(servers: &mut Vec<ServerPort<K>>, sender: usize) -> usize
     requires { IsSomeAnd (position (λ s. s.port.sender == sender) servers.old.items) (λ i. IsSomeAnd (slice_get servers.old.items i) (λ s. 0 < s.port.loans)) }
     ensures receiver { IsSomeAnd (position (λ s. s.port.sender == sender) servers.old.items) (λ i. IsSomeAnd (slice_get servers.old.items i) (λ s. result ≡ s.port.receiver)) }
@@ -27,6 +31,7 @@ pub fn end_response_loan<K: Drop>(servers: &mut Vec<ServerPort<K>>, sender: usiz
 
 /// Returns where the active request of a response stands, if it stands. `receiver` is its server. Returns `None` if its client
 /// has no sender, or no row has so many places.
+#[inline(always)]
 pub fn asked_place<B: Body, N: Copy, H: Drop>(
     senders: &[OwnedSender<B, N, H>],
     details: ResponseDetails,
@@ -44,6 +49,7 @@ pub fn asked_place<B: Body, N: Copy, H: Drop>(
 }
 
 /// Where among the senders the one stands from which the port with a number sends.
+#[inline(always)]
 pub fn index_of_owner<B: Body, N: Copy, H: Drop>(
     senders: &[OwnedSender<B, N, H>],
     owner: u64,
@@ -53,30 +59,46 @@ pub fn index_of_owner<B: Body, N: Copy, H: Drop>(
     senders.iter().position(|sender| sender.owner == owner)
 }
 
-/// Counts one response less on loan from an active request, if one stands under the number. It looks in one place alone,
-/// where one is told.
-pub fn end_loan_from(table: &mut Table<HandleEntry>, number: u64, at: Option<Place>, hint: Place)
+/// Counts one response less on loan from an active request, if one stands under the number. Looks in one place alone, where one
+/// is told.
+#[tactic(auto, using(crate::proofs::base::lookups::Placed::kept_there))]
+#[inline(always)]
+pub fn end_loan_from(table: &mut Table<HandleEntry>, number: u64, at: Option<Place>)
     ensures { IsLoanEnded number (found_under table.old number at) table.old table.new }
 {
-    let found = match at {
-        Some(receiver) => table.get_at(number, receiver),
-        None => table.get(number, hint),
-    };
-    if let Some(entry) = found {
-        if let Some((server, loans)) = entry.stage.active() {
-            let stage = Stage::ActiveRequest(server, loans.saturating_sub(1));
-            let hint = at.unwrap_or(hint);
-            let sender = entry.sender;
-            let slot = entry.slot;
-            table.set(
-                number,
-                hint,
-                HandleEntry {
-                    stage,
-                    sender,
-                    slot,
-                },
-            );
+    match at {
+        Some(place) => {
+            if let Some(entry) = table.get_at(number, place) {
+                end_loan_of(table, number, place, entry);
+            }
         }
+        None => {
+            if let Some(place) = table.find(number) {
+                let entry = table.at(number, place);
+                end_loan_of(table, number, place, entry);
+            }
+        }
+    }
+}
+
+/// Counts one response less on loan from a handle, if it is an active request.
+#[inline(always)]
+fn end_loan_of(table: &mut Table<HandleEntry>, number: u64, place: Place, entry: HandleEntry)
+    requires { fin_map.get table.old.entries number ≡ Some (table_entry place entry) }
+    ensures { IsCountedLess number entry (active_in entry.stage) table.old table.new }
+{
+    if let Some((server, loans)) = entry.stage.active() {
+        let stage = Stage::ActiveRequest(server, loans.saturating_sub(1));
+        let sender = entry.sender;
+        let slot = entry.slot;
+        table.set_at(
+            number,
+            place,
+            HandleEntry {
+                stage,
+                sender,
+                slot,
+            },
+        );
     }
 }

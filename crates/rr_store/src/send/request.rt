@@ -12,6 +12,7 @@ use rr_sender::Sender;
 use rr_slots::Body;
 
 /// Whether the queue to a receiver's first channel can take no more, and drops nothing for it.
+#[inline(always)]
 pub fn is_blocked<B: Body, N: Copy, H: Drop>(
     messages: &Sender<B, N, H>,
     receiver: usize,
@@ -24,6 +25,7 @@ pub fn is_blocked<B: Body, N: Copy, H: Drop>(
 }
 
 /// Whether the queue to some server can take no more, and the sender doesn't pass it over.
+#[inline(always)]
 pub fn is_refused<B: Body, N: Copy, H: Drop, K: BackpressureFn>(
     messages: &Sender<B, N, H>,
     port: &Port<K>,
@@ -42,6 +44,7 @@ pub fn is_refused<B: Body, N: Copy, H: Drop, K: BackpressureFn>(
 }
 
 /// To how many servers the queue takes one more.
+#[inline(always)]
 pub fn open_count<B: Body, N: Copy, H: Drop, K: Drop>(
     messages: &Sender<B, N, H>,
     servers: &[ServerPort<K>],
@@ -60,6 +63,7 @@ pub fn open_count<B: Body, N: Copy, H: Drop, K: Drop>(
 }
 
 /// Puts a slot of a sender into the queue to each server.
+#[inline(always)]
 pub fn put_in<B: Body, N: Copy, H: Drop, K: Drop>(
     senders: &mut Vec<OwnedSender<B, N, H>>,
     sender: usize,
@@ -75,6 +79,7 @@ pub fn put_in<B: Body, N: Copy, H: Drop, K: Drop>(
 }
 
 /// Puts a slot into the queue to each server.
+#[inline(always)]
 pub fn put_all<B: Body, N: Copy, H: Drop, K: Drop>(
     messages: &mut Sender<B, N, H>,
     slot: usize,
@@ -93,6 +98,7 @@ pub fn put_all<B: Body, N: Copy, H: Drop, K: Drop>(
 }
 
 /// Sets the marks of a slot for each server in the marks of a sender.
+#[inline(always)]
 pub fn set_marks_in<K: Drop>(
     waiting: &mut Vec<Vec<bool>>,
     sender: usize,
@@ -107,6 +113,7 @@ pub fn set_marks_in<K: Drop>(
 }
 
 /// Sets the marks of a slot for each server.
+#[inline(always)]
 pub fn set_marks<K: Drop>(
     marks: &mut Vec<bool>,
     slot: usize,
@@ -122,6 +129,7 @@ pub fn set_marks<K: Drop>(
 }
 
 /// Counts one request less on loan, and one pending response more, for the client that sends in a sender.
+#[inline(always)]
 pub fn count_as_sent<K: Drop>(clients: &mut Vec<ClientPort<K>>, sender: usize)
     requires { IsSomeAnd (position (λ c. c.port.sender == sender) clients.old.items) (λ i. IsSomeAnd (slice_get clients.old.items i) (λ c. (0 < c.port.loans) × (c.pendings + 1 < 2 ^ 64))) }
     ensures { IsSomeAnd (position (λ c. c.port.sender == sender) clients.old.items) (λ i. IsSomeAnd (slice_get clients.old.items i) (λ c. clients.new.items ≡ slice_set clients.old.items i (with_sent c))) }

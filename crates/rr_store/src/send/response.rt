@@ -1,9 +1,7 @@
 //! Sends of responses.
-ghost use Rattle.std.specs.Prelude.{◌≡◌, ◌<◌, ◌+◌, ◌^◌, ℕ, Some, IsSomeAnd, map, length, slice_get, slice_index, slice_set};
-ghost use Rattle.rr_sender.specs.Senders.{uses};
-ghost use Rattle.rr_store.specs.Delivering.{HasQueue, delivered, is_refused_in, reached};
+ghost use Rattle.std.specs.Prelude.{◌≡◌, ◌<◌, ℕ, Some, map, length, slice_get};
+ghost use Rattle.rr_store.specs.Delivering.{HasQueue, is_refused_in, reached};
 ghost use Rattle.rr_store.specs.Ports.{client_part, connected_of, sender_part};
-ghost use Rattle.rr_store.specs.Writing.{with_messages};
 
 use crate::{ClientPort, HandleEntry, OwnedSender, Port, ResponseDetails, index_of};
 use rr_protocol::BackpressureFn;
@@ -13,6 +11,7 @@ use rr_table::{Place, Table};
 
 /// Where the client of a response is sent to. `None` if it is not connected, or if its request has no pending response any
 /// more: that can stand in one place alone, which is looked at.
+#[inline(always)]
 pub fn reached_receiver<K: Drop, B: Body, N: Copy, H: Drop>(
     clients: &Vec<ClientPort<K>>,
     senders: &Vec<OwnedSender<B, N, H>>,
@@ -34,6 +33,7 @@ pub fn reached_receiver<K: Drop, B: Body, N: Copy, H: Drop>(
 }
 
 /// Whether the queue that a response reaches can take no more, and the sender doesn't pass it over.
+#[inline(always)]
 pub fn is_refused<B: Body, N: Copy, H: Drop, K: BackpressureFn>(
     port: &Port<K>,
     messages: &Sender<B, N, H>,
@@ -51,25 +51,5 @@ pub fn is_refused<B: Body, N: Copy, H: Drop, K: BackpressureFn>(
                 && !port.discards(details.client)
         }
         None => false,
-    }
-}
-
-/// Puts the slot of a response into the queue that it reaches.
-pub fn deliver_in<B: Body, N: Copy, H: Drop>(
-    senders: &mut Vec<OwnedSender<B, N, H>>,
-    entry: HandleEntry,
-    channel: usize,
-    reach: Option<usize>,
-    overflow: bool,
-)
-    requires queue { IsSomeAnd (slice_get senders.old.items entry.sender) (λ l. HasQueue l.messages channel reach) }
-    requires capacity { IsSomeAnd (slice_get senders.old.items entry.sender) (λ l. 0 < l.messages.capacity) }
-    requires slot { IsSomeAnd (slice_get senders.old.items entry.sender) (λ l. (0 < slice_index l.messages.held entry.slot) × (uses l.messages entry.slot + 1 < 2 ^ 64)) }
-    ensures { IsSomeAnd (slice_get senders.old.items entry.sender) (λ l. senders.new.items ≡ slice_set senders.old.items entry.sender (with_messages l (delivered l.messages overflow channel entry.slot reach))) }
-{
-    if let Some(receiver) = reach {
-        senders[entry.sender]
-            .messages
-            .put(receiver, channel, entry.slot, overflow);
     }
 }

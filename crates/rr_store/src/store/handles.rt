@@ -1,8 +1,9 @@
 //! Handles by number and place.
-ghost use Rattle.std.specs.Prelude.{◌≡◌, ◌+◌, ◌<◌, ◌^◌, true, None, Some, IsSome};
+ghost use Rattle.std.specs.Prelude.{◌≡◌, ◌+◌, ◌<◌, ◌^◌, true, Some, IsSome};
 ghost use Rattle.std.specs.FinMap as fin_map;
 ghost use Rattle.rr_protocol.specs.State.{handle_at};
-ghost use Rattle.rr_table.specs.TableView.{IsAt, IsInside, IsVacant, table_entry};
+ghost use Rattle.rr_table.specs.TableView.{IsAt, table_entry};
+ghost use Rattle.rr_store.specs.Asked.{CanInsert};
 ghost use Rattle.rr_store.specs.Changes.{with_handle, with_new_handle, without_handle};
 ghost use Rattle.rr_store.specs.Views.{state_of};
 
@@ -40,19 +41,6 @@ impl<QB: Body, QH: Default + Drop, PB: Body, PH: Default + Drop, K: Backpressure
         }
     }
 
-    /// Returns where a handle stands. Looks at `hint` first, and walks over the table only if it stands elsewhere.
-    #[inline(always)]
-    pub fn place(&self, number: u64, hint: Place) -> Place
-        requires { IsSome (handle_at (state_of self.now) number) }
-        ensures { IsAt self.now.table number result }
-    {
-        if self.is_at(number, hint) {
-            hint
-        } else {
-            self.place_of(number)
-        }
-    }
-
     /// Returns the handle that stands in this place.
     #[inline(always)]
     pub fn at(&self, number: u64, place: Place) -> HandleEntry
@@ -84,9 +72,7 @@ impl<QB: Body, QH: Default + Drop, PB: Body, PH: Default + Drop, K: Backpressure
     /// Puts a handle into a vacant place, under a number that nothing has.
     #[inline(always)]
     pub fn insert(&mut self, number: u64, place: Place, entry: HandleEntry)
-        requires place { IsInside self.old.table place }
-        requires vacant { IsVacant self.old.table place }
-        requires fresh { fin_map.get self.old.table.entries number ≡ None }
+        requires { CanInsert self.old.table number place }
         ensures { self.new ≡ with_handle self.old number place entry }
     {
         self.table.insert(place, number, entry);
@@ -95,10 +81,7 @@ impl<QB: Body, QH: Default + Drop, PB: Body, PH: Default + Drop, K: Backpressure
     /// Puts a handle into a vacant place, under the next number, which it returns.
     #[inline(always)]
     pub fn add(&mut self, place: Place, entry: HandleEntry) -> u64
-        requires place { IsInside self.old.table place }
-        requires vacant { IsVacant self.old.table place }
-        requires fresh { fin_map.get self.old.table.entries self.old.next ≡ None }
-        requires fits { self.old.next + 1 < 2 ^ 64 }
+        requires { CanInsert self.old.table self.old.next place × (self.old.next + 1 < 2 ^ 64) }
         ensures number { result ≡ self.old.next }
         ensures added { self.new ≡ with_new_handle self.old place entry }
     {

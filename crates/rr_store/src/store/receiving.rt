@@ -1,8 +1,9 @@
 //! What a receiver takes.
-ghost use Rattle.std.specs.Prelude.{◌≡◌, ◌==◌, ◌+◌, ◌*◌, ◌<◌, ◌^◌, [], Some, IsSome, IsSomeAnd, false, true, length, slice_get, slice_index_or};
+ghost use Rattle.std.specs.Prelude.{◌≡◌, ◌==◌, ◌+◌, ◌*◌, ◌<◌, ◌^◌, Some, IsSome, IsSomeAnd, false, true, length, slice_get};
 ghost use Rattle.std.specs.List.{position};
+ghost use Rattle.rr_store.specs.Asked.{CanTake};
 ghost use Rattle.rr_store.specs.Changes.{with_first_request_taken, with_first_response_taken, with_request_senders};
-ghost use Rattle.rr_store.specs.Receiving.{IsNextSender, Reaches, borrowed_from, queue_from};
+ghost use Rattle.rr_store.specs.Receiving.{IsNextSender, Reaches, queue_from};
 ghost use Rattle.rr_store.specs.Skimming.{IsSkimmedBelow};
 ghost use Rattle.rr_store.specs.Sound.{response_place};
 ghost use Rattle.rr_store.specs.Views.{sender_of};
@@ -61,10 +62,7 @@ impl<QB: Body, QH: Default + Drop, PB: Body, PH: Default + Drop, K: Backpressure
     /// Takes the oldest response out of a client's queue on a channel, and returns its slot.
     #[inline(always)]
     pub fn take_response(&mut self, sender: usize, receiver: usize, channel: usize) -> usize
-        requires sender { sender < length self.old.server_senders }
-        requires queue { (receiver < length (sender_of sender self.old.server_senders).messages.queues) × (channel < length (slice_index_or (sender_of sender self.old.server_senders).messages.queues receiver [])) }
-        requires entry { 0 < length (queue_from self.old.server_senders receiver channel sender) }
-        requires fits { borrowed_from self.old.server_senders receiver channel sender + 1 < 2 ^ 64 }
+        requires { CanTake self.old.server_senders sender receiver channel }
         ensures first { slice_get (queue_from self.old.server_senders receiver channel sender) 0 ≡ Some result }
         ensures within { result < length (sender_of sender self.old.server_senders).messages.held }
         ensures taken { self.new ≡ with_first_response_taken self.old sender receiver channel result }
@@ -75,10 +73,7 @@ impl<QB: Body, QH: Default + Drop, PB: Body, PH: Default + Drop, K: Backpressure
     /// Takes the oldest request out of a server's queue, and returns its slot.
     #[inline(always)]
     pub fn take_request(&mut self, sender: usize, receiver: usize) -> usize
-        requires sender { sender < length self.old.client_senders }
-        requires queue { (receiver < length (sender_of sender self.old.client_senders).messages.queues) × (0 < length (slice_index_or (sender_of sender self.old.client_senders).messages.queues receiver [])) }
-        requires entry { 0 < length (queue_from self.old.client_senders receiver 0 sender) }
-        requires fits { borrowed_from self.old.client_senders receiver 0 sender + 1 < 2 ^ 64 }
+        requires { CanTake self.old.client_senders sender receiver 0 }
         ensures first { slice_get (queue_from self.old.client_senders receiver 0 sender) 0 ≡ Some result }
         ensures within { result < length (sender_of sender self.old.client_senders).messages.held }
         ensures taken { self.new ≡ with_first_request_taken self.old sender receiver result }
@@ -99,9 +94,7 @@ impl<QB: Body, QH: Default + Drop, PB: Body, PH: Default + Drop, K: Backpressure
     /// Returns where a server's handle of a request stands.
     #[inline(always)]
     pub fn active_place(&self, sender: usize, receiver: usize, slot: usize) -> Place
-        requires sender { sender < length self.now.client_senders }
-        requires receiver { receiver + 1 < 2 ^ 64 }
-        requires index { (receiver + 1) * length (sender_of sender self.now.client_senders).messages.held + slot < 2 ^ 64 }
+        requires { (sender < length self.now.client_senders) × (receiver + 1 < 2 ^ 64) × ((receiver + 1) * length (sender_of sender self.now.client_senders).messages.held + slot < 2 ^ 64) }
         ensures { result ≡ record { row = (sender_of sender self.now.client_senders).row; index = (receiver + 1) * length (sender_of sender self.now.client_senders).messages.held + slot } }
     {
         active_place(self.client_senders.as_slice(), sender, receiver, slot)

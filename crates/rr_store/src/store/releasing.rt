@@ -16,7 +16,6 @@ use crate::store::Store;
 use crate::{RequestDetails, ResponseDetails, release};
 use rr_protocol::BackpressureFn;
 use rr_slots::Body;
-use rr_table::Place;
 
 impl<QB: Body, QH: Default + Drop, PB: Body, PH: Default + Drop, K: BackpressureFn> Store<
     QB,
@@ -166,7 +165,6 @@ impl<QB: Body, QH: Default + Drop, PB: Body, PH: Default + Drop, K: Backpressure
         ensures ended { (at : Option place.Place) × IfSome at (IsAskedPlace self.old.client_senders details receiver) × IsLoanEnded details.active_request (found_under self.old.table details.active_request at) self.old.table self.new.table }
     {
         let at = of_response_loan::asked_place(self.client_senders.as_slice(), details, receiver);
-        let first = Place { row: 0, index: 0 };
-        of_response_loan::end_loan_from(&mut self.table, details.active_request, at, first);
+        of_response_loan::end_loan_from(&mut self.table, details.active_request, at);
     }
 }

@@ -2,9 +2,10 @@
 ghost use Rattle.std.specs.Prelude.{◌≡◌, ◌==◌, ◌+◌, ◌*◌, ◌<◌, ◌^◌, ℕ, [], Some, IsSomeAnd, count_by, length, not, slice_get, slice_index, slice_index_or};
 ghost use Rattle.std.specs.List.{position};
 ghost use Rattle.rr_sender.specs.Senders.{uses};
-ghost use Rattle.rr_store.specs.Changes.{is_open_to, request_send_limit, with_client_at, with_request_queued};
+ghost use Rattle.rr_store.specs.Changes.{is_open_to, request_send_limit, with_client_at, with_request_queued, with_responses};
 ghost use Rattle.rr_store.specs.Delivering.{HasQueue, is_refused_in, reached, with_delivered};
 ghost use Rattle.rr_store.specs.Parts.{ClientPart, ServerPart};
+ghost use Rattle.rr_store.specs.Releasing.{given_back};
 ghost use Rattle.rr_store.specs.Sending.{with_one_sent};
 ghost use Rattle.rr_store.specs.Views.{sender_of};
 
@@ -109,15 +110,24 @@ impl<QB: Body, QH: Default + Drop, PB: Body, PH: Default + Drop, K: Backpressure
         of_response::is_refused(&server.port, messages, reach, details, overflow)
     }
 
-    /// Puts a response into the queue that it reaches, if it reaches one.
+    /// Makes the hold of a response's handle the hold of an entry in the queue that it reaches, or gives it back if the response
+    /// reaches none.
     #[inline(always)]
-    pub fn deliver_response(&mut self, entry: HandleEntry, channel: usize, reach: Option<usize>)
+    pub fn hand_over_response(&mut self, entry: HandleEntry, channel: usize, reach: Option<usize>)
         requires sender { entry.sender < length self.old.server_senders }
         requires queue { HasQueue (sender_of entry.sender self.old.server_senders).messages channel reach }
-        requires takes { (0 < (sender_of entry.sender self.old.server_senders).messages.capacity) × (0 < slice_index (sender_of entry.sender self.old.server_senders).messages.held entry.slot) × (uses (sender_of entry.sender self.old.server_senders).messages entry.slot + 1 < 2 ^ 64) }
-        ensures { self.new ≡ with_delivered self.old entry.sender channel entry.slot reach }
+        requires takes { (0 < (sender_of entry.sender self.old.server_senders).messages.capacity) × (0 < slice_index (sender_of entry.sender self.old.server_senders).messages.held entry.slot) }
+        ensures { self.new ≡ with_responses (with_delivered self.old entry.sender channel entry.slot reach) entry.sender (λ m. given_back m entry.slot) }
     {
         let overflow = self.limits.enable_safe_overflow_for_responses;
-        of_response::deliver_in(&mut self.server_senders, entry, channel, reach, overflow);
+        match reach {
+            Some(receiver) => {
+                let messages = &mut self.server_senders[entry.sender].messages;
+                messages.hand_over(receiver, channel, entry.slot, overflow);
+            }
+            None => self.server_senders[entry.sender]
+                .messages
+                .give_back(entry.slot),
+        }
     }
 }

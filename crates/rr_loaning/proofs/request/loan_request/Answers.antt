@@ -1,6 +1,6 @@
 use Rattle.std.proofs.Common.{◌≡◌, ◌∙◌}
 use Rattle.rr_laws.proofs.Memory.{request_finds_memory}
-use Rattle.rr_loaning.proofs.steps.Request.{client_asked, refused, not_memory, sender_asked, out_of_memory, counts_asked, place_asked, vacant_asked, fresh_asked, number_fits, loans, core_then}
+use Rattle.rr_loaning.proofs.steps.Request.{client_asked, refused, not_memory, sender_asked, out_of_memory, counts_asked, add_asked, loans, core_then}
 use Rattle.rr_loaning.proofs.request.loan_request.Goals as goal
 
 pub client_index-index-requires : goal.client_index-index-requires
@@ -27,27 +27,9 @@ count_request_loan-requires g c =
     c.in_default.is _ c.client_sender-sender.ensures _ c.new_request_details-details.ensures _ c.in-Ok.place _ c.in-Ok.ensures.row
     c.in-Ok.ensures.free c.in-Ok.ensures.unused c.in-Ok.ensures.ok
 
-pub add-number-requires-clause-place : goal.add-number-requires-clause-place
-add-number-requires-clause-place g c =
-    place_asked c.args.store.now c.requires.core c.args.client c.requires.kind _ c.client_index-index.ensures _ _ c.request_loan_limit.ensures
-    c.in_default.is _ c.client_sender-sender.ensures _ c.new_request_details-details.ensures _ c.in-Ok.place _ c.in-Ok.ensures.row
-    c.in-Ok.ensures.free c.in-Ok.ensures.unused c.in-Ok.ensures.ok _ c.count_request_loan.ensures
-
-pub add-number-requires-clause-vacant : goal.add-number-requires-clause-vacant
-add-number-requires-clause-vacant g c =
-    vacant_asked c.args.store.now c.requires.core c.args.client c.requires.kind _ c.client_index-index.ensures _ _ c.request_loan_limit.ensures
-    c.in_default.is _ c.client_sender-sender.ensures _ c.new_request_details-details.ensures _ c.in-Ok.place _ c.in-Ok.ensures.row
-    c.in-Ok.ensures.free c.in-Ok.ensures.unused c.in-Ok.ensures.ok _ c.count_request_loan.ensures
-
-pub add-number-requires-clause-fresh : goal.add-number-requires-clause-fresh
-add-number-requires-clause-fresh g c =
-    fresh_asked c.args.store.now c.requires.core c.args.client c.requires.kind _ c.client_index-index.ensures _ _ c.request_loan_limit.ensures
-    c.in_default.is _ c.client_sender-sender.ensures _ c.new_request_details-details.ensures _ c.in-Ok.place _ c.in-Ok.ensures.row
-    c.in-Ok.ensures.free c.in-Ok.ensures.unused c.in-Ok.ensures.ok _ c.count_request_loan.ensures
-
-pub add-number-requires-clause-fits : goal.add-number-requires-clause-fits
-add-number-requires-clause-fits g c =
-    number_fits c.args.store.now c.requires.core c.args.client c.requires.kind _ c.client_index-index.ensures _ _ c.request_loan_limit.ensures
+pub add-number-requires : goal.add-number-requires
+add-number-requires g c =
+    add_asked c.args.store.now c.requires.core c.args.client c.requires.kind _ c.client_index-index.ensures _ _ c.request_loan_limit.ensures
     c.in_default.is _ c.client_sender-sender.ensures _ c.new_request_details-details.ensures _ c.in-Ok.place _ c.in-Ok.ensures.row
     c.in-Ok.ensures.free c.in-Ok.ensures.unused c.in-Ok.ensures.ok _ c.count_request_loan.ensures
 

@@ -1,6 +1,6 @@
 use Rattle.std.proofs.Common.{◌≡◌, sym, ◌∙◌, arith}
 use Rattle.rr_laws.proofs.Memory.{response_finds_memory}
-use Rattle.rr_loaning.proofs.steps.Response.{is_active, server_asked, loans_fit, sender_asked, slot_asked, index_asked, clients_asked, refused, not_memory, own_asked, out_of_memory, count_asked, still_there, place_asked, vacant_asked, fresh_asked, number_fits, loans_told, core_then}
+use Rattle.rr_loaning.proofs.steps.Response.{is_active, server_asked, loans_fit, sender_asked, slot_asked, index_asked, clients_asked, refused, not_memory, own_asked, out_of_memory, count_asked, still_there, add_asked, loans_told, core_then}
 use Rattle.rr_loaning.proofs.response.loan_response_at.Goals as goal
 
 pub unreachable-requires : goal.unreachable-requires
@@ -78,30 +78,9 @@ replace-requires g c =
     c.server_sender-sender.ensures _ c.new_response_details-details.ensures _ c.in-Ok.own _ c.in-Ok.ensures.row c.in-Ok.ensures.free
     c.in-Ok.ensures.unused c.in-Ok.ensures.ok _ c.count_response_loan.ensures
 
-pub add-number-requires-clause-place : goal.add-number-requires-clause-place
-add-number-requires-clause-place g c =
-    place_asked c.args.store.now c.requires.core c.args.number c.args.place c.at-active.result c.at-active.ensures c.requires.kind _ _
-    (sym c.active.ensures ∙ c.in-Some.is) _ c.server_index-index.ensures _ _ c.response_loan_limit.ensures c.in_default.is _
-    c.server_sender-sender.ensures _ c.new_response_details-details.ensures _ c.in-Ok.own _ c.in-Ok.ensures.row c.in-Ok.ensures.free
-    c.in-Ok.ensures.unused c.in-Ok.ensures.ok _ c.count_response_loan.ensures _ c.replace.ensures
-
-pub add-number-requires-clause-vacant : goal.add-number-requires-clause-vacant
-add-number-requires-clause-vacant g c =
-    vacant_asked c.args.store.now c.requires.core c.args.number c.args.place c.at-active.result c.at-active.ensures c.requires.kind _ _
-    (sym c.active.ensures ∙ c.in-Some.is) _ c.server_index-index.ensures _ _ c.response_loan_limit.ensures c.in_default.is _
-    c.server_sender-sender.ensures _ c.new_response_details-details.ensures _ c.in-Ok.own _ c.in-Ok.ensures.row c.in-Ok.ensures.free
-    c.in-Ok.ensures.unused c.in-Ok.ensures.ok _ c.count_response_loan.ensures _ c.replace.ensures
-
-pub add-number-requires-clause-fresh : goal.add-number-requires-clause-fresh
-add-number-requires-clause-fresh g c =
-    fresh_asked c.args.store.now c.requires.core c.args.number c.args.place c.at-active.result c.at-active.ensures c.requires.kind _ _
-    (sym c.active.ensures ∙ c.in-Some.is) _ c.server_index-index.ensures _ _ c.response_loan_limit.ensures c.in_default.is _
-    c.server_sender-sender.ensures _ c.new_response_details-details.ensures _ c.in-Ok.own _ c.in-Ok.ensures.row c.in-Ok.ensures.free
-    c.in-Ok.ensures.unused c.in-Ok.ensures.ok _ c.count_response_loan.ensures _ c.replace.ensures
-
-pub add-number-requires-clause-fits : goal.add-number-requires-clause-fits
-add-number-requires-clause-fits g c =
-    number_fits c.args.store.now c.requires.core c.args.number c.args.place c.at-active.result c.at-active.ensures c.requires.kind _ _
+pub add-number-requires : goal.add-number-requires
+add-number-requires g c =
+    add_asked c.args.store.now c.requires.core c.args.number c.args.place c.at-active.result c.at-active.ensures c.requires.kind _ _
     (sym c.active.ensures ∙ c.in-Some.is) _ c.server_index-index.ensures _ _ c.response_loan_limit.ensures c.in_default.is _
     c.server_sender-sender.ensures _ c.new_response_details-details.ensures _ c.in-Ok.own _ c.in-Ok.ensures.row c.in-Ok.ensures.free
     c.in-Ok.ensures.unused c.in-Ok.ensures.ok _ c.count_response_loan.ensures _ c.replace.ensures

@@ -1,7 +1,6 @@
 use Rattle.std.proofs.Common.{Ok, ap, ◌∙◌}
 use Rattle.rr_receiving.proofs.steps.Request.{server_asked, queues_asked, skimmed_queues_asked, skimmed_core, none_then, error_then}
-use Rattle.rr_receiving.proofs.steps.Request.{sender_asked, queue_asked, entry_asked, count_asked, taken_sender_asked, receiver_asked}
-use Rattle.rr_receiving.proofs.steps.Request.{index_asked, place_asked, vacant_asked, fresh_asked, number_asked, core_then, receives_then}
+use Rattle.rr_receiving.proofs.steps.Request.{take_asked, active_place_asked, add_asked, core_then, receives_then}
 use Rattle.rr_receiving.proofs.request.receive_request.Goals as goal
 
 pub server_receiver-receiver-requires : goal.server_receiver-receiver-requires
@@ -17,75 +16,22 @@ next_request_sender-requires g c =
     skimmed_queues_asked c.args.store.now c.requires.core c.args.server c.requires.kind _ c.server_receiver-receiver.ensures _
     c.skim_requests.ensures.rest c.skim_requests.ensures.kept c.skim_requests.ensures.skimmed
 
-pub take_request-slot-requires-clause-sender : goal.take_request-slot-requires-clause-sender
-take_request-slot-requires-clause-sender g c =
-    sender_asked c.args.store.now c.requires.core c.args.server c.requires.kind _ c.server_receiver-receiver.ensures _
+pub take_request-slot-requires : goal.take_request-slot-requires
+take_request-slot-requires g c =
+    take_asked c.args.store.now c.requires.core c.args.server c.requires.kind _ c.server_receiver-receiver.ensures _
     c.skim_requests.ensures.rest c.skim_requests.ensures.kept c.skim_requests.ensures.skimmed _ c.next_request_sender.ensures _
     (c.in-Ok-Some.is ∙ ap Ok c.in-Ok-Some.field-0-is)
 
-pub take_request-slot-requires-clause-queue : goal.take_request-slot-requires-clause-queue
-take_request-slot-requires-clause-queue g c =
-    queue_asked c.args.store.now c.requires.core c.args.server c.requires.kind _ c.server_receiver-receiver.ensures _
-    c.skim_requests.ensures.rest c.skim_requests.ensures.kept c.skim_requests.ensures.skimmed _ c.next_request_sender.ensures _
-    (c.in-Ok-Some.is ∙ ap Ok c.in-Ok-Some.field-0-is)
-
-pub take_request-slot-requires-clause-entry : goal.take_request-slot-requires-clause-entry
-take_request-slot-requires-clause-entry g c =
-    entry_asked c.args.store.now c.requires.core c.args.server c.requires.kind _ c.server_receiver-receiver.ensures _
-    c.skim_requests.ensures.rest c.skim_requests.ensures.kept c.skim_requests.ensures.skimmed _ c.next_request_sender.ensures _
-    (c.in-Ok-Some.is ∙ ap Ok c.in-Ok-Some.field-0-is)
-
-pub take_request-slot-requires-clause-fits : goal.take_request-slot-requires-clause-fits
-take_request-slot-requires-clause-fits g c =
-    count_asked c.args.store.now c.requires.core c.args.server c.requires.kind _ c.server_receiver-receiver.ensures _
-    c.skim_requests.ensures.rest c.skim_requests.ensures.kept c.skim_requests.ensures.skimmed _ c.next_request_sender.ensures _
-    (c.in-Ok-Some.is ∙ ap Ok c.in-Ok-Some.field-0-is)
-
-pub active_place-own-requires-clause-sender : goal.active_place-own-requires-clause-sender
-active_place-own-requires-clause-sender g c =
-    taken_sender_asked c.args.store.now c.requires.core c.args.server c.requires.kind _ c.server_receiver-receiver.ensures _
+pub active_place-own-requires : goal.active_place-own-requires
+active_place-own-requires g c =
+    active_place_asked c.args.store.now c.requires.core c.args.server c.requires.kind _ c.server_receiver-receiver.ensures _
     c.skim_requests.ensures.rest c.skim_requests.ensures.kept c.skim_requests.ensures.skimmed _ c.next_request_sender.ensures _
     (c.in-Ok-Some.is ∙ ap Ok c.in-Ok-Some.field-0-is) c.requires.number _ _ c.take_request-slot.ensures.first
     c.take_request-slot.ensures.within c.take_request-slot.ensures.taken
 
-pub active_place-own-requires-clause-receiver : goal.active_place-own-requires-clause-receiver
-active_place-own-requires-clause-receiver g c =
-    receiver_asked c.args.store.now c.requires.core c.args.server c.requires.kind _ c.server_receiver-receiver.ensures _
-    c.skim_requests.ensures.rest c.skim_requests.ensures.kept c.skim_requests.ensures.skimmed _ c.next_request_sender.ensures _
-    (c.in-Ok-Some.is ∙ ap Ok c.in-Ok-Some.field-0-is) c.requires.number _ _ c.take_request-slot.ensures.first
-    c.take_request-slot.ensures.within c.take_request-slot.ensures.taken
-
-pub active_place-own-requires-clause-index : goal.active_place-own-requires-clause-index
-active_place-own-requires-clause-index g c =
-    index_asked c.args.store.now c.requires.core c.args.server c.requires.kind _ c.server_receiver-receiver.ensures _
-    c.skim_requests.ensures.rest c.skim_requests.ensures.kept c.skim_requests.ensures.skimmed _ c.next_request_sender.ensures _
-    (c.in-Ok-Some.is ∙ ap Ok c.in-Ok-Some.field-0-is) c.requires.number _ _ c.take_request-slot.ensures.first
-    c.take_request-slot.ensures.within c.take_request-slot.ensures.taken
-
-pub add-number-requires-clause-place : goal.add-number-requires-clause-place
-add-number-requires-clause-place g c =
-    place_asked c.args.store.now c.requires.core c.args.server c.requires.kind _ c.server_receiver-receiver.ensures _
-    c.skim_requests.ensures.rest c.skim_requests.ensures.kept c.skim_requests.ensures.skimmed _ c.next_request_sender.ensures _
-    (c.in-Ok-Some.is ∙ ap Ok c.in-Ok-Some.field-0-is) c.requires.number _ _ c.take_request-slot.ensures.first
-    c.take_request-slot.ensures.within c.take_request-slot.ensures.taken _ c.active_place-own.ensures
-
-pub add-number-requires-clause-vacant : goal.add-number-requires-clause-vacant
-add-number-requires-clause-vacant g c =
-    vacant_asked c.args.store.now c.requires.core c.args.server c.requires.kind _ c.server_receiver-receiver.ensures _
-    c.skim_requests.ensures.rest c.skim_requests.ensures.kept c.skim_requests.ensures.skimmed _ c.next_request_sender.ensures _
-    (c.in-Ok-Some.is ∙ ap Ok c.in-Ok-Some.field-0-is) c.requires.number _ _ c.take_request-slot.ensures.first
-    c.take_request-slot.ensures.within c.take_request-slot.ensures.taken _ c.active_place-own.ensures
-
-pub add-number-requires-clause-fresh : goal.add-number-requires-clause-fresh
-add-number-requires-clause-fresh g c =
-    fresh_asked c.args.store.now c.requires.core c.args.server c.requires.kind _ c.server_receiver-receiver.ensures _
-    c.skim_requests.ensures.rest c.skim_requests.ensures.kept c.skim_requests.ensures.skimmed _ c.next_request_sender.ensures _
-    (c.in-Ok-Some.is ∙ ap Ok c.in-Ok-Some.field-0-is) c.requires.number _ _ c.take_request-slot.ensures.first
-    c.take_request-slot.ensures.within c.take_request-slot.ensures.taken _ c.active_place-own.ensures
-
-pub add-number-requires-clause-fits : goal.add-number-requires-clause-fits
-add-number-requires-clause-fits g c =
-    number_asked c.args.store.now c.requires.core c.args.server c.requires.kind _ c.server_receiver-receiver.ensures _
+pub add-number-requires : goal.add-number-requires
+add-number-requires g c =
+    add_asked c.args.store.now c.requires.core c.args.server c.requires.kind _ c.server_receiver-receiver.ensures _
     c.skim_requests.ensures.rest c.skim_requests.ensures.kept c.skim_requests.ensures.skimmed _ c.next_request_sender.ensures _
     (c.in-Ok-Some.is ∙ ap Ok c.in-Ok-Some.field-0-is) c.requires.number _ _ c.take_request-slot.ensures.first
     c.take_request-slot.ensures.within c.take_request-slot.ensures.taken _ c.active_place-own.ensures

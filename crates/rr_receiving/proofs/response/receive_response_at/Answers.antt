@@ -1,7 +1,6 @@
 use Rattle.std.proofs.Common.{Ok, ap, ◌∙◌}
-use Rattle.rr_receiving.proofs.steps.Response.{client_asked, queues_asked, none_then, error_then, sender_asked, queue_asked, entry_asked}
-use Rattle.rr_receiving.proofs.steps.Response.{count_asked, taken_sender_asked, slot_asked, place_asked, vacant_asked, fresh_asked}
-use Rattle.rr_receiving.proofs.steps.Response.{core_then, receives_then}
+use Rattle.rr_receiving.proofs.steps.Response.{client_asked, queues_asked, none_then, error_then, take_asked, taken_sender_asked, slot_asked}
+use Rattle.rr_receiving.proofs.steps.Response.{insert_asked, core_then, receives_then}
 use Rattle.rr_receiving.proofs.response.receive_response_at.Goals as goal
 
 pub at-request-requires : goal.at-request-requires
@@ -16,24 +15,9 @@ next_response_sender-requires g c =
     queues_asked c.args.store.now c.requires.core c.args.number c.args.place _ c.at-request.ensures c.requires.kind _
     c.receiver_of_sender-receiver.ensures
 
-pub take_response-slot-requires-clause-sender : goal.take_response-slot-requires-clause-sender
-take_response-slot-requires-clause-sender g c =
-    sender_asked c.args.store.now c.requires.core c.args.number c.args.place _ c.at-request.ensures c.requires.kind _
-    c.receiver_of_sender-receiver.ensures _ c.next_response_sender.ensures _ (c.in-Ok-Some.is ∙ ap Ok c.in-Ok-Some.field-0-is)
-
-pub take_response-slot-requires-clause-queue : goal.take_response-slot-requires-clause-queue
-take_response-slot-requires-clause-queue g c =
-    queue_asked c.args.store.now c.requires.core c.args.number c.args.place _ c.at-request.ensures c.requires.kind _
-    c.receiver_of_sender-receiver.ensures _ c.next_response_sender.ensures _ (c.in-Ok-Some.is ∙ ap Ok c.in-Ok-Some.field-0-is)
-
-pub take_response-slot-requires-clause-entry : goal.take_response-slot-requires-clause-entry
-take_response-slot-requires-clause-entry g c =
-    entry_asked c.args.store.now c.requires.core c.args.number c.args.place _ c.at-request.ensures c.requires.kind _
-    c.receiver_of_sender-receiver.ensures _ c.next_response_sender.ensures _ (c.in-Ok-Some.is ∙ ap Ok c.in-Ok-Some.field-0-is)
-
-pub take_response-slot-requires-clause-fits : goal.take_response-slot-requires-clause-fits
-take_response-slot-requires-clause-fits g c =
-    count_asked c.args.store.now c.requires.core c.args.number c.args.place _ c.at-request.ensures c.requires.kind _
+pub take_response-slot-requires : goal.take_response-slot-requires
+take_response-slot-requires g c =
+    take_asked c.args.store.now c.requires.core c.args.number c.args.place _ c.at-request.ensures c.requires.kind _
     c.receiver_of_sender-receiver.ensures _ c.next_response_sender.ensures _ (c.in-Ok-Some.is ∙ ap Ok c.in-Ok-Some.field-0-is)
 
 pub response_details-details-requires-clause-sender : goal.response_details-details-requires-clause-sender
@@ -54,23 +38,9 @@ response_place-own-requires g c =
     c.receiver_of_sender-receiver.ensures _ c.next_response_sender.ensures _ (c.in-Ok-Some.is ∙ ap Ok c.in-Ok-Some.field-0-is) _ _
     c.take_response-slot.ensures.first c.take_response-slot.ensures.within c.take_response-slot.ensures.taken
 
-pub insert-requires-clause-place : goal.insert-requires-clause-place
-insert-requires-clause-place g c =
-    place_asked c.args.store.now c.requires.core c.args.number c.args.place _ c.at-request.ensures c.requires.kind _
-    c.receiver_of_sender-receiver.ensures _ c.next_response_sender.ensures _ (c.in-Ok-Some.is ∙ ap Ok c.in-Ok-Some.field-0-is) _ _
-    c.take_response-slot.ensures.first c.take_response-slot.ensures.within c.take_response-slot.ensures.taken _ _
-    c.response_details-details.ensures c.response_place-own.ensures
-
-pub insert-requires-clause-vacant : goal.insert-requires-clause-vacant
-insert-requires-clause-vacant g c =
-    vacant_asked c.args.store.now c.requires.core c.args.number c.args.place _ c.at-request.ensures c.requires.kind _
-    c.receiver_of_sender-receiver.ensures _ c.next_response_sender.ensures _ (c.in-Ok-Some.is ∙ ap Ok c.in-Ok-Some.field-0-is) _ _
-    c.take_response-slot.ensures.first c.take_response-slot.ensures.within c.take_response-slot.ensures.taken _ _
-    c.response_details-details.ensures c.response_place-own.ensures
-
-pub insert-requires-clause-fresh : goal.insert-requires-clause-fresh
-insert-requires-clause-fresh g c =
-    fresh_asked c.args.store.now c.requires.core c.args.number c.args.place _ c.at-request.ensures c.requires.kind _
+pub insert-requires : goal.insert-requires
+insert-requires g c =
+    insert_asked c.args.store.now c.requires.core c.args.number c.args.place _ c.at-request.ensures c.requires.kind _
     c.receiver_of_sender-receiver.ensures _ c.next_response_sender.ensures _ (c.in-Ok-Some.is ∙ ap Ok c.in-Ok-Some.field-0-is) _ _
     c.take_response-slot.ensures.first c.take_response-slot.ensures.within c.take_response-slot.ensures.taken _ _
     c.response_details-details.ensures c.response_place-own.ensures

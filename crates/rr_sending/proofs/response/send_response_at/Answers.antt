@@ -1,4 +1,4 @@
-use Rattle.rr_sending.proofs.steps.Response.{sender_asked, slot_asked, loan_asked, clients_asked, server_asked, queue_asked, takes_asked, refused, sender_still, held_still, loan_counted, sends, core_then}
+use Rattle.rr_sending.proofs.steps.Response.{sender_asked, slot_asked, loan_asked, clients_asked, server_asked, queue_asked, refused, sender_still, queue_still, takes_still, loan_counted, sends, core_then}
 use Rattle.rr_sending.proofs.response.send_response_at.Goals as goal
 
 pub response_details-details-requires-clause-sender : goal.response_details-details-requires-clause-sender
@@ -50,44 +50,39 @@ returns-then-is_response_refused-clause-sends g c =
     g.K.BackpressureFn.action _ c.response_details-details.ensures _ c.reached_receiver-reach.ensures _ c.is_response_refused.ensures
     c.if-is_response_refused.true c.release_response_loan_at.new.store c.release_response_loan_at.ensures.view
 
-pub deliver_response-requires-clause-sender : goal.deliver_response-requires-clause-sender
-deliver_response-requires-clause-sender g c =
-    sender_asked c.args.store.now c.requires.core c.args.number c.args.place c.at-entry.result c.at-entry.ensures c.requires.kind
-    g.K.BackpressureFn.action
-
-pub deliver_response-requires-clause-queue : goal.deliver_response-requires-clause-queue
-deliver_response-requires-clause-queue g c =
-    queue_asked c.args.store.now c.requires.core c.args.number c.args.place c.at-entry.result c.at-entry.ensures c.requires.kind
-    g.K.BackpressureFn.action _ c.response_details-details.ensures _ c.reached_receiver-reach.ensures
-
-pub deliver_response-requires-clause-takes : goal.deliver_response-requires-clause-takes
-deliver_response-requires-clause-takes g c =
-    takes_asked c.args.store.now c.requires.core c.args.number c.args.place c.at-entry.result c.at-entry.ensures c.requires.kind
-    g.K.BackpressureFn.action _ c.response_details-details.ensures _ c.reached_receiver-reach.ensures
-
-pub give_back_response-requires-clause-sender : goal.give_back_response-requires-clause-sender
-give_back_response-requires-clause-sender g c =
+pub hand_over_response-requires-clause-sender : goal.hand_over_response-requires-clause-sender
+hand_over_response-requires-clause-sender g c =
     sender_still c.args.store.now c.requires.core c.args.number c.args.place c.at-entry.result c.at-entry.ensures c.requires.kind
     g.K.BackpressureFn.action _ c.response_details-details.ensures _ c.reached_receiver-reach.ensures _ c.is_response_refused.ensures _
-    c.deliver_response.ensures _ c.take.ensures.gone
+    c.take.ensures.gone
 
-pub give_back_response-requires-clause-held : goal.give_back_response-requires-clause-held
-give_back_response-requires-clause-held g c =
-    held_still c.args.store.now c.requires.core c.args.number c.args.place c.at-entry.result c.at-entry.ensures c.requires.kind
+pub hand_over_response-requires-clause-queue : goal.hand_over_response-requires-clause-queue
+hand_over_response-requires-clause-queue g c =
+    queue_still c.args.store.now c.requires.core c.args.number c.args.place c.at-entry.result c.at-entry.ensures c.requires.kind
     g.K.BackpressureFn.action _ c.response_details-details.ensures _ c.reached_receiver-reach.ensures _ c.is_response_refused.ensures _
-    c.deliver_response.ensures _ c.take.ensures.gone
+    c.take.ensures.gone
+
+pub hand_over_response-requires-clause-takes : goal.hand_over_response-requires-clause-takes
+hand_over_response-requires-clause-takes g c =
+    takes_still c.args.store.now c.requires.core c.args.number c.args.place c.at-entry.result c.at-entry.ensures c.requires.kind
+    g.K.BackpressureFn.action _ c.response_details-details.ensures _ c.reached_receiver-reach.ensures _ c.is_response_refused.ensures _
+    c.take.ensures.gone
+
+pub take-requires : goal.take-requires
+take-requires g c =
+    (c.at-entry.result, c.at-entry.ensures)
 
 pub end_response_loan-receiver-requires : goal.end_response_loan-receiver-requires
 end_response_loan-receiver-requires g c =
     loan_counted c.args.store.now c.requires.core c.args.number c.args.place c.at-entry.result c.at-entry.ensures c.requires.kind
     g.K.BackpressureFn.action _ c.response_details-details.ensures _ c.reached_receiver-reach.ensures _ c.is_response_refused.ensures _
-    c.deliver_response.ensures _ c.take.ensures.gone _ c.give_back_response.ensures
+    c.take.ensures.gone _ c.hand_over_response.ensures
 
 pub returns-clause-core : goal.returns-clause-core
 returns-clause-core g c =
     core_then c.args.store.now c.requires.core c.args.number c.args.place c.at-entry.result c.at-entry.ensures c.requires.kind
     g.K.BackpressureFn.action _ c.response_details-details.ensures _ c.reached_receiver-reach.ensures _ c.is_response_refused.ensures _
-    c.deliver_response.ensures _ c.take.ensures.gone _ c.give_back_response.ensures _ _ c.end_response_loan-receiver.ensures.receiver
+    c.take.ensures.gone _ c.hand_over_response.ensures _ _ c.end_response_loan-receiver.ensures.receiver
     c.end_response_loan-receiver.ensures.counted _ c.end_loan_from.ensures.rest c.end_loan_from.ensures.ended
     c.if-is_response_refused.false
 
@@ -95,6 +90,6 @@ pub returns-clause-sends : goal.returns-clause-sends
 returns-clause-sends g c =
     sends c.args.store.now c.requires.core c.args.number c.args.place c.at-entry.result c.at-entry.ensures c.requires.kind
     g.K.BackpressureFn.action _ c.response_details-details.ensures _ c.reached_receiver-reach.ensures _ c.is_response_refused.ensures _
-    c.deliver_response.ensures _ c.take.ensures.gone _ c.give_back_response.ensures _ _ c.end_response_loan-receiver.ensures.receiver
+    c.take.ensures.gone _ c.hand_over_response.ensures _ _ c.end_response_loan-receiver.ensures.receiver
     c.end_response_loan-receiver.ensures.counted _ c.end_loan_from.ensures.rest c.end_loan_from.ensures.ended
     c.if-is_response_refused.false

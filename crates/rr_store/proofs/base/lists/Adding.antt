@@ -1,5 +1,5 @@
 -- Small facts on which adding a port rests.
-use Rattle.std.proofs.Common.{◌≡◌, ◌<◌, ◌≤◌, ◌+◌, ◌-◌, ◌*◌, ◌^◌, ℕ, Bool, true, false, cond, List, Option, None, Some, length, map, refl, sym, ap, ◌∙◌, ⊎_elim, option_map, arith}
+use Rattle.std.proofs.Common.{◌≡◌, ◌<◌, ◌≤◌, ◌+◌, ◌*◌, ◌^◌, ℕ, Bool, true, false, cond, List, Option, None, Some, length, map, refl, sym, ap, ◌∙◌, ⊎_elim, option_map, arith}
 use Rattle.std.specs.Prelude.{slice_get, ◌==◌, ◌||◌, nat_le}
 use Rattle.std.proofs.lemmas.Bool.{false≢true, eq-eqb, le-leb, cases_lt}
 use Rattle.std.proofs.lemmas.Option.{slice_get-map}

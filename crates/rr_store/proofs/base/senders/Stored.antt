@@ -1,12 +1,14 @@
 -- A sender that is stored, and the senders after its messages changed.
 use Rattle.std.proofs.Common.{◌≡◌, ◌<◌, ℕ, List, Some, length, map, get_or, sym, ap, ◌∙◌}
 use Rattle.std.specs.Prelude.{slice_get, slice_index_or, slice_set}
+use Rattle.std.proofs.lemmas.List.{get_or-set_same, set-set}
 use Rattle.std.proofs.lemmas.Option.{get_or_from_slice_get}
 use Rattle.rr_sender.specs.Senders.{Messages}
 use Rattle.rr_store.specs.declared.port.OwnedSender.{OwnedSender}
 use Rattle.rr_store.specs.Loaning as part
+use Rattle.rr_store.specs.Parts.{Sender}
 use Rattle.rr_store.specs.Ports.{sender_part}
-use Rattle.rr_store.specs.Views.{sender_of}
+use Rattle.rr_store.specs.Views.{no_sender, sender_of}
 use Rattle.rr_store.specs.Writing.{with_messages}
 use Rattle.rr_store.proofs.base.lists.Replaced.{map-set_one}
 use Rattle.rr_store.proofs.base.lookups.Asking.{sender_is, senders_many}
@@ -33,3 +35,9 @@ module _ {B N H T : Type 0} (items : List (OwnedSender B N H T)) (sender : ℕ) 
       ap (λ m. map sender_part (slice_set items sender (with_messages x m))) is
       ∙ map-set_one sender_part items sender (with_messages x (change x.messages))
       ∙ ap (λ y. slice_set (map sender_part items) sender (part.with_messages y (change y.messages))) (sym stored_is)
+
+-- a sender that changed twice
+pub stored_twice : {T N H : Type 0} (senders : List (Sender T N H)) (i : ℕ) (x : Sender T N H) (change : Sender T N H → Sender T N H)
+    → i < length senders → slice_set (slice_set senders i x) i (change (sender_of i (slice_set senders i x))) ≡ slice_set senders i (change x)
+stored_twice senders i x change there =
+    ap (λ y. slice_set (slice_set senders i x) i (change y)) (get_or-set_same senders i x no_sender there) ∙ set-set senders i x (change x)

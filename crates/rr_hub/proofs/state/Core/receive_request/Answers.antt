@@ -1,4 +1,13 @@
+use Rattle.rr_store.specs.Sound.{empty_hand}
+use Rattle.rr_store.specs.Views.{state_of}
+use Rattle.rr_store.proofs.base.lookups.NextNumber.{next_names_nothing}
+use Rattle.rr_hub.proofs.Unnamed.{by_receive}
 use Rattle.rr_hub.proofs.state.Core.receive_request.Goals as goal
 
-pub returns : goal.returns
-returns g c = rw (← c.self.view_is) c.receive_request.ensures.receives
+pub returns-clause-receives : goal.returns-clause-receives
+returns-clause-receives g c = rw (← c.self.view_is) c.receive_request.ensures.receives
+
+pub returns-clause-unnamed : goal.returns-clause-unnamed
+returns-clause-unnamed g c =
+    rw (← c.self.view_is) (by_receive (state_of c.self.inside.parts)
+    (next_names_nothing c.self.inside.parts empty_hand c.self.invariant.sound) c.args.server _ _ c.receive_request.ensures.receives)

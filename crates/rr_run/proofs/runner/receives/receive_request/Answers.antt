@@ -13,7 +13,7 @@ use Rattle.rr_run.proofs.runner.receives.receive_request.Goals as goal
 pub request_number-requires : goal.request_number-requires
 request_number-requires g c = active_there c.args.core.now c.receive_request.new.self c.args.server c.in-Ok-Some.id
     (subst (λ o. ReceivesRequest c.args.core.now c.args.server (Ok o) c.receive_request.new.self) c.in-Ok-Some.field-0-is
-    c.in-Ok-Some.ensures)
+    c.in-Ok-Some.ensures.receives)
 
 pub returns-in-Ok-Some : goal.returns-in-Ok-Some
 returns-in-Ok-Some g c =
@@ -25,7 +25,7 @@ returns-in-Ok-Some g c =
     (receive_due g.B.Body.family c.args.core.now c.args.server
     (ap (λ n. n == 0) (sym c.numbers_left.ensures) ∙ ne_eqb c.numbers_left.result 0 c.if-numbers_left-eq0.false)) (
       (subst (λ o. ReceivesRequest c.args.core.now c.args.server (Ok o) c.receive_request.new.self) c.in-Ok-Some.field-0-is
-          c.in-Ok-Some.ensures),
+          c.in-Ok-Some.ensures.receives),
       c.request_number.ensures,
     ))
 
@@ -36,4 +36,4 @@ returns-in-Ok-None g c =
     (receive_due g.B.Body.family c.args.core.now c.args.server
     (ap (λ n. n == 0) (sym c.numbers_left.ensures) ∙ ne_eqb c.numbers_left.result 0 c.if-numbers_left-eq0.false))
     (inl (subst (λ o. ReceivesRequest c.args.core.now c.args.server (Ok o) c.receive_request.new.self) c.in-Ok-None.field-0-is
-    c.in-Ok-None.ensures))
+    c.in-Ok-None.ensures.receives))

@@ -1,4 +1,4 @@
-use Rattle.std.proofs.Common.{◌≡◌, sym, ap, refl, ◌∙◌, [], ◌∷◌}
+use Rattle.std.proofs.Common.{◌≡◌, ap, refl, ◌∙◌, [], ◌∷◌}
 use Rattle.std.proofs.Common.{inr}
 use Rattle.rr_protocol.specs.Messages.{ResponseMessage, ResponseMutUninit}
 use Rattle.rr_protocol.specs.Queries.{kind_at}
@@ -13,7 +13,7 @@ fresh : (g : _) (c : In_ok-id g) → (m : ResponseMessage _ _)
     × IsFresh c.loan_response.new.self c.in_ok-id.id (λ content. ResponseMutUninit (record m { content = content }))
 fresh g c =
     fresh_response g.H.Default.is_default c.args.core.now c.args.active.now c.in_ok-id.id c.loan_response.new.self
-    (ap (kind_at c.args.core.now) (sym c.next_number.ensures.number) ∙ c.next_number.ensures.free) c.in_ok-id.ensures.loans
+    c.in_ok-id.ensures.unnamed c.in_ok-id.ensures.loans
 
 -- and the element in it
 pushed : (g : _) (c : After-push_response g) → (m : ResponseMessage _ _)

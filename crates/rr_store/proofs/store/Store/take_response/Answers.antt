@@ -7,7 +7,7 @@ use Rattle.rr_store.proofs.store.Store.take_response.Goals as goal
 
 pub returns-clause-taken : goal.returns-clause-taken
 returns-clause-taken g c =
-    let there = rw (← c.self.view_is) at c.requires.sender in
+    let there = rw (← c.self.view_is) at c.requires.there in
     rw (← c.self.view_is) (ap (λ ls. record (parts_of c.self.inside) { server_senders = ls })
     (stored_set c.self.inside.server_senders.items c.args.sender _ there c.index_mut.ensures.value _
     (λ m. taken m c.args.receiver c.args.channel c.take.result (drop 1 (queue_at m c.args.receiver c.args.channel))) c.take.ensures.state))
