@@ -26,7 +26,8 @@ impl<QB: Body, QH: Default + Drop, PB: Body, PH: Default + Drop, K: Backpressure
     #[inline(always)]
     pub fn receive_response(&mut self, id: &HandleId) -> Result<Option<HandleId>, ReceiveError>
         requires { kind_at self.old id.now ≡ Some kind.PendingResponse }
-        ensures { ReceivesResponse self.old id.now result self.new }
+        ensures receives { ReceivesResponse self.old id.now result self.new }
+        ensures unnamed { IfOk result (λ handle. IfSome handle (λ number. kind_at self.old number ≡ None)) }
     {
         let hint = id.hint();
         if self.parts.is_at(id.number(), hint) {

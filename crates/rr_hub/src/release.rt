@@ -1,11 +1,16 @@
 //! Releases of handles.
-ghost use Rattle.std.specs.Prelude.{◌≡◌, IsSome};
+ghost use Rattle.std.specs.Prelude.{◌≡◌, ◌⊎◌, IsSome, Some};
+ghost use Rattle.rr_protocol.specs.declared.kind.Kind.TheVariants as kind;
+ghost use Rattle.rr_protocol.specs.Queries.{kind_at};
 ghost use Rattle.rr_protocol.specs.Releases.{after_release};
 ghost use Rattle.rr_protocol.specs.State.{handle_at};
 
 use crate::state::Core;
 use rr_protocol::BackpressureFn;
-use rr_releasing::release_at;
+use rr_releasing::{
+    release_active_at, release_at, release_pending_at, release_received_at, release_request_at,
+    release_response_loan_at,
+};
 use rr_slots::Body;
 use rr_store::HandleId;
 
@@ -33,6 +38,86 @@ impl<QB: Body, QH: Default + Drop, PB: Body, PH: Default + Drop, K: Backpressure
         } else {
             let place = self.parts.place_of(id.number());
             release_at(&mut self.parts, id.number(), place);
+        }
+    }
+
+    /// Releases a pending response, as `release` does, without a look at what it is. After the drop of iceoryx2's
+    /// `PendingResponse`.
+    #[inline(always)]
+    pub fn release_pending(&mut self, id: &HandleId)
+        requires { kind_at self.old id.now ≡ Some kind.PendingResponse }
+        ensures { self.new ≡ after_release self.old id.now }
+    {
+        let hint = id.hint();
+        if self.parts.is_at(id.number(), hint) {
+            release_pending_at(&mut self.parts, id.number(), hint);
+        } else {
+            let place = self.parts.place_of(id.number());
+            release_pending_at(&mut self.parts, id.number(), place);
+        }
+    }
+
+    /// Releases an active request, as `release` does, without a look at what it is. After the drop of iceoryx2's
+    /// `ActiveRequest`.
+    #[inline(always)]
+    pub fn release_active(&mut self, id: &HandleId)
+        requires { kind_at self.old id.now ≡ Some kind.ActiveRequest }
+        ensures { self.new ≡ after_release self.old id.now }
+    {
+        let hint = id.hint();
+        if self.parts.is_at(id.number(), hint) {
+            release_active_at(&mut self.parts, id.number(), hint);
+        } else {
+            let place = self.parts.place_of(id.number());
+            release_active_at(&mut self.parts, id.number(), place);
+        }
+    }
+
+    /// Releases a response that was received, as `release` does, without a look at what it is. After the drop of iceoryx2's
+    /// `Response`.
+    #[inline(always)]
+    pub fn release_response(&mut self, id: &HandleId)
+        requires { kind_at self.old id.now ≡ Some kind.Response }
+        ensures { self.new ≡ after_release self.old id.now }
+    {
+        let hint = id.hint();
+        if self.parts.is_at(id.number(), hint) {
+            release_received_at(&mut self.parts, id.number(), hint);
+        } else {
+            let place = self.parts.place_of(id.number());
+            release_received_at(&mut self.parts, id.number(), place);
+        }
+    }
+
+    /// Releases a request on loan, as `release` does, without a look at what it is. After the drops of iceoryx2's
+    /// `RequestMutUninit` and `RequestMut`.
+    #[inline(always)]
+    pub fn release_request(&mut self, id: &HandleId)
+        requires { (kind_at self.old id.now ≡ Some kind.RequestMutUninit) ⊎ (kind_at self.old id.now ≡ Some kind.RequestMut) }
+        ensures { self.new ≡ after_release self.old id.now }
+    {
+        let hint = id.hint();
+        if self.parts.is_at(id.number(), hint) {
+            release_request_at(&mut self.parts, id.number(), hint);
+        } else {
+            let place = self.parts.place_of(id.number());
+            release_request_at(&mut self.parts, id.number(), place);
+        }
+    }
+
+    /// Releases a response on loan, as `release` does, without a look at what it is. After the drops of iceoryx2's
+    /// `ResponseMutUninit` and `ResponseMut`.
+    #[inline(always)]
+    pub fn release_response_loan(&mut self, id: &HandleId)
+        requires { (kind_at self.old id.now ≡ Some kind.ResponseMutUninit) ⊎ (kind_at self.old id.now ≡ Some kind.ResponseMut) }
+        ensures { self.new ≡ after_release self.old id.now }
+    {
+        let hint = id.hint();
+        if self.parts.is_at(id.number(), hint) {
+            release_response_loan_at(&mut self.parts, id.number(), hint);
+        } else {
+            let place = self.parts.place_of(id.number());
+            release_response_loan_at(&mut self.parts, id.number(), place);
         }
     }
 }

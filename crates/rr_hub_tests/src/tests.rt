@@ -14,6 +14,7 @@ use rr_protocol::{
 use rr_table::Place;
 use std::alloc::Global;
 use std::test::Fail;
+use std::thread;
 
 mod requests;
 mod responses;
@@ -86,6 +87,17 @@ fn new_numbers(alloc: Global) -> Result<(u64, u64), HubCreateError> {
 #[test]
 fn a_new_core_has_every_number_left(rt: HostRuntime) {
     assert!(rt; new_numbers(rt.alloc()) == Ok((4611686018427387904, 0)));
+}
+
+#[test]
+fn a_core_goes_to_another_thread(rt: HostRuntime) -> Result<(), Fail> {
+    let core: TypedCore = Core::new(rt.alloc(), LIMITS, UniqueNodeId(7))?;
+    let left = match thread::spawn(&rt, move || core.numbers_left()) {
+        Ok(child) => child.join(&rt),
+        Err(_) => 0,
+    };
+    assert!(rt; left == 4611686018427387904);
+    Ok(())
 }
 
 /// What the creations of a client and a server return.

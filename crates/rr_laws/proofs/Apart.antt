@@ -10,6 +10,7 @@ use Rattle.rr_protocol.specs.declared.limits.Limits.{Limits}
 use Rattle.rr_protocol.specs.Lists.{Lists, at}
 use Rattle.rr_protocol.specs.Keys.{ResponseKey, response_key_cmp}
 use Rattle.rr_protocol.specs.Messages.{ResponseMessage}
+use Rattle.rr_protocol.specs.Ports.{Client, Server}
 use Rattle.rr_laws.specs.Roles.{Question, Role, Roles, asking, asking_at}
 use Rattle.rr_laws.specs.Reached.{ResponseFits, ResponsesFit}
 use Rattle.rr_laws.specs.Apart.{ChannelsApart, standing, ResponsesApart, AreApart}
@@ -69,12 +70,13 @@ module _ {T H : Type 0} where
       (count-drop (λ m. eqb m.number number) (shrinks key).0 (at lists key))
 
   -- a number that stands somewhere was given
-  pub standing_below : (limits : Limits) (roles : Roles) (next : ℕ) (lists : Lists response_key_cmp (ResponseMessage T H))
-      → ResponsesFit limits roles next lists → (number : ℕ) (key : ResponseKey) →
-      0 < standing lists number key → number < next
-  standing_below limits roles next lists fits number key some = go (at lists key) (fits.each key) some
+  pub standing_below : {K : Type 0} {clients : List (Client K)} {servers : List (Server K)} (limits : Limits) (roles : Roles) (next : ℕ)
+      (lists : Lists response_key_cmp (ResponseMessage T H)) → ResponsesFit limits clients servers roles next lists
+      → (number : ℕ) (key : ResponseKey) → 0 < standing lists number key → number < next
+  standing_below {clients = clients} {servers = servers} limits roles next lists fits number key some =
+      go (at lists key) (fits.each key) some
     where
-      go : (entries : List (ResponseMessage T H)) → AllByRecursion (ResponseFits roles next key) entries
+      go : (entries : List (ResponseMessage T H)) → AllByRecursion (ResponseFits clients servers roles next key) entries
           → 0 < count_by (λ m. eqb m.number number) entries → number < next
       go [] all some = absurd (omega arith)
       go (m ∷ entries) all some = first (go entries all.1) (eqb m.number number) refl
@@ -89,8 +91,8 @@ module _ {T H : Type 0} where
           ))
 
   -- responses stay apart where no list has more of a number, and no number that was given names a new handle
-  pub responses_stay_apart : (limits : Limits) (roles later : Roles) (next : ℕ)
-      (lists shorter : Lists response_key_cmp (ResponseMessage T H)) → ResponsesFit limits roles next lists →
+  pub responses_stay_apart : {K : Type 0} {clients : List (Client K)} {servers : List (Server K)} (limits : Limits) (roles later : Roles)
+      (next : ℕ) (lists shorter : Lists response_key_cmp (ResponseMessage T H)) → ResponsesFit limits clients servers roles next lists →
       NamesNothingNew roles later next → ((number : ℕ) (key : ResponseKey) → standing shorter number key ≤ standing lists number key)
       → ResponsesApart roles lists → ResponsesApart later shorter
   responses_stay_apart limits roles later next lists shorter fits old fewer apart =
@@ -104,8 +106,8 @@ module _ {T H : Type 0} where
       }
 
   -- both stay, where the lists of responses are the same
-  pub stay_apart : (limits : Limits) (roles later : Roles) (next : ℕ) (lists shorter : Lists response_key_cmp (ResponseMessage T H))
-      → ResponsesFit limits roles next lists →
+  pub stay_apart : {K : Type 0} {clients : List (Client K)} {servers : List (Server K)} (limits : Limits) (roles later : Roles) (next : ℕ)
+      (lists shorter : Lists response_key_cmp (ResponseMessage T H)) → ResponsesFit limits clients servers roles next lists →
       AsksNothingNew roles later → NamesNothingNew roles later next
       → ((number : ℕ) (key : ResponseKey) → standing shorter number key ≤ standing lists number key) → AreApart roles lists
       → AreApart later shorter

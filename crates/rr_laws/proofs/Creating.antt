@@ -25,7 +25,7 @@ use Rattle.rr_maps.proofs.ListFacts.{all_append, find-append}
 use Rattle.rr_maps.proofs.MapFacts.{all_entries}
 use Rattle.rr_maps.proofs.Counting.{count-none}
 use Rattle.rr_laws.proofs.Staying.{role_stays, requests_stay, responses_stay, ports_with_more}
-use Rattle.rr_laws.proofs.Connected.{has-append, has_below, port_number, port_stays, handles_with_ports, requests_with_servers}
+use Rattle.rr_laws.proofs.Connected.{has-append, hasn't-append, has_below, port_number, port_stays, no_port_stays, NoPortComes, handles_with_ports, responses_with_ports, requests_with_servers}
 use Rattle.rr_laws.proofs.Tests.{not_due, below_of_test, positive}
 
 module _ {Q QH P PH K : Type 0} where
@@ -70,6 +70,14 @@ module _ {Q QH P PH K : Type 0} (s : State Q QH P PH K) (fits : IsReached s) whe
   more : s.next ≤ s.next + 1
   more = omega arith
 
+  client_comes : (new : Client K) → new.id ≡ s.next → NoPortComes s.clients (s.clients ++ new ∷ []) s.servers s.servers s.next
+  client_comes new is n below = no_port_stays s.clients (s.clients ++ new ∷ []) s.servers s.servers n
+      (hasn't-append (λ c. c.id) s.clients new n (λ same. omega (arith, below, is, same))) (λ h. h)
+
+  server_comes : (new : Server K) → new.id ≡ s.next → NoPortComes s.clients s.clients s.servers (s.servers ++ new ∷ []) s.next
+  server_comes new is n below = no_port_stays s.clients s.clients s.servers (s.servers ++ new ∷ []) n (λ h. h)
+      (hasn't-append (λ c. c.id) s.servers new n (λ same. omega (arith, below, is, same)))
+
   room_for_client : ClientSettings K → client_refusal s ≡ None → length s.clients < s.limits.max_clients
   room_for_client settings due = below_of_test s.limits.max_clients (length s.clients) ((not_due _ _ _ ((not_due _ _ _ due).1)).0)
 
@@ -103,16 +111,18 @@ module _ {Q QH P PH K : Type 0} (s : State Q QH P PH K) (fits : IsReached s) whe
           client_pools = all_append _ s.clients new ports.client_pools
               (pool_size_le _ settings.pool (positive s.limits fits.makes_hub).worst);
         };
-        handles = handles_with_ports s.clients (s.clients ++ new ∷ []) s.servers s.servers s.limits (roles_of s.handles) (s.next + 1)
+        handles = λ n role e. role_stays (roles_of s.handles) (roles_of s.handles) s.next (s.next + 1) more
+            (λ k p below e. e) s.limits s.servers (s.clients ++ new ∷ []) n role
+            (handles_with_ports s.clients (s.clients ++ new ∷ []) s.servers s.servers s.limits (roles_of s.handles) s.next
             (λ n role e. port_stays s.clients (s.clients ++ new ∷ []) s.servers s.servers role
-            (has-append (λ c. c.id) s.clients new (port_number role)) (λ h. h))
-            (λ n role e. role_stays (roles_of s.handles) (roles_of s.handles) s.next (s.next + 1) more
-            (λ k p below e. e) s.limits s.servers s.clients n role (fits.handles n role e));
+            (has-append (λ c. c.id) s.clients new (port_number role)) (λ h. h)) (client_comes new refl) fits.handles n role e);
         counts = fits.counts;
         request_lists = requests_stay (roles_of s.handles) (roles_of s.handles) s.next (s.next + 1) more
             (λ k p below e. e) s.limits s.servers s.requests fits.request_lists;
         response_lists = responses_stay (roles_of s.handles) (roles_of s.handles) s.next (s.next + 1) more
-            (λ k p below e. e) s.limits s.servers (λ k q e. e) s.responses fits.response_lists;
+            (λ k p below e. e) s.limits s.servers (s.clients ++ new ∷ []) (λ k q e. e) s.responses
+            (responses_with_ports s.clients (s.clients ++ new ∷ []) s.servers s.servers s.limits (roles_of s.handles) s.next
+            (client_comes new refl) s.responses fits.response_lists);
       }
 
   -- a number that was not given names no server with loans
@@ -174,11 +184,11 @@ module _ {Q QH P PH K : Type 0} (s : State Q QH P PH K) (fits : IsReached s) whe
           server_numbers = all_append _ s.servers new ports.server_numbers (omega arith);
           client_pools = ports.client_pools;
         };
-        handles = handles_with_ports s.clients s.clients s.servers (s.servers ++ new ∷ []) s.limits (roles_of s.handles) (s.next + 1)
+        handles = λ n role e. role_stays (roles_of s.handles) (roles_of s.handles) s.next (s.next + 1) more
+            (λ k p below e. e) s.limits (s.servers ++ new ∷ []) s.clients n role
+            (handles_with_ports s.clients s.clients s.servers (s.servers ++ new ∷ []) s.limits (roles_of s.handles) s.next
             (λ n role e. port_stays s.clients s.clients s.servers (s.servers ++ new ∷ []) role (λ h. h)
-            (has-append (λ c. c.id) s.servers new (port_number role)))
-            (λ n role e. role_stays (roles_of s.handles) (roles_of s.handles) s.next (s.next + 1) more
-            (λ k p below e. e) s.limits s.servers s.clients n role (fits.handles n role e));
+            (has-append (λ c. c.id) s.servers new (port_number role))) (server_comes new refl) fits.handles n role e);
         counts = record {
           request_loans = fits.counts.request_loans;
           waiting = fits.counts.waiting;
@@ -194,7 +204,9 @@ module _ {Q QH P PH K : Type 0} (s : State Q QH P PH K) (fits : IsReached s) whe
             (requests_stay (roles_of s.handles) (roles_of s.handles) s.next (s.next + 1) more
             (λ k p below e. e) s.limits s.servers s.requests fits.request_lists);
         response_lists = responses_stay (roles_of s.handles) (roles_of s.handles) s.next (s.next + 1) more
-            (λ k p below e. e) s.limits s.servers (λ k q e. e) s.responses fits.response_lists;
+            (λ k p below e. e) s.limits (s.servers ++ new ∷ []) s.clients (λ k q e. e) s.responses
+            (responses_with_ports s.clients s.clients s.servers (s.servers ++ new ∷ []) s.limits (roles_of s.handles) s.next
+            (server_comes new refl) s.responses fits.response_lists);
       }
 
   -- after a client was created, or refused

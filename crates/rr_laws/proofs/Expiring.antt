@@ -39,9 +39,9 @@ module _ {Q QH P PH K : Type 0} where
 
   -- lists of responses of which those under some keys were dropped
   pub responses_dropped : (s : State Q QH P PH K) (kept : ResponseKey → Bool) → IsReached s
-      → ResponsesFit s.limits (roles_of s.handles) s.next (fin_map.retain_keys s.responses kept)
+      → ResponsesFit s.limits s.clients s.servers (roles_of s.handles) s.next (fin_map.retain_keys s.responses kept)
   responses_dropped s kept fits =
-      responses_shrink s.limits (roles_of s.handles) s.next s.responses (fin_map.retain_keys s.responses kept)
+      responses_shrink s.limits (roles_of s.handles) s.next s.clients s.servers s.responses (fin_map.retain_keys s.responses kept)
       (shrinks_retained response_keys_total response_keys_exact s.responses kept) fits.response_lists
 
   -- other lists of requests
@@ -60,7 +60,7 @@ module _ {Q QH P PH K : Type 0} where
 
   -- other lists of responses
   pub fits_with_responses : (s : State Q QH P PH K) (responses : Lists response_key_cmp (ResponseMessage P PH)) → IsReached s
-      → ResponsesFit s.limits (roles_of s.handles) s.next responses →
+      → ResponsesFit s.limits s.clients s.servers (roles_of s.handles) s.next responses →
       Fits s.limits s.clients s.servers (roles_of s.handles) s.requests responses s.next
   fits_with_responses s responses fits lists =
       record {

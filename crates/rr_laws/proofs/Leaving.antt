@@ -23,7 +23,7 @@ use Rattle.rr_laws.specs.Reached.{RequestFits, RequestsFit, Fits, IsReached}
 use Rattle.rr_maps.proofs.MapFacts.{any_value}
 use Rattle.rr_maps.proofs.ListFacts.{any-map, all_filter, all_map, length-filter_le, find-gone, find-changed}
 use Rattle.rr_laws.proofs.RoleLaws.{handle_of, roles-map_handles}
-use Rattle.rr_laws.proofs.Connected.{port_number, port_stays, has-gone, has-changed, handles_with_ports, request_with_servers, requests_with_servers}
+use Rattle.rr_laws.proofs.Connected.{port_number, port_stays, no_port_stays, NoPortComes, has-gone, hadn't, has-changed, has-same, handles_with_ports, responses_with_ports, request_with_servers, requests_with_servers}
 use Rattle.rr_laws.proofs.Releasing.{without_server-role, handle_gone_reached}
 use Rattle.rr_laws.proofs.Expiring.{clients_expired, servers_expired, requests_dropped, responses_dropped}
 
@@ -91,11 +91,17 @@ module _ {Q QH P PH K : Type 0} where
         };
         handles = handles_with_ports s.clients rest s.servers s.servers s.limits (roles_of s.handles) s.next (λ n role e.
             port_stays s.clients rest s.servers s.servers role
-            (has-gone (λ c. c.id) client (port_number role) s.clients (no_handle_of s client unused n role e)) (λ h. h)) fits.handles;
+            (has-gone (λ c. c.id) client (port_number role) s.clients (no_handle_of s client unused n role e)) (λ h. h)) comes
+            fits.handles;
         counts = fits.counts;
         request_lists = fits.request_lists;
-        response_lists = responses_dropped s (λ key. not (eqb key.client client)) fits;
+        response_lists = responses_with_ports s.clients rest s.servers s.servers s.limits (roles_of s.handles) s.next comes
+            (fin_map.retain_keys s.responses (λ key. not (eqb key.client client)))
+            (responses_dropped s (λ key. not (eqb key.client client)) fits);
       }
+    where
+      comes : NoPortComes s.clients (filter (λ c. not (eqb c.id client)) s.clients) s.servers s.servers s.next
+      comes n below = no_port_stays s.clients _ s.servers s.servers n (hadn't (λ c. c.id) client n s.clients) (λ h. h)
 
   -- after a client left that was not in use
   pub client_left_reached : (s : State Q QH P PH K) (client : ℕ) → IsReached s → is_in_use s client ≡ false
@@ -147,7 +153,7 @@ module _ {Q QH P PH K : Type 0} where
         };
         handles = handles_with_ports s.clients s.clients s.servers rest s.limits (roles_of s.handles) s.next (λ n role e.
             port_stays s.clients s.clients s.servers rest role (λ h. h)
-            (has-gone (λ c. c.id) server (port_number role) s.servers (no_handle_of s server unused n role e))) fits.handles;
+            (has-gone (λ c. c.id) server (port_number role) s.servers (no_handle_of s server unused n role e))) comes fits.handles;
         counts = record {
           request_loans = fits.counts.request_loans;
           waiting = fits.counts.waiting;
@@ -157,9 +163,13 @@ module _ {Q QH P PH K : Type 0} where
           held_responses = fits.counts.held_responses;
         };
         request_lists = server_lists_fit s server fits;
-        response_lists = fits.response_lists;
+        response_lists = responses_with_ports s.clients s.clients s.servers rest s.limits (roles_of s.handles) s.next comes s.responses
+            fits.response_lists;
       }
     where
+      comes : NoPortComes s.clients s.clients s.servers (filter (λ c. not (eqb c.id server)) s.servers) s.next
+      comes n below = no_port_stays s.clients s.clients s.servers _ n (λ h. h) (hadn't (λ c. c.id) server n s.servers)
+
       was_there : (n : ℕ) (x : Server K) (b : Bool) → cond b None (find (λ c. eqb c.id n) s.servers) ≡ Some x
           → find (λ c. eqb c.id n) s.servers ≡ Some x
       was_there n x true e = absurd (cc)
@@ -215,7 +225,7 @@ module _ {Q QH P PH K : Type 0} where
         handles = handles_with_ports s.clients clients s.servers servers s.limits (roles_of s.handles) s.next (λ k role e.
             port_stays s.clients clients s.servers servers role
             (has-changed (λ c. c.id) (client_without n) client_id s.clients (port_number role))
-            (has-changed (λ c. c.id) (server_without n) server_id s.servers (port_number role))) fits.handles;
+            (has-changed (λ c. c.id) (server_without n) server_id s.servers (port_number role))) comes fits.handles;
         counts = record {
           request_loans = fits.counts.request_loans;
           waiting = fits.counts.waiting;
@@ -226,9 +236,15 @@ module _ {Q QH P PH K : Type 0} where
         };
         request_lists = requests_with_servers s.servers servers s.limits (roles_of s.handles) s.next
             (has-changed (λ c. c.id) (server_without n) server_id s.servers) s.requests fits.request_lists;
-        response_lists = fits.response_lists;
+        response_lists = responses_with_ports s.clients clients s.servers servers s.limits (roles_of s.handles) s.next comes s.responses
+            fits.response_lists;
       }
     where
+      comes : NoPortComes s.clients (map (client_without n) s.clients) s.servers (map (server_without n) s.servers) s.next
+      comes k below = no_port_stays s.clients _ s.servers _ k
+          (λ h. has-same (λ c. c.id) (client_without n) (λ c. without_value_id n c.port) s.clients k ∙ h)
+          (λ h. has-same (λ c. c.id) (server_without n) (λ c. without_value_id n c.port) s.servers k ∙ h)
+
       was_there : (k : ℕ) (x : Server K) (o : Option (Server K)) → find (λ c. eqb c.id k) s.servers ≡ o
           → option_map (server_without n) o ≡ Some x →
           tally (loans_response k) (roles_of s.handles) ≤ max_loaned_responses s.limits x.max_loaned_responses_per_request

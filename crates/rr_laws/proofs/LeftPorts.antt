@@ -1,11 +1,11 @@
 -- Who is listed as left is gone, as ports come and leave.
-use Rattle.std.proofs.Common.{◌≡◌, ℕ, ◌+◌, ◌≤◌, Bool, true, false, cond, not, eqb, List, [], ◌∷◌, ◌++◌, map, length, Option, Some, None, option_map, refl, sym, ap, ◌∙◌, ⊎_elim, inl, inr, arith}
-use Rattle.std.specs.Prelude.{◌≢◌, ◌⊎◌, ◌-◌, fold, find, filter, is_some}
+use Rattle.std.proofs.Common.{◌≡◌, ℕ, ◌+◌, ◌≤◌, Bool, true, false, cond, not, eqb, List, [], ◌∷◌, ◌++◌, map, length, Option, Some, None, refl, sym, ap, ◌∙◌, ⊎_elim, inl, inr, arith}
+use Rattle.std.specs.Prelude.{◌⊎◌, ◌-◌, fold, find, filter, is_some}
 use Rattle.std.specs.List.{AllByRecursion}
 use Rattle.std.specs.Ordering.{nat_cmp}
 use Rattle.std.specs.Cmp.{nat_cmp_total}
 use Rattle.std.specs.FinMap.{nat_cmp-IsAntisymmetric}
-use Rattle.std.proofs.lemmas.Bool.{eq-eqb, ne_eqb, eqb-true}
+use Rattle.std.proofs.lemmas.Bool.{eq-eqb, eqb-true}
 use Rattle.rr_protocol.specs.declared.limits.Limits.{Limits}
 use Rattle.rr_protocol.specs.Lists.{Lists, at, with_at}
 use Rattle.rr_protocol.specs.Ports.{Client, Server}
@@ -13,20 +13,11 @@ use Rattle.rr_protocol.specs.State.{State}
 use Rattle.rr_protocol.specs.Releases.{has_responses_from, has_requests_from, kept_senders, room_for_expired_clients, with_expired_client, with_expired_server}
 use Rattle.rr_laws.specs.Reached.{has_server, PortsFit}
 use Rattle.rr_laws.specs.Left.{IsGone, LeftFit}
-use Rattle.rr_maps.proofs.ListFacts.{all_each, all_append, all_drop, find-append, find-gone, find-changed}
-use Rattle.rr_laws.proofs.Connected.{has_below}
+use Rattle.rr_maps.proofs.ListFacts.{all_each, all_append, all_drop, find-append, find-gone}
+use Rattle.rr_laws.proofs.Connected.{has_below, hasn't-append, has-same, not_both}
 use Rattle.rr_laws.proofs.Putting.{each_list_with}
 
 module _ {X : Type 0} (id : X → ℕ) where
-  -- who was not there is not there after one more with another number came
-  pub hasn't-append : (xs : List X) (y : X) (n : ℕ) → id y ≢ n → is_some (find (λ x. eqb (id x) n) xs) ≡ false
-      → is_some (find (λ x. eqb (id x) n) (xs ++ y ∷ [])) ≡ false
-  hasn't-append xs y n other h = rw (find-append (λ x. eqb (id x) n) xs y, ne_eqb (id y) n other) (go (find (λ x. eqb (id x) n) xs) h)
-    where
-      go : (o : Option X) → is_some o ≡ false → is_some (cond (is_some o) o None) ≡ false
-      go None h = refl
-      go (Some x) h = absurd (cc)
-
   -- who is there after one more came was there before, or is that one
   pub has-append_cases : (xs : List X) (y : X) (n : ℕ) → is_some (find (λ x. eqb (id x) n) (xs ++ y ∷ [])) ≡ true
       → (is_some (find (λ x. eqb (id x) n) xs) ≡ true) ⊎ (id y ≡ n)
@@ -39,15 +30,6 @@ module _ {X : Type 0} (id : X → ℕ) where
       go None true is e h = inr (eqb-true (id y) n e)
       go None false is e h = absurd (cc)
 
-  -- who is there after each changed, but for its number
-  pub has-same : (f : X → X) → ((x : X) → id (f x) ≡ id x) → (xs : List X) (n : ℕ)
-      → is_some (find (λ x. eqb (id x) n) (map f xs)) ≡ is_some (find (λ x. eqb (id x) n) xs)
-  has-same f same xs n = ap is_some (find-changed id f same n xs) ∙ go (find (λ x. eqb (id x) n) xs)
-    where
-      go : (o : Option X) → is_some (option_map f o) ≡ is_some o
-      go None = refl
-      go (Some x) = refl
-
   -- those with a number that is gone are not there
   pub hasn't-gone : (gone : ℕ) (xs : List X) → is_some (find (λ x. eqb (id x) gone) (filter (λ x. not (eqb (id x) gone)) xs)) ≡ false
   hasn't-gone gone xs = ap is_some (find-gone id gone gone xs)
@@ -57,24 +39,10 @@ module _ {X : Type 0} (id : X → ℕ) where
   hidden true o h = absurd (cc)
   hidden false o h = h
 
-  still_hidden : (b : Bool) (o : Option X) → is_some o ≡ false → is_some (cond b None o) ≡ false
-  still_hidden true o h = refl
-  still_hidden false o h = h
-
   -- who is there after some are gone was there before
   pub had : (gone n : ℕ) (xs : List X) → is_some (find (λ x. eqb (id x) n) (filter (λ x. not (eqb (id x) gone)) xs)) ≡ true
       → is_some (find (λ x. eqb (id x) n) xs) ≡ true
   had gone n xs h = hidden (eqb n gone) _ (sym (ap is_some (find-gone id gone n xs)) ∙ h)
-
-  -- and who was not there is not
-  pub hadn't : (gone n : ℕ) (xs : List X) → is_some (find (λ x. eqb (id x) n) xs) ≡ false
-      → is_some (find (λ x. eqb (id x) n) (filter (λ x. not (eqb (id x) gone)) xs)) ≡ false
-  hadn't gone n xs h = ap is_some (find-gone id gone n xs) ∙ still_hidden (eqb n gone) _ h
-
--- a test that can't pass fails
-pub not_both : (b : Bool) → (b ≡ true → ⊥) → b ≡ false
-not_both true h = absurd (h refl)
-not_both false h = refl
 
 module _ {K : Type 0} (clients : List (Client K)) (servers : List (Server K)) (expired : Lists nat_cmp ℕ) (next : ℕ)
     (fits : LeftFit clients servers expired next) where

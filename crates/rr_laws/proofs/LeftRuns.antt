@@ -1,5 +1,5 @@
 -- Each step keeps who is listed as left gone.
-use Rattle.std.proofs.Common.{◌≡◌, ℕ, ◌<◌, Bool, true, false, cond, eqb, ◌&&◌, List, [], ◌∷◌, Option, Some, None, MatchOption, Result, Ok, Err, refl, sym, ap, ◌∙◌, subst, ⊎_elim, option_map}
+use Rattle.std.proofs.Common.{◌≡◌, ℕ, ◌<◌, Bool, true, false, cond, List, [], ◌∷◌, Option, Some, None, MatchOption, Result, Ok, Err, refl, sym, ap, ◌∙◌, subst, ⊎_elim, option_map}
 use Rattle.std.specs.Prelude.{if◌then◌else◌}
 use Rattle.std.specs.Option.{option_map_or}
 use Rattle.rr_slots.specs.declared.family.Family.{Family}
@@ -26,11 +26,10 @@ use Rattle.rr_commands.specs.Run.{Run}
 use Rattle.rr_laws.specs.Roles.{role_of}
 use Rattle.rr_laws.specs.Reached.{IsReached}
 use Rattle.rr_laws.specs.Left.{IsLeftFit}
-use Rattle.rr_maps.proofs.ListFacts.{any_found, any_weaker}
 use Rattle.rr_laws.proofs.RoleLaws.{role_at}
 use Rattle.rr_laws.proofs.Opening.{some_and}
-use Rattle.rr_laws.proofs.Counts.{and_first}
 use Rattle.rr_laws.proofs.Connected.{has_below}
+use Rattle.rr_laws.proofs.Naming.{client_value_connected, server_value_connected}
 use Rattle.rr_laws.proofs.Creating.{empty_hub_reached}
 use Rattle.rr_laws.proofs.Loaning.{loans_request_reached, loans_response_reached}
 use Rattle.rr_laws.proofs.Changing.{complete_reached}
@@ -66,16 +65,10 @@ module _ {T H K : Type 0} where
   named_below family s fits n e = go (is_client_value s n) (is_server_value s n) (handle_at s n) refl refl refl e
     where
       client : is_client_value s n ≡ true → n < s.next
-      client held = has_below (λ (c : Client K). c.id) s.clients n s.next fits.ports.client_numbers
-          (any_found (λ (c : Client K). eqb c.id n) s.clients
-          ∙ any_weaker (λ (c : Client K). eqb c.id n && c.has_value) (λ c. eqb c.id n)
-          (λ c h. and_first (eqb c.id n) c.has_value h) s.clients held)
+      client held = has_below (λ (c : Client K). c.id) s.clients n s.next fits.ports.client_numbers (client_value_connected s n held)
 
       server : is_server_value s n ≡ true → n < s.next
-      server held = has_below (λ (c : Server K). c.id) s.servers n s.next fits.ports.server_numbers
-          (any_found (λ (c : Server K). eqb c.id n) s.servers
-          ∙ any_weaker (λ (c : Server K). eqb c.id n && c.has_value) (λ c. eqb c.id n)
-          (λ c h. and_first (eqb c.id n) c.has_value h) s.servers held)
+      server held = has_below (λ (c : Server K). c.id) s.servers n s.next fits.ports.server_numbers (server_value_connected s n held)
 
       go : (is_client is_server : Bool) (h : Option (Handle T H T H)) → is_client_value s n ≡ is_client → is_server_value s n ≡ is_server
           → handle_at s n ≡ h →

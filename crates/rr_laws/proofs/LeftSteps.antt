@@ -27,14 +27,14 @@ use Rattle.rr_laws.specs.Left.{IsGone, LeftFit, IsLeftFit}
 use Rattle.rr_maps.proofs.ListFacts.{all_each, all_filter}
 use Rattle.rr_laws.proofs.RoleLaws.{role_at}
 use Rattle.rr_laws.proofs.Opening.{some_and, open_request_mut, open_response_mut, open_active}
-use Rattle.rr_laws.proofs.Connected.{has_below, port_number}
+use Rattle.rr_laws.proofs.Connected.{has_below, hadn't, port_number}
 use Rattle.rr_laws.proofs.Putting.{each_list_with}
 use Rattle.rr_laws.proofs.Releasing.{handle_gone_reached}
 use Rattle.rr_laws.proofs.Expiring.{clients_expired, servers_expired}
 use Rattle.rr_laws.proofs.Leaving.{port_of-role, without_value_id, without_port_value_reached}
 use Rattle.rr_laws.proofs.Sending.{response_put_reached}
 use Rattle.rr_laws.proofs.Loaning.{counted_id}
-use Rattle.rr_laws.proofs.LeftPorts.{had, hadn't, hasn't-gone, left_with_more, left_with_clients, left_with_servers, left_with_list, listed_clients, listed_servers}
+use Rattle.rr_laws.proofs.LeftPorts.{had, hasn't-gone, left_with_more, left_with_clients, left_with_servers, left_with_list, listed_clients, listed_servers}
 
 module _ {Q QH P PH K : Type 0} where
   client_left : (s : State Q QH P PH K) (client : ℕ) → IsReached s → IsLeftFit s → has_client s.clients client ≡ true

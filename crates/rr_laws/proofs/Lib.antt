@@ -28,9 +28,14 @@ pub mod ApartReleases
 pub mod ApartSends
 pub mod ApartReceives
 pub mod ApartSteps
+pub mod Naming
 pub mod LeftPorts
 pub mod LeftSteps
 pub mod LeftRuns
+pub mod CompleteMessages
+pub mod CompleteReleases
+pub mod CompleteCalls
+pub mod CompleteRuns
 pub mod OwnRequest
 pub mod Occurring
 pub mod Telling

@@ -162,7 +162,8 @@ module _ {Q QH P PH K : Type 0} (s : State Q QH P PH K) (fits : IsReached s) (se
       (all_lists response_keys_total _ s.responses (λ key m rest e is.
       any-filter_same (λ (b : ℕ × Role). is_list_to server b.1 key) (λ b. is_waiting b.1) true (λ b. waiting_of b.1 key)
       (entries (roles_of s.handles))
-      ∙ found key m ((subst (AllByRecursion (ResponseFits (roles_of s.handles) s.next key)) e (fits.response_lists.each key)).0) is))
+      ∙ found key m ((subst (AllByRecursion (ResponseFits s.clients s.servers (roles_of s.handles) s.next key)) e
+      (fits.response_lists.each key)).0) is))
       (all_of _ (λ b. one_list b.1) (filter (λ (b : ℕ × Role). is_waiting b.1) (entries (roles_of s.handles)))))
     where
       waiting_of : (role : Role) (key : ResponseKey) → is_list_to server role key ≡ true → is_waiting role ≡ true
@@ -172,7 +173,8 @@ module _ {Q QH P PH K : Type 0} (s : State Q QH P PH K) (fits : IsReached s) (se
       waiting_of (LoanedResponse a) key e = e
       waiting_of (ReceivedResponse a) key e = e
 
-      found : (key : ResponseKey) (m : ResponseMessage P PH) → ResponseFits (roles_of s.handles) s.next key m → eqb key.server server ≡ true
+      found : (key : ResponseKey) (m : ResponseMessage P PH) → ResponseFits s.clients s.servers (roles_of s.handles) s.next key m
+          → eqb key.server server ≡ true
           → list_any (λ (b : ℕ × Role). is_list_to server b.1 key) (entries (roles_of s.handles)) ≡ true
       found key m f is =
           any_value (λ role. is_list_to server role key) (roles_of s.handles) m.request (SentRequest (answered (answer_of m))) f.answers

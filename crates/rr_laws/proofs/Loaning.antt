@@ -22,7 +22,7 @@ use Rattle.rr_maps.proofs.ListFacts.{all_found, all_map, passes_found}
 use Rattle.rr_laws.proofs.RoleLaws.{role_at, roles-insert, loaned_requests-roles, loaned_responses-roles}
 use Rattle.rr_laws.proofs.Staying.{AskingStays, asking_stays_with_new, waiting_stays_with, known_stays, role_stays, requests_stay, responses_stay, ports_with_more}
 use Rattle.rr_laws.proofs.Counts.{counts_with_request_loan, counts_with_response_loan}
-use Rattle.rr_laws.proofs.Connected.{has-changed, port_number, port_stays, handles_with_ports}
+use Rattle.rr_laws.proofs.Connected.{has-changed, has-same, port_number, port_stays, no_port_stays, NoPortComes, handles_with_ports, responses_with_ports, no_port_at_next}
 use Rattle.rr_laws.proofs.Opening.{some_and, open_active}
 use Rattle.rr_laws.proofs.Tests.{not_due, below_of_test}
 
@@ -46,7 +46,7 @@ module _ {Q QH P PH K : Type 0} (limits : Limits) (clients : List (Client K)) (s
             (get-insert_cases roles n role k other e);
         counts = counts;
         request_lists = requests_stay roles (insert roles n role) next after more asking_stays limits servers requests fits.request_lists;
-        response_lists = responses_stay roles (insert roles n role) next after more asking_stays limits servers
+        response_lists = responses_stay roles (insert roles n role) next after more asking_stays limits servers clients
             (waiting_stays_with roles n role apart) responses fits.response_lists;
       }
 
@@ -103,11 +103,16 @@ module _ {Q QH P PH K : Type 0} (limits : Limits) (clients : List (Client K)) (s
         handles = handles_with_ports clients (map (with_loan_counted n) clients) servers servers limits roles next
             (λ k role e. port_stays clients (map (with_loan_counted n) clients) servers servers role
             (has-changed (λ c. c.id) (with_loan_counted n) (counted_id n) clients (port_number role)) (λ h. h))
-            fits.handles;
+            comes fits.handles;
         counts = fits.counts;
         request_lists = fits.request_lists;
-        response_lists = fits.response_lists;
+        response_lists = responses_with_ports clients (map (with_loan_counted n) clients) servers servers limits roles next comes responses
+            fits.response_lists;
       }
+    where
+      comes : NoPortComes clients (map (with_loan_counted n) clients) servers servers next
+      comes k below = no_port_stays clients (map (with_loan_counted n) clients) servers servers k
+          (λ h. has-same (λ c. c.id) (with_loan_counted n) (counted_id n) clients k ∙ h) (λ h. h)
 
 -- the test in front of a loan has passed
 request_loan_passed : {Q QH P PH K : Type 0} (s : State Q QH P PH K) (client : Client K) (len : ℕ)
@@ -150,6 +155,7 @@ module _ {Q QH P PH K : Type 0} (s : State Q QH P PH K) (fits : IsReached s) whe
       (record {
         below = omega arith;
         own_number = refl;
+        no_port = no_port_at_next s.limits counted s.servers s.next counted_fits.ports;
         connected = has-changed (λ c. c.id) (with_loan_counted client.id) (counted_id client.id) s.clients client.id there;
         known = known_itself roles q;
         channel = omega (arith, free, pool);
@@ -189,6 +195,7 @@ module _ {Q QH P PH K : Type 0} (s : State Q QH P PH K) (fits : IsReached s) whe
       (record {
         below = omega arith;
         own_number = refl;
+        no_port = no_port_at_next s.limits s.clients s.servers s.next fits.ports;
         connected = received.connected;
         known = known_with_next s.limits s.clients s.servers roles s.requests s.responses s.next fits (LoanedResponse a)
             (question_of active.message) received.known;

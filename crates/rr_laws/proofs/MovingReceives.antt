@@ -190,8 +190,8 @@ module _ {Q QH P PH K : Type 0} (s new : State Q QH P PH K) (fits : IsReached s)
   waiting = role_at s.handles n (PendingResponse p) (from_pending (handle_at s n) p is)
 
   -- the first entry fits its list
-  first_fits : ResponseFits (roles_of s.handles) s.next (response_key p server) m
-  first_fits = (subst (AllByRecursion (ResponseFits (roles_of s.handles) s.next (response_key p server))) first
+  first_fits : ResponseFits s.clients s.servers (roles_of s.handles) s.next (response_key p server) m
+  first_fits = (subst (AllByRecursion (ResponseFits s.clients s.servers (roles_of s.handles) s.next (response_key p server))) first
       (fits.response_lists.each (response_key p server))).0
 
   -- the response is now held by the client

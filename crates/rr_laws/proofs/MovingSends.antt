@@ -153,7 +153,7 @@ module _ {Q QH P PH K : Type 0} where
   unsent_empty s fits apart n q here server = go (at s.responses (channel_key server q)) (fits.response_lists.each (channel_key server q))
     where
       go : (entries : List (ResponseMessage P PH)) → AllByRecursion
-          (ResponseFits (roles_of s.handles) s.next (channel_key server q)) entries → entries ≡ []
+          (ResponseFits s.clients s.servers (roles_of s.handles) s.next (channel_key server q)) entries → entries ≡ []
       go [] all = refl
       go (m ∷ entries) all =
           let f = all.0 in

@@ -19,7 +19,7 @@ module _ {Q QH P PH K : Type 0} (s : State Q QH P PH K) (fits : IsReached s) (ap
   answers_its_request n p is server m rest e =
       let key = response_key p server in
       let roles = roles_of s.handles in
-      let f = (subst (AllByRecursion (ResponseFits roles s.next key)) e (fits.response_lists.each key)).0 in
+      let f = (subst (AllByRecursion (ResponseFits s.clients s.servers roles s.next key)) e (fits.response_lists.each key)).0 in
       let waits : get roles n ≡ Some (SentRequest (question_of p.message)) = role_at s.handles n (PendingResponse p)
       (from_pending (handle_at s n) p is) in (
         apart.channels m.request n (answered (answer_of m)) (question_of p.message) (ap (option_and_then asking) f.answers)

@@ -14,7 +14,7 @@ use Rattle.rr_protocol.specs.declared.limits.Limits.{Limits}
 use Rattle.rr_protocol.specs.Lists.{Lists, at, with_at}
 use Rattle.rr_protocol.specs.Keys.{RequestKey, ResponseKey, request_key_cmp, response_key_cmp}
 use Rattle.rr_protocol.specs.Messages.{RequestMessage, ResponseMessage}
-use Rattle.rr_protocol.specs.Ports.{Server}
+use Rattle.rr_protocol.specs.Ports.{Client, Server}
 use Rattle.rr_protocol.specs.Sends.{is_full, put}
 use Rattle.rr_protocol.proofs.KeyLaws.{request_keys_total, request_keys_exact, response_keys_total, response_keys_exact}
 use Rattle.rr_protocol.proofs.ListsLaws.{at-with_at, at-retain_keys}
@@ -56,6 +56,15 @@ module _ {A X : Type 0} {cmp : A → A → Ordering} (o : IsTotalOrder cmp) (exa
       go Less e = each k
       go Equal e = subst (λ j. R j xs) (sym (exact k key e)) here
       go Greater e = each k
+
+  -- what holds of each entry and of a message holds after it came to the lists of some keys
+  pub each_put : (R : X → Type 0) (overflow : Bool) (capacity : ℕ) (message : X) → R message → (keys : List A) (lists : Lists cmp X)
+      → ((k : A) → AllByRecursion R (at lists k))
+      → (k : A) → AllByRecursion R (at (fold (λ ls key. with_at ls key (put overflow capacity (at ls key) message)) lists keys) k)
+  each_put R overflow capacity message one [] lists each = each
+  each_put R overflow capacity message one (key ∷ keys) lists each =
+      each_put R overflow capacity message one keys (with_at lists key (put overflow capacity (at lists key) message))
+      (each_list_with (λ k xs. AllByRecursion R xs) lists key _ (all_put R overflow capacity (at lists key) message (each key) one) each)
 
   -- lists of which those under some keys were dropped
   pub shrinks_retained : (lists : Lists cmp X) (p : A → Bool) → Shrinks lists (fin_map.retain_keys lists p)
@@ -109,16 +118,16 @@ module _ {T H K : Type 0} (limits : Limits) (servers : List (Server K)) (roles :
   requests_with_put (key ∷ keys) lists one fits = requests_with_put keys _ one.1 (requests_with lists key one.0 fits)
 
 -- a response that came to a list
-pub responses_with_put : {T H : Type 0} (limits : Limits) (roles : Roles) (next : ℕ) (overflow : Bool) (message : ResponseMessage T H)
-    → 0 < limits.max_response_buffer_size →
-    (lists : Lists response_key_cmp (ResponseMessage T H)) (key : ResponseKey) → ResponseFits roles next key message
-    → ResponsesFit limits roles next lists →
-    ResponsesFit limits roles next (with_at lists key (put overflow limits.max_response_buffer_size (at lists key) message))
-responses_with_put limits roles next overflow message some lists key one fits =
+pub responses_with_put : {T H K : Type 0} (limits : Limits) (clients : List (Client K)) (servers : List (Server K)) (roles : Roles)
+    (next : ℕ) (overflow : Bool) (message : ResponseMessage T H) → 0 < limits.max_response_buffer_size →
+    (lists : Lists response_key_cmp (ResponseMessage T H)) (key : ResponseKey) → ResponseFits clients servers roles next key message
+    → ResponsesFit limits clients servers roles next lists →
+    ResponsesFit limits clients servers roles next (with_at lists key (put overflow limits.max_response_buffer_size (at lists key) message))
+responses_with_put limits clients servers roles next overflow message some lists key one fits =
     let entries = put overflow limits.max_response_buffer_size (at lists key) message in
     record {
       each = each_list_with response_keys_total response_keys_exact
-          (λ k xs. AllByRecursion (ResponseFits roles next k) xs) lists key entries
+          (λ k xs. AllByRecursion (ResponseFits clients servers roles next k) xs) lists key entries
           (all_put _ overflow limits.max_response_buffer_size (at lists key) message (fits.each key) one) fits.each;
       short = each_list_with response_keys_total response_keys_exact (λ k xs. length xs ≤ limits.max_response_buffer_size) lists key entries
           (length-put_le overflow limits.max_response_buffer_size (at lists key) message some (fits.short key)) fits.short;

@@ -17,6 +17,7 @@ use Rattle.rr_laws.specs.Reached.{RequestFits, ResponseFits, Fits, IsReached}
 use Rattle.rr_laws.proofs.RoleLaws.{roles-insert, borrowed_requests-roles, borrowed_responses-roles}
 use Rattle.rr_laws.proofs.Staying.{asking_stays_with, known_stays, requests_shrink, responses_shrink}
 use Rattle.rr_laws.proofs.Counts.{counts_with_received_request, counts_with_received_response}
+use Rattle.rr_laws.proofs.Connected.{no_port_at_next}
 use Rattle.rr_laws.proofs.Opening.{some_and}
 use Rattle.rr_laws.proofs.Loaning.{fits_with_role, fits_with_next, known_with_next}
 use Rattle.rr_laws.proofs.Putting.{shrinks_taken}
@@ -70,6 +71,7 @@ module _ {Q QH P PH K : Type 0} where
       (record {
         below = omega arith;
         own_number = refl;
+        no_port = no_port_at_next s.limits s.clients s.servers s.next fits.ports;
         connected = f.server;
         known = known_with_next s.limits s.clients s.servers roles lists s.responses s.next mid_fits (ReceivedRequest server q) q f.known;
         channel = f.channel;
@@ -99,12 +101,13 @@ module _ {Q QH P PH K : Type 0} where
       IsReached (record mid { handles = insert mid.handles m.number (Response m) })
   with_response_reached s fits key m mid takes =
       let rest = takes.1.0 in
-      let f = (subst (AllByRecursion (ResponseFits (roles_of s.handles) s.next key)) takes.1.1 (fits.response_lists.each key)).0 in
+      let f = (subst (AllByRecursion (ResponseFits s.clients s.servers (roles_of s.handles) s.next key)) takes.1.1
+      (fits.response_lists.each key)).0 in
       let a = answer_of m in
       let roles = roles_of s.handles in
       let lists = with_at s.responses key rest in
       let mid_fits = fits_with_responses s lists fits
-      (responses_shrink s.limits roles s.next s.responses lists
+      (responses_shrink s.limits roles s.next s.clients s.servers s.responses lists
       (shrinks_taken response_keys_total response_keys_exact s.responses key m rest takes.1.1) fits.response_lists) in
       let waiting = fits.handles m.request (SentRequest (answered a)) f.answers in
       let stays = asking_stays_with roles m.number s.next (ReceivedResponse a) (λ p e. absurd (let g : None ≡ Some p = e in cc)) in
@@ -118,6 +121,7 @@ module _ {Q QH P PH K : Type 0} where
       (record {
         below = f.below;
         own_number = refl;
+        no_port = f.no_port;
         connected = waiting.connected;
         known = known_stays roles (insert roles m.number (ReceivedResponse a)) s.next s.next (omega arith) stays (answered a) waiting.known;
         channel = waiting.channel;

@@ -27,7 +27,7 @@ module _ {Q QH P PH K : Type 0} (limits : Limits) (clients : List (Client K)) (s
     (requests : Lists request_key_cmp (RequestMessage Q QH)) (responses : Lists response_key_cmp (ResponseMessage P PH)) (next : ℕ)
     (fits : Fits limits clients servers roles requests responses next) (n : ℕ) where
   -- one role less, where the lists of responses fit without it
-  fits_without : (rest : Lists response_key_cmp (ResponseMessage P PH)) → ResponsesFit limits (remove roles n) next rest
+  fits_without : (rest : Lists response_key_cmp (ResponseMessage P PH)) → ResponsesFit limits clients servers (remove roles n) next rest
       → Fits limits clients servers (remove roles n) requests rest next
   fits_without rest rest_fits =
       record {
@@ -46,11 +46,12 @@ module _ {Q QH P PH K : Type 0} (limits : Limits) (clients : List (Client K)) (s
       → Fits limits clients servers (remove roles n) requests responses next
   fits_without_role apart =
       fits_without responses (responses_stay roles (remove roles n) next next (omega arith)
-      (asking_stays_without roles n next) limits servers (waiting_stays_without roles n apart) responses fits.response_lists)
+      (asking_stays_without roles n next) limits servers clients (waiting_stays_without roles n apart) responses fits.response_lists)
 
   -- an entry of a list whose channel is another one answers another request
   entry_stays : (q : Question) → get roles n ≡ Some (SentRequest q) → (key : ResponseKey)
-      → (eqb key.client q.client && eqb key.channel q.channel) ≡ false → (m : ResponseMessage P PH) → ResponseFits roles next key m →
+      → (eqb key.client q.client && eqb key.channel q.channel) ≡ false → (m : ResponseMessage P PH)
+      → ResponseFits clients servers roles next key m →
       m.request ≢ n
   entry_stays q is key other m f same =
       let e : Some (SentRequest q) ≡ Some (SentRequest (answered (answer_of m))) = sym is ∙ ap (get roles) (sym same) ∙ f.answers in
@@ -67,19 +68,20 @@ module _ {Q QH P PH K : Type 0} (limits : Limits) (clients : List (Client K)) (s
   fits_without_waiting q is =
       let kept : ResponseKey → Bool = λ key. not (eqb key.client q.client && eqb key.channel q.channel) in
       let rest = fin_map.retain_keys responses kept in
-      let shrunk = responses_shrink limits roles next responses rest
+      let shrunk = responses_shrink limits roles next clients servers responses rest
       (shrinks_retained response_keys_total response_keys_exact responses kept) fits.response_lists in
       fits_without rest (record {
-        each = λ key. subst (AllByRecursion (ResponseFits (remove roles n) next key))
+        each = λ key. subst (AllByRecursion (ResponseFits clients servers (remove roles n) next key))
             (sym (at-retain_keys response_keys_total response_keys_exact responses kept key))
             (go key (eqb key.client q.client && eqb key.channel q.channel) refl);
         short = shrunk.short;
       })
     where
       go : (key : ResponseKey) (b : Bool) → (eqb key.client q.client && eqb key.channel q.channel) ≡ b
-          → AllByRecursion (ResponseFits (remove roles n) next key) (cond (not b) (at responses key) [])
+          → AllByRecursion (ResponseFits clients servers (remove roles n) next key) (cond (not b) (at responses key) [])
       go key true e = tt
-      go key false e = all_each (ResponseFits roles next key) (ResponseFits (remove roles n) next key) (λ m f.
+      go key false e = all_each (ResponseFits clients servers roles next key)
+          (ResponseFits clients servers (remove roles n) next key) (λ m f.
           record {
             server = f.server;
             client = f.client;
@@ -87,6 +89,7 @@ module _ {Q QH P PH K : Type 0} (limits : Limits) (clients : List (Client K)) (s
             below = f.below;
             no_request = no_request_later roles (remove roles n) next next (omega arith)
                 (asking_stays_without roles n next) m.number f.below f.no_request;
+            no_port = f.no_port;
             answers = get-remove_other roles n m.request (entry_stays q is key e m f) ∙ f.answers;
           }) (at responses key) (fits.response_lists.each key)
 

@@ -10,7 +10,7 @@ use Rattle.std.proofs.lemmas.Bool.{cases_eq}
 use Rattle.rr_maps.specs.Maps.{mark, tally}
 use Rattle.rr_maps.proofs.MapLaws.{get-map_values, map_values-insert, map_values-remove, insert_itself, tally-map_values, tally-insert, tally-remove, tally-replace, get-remove_other, get-remove_same}
 use Rattle.rr_protocol.specs.Keys.{RequestKey, ResponseKey}
-use Rattle.rr_protocol.specs.Messages.{Handle, RequestMut}
+use Rattle.rr_protocol.specs.Messages.{RequestMessage, ResponseMessage, Pending, Active, Handle, RequestMutUninit, RequestMut, PendingResponse, ActiveRequest, ResponseMutUninit, ResponseMut, Response}
 use Rattle.rr_protocol.specs.State.{State, all_handles}
 use Rattle.rr_protocol.specs.Counts.{is_request_loan, is_response_loan, is_pending_of, is_borrowed_request, is_borrowed_response, loaned_requests, loaned_responses, pending_responses}
 use Rattle.rr_protocol.specs.Releases.{map_handles}
@@ -82,48 +82,54 @@ module _ {Q QH P PH : Type 0} where
       same_count : (es : List (ℕ × Handle Q QH P PH)) → count_by (λ e. p e.1) es ≡ count_by (λ e. q (role_of e.1)) es
       same_count es = ap (λ (t : Handle Q QH P PH → Bool). count_by (λ (e : ℕ × Handle Q QH P PH). t e.1) es) (λ i h. same h i)
 
+  -- a test of a handle says what a test of its role says
+  abbrev Alike : (Handle Q QH P PH → Bool) → (Role → Bool) → Handle Q QH P PH → Type 0
+  Alike p q h = p h ≡ q (role_of h)
+
+  -- a count of handles is one of roles, where the tests are alike for each kind of handle
+  count-by_kind : (p : Handle Q QH P PH → Bool) (q : Role → Bool) → ((m : RequestMessage Q QH) → Alike p q (RequestMutUninit m))
+      → ((m : RequestMessage Q QH) → Alike p q (RequestMut m)) → ((m : Pending Q QH) → Alike p q (PendingResponse m))
+      → ((m : Active Q QH) → Alike p q (ActiveRequest m)) → ((m : ResponseMessage P PH) → Alike p q (ResponseMutUninit m))
+      → ((m : ResponseMessage P PH) → Alike p q (ResponseMut m)) → ((m : ResponseMessage P PH) → Alike p q (Response m))
+      → (handles : FinMap nat_cmp (Handle Q QH P PH)) → count_by p (fin_map.values handles) ≡ tally q (roles_of handles)
+  count-by_kind p q request_uninit request_mut pending active response_uninit response_mut response = count-roles p q same
+    where
+      same : (h : Handle Q QH P PH) → p h ≡ q (role_of h)
+      same (RequestMutUninit m) = request_uninit m
+      same (RequestMut m) = request_mut m
+      same (PendingResponse m) = pending m
+      same (ActiveRequest m) = active m
+      same (ResponseMutUninit m) = response_uninit m
+      same (ResponseMut m) = response_mut m
+      same (Response m) = response m
+
 module _ {Q QH P PH K : Type 0} (s : State Q QH P PH K) where
   -- requests on loan, counted by roles
   pub loaned_requests-roles : (client : ℕ) → loaned_requests s client ≡ tally (loans_request client) (roles_of s.handles)
-  loaned_requests-roles client = count-roles (is_request_loan client) (loans_request client) same s.handles
-    where
-      same : (h : Handle Q QH P PH) → is_request_loan client h ≡ loans_request client (role_of h)
-      same (RequestMut m) = refl
-      same other = refl
+  loaned_requests-roles client = count-by_kind (is_request_loan client) (loans_request client) (λ m. refl) (λ m. refl) (λ m. refl)
+      (λ m. refl) (λ m. refl) (λ m. refl) (λ m. refl) s.handles
 
   -- pending responses, counted by roles
   pub pending_responses-roles : (client : ℕ) → pending_responses s client ≡ tally (waits client) (roles_of s.handles)
-  pending_responses-roles client = count-roles (is_pending_of client) (waits client) same s.handles
-    where
-      same : (h : Handle Q QH P PH) → is_pending_of client h ≡ waits client (role_of h)
-      same (RequestMut m) = refl
-      same other = refl
+  pending_responses-roles client = count-by_kind (is_pending_of client) (waits client) (λ m. refl) (λ m. refl) (λ m. refl)
+      (λ m. refl) (λ m. refl) (λ m. refl) (λ m. refl) s.handles
 
   -- responses on loan, counted by roles
   pub loaned_responses-roles : (server : ℕ) → loaned_responses s server ≡ tally (loans_response server) (roles_of s.handles)
-  loaned_responses-roles server = count-roles (is_response_loan server) (loans_response server) same s.handles
-    where
-      same : (h : Handle Q QH P PH) → is_response_loan server h ≡ loans_response server (role_of h)
-      same (RequestMut m) = refl
-      same other = refl
+  loaned_responses-roles server = count-by_kind (is_response_loan server) (loans_response server) (λ m. refl) (λ m. refl) (λ m. refl)
+      (λ m. refl) (λ m. refl) (λ m. refl) (λ m. refl) s.handles
 
   -- requests that a server holds from a list, counted by roles
   pub borrowed_requests-roles : (key : RequestKey) → count_by (is_borrowed_request key) (all_handles s) ≡ tally (holds_request key)
       (roles_of s.handles)
-  borrowed_requests-roles key = count-roles (is_borrowed_request key) (holds_request key) same s.handles
-    where
-      same : (h : Handle Q QH P PH) → is_borrowed_request key h ≡ holds_request key (role_of h)
-      same (RequestMut m) = refl
-      same other = refl
+  borrowed_requests-roles key = count-by_kind (is_borrowed_request key) (holds_request key) (λ m. refl) (λ m. refl) (λ m. refl)
+      (λ m. refl) (λ m. refl) (λ m. refl) (λ m. refl) s.handles
 
   -- responses that a client holds from a list, counted by roles
   pub borrowed_responses-roles : (key : ResponseKey) → count_by (is_borrowed_response key) (all_handles s) ≡ tally (holds_response key)
       (roles_of s.handles)
-  borrowed_responses-roles key = count-roles (is_borrowed_response key) (holds_response key) same s.handles
-    where
-      same : (h : Handle Q QH P PH) → is_borrowed_response key h ≡ holds_response key (role_of h)
-      same (RequestMut m) = refl
-      same other = refl
+  borrowed_responses-roles key = count-by_kind (is_borrowed_response key) (holds_response key) (λ m. refl) (λ m. refl) (λ m. refl)
+      (λ m. refl) (λ m. refl) (λ m. refl) (λ m. refl) s.handles
 
 module _ (p : Role → Bool) (roles : Roles) (n : ℕ) where
   -- one more role, also in place of another

@@ -15,7 +15,7 @@ use Rattle.rr_protocol.specs.State.{State, IsRequestMutAnd, client_at, handle_at
 use Rattle.rr_protocol.specs.Counts.{pending_responses, is_alive}
 use Rattle.rr_protocol.specs.Sends.{put, request_reach, with_request_put, with_response_put, connections_of, request_send_refusal, with_sent_request, SendsRequest, SendsResponse}
 use Rattle.rr_laws.specs.Roles.{answered, LoanedRequest, SentRequest, LoanedResponse, roles_of, question_of, answer_of, asking, asking_at, waits}
-use Rattle.rr_laws.specs.Reached.{RequestFits, RequestsFit, ResponseFits, ResponsesFit, Fits, IsReached}
+use Rattle.rr_laws.specs.Reached.{is_port, RequestFits, RequestsFit, ResponseFits, ResponsesFit, Fits, IsReached}
 use Rattle.rr_maps.proofs.ListFacts.{all_map, each_found, passes_found}
 use Rattle.rr_laws.proofs.RoleLaws.{role_at, roles-insert, pending_responses-roles}
 use Rattle.rr_laws.proofs.Staying.{asking_stays_with, known_stays}
@@ -60,6 +60,7 @@ module _ {Q QH P PH K : Type 0} (s : State Q QH P PH K) (fits : IsReached s) (n 
       (record {
         below = f.below;
         own_number = f.own_number;
+        no_port = f.no_port;
         connected = f.connected;
         known = known_stays roles (insert roles n (SentRequest q)) s.next s.next (omega arith) stays q f.known;
         channel = f.channel;
@@ -89,7 +90,7 @@ module _ {Q QH P PH K : Type 0} (s : State Q QH P PH K) (fits : IsReached s) (n 
 
   -- a response on loan fits the list that it reaches, if its request is alive
   pub response_fits : (m : ResponseMessage P PH) → handle_at s n ≡ Some (ResponseMut m) → is_alive s m.request ≡ true →
-      ResponseFits (roles_of s.handles) s.next (record { server = m.server; client = m.client; channel = m.channel }) m
+      ResponseFits s.clients s.servers (roles_of s.handles) s.next (record { server = m.server; client = m.client; channel = m.channel }) m
   response_fits m is alive =
       let at : get (roles_of s.handles) n ≡ Some (LoanedResponse (answer_of m)) = role_at s.handles n (ResponseMut m) is in
       let f = fits.handles n (LoanedResponse (answer_of m)) at in
@@ -105,6 +106,7 @@ module _ {Q QH P PH K : Type 0} (s : State Q QH P PH K) (fits : IsReached s) (n 
         channel = refl;
         below = omega (arith, own, f.below);
         no_request = ap (asking_at (roles_of s.handles)) own ∙ ap (option_and_then asking) at;
+        no_port = ap (is_port s.clients s.servers) own ∙ f.no_port;
         answers = waiting ∙ ap (λ q. Some (SentRequest q)) one;
       }
     where
@@ -114,16 +116,17 @@ module _ {Q QH P PH K : Type 0} (s : State Q QH P PH K) (fits : IsReached s) (n 
       living (Some p) e h = (p, e)
 
   response_put_fits : (m : ResponseMessage P PH) → handle_at s n ≡ Some (ResponseMut m)
-      → ResponsesFit s.limits (roles_of s.handles) s.next (with_response_put s m)
+      → ResponsesFit s.limits s.clients s.servers (roles_of s.handles) s.next (with_response_put s m)
   response_put_fits m is = go (is_some (client_at s m.client)) (is_alive s m.request) refl
     where
       key : ResponseKey
       key = record { server = m.server; client = m.client; channel = m.channel }
 
-      go : (connected alive : Bool) → is_alive s m.request ≡ alive → ResponsesFit s.limits (roles_of s.handles) s.next
+      go : (connected alive : Bool) → is_alive s m.request ≡ alive → ResponsesFit s.limits s.clients s.servers (roles_of s.handles) s.next
           (fold (λ lists k. with_at lists k (put s.limits.enable_safe_overflow_for_responses s.limits.max_response_buffer_size
           (at lists k) m)) s.responses (cond (connected && alive) (key ∷ []) []))
-      go true true e = responses_with_put s.limits (roles_of s.handles) s.next s.limits.enable_safe_overflow_for_responses m
+      go true true e = responses_with_put s.limits s.clients s.servers (roles_of s.handles) s.next
+          s.limits.enable_safe_overflow_for_responses m
           (positive s.limits fits.makes_hub).buffer s.responses key (response_fits m is e) fits.response_lists
       go true false e = fits.response_lists
       go false alive e = fits.response_lists

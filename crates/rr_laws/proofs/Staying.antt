@@ -84,6 +84,7 @@ module _ (roles later : Roles) (next after : ℕ) (more : next ≤ after) (askin
         record {
           below = omega (arith, fits.below);
           own_number = fits.own_number;
+          no_port = fits.no_port;
           connected = fits.connected;
           known = known_stays (subject_of role) fits.known;
           channel = fits.channel;
@@ -101,17 +102,19 @@ module _ (roles later : Roles) (next after : ℕ) (more : next ≤ after) (askin
         }
 
     -- lists of responses that fit
-    pub responses_stay : {T H : Type 0} → WaitingStays roles later → (lists : Lists response_key_cmp (ResponseMessage T H))
-        → ResponsesFit limits roles next lists → ResponsesFit limits later after lists
-    responses_stay {T} {H} waiting_stays lists fits =
+    pub responses_stay : {T H : Type 0} (clients : List (Client K)) → WaitingStays roles later
+        → (lists : Lists response_key_cmp (ResponseMessage T H)) → ResponsesFit limits clients servers roles next lists
+        → ResponsesFit limits clients servers later after lists
+    responses_stay {T} {H} clients waiting_stays lists fits =
         record {
-          each = λ key. all_each (ResponseFits roles next key) (ResponseFits later after key) (λ m f.
+          each = λ key. all_each (ResponseFits clients servers roles next key) (ResponseFits clients servers later after key) (λ m f.
               record {
                 server = f.server;
                 client = f.client;
                 channel = f.channel;
                 below = omega (arith, f.below);
                 no_request = no_request_later m.number f.below f.no_request;
+                no_port = f.no_port;
                 answers = waiting_stays m.request _ f.answers;
               }) (at lists key) (fits.each key);
           short = fits.short;
@@ -130,11 +133,12 @@ module _ {T H : Type 0} (limits : Limits) (roles : Roles) (next : ℕ) where
       }
 
   -- lists of responses fit after they lost entries at the front
-  pub responses_shrink : (lists shorter : Lists response_key_cmp (ResponseMessage T H)) → Shrinks lists shorter
-      → ResponsesFit limits roles next lists → ResponsesFit limits roles next shorter
-  responses_shrink lists shorter shrinks fits =
+  pub responses_shrink : {K : Type 0} (clients : List (Client K)) (servers : List (Server K))
+      (lists shorter : Lists response_key_cmp (ResponseMessage T H)) → Shrinks lists shorter
+      → ResponsesFit limits clients servers roles next lists → ResponsesFit limits clients servers roles next shorter
+  responses_shrink clients servers lists shorter shrinks fits =
       record {
-        each = λ key. subst (AllByRecursion (ResponseFits roles next key)) (sym (shrinks key).1)
+        each = λ key. subst (AllByRecursion (ResponseFits clients servers roles next key)) (sym (shrinks key).1)
             (all_drop _ (shrinks key).0 (at lists key) (fits.each key));
         short = λ key. omega (arith, ap length (shrinks key).1, length-drop (shrinks key).0 (at lists key), fits.short key);
       }

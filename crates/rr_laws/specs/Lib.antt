@@ -1,5 +1,6 @@
 pub mod Roles
 pub mod Reached
+pub mod Complete
 pub mod Apart
 pub mod Left
 pub mod Bound

@@ -1,5 +1,5 @@
 -- What holds in every state that a run reaches, fact by fact.
-use Rattle.std.specs.Prelude.{◌≡◌, ℕ, ◌<◌, ◌≤◌, Bool, true, List, length, Some, None, is_some, find, ◌==◌}
+use Rattle.std.specs.Prelude.{◌≡◌, ℕ, ◌<◌, ◌≤◌, Bool, true, false, ◌||◌, List, length, Some, None, is_some, find, ◌==◌}
 use Rattle.std.specs.List.{AllByRecursion}
 use Rattle.std.specs.FinMap as fin_map
 use Rattle.rr_maps.specs.Maps.{tally}
@@ -20,6 +20,10 @@ module _ {K : Type 0} where
   -- whether a server with this number is connected
   abbrev pub has_server : List (Server K) → ℕ → Bool
   has_server servers n = is_some (find (λ c. c.id == n) servers)
+
+  -- whether a port with this number is connected
+  abbrev pub is_port : List (Client K) → List (Server K) → ℕ → Bool
+  is_port clients servers n = has_client clients n || has_server servers n
 
   -- whether the port whose handle it is is connected
   abbrev pub has_port : List (Client K) → List (Server K) → Role → Bool
@@ -42,10 +46,11 @@ pub record IsKnown (roles : Roles) (next : ℕ) (q : Question) : Type 0 where
   pub below : q.number < next
   pub same : (p : Question) → asking_at roles q.number ≡ Some p → p ≡ q
 
--- a handle stands under its own number, its port is connected, its request is known, and its channel is one that a client may have
+-- a handle stands under its own number, which is no port's, its port is connected, its request is known, and its channel is one that a client may have
 pub record RoleFits {K : Type 0} (limits : Limits) (clients : List (Client K)) (servers : List (Server K)) (roles : Roles) (next n : ℕ) (role : Role) : Type 0 where
   pub below : n < next
   pub own_number : number_of n role ≡ n
+  pub no_port : is_port clients servers n ≡ false
   pub connected : has_port clients servers role ≡ true
   pub known : IsKnown roles next (subject_of role)
   pub channel : (subject_of role).channel < worst_case_requests limits
@@ -76,18 +81,21 @@ pub record RequestsFit {T H K : Type 0} (limits : Limits) (servers : List (Serve
   pub each : (key : RequestKey) → AllByRecursion (RequestFits limits servers roles next key) (at lists key)
   pub short : (key : RequestKey) → length (at lists key) ≤ limits.max_active_requests_per_client
 
--- a response that stands in a list came from the list's server, its number was given and is no request's, and it answers the request that holds the list's channel
-pub record ResponseFits {T H : Type 0} (roles : Roles) (next : ℕ) (key : ResponseKey) (message : ResponseMessage T H) : Type 0 where
+-- a response that stands in a list came from the list's server, its number was given and is no request's and no port's, and it answers the request that holds the list's channel
+pub record ResponseFits {T H K : Type 0} (clients : List (Client K)) (servers : List (Server K)) (roles : Roles) (next : ℕ)
+    (key : ResponseKey) (message : ResponseMessage T H) : Type 0 where
   pub server : message.server ≡ key.server
   pub client : message.client ≡ key.client
   pub channel : message.channel ≡ key.channel
   pub below : message.number < next
   pub no_request : asking_at roles message.number ≡ None
+  pub no_port : is_port clients servers message.number ≡ false
   pub answers : fin_map.get roles message.request ≡ Some (SentRequest (answered (answer_of message)))
 
 -- every response in a list fits, and no list has more than it may
-pub record ResponsesFit {T H : Type 0} (limits : Limits) (roles : Roles) (next : ℕ) (lists : Lists response_key_cmp (ResponseMessage T H)) : Type 0 where
-  pub each : (key : ResponseKey) → AllByRecursion (ResponseFits roles next key) (at lists key)
+pub record ResponsesFit {T H K : Type 0} (limits : Limits) (clients : List (Client K)) (servers : List (Server K)) (roles : Roles)
+    (next : ℕ) (lists : Lists response_key_cmp (ResponseMessage T H)) : Type 0 where
+  pub each : (key : ResponseKey) → AllByRecursion (ResponseFits clients servers roles next key) (at lists key)
   pub short : (key : ResponseKey) → length (at lists key) ≤ limits.max_response_buffer_size
 
 -- all that holds of what a hub holds, but for what its messages say
@@ -98,7 +106,7 @@ pub record Fits {Q QH P PH K : Type 0} (limits : Limits) (clients : List (Client
   pub handles : HandlesFit limits clients servers roles next
   pub counts : CountsFit limits servers roles
   pub request_lists : RequestsFit limits servers roles next requests
-  pub response_lists : ResponsesFit limits roles next responses
+  pub response_lists : ResponsesFit limits clients servers roles next responses
 
 -- all that holds in a state that a run reaches from an empty hub whose limits make a hub
 abbrev pub IsReached : {Q QH P PH K : Type 0} → State Q QH P PH K → Type 0

@@ -45,7 +45,7 @@ pub fn loan_request<QB: Body, QH: Default + Drop, PB: Body, PH: Default + Drop, 
     let details = store.new_request_details(index);
     match store.loan_request_slot(sender, len, details, QH::default()) {
         Ok(place) => {
-            store.count_request_loan(index);
+            store.count_request_loan(index, sender);
             let entry = HandleEntry {
                 stage: Stage::RequestMutUninit,
                 sender,

@@ -60,7 +60,7 @@ pub fn loan_response_at<
     let details = store.new_response_details(server, number, active.sender, active.slot);
     match store.loan_response_slot(sender, len, details, PH::default()) {
         Ok(own) => {
-            store.count_response_loan(index);
+            store.count_response_loan(sender);
             let stage = Stage::ActiveRequest(server, loans + 1);
             store.replace(number, place, HandleEntry { stage, ..active });
             let entry = HandleEntry {

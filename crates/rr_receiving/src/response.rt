@@ -1,5 +1,5 @@
 //! Receiving responses.
-ghost use Rattle.std.specs.Prelude.{◌≡◌, Some};
+ghost use Rattle.std.specs.Prelude.{◌≡◌, None, Some, IfOk, IfSome};
 ghost use Rattle.rr_protocol.specs.declared.kind.Kind.TheVariants as kind;
 ghost use Rattle.rr_protocol.specs.Queries.{kind_at};
 ghost use Rattle.rr_protocol.specs.Receives.{ReceivesResponse};
@@ -35,6 +35,7 @@ pub fn receive_response_at<
     requires kind { kind_at (state_of store.old) number ≡ Some kind.PendingResponse }
     ensures core { IsCore store.new }
     ensures receives { ReceivesResponse (state_of store.old) number result (state_of store.new) }
+    ensures unnamed { IfOk result (λ handle. IfSome handle (λ k. kind_at (state_of store.old) k ≡ None)) }
 {
     let request = store.at(number, place);
     let receiver = store.receiver_of_sender(request.sender);

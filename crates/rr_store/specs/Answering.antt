@@ -10,7 +10,7 @@ use Rattle.rr_store.specs.declared.handle_entry.Stage.TheVariants as stage
 use Rattle.rr_store.specs.declared.details.RequestDetails.{RequestDetails}
 use Rattle.rr_store.specs.declared.details.ResponseDetails.{ResponseDetails}
 use Rattle.rr_store.specs.declared.port.ServerPort.{ServerPort}
-use Rattle.rr_store.specs.Loaning.{with_messages}
+use Rattle.rr_store.specs.Loaning.{with_messages, with_one_loan}
 use Rattle.rr_store.specs.Parts.{ServerPart, Parts}
 use Rattle.rr_store.specs.Sound.{request_details}
 use Rattle.rr_store.specs.Views.{sender_of}
@@ -28,10 +28,6 @@ module _ {K : Type 0} where
   -- where the server of an active request stands
   abbrev pub server_index : List (ServerPort K) → HandleEntry → Option ℕ
   server_index servers entry = option_and_then (λ a. position (λ s. s.port.id == a.0) servers) (active_in entry.stage)
-
-  -- a server that has one more response on loan
-  abbrev pub with_one_response_loan : ServerPart K → ServerPart K
-  with_one_response_loan c = record c { connected = record c.connected { loans = c.loans + 1 } }
 
 -- the handle of a response on loan
 abbrev pub response_loan_held : {K : Type 0} → ServerPart K → ℕ → HandleEntry
@@ -59,16 +55,16 @@ module _ {Q QH P PH K : Type 0} (p : Parts Q QH P PH K) where
   abbrev pub response_loan_place : ServerPart K → ℕ → Place
   response_loan_place c slot = record { row = (sender_of c.sender p.server_senders).row; index = slot }
 
-  -- a server that stands at an index loaned a response in a slot, with these details; it has no handle yet
-  abbrev pub with_response_loan_in_hand : ℕ → ServerPart K → ResponseDetails → ℕ → ℕ → PH → Parts Q QH P PH K
-  with_response_loan_in_hand index c details slot len header =
+  -- a server loaned a response in a slot, with these details; it has no handle yet
+  abbrev pub with_response_loan_in_hand : ServerPart K → ResponseDetails → ℕ → ℕ → PH → Parts Q QH P PH K
+  with_response_loan_in_hand c details slot len header =
       record p {
         next = p.next + 1;
-        servers = slice_set p.servers index (with_one_response_loan c);
-        server_senders = slice_set p.server_senders c.sender (with_messages (sender_of c.sender p.server_senders) (loaned (sender_of c.sender p.server_senders).messages slot len details header));
+        server_senders = slice_set p.server_senders c.sender
+            (with_one_loan (with_messages (sender_of c.sender p.server_senders) (loaned (sender_of c.sender p.server_senders).messages slot len details header)));
       }
 
   -- and has one, and the active request counts it
-  abbrev pub with_response_loan : ℕ → ServerPart K → ℕ → Place → HandleEntry → ResponseDetails → ℕ → ℕ → PH → Parts Q QH P PH K
-  with_response_loan index c n place active details slot len header =
-      let q = with_response_loan_in_hand index c details slot len header in record q { table = inserted (inserted p.table n place active) p.next (response_loan_place c slot) (response_loan_held c slot) }
+  abbrev pub with_response_loan : ServerPart K → ℕ → Place → HandleEntry → ResponseDetails → ℕ → ℕ → PH → Parts Q QH P PH K
+  with_response_loan c n place active details slot len header =
+      let q = with_response_loan_in_hand c details slot len header in record q { table = inserted (inserted p.table n place active) p.next (response_loan_place c slot) (response_loan_held c slot) }

@@ -18,7 +18,7 @@ use Rattle.rr_store.specs.declared.details.ResponseDetails.{ResponseDetails}
 use Rattle.rr_store.specs.declared.handle_entry.HandleEntry.{HandleEntry}
 use Rattle.rr_store.specs.Clearing.{channel_cleared}
 use Rattle.rr_store.specs.Creating.{client_port, server_port}
-use Rattle.rr_store.specs.Loaning.{with_messages}
+use Rattle.rr_store.specs.Loaning.{with_messages, with_sender_at}
 use Rattle.rr_store.specs.Parts.{Parts, ClientPart, ServerPart, Sender}
 use Rattle.rr_store.specs.Sending.{is_blocked_at, server_marks, server_places, with_marks, with_puts}
 use Rattle.rr_store.specs.Views.{sender_of}
@@ -46,12 +46,16 @@ module _ {Q QH P PH K : Type 0} (p : Parts Q QH P PH K) where
   with_responses sender change =
       record p { server_senders = slice_set p.server_senders sender (with_messages (sender_of sender p.server_senders) (change (sender_of sender p.server_senders).messages)) }
 
-  -- with another client, or server, at an index
+  -- with another client at an index
   abbrev pub with_client_at : ℕ → ClientPart K → Parts Q QH P PH K
   with_client_at index client = record p { clients = slice_set p.clients index client }
 
-  abbrev pub with_server_at : ℕ → ServerPart K → Parts Q QH P PH K
-  with_server_at index server = record p { servers = slice_set p.servers index server }
+  -- with a client's sender changed, or a server's
+  abbrev pub with_client_sender_at : ℕ → (Sender Q RequestDetails QH → Sender Q RequestDetails QH) → Parts Q QH P PH K
+  with_client_sender_at sender change = record p { client_senders = with_sender_at p.client_senders sender change }
+
+  abbrev pub with_server_sender_at : ℕ → (Sender P ResponseDetails PH → Sender P ResponseDetails PH) → Parts Q QH P PH K
+  with_server_sender_at sender change = record p { server_senders = with_sender_at p.server_senders sender change }
 
   -- with nothing in the queues from all servers to a client's channel
   abbrev pub with_channel_cleared : ℕ → ℕ → Parts Q QH P PH K
@@ -65,14 +69,14 @@ module _ {Q QH P PH K : Type 0} (p : Parts Q QH P PH K) where
   abbrev pub request_loan_limit : ClientPart K → ℕ → Option LoanError
   request_loan_limit c len =
       if is_too_long c.port len then Some LoanError.ExceedsMaxLoanSize
-      else if nat_le p.limits.max_loaned_requests c.loans then Some LoanError.ExceedsMaxLoans
+      else if nat_le p.limits.max_loaned_requests (sender_of c.sender p.client_senders).loans then Some LoanError.ExceedsMaxLoans
       else None
 
   -- the same of a server and a response from an active request that has so many on loan
   abbrev pub response_loan_limit : ServerPart K → ℕ → ℕ → Option LoanError
   response_loan_limit s len loans =
       if is_too_long s.port len then Some LoanError.ExceedsMaxLoanSize
-      else if nat_le s.max_loaned_responses_per_request loans || nat_le (max_loaned_responses p.limits s.max_loaned_responses_per_request) s.loans then Some LoanError.ExceedsMaxLoans
+      else if nat_le s.max_loaned_responses_per_request loans || nat_le (max_loaned_responses p.limits s.max_loaned_responses_per_request) (sender_of s.sender p.server_senders).loans then Some LoanError.ExceedsMaxLoans
       else None
 
   -- whether the queue from a client's sender to a server can take no more, and drops nothing for it
@@ -86,7 +90,7 @@ module _ {Q QH P PH K : Type 0} (p : Parts Q QH P PH K) where
   -- the first reason of a client against one more request from its sender
   abbrev pub request_send_limit : (K → ℕ → ℕ → BackpressureAction) → ClientPart K → ℕ → Option RequestSendError
   request_send_limit action c sender =
-      if nat_le p.limits.max_active_requests_per_client c.pendings then Some RequestSendError.ExceedsMaxActiveRequests
+      if nat_le p.limits.max_active_requests_per_client (sender_of sender p.client_senders).pendings then Some RequestSendError.ExceedsMaxActiveRequests
       else if list_any (λ s. is_closed_to sender s && not (discards action c.port s.port.id)) p.servers then Some (RequestSendError.SendError SendError.UnableToDeliver)
       else None
 
@@ -116,8 +120,8 @@ module _ {Q QH P PH K : Type 0} (p : Parts Q QH P PH K) where
   with_new_client settings slots receiver messages marks row_len =
       record p {
         next = p.next + 1;
-        clients = p.clients ++ record { connected = record { port = record (client_port p settings) { pool_size = slots }; sender = length p.client_senders; receiver = receiver; loans = 0 }; loans_made = 0; pendings = 0 } ∷ [];
-        client_senders = p.client_senders ++ record { owner = p.next; row = length p.table.rows; messages = messages } ∷ [];
+        clients = p.clients ++ record { connected = record { port = record (client_port p settings) { pool_size = slots }; sender = length p.client_senders; receiver = receiver }; loans_made = 0 } ∷ [];
+        client_senders = p.client_senders ++ record { owner = p.next; row = length p.table.rows; receiver = receiver; loans = 0; pendings = 0; messages = messages } ∷ [];
         waiting = p.waiting ++ marks ∷ [];
         table = with_row p.table row_len;
       }
@@ -127,7 +131,7 @@ module _ {Q QH P PH K : Type 0} (p : Parts Q QH P PH K) where
   with_new_server settings loans slots receiver messages =
       record p {
         next = p.next + 1;
-        servers = p.servers ++ record { connected = record { port = record (server_port p settings) { pool_size = slots }; sender = length p.server_senders; receiver = receiver; loans = 0 }; max_loaned_responses_per_request = loans } ∷ [];
-        server_senders = p.server_senders ++ record { owner = p.next; row = length p.table.rows; messages = messages } ∷ [];
+        servers = p.servers ++ record { connected = record { port = record (server_port p settings) { pool_size = slots }; sender = length p.server_senders; receiver = receiver }; max_loaned_responses_per_request = loans } ∷ [];
+        server_senders = p.server_senders ++ record { owner = p.next; row = length p.table.rows; receiver = receiver; loans = 0; pendings = 0; messages = messages } ∷ [];
         table = with_row p.table slots;
       }

@@ -2,9 +2,8 @@
 use Rattle.std.specs.Prelude.{◌≡◌, ◌<◌, ◌≤◌, ℕ, ◌-◌, Bool, true, false, List, [], length}
 use Rattle.rr_sender.specs.Senders.{with_queue}
 use Rattle.rr_protocol.specs.Messages.{Handle, PendingResponse}
-use Rattle.rr_store.specs.declared.port.ClientPort.{ClientPort}
 use Rattle.rr_store.specs.Loaning.{with_messages}
-use Rattle.rr_store.specs.Parts.{ClientPart, Sender}
+use Rattle.rr_store.specs.Parts.{Sender}
 use Rattle.rr_store.specs.Views.{sender_of}
 
 -- a request that was sent
@@ -22,11 +21,6 @@ pub record IsClearedBelow {T N H : Type 0} (receiver channel n : ℕ) (before af
   pub done : (l : ℕ) → l < n → l < length before → sender_of l after ≡ channel_cleared receiver channel (sender_of l before)
   pub rest : (l : ℕ) → n ≤ l → sender_of l after ≡ sender_of l before
 
-module _ {K : Type 0} where
-  -- a client with one pending response less
-  abbrev pub with_pending_ended : ClientPort K → ClientPort K
-  with_pending_ended c = record c { pendings = c.pendings - 1 }
-
-  -- the same of its part
-  abbrev pub without_pending : ClientPart K → ClientPart K
-  without_pending c = record c { pendings = c.pendings - 1 }
+-- a sender with one pending response less
+abbrev pub without_pending : {T N H : Type 0} → Sender T N H → Sender T N H
+without_pending l = record l { pendings = l.pendings - 1 }

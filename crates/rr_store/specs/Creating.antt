@@ -53,8 +53,8 @@ module _ {Q QH P PH K : Type 0} (p : Parts Q QH P PH K) where
   with_client_part settings receiver messages =
       record p {
         next = p.next + 1;
-        clients = p.clients ++ record { connected = record { port = client_port settings; sender = length p.client_senders; receiver = receiver; loans = 0 }; loans_made = 0; pendings = 0 } ∷ [];
-        client_senders = p.client_senders ++ record { owner = p.next; row = length p.table.rows; messages = messages } ∷ [];
+        clients = p.clients ++ record { connected = record { port = client_port settings; sender = length p.client_senders; receiver = receiver }; loans_made = 0 } ∷ [];
+        client_senders = p.client_senders ++ record { owner = p.next; row = length p.table.rows; receiver = receiver; loans = 0; pendings = 0; messages = messages } ∷ [];
         waiting = p.waiting ++ replicate ((client_port settings).pool_size * p.limits.max_servers) false ∷ [];
         table = with_row p.table ((p.limits.max_servers + 1) * (client_port settings).pool_size);
       }
@@ -64,7 +64,7 @@ module _ {Q QH P PH K : Type 0} (p : Parts Q QH P PH K) where
   with_server_part settings receiver messages =
       record p {
         next = p.next + 1;
-        servers = p.servers ++ record { connected = record { port = server_port settings; sender = length p.server_senders; receiver = receiver; loans = 0 }; max_loaned_responses_per_request = loans_of settings } ∷ [];
-        server_senders = p.server_senders ++ record { owner = p.next; row = length p.table.rows; messages = messages } ∷ [];
+        servers = p.servers ++ record { connected = record { port = server_port settings; sender = length p.server_senders; receiver = receiver }; max_loaned_responses_per_request = loans_of settings } ∷ [];
+        server_senders = p.server_senders ++ record { owner = p.next; row = length p.table.rows; receiver = receiver; loans = 0; pendings = 0; messages = messages } ∷ [];
         table = with_row p.table (server_port settings).pool_size;
       }

@@ -23,10 +23,15 @@ reached clients senders table details =
     option_and_then (λ c. reached_if c.receiver (value_in table details.request (record { row = (sender_of c.sender senders).row; index = details.channel }))) (find (λ c. c.port.id == details.client) clients)
 
 module _ {T N H : Type 0} where
-  -- whether the queue that is reached can take no more, and the sender doesn't pass it over
+  -- whether the queue that is reached can take no more, and drops nothing for it
+  abbrev pub is_blocked_in : Messages T N H → Bool → ℕ → Option ℕ → Bool
+  is_blocked_in m overflow channel None = false
+  is_blocked_in m overflow channel (Some receiver) = not overflow && is_full m.capacity (queue_at m receiver channel)
+
+  -- whether it is, and the sender doesn't pass it over
   abbrev pub is_refused_in : {K : Type 0} → (K → ℕ → ℕ → BackpressureAction) → Port K → Messages T N H → Bool → ResponseDetails → Option ℕ → Bool
   is_refused_in action port m overflow details None = false
-  is_refused_in action port m overflow details (Some receiver) = not overflow && is_full m.capacity (queue_at m receiver details.channel) && not (discards action port details.client)
+  is_refused_in action port m overflow details (Some receiver) = is_blocked_in m overflow details.channel (Some receiver) && not (discards action port details.client)
 
   -- the queue that is reached is there
   abbrev pub HasQueue : Messages T N H → ℕ → Option ℕ → Type 0

@@ -8,16 +8,15 @@ use Rattle.rr_store.specs.declared.handle_entry.HandleEntry.{HandleEntry}
 use Rattle.rr_store.specs.declared.handle_entry.Stage.TheVariants as stage
 use Rattle.rr_store.specs.declared.details.RequestDetails.{RequestDetails}
 use Rattle.rr_store.specs.declared.details.ResponseDetails.{ResponseDetails}
-use Rattle.rr_store.specs.Parts.{ClientPart, ServerPart, Sender, Parts}
+use Rattle.rr_store.specs.Parts.{ClientPart, Sender, Parts}
 use Rattle.rr_store.specs.Views.{sender_of, is_awaited}
 use Rattle.rr_store.specs.Sound.{is_request_loan, is_pending, is_active_of, is_response_loan, is_request_at, is_response_at, is_in_sender, is_loan_from, is_received_at, server_place}
-use Rattle.rr_store.specs.Frames.{frame_of, SameFrame}
+use Rattle.rr_store.specs.Frames.{SameFrame}
 
 -- ports, senders and marks after a handle was dropped: no message comes, and each count has one less exactly if the handle was counted in it
-pub record IsDropped {Q QH P PH K : Type 0} (p : Parts Q QH P PH K) (entry : HandleEntry) (clients : List (ClientPart K)) (servers : List (ServerPart K)) (client_senders : List (Sender Q RequestDetails QH))
+pub record IsDropped {Q QH P PH K : Type 0} (p : Parts Q QH P PH K) (entry : HandleEntry) (client_senders : List (Sender Q RequestDetails QH))
     (server_senders : List (Sender P ResponseDetails PH)) (waiting : List (List Bool)) : Type 0 where
-  pub frame : SameFrame p clients servers client_senders server_senders waiting p.next
-  pub loans_made : (i : ℕ) (c : ClientPart K) → slice_get clients i ≡ Some c → c.loans_made ≤ p.next
+  pub frame : SameFrame p p.clients client_senders server_senders waiting p.next
   pub requests_held : (l i : ℕ) → slice_index (sender_of l client_senders).messages.held i + mark (is_request_at l i entry) ≡ slice_index (sender_of l p.client_senders).messages.held i
   pub responses_held : (l i : ℕ) → slice_index (sender_of l server_senders).messages.held i + mark (is_response_at l i entry) ≡ slice_index (sender_of l p.server_senders).messages.held i
   pub all_request_details : (l : ℕ) → (sender_of l client_senders).messages.details ≡ (sender_of l p.client_senders).messages.details
@@ -29,11 +28,9 @@ pub record IsDropped {Q QH P PH K : Type 0} (p : Parts Q QH P PH K) (entry : Han
   pub requests_borrowed : (l receiver channel : ℕ) → borrowed_at (sender_of l client_senders).messages receiver channel ≤ borrowed_at (sender_of l p.client_senders).messages receiver channel
   pub responses_borrowed : (l receiver channel : ℕ) → borrowed_at (sender_of l server_senders).messages receiver channel ≤ borrowed_at (sender_of l p.server_senders).messages receiver channel
   pub awaited : (l slot receiver : ℕ) → is_awaited p l slot receiver ≡ false → slice_index_or (slice_index_or waiting l []) (slot * p.limits.max_servers + receiver) false ≡ false
-  pub client_counts : (i : ℕ) (d : ClientPart K) → slice_get clients i ≡ Some d →
-      (c : ClientPart K) × (slice_get p.clients i ≡ Some c) × (frame_of c.connected ≡ frame_of d.connected)
-      × (d.loans + mark (is_in_sender is_request_loan c.sender entry) ≡ c.loans) × (d.pendings + mark (is_in_sender is_pending c.sender entry) ≡ c.pendings)
-  pub server_counts : (i : ℕ) (d : ServerPart K) → slice_get servers i ≡ Some d →
-      (c : ServerPart K) × (slice_get p.servers i ≡ Some c) × (frame_of c.connected ≡ frame_of d.connected) × (d.loans + mark (is_in_sender is_response_loan c.sender entry) ≡ c.loans)
+  pub request_loans : (l : ℕ) → (sender_of l client_senders).loans + mark (is_in_sender is_request_loan l entry) ≡ (sender_of l p.client_senders).loans
+  pub pendings : (l : ℕ) → (sender_of l client_senders).pendings + mark (is_in_sender is_pending l entry) ≡ (sender_of l p.client_senders).pendings
+  pub response_loans : (l : ℕ) → (sender_of l server_senders).loans + mark (is_in_sender is_response_loan l entry) ≡ (sender_of l p.server_senders).loans
   pub loans_from : (k server loans : ℕ) (s : TableEntry HandleEntry) → fin_map.get p.table.entries k ≡ Some s → s.value.stage ≡ stage.ActiveRequest server loans → is_loan_from p k entry ≡ false
   pub request_borrows : (l server : ℕ) → l < length p.client_senders →
       borrowed_at (sender_of l client_senders).messages (server_place p server) 0 + mark (is_in_sender (is_active_of server) l entry) ≡ borrowed_at (sender_of l p.client_senders).messages (server_place p server) 0

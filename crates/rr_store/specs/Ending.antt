@@ -1,17 +1,12 @@
--- What ends with the loan of a response: its handle, and one of the loans of its server and of its active request.
+-- What ends with the loan of a response: its handle, and one of the loans of its active request.
 use Rattle.std.specs.Prelude.{◌≡◌, ℕ, ◌+◌, ◌-◌, ◌*◌, ◌==◌, List, Option, Some, None, IfSome, IsSomeAnd, find, length}
 use Rattle.std.specs.FinMap as fin_map
 use Rattle.rr_table.specs.TableView.{TableView, inserted, value_at, value_in}
 use Rattle.rr_table.specs.declared.place.Place.{Place}
 use Rattle.rr_store.specs.declared.handle_entry.HandleEntry.{HandleEntry}
 use Rattle.rr_store.specs.declared.details.ResponseDetails.{ResponseDetails}
-use Rattle.rr_store.specs.declared.port.ServerPort.{ServerPort}
 use Rattle.rr_store.specs.Answering.{active_in, active_entry}
 use Rattle.rr_store.specs.Parts.{Sender}
-
--- a server with one response less on loan
-abbrev pub with_response_loan_ended : {K : Type 0} → ServerPort K → ServerPort K
-with_response_loan_ended s = record s { port = record s.port { loans = s.port.loans - 1 } }
 
 -- where the active request of a response stands, if it stands: in the row of its client's sender, by the receiver of the server
 abbrev pub IsAskedPlace : {T N H : Type 0} → List (Sender T N H) → ResponseDetails → ℕ → Place → Type 0

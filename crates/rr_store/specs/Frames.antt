@@ -3,27 +3,18 @@ use Rattle.std.specs.Prelude.{◌≡◌, ◌≤◌, ℕ, Bool, List, [], length,
 use Rattle.std.specs.Ordering.{nat_cmp}
 use Rattle.std.specs.FinMap as fin_map
 use Rattle.rr_table.specs.TableView.{TableEntry}
-use Rattle.rr_protocol.specs.Ports.{Port}
 use Rattle.rr_store.specs.declared.handle_entry.HandleEntry.{HandleEntry}
 use Rattle.rr_store.specs.declared.details.RequestDetails.{RequestDetails}
 use Rattle.rr_store.specs.declared.details.ResponseDetails.{ResponseDetails}
-use Rattle.rr_store.specs.Parts.{Connected, ClientPart, ServerPart, Sender, Parts}
+use Rattle.rr_store.specs.Parts.{ClientPart, Sender, Parts}
 use Rattle.rr_store.specs.Views.{sender_of}
 use Rattle.rr_store.specs.Sound.{IsShaped}
-
--- a connected port but for its loans
-pub record Frame (K : Type 0) : Type 0 where
-  pub port : Port K
-  pub sender : ℕ
-  pub receiver : ℕ
-
-abbrev pub frame_of : {K : Type 0} → Connected K → Frame K
-frame_of c = record { port = c.port; sender = c.sender; receiver = c.receiver }
 
 -- a sender of the same port and of the same size
 pub record SenderAlike {T N H : Type 0} (before after : Sender T N H) : Type 0 where
   pub owner : after.owner ≡ before.owner
   pub row : after.row ≡ before.row
+  pub receiver : after.receiver ≡ before.receiver
   pub slots : length after.messages.held ≡ length before.messages.held
   pub room : after.messages.room ≡ before.messages.room
   pub shaped : (receivers channels capacity : ℕ) → IsShaped receivers channels capacity before.messages → IsShaped receivers channels capacity after.messages
@@ -33,18 +24,13 @@ pub record SendersAlike {T N H : Type 0} (before after : List (Sender T N H)) : 
   pub many : length after ≡ length before
   pub each : (sender : ℕ) → SenderAlike (sender_of sender before) (sender_of sender after)
 
--- the same ports but for their loans
-abbrev pub PortsAlike : {K : Type 0} → List (Connected K) → List (Connected K) → Type 0
-PortsAlike before after = map frame_of after ≡ map frame_of before
-
 module _ {Q QH P PH K : Type 0} where
   -- a core in which some of these changed
-  abbrev pub moved : Parts Q QH P PH K → List (ClientPart K) → List (ServerPart K) → List (Sender Q RequestDetails QH) → List (Sender P ResponseDetails PH) → List (List Bool) → fin_map.FinMap nat_cmp (TableEntry HandleEntry) → ℕ → Parts Q QH P PH K
-  moved p clients servers client_senders server_senders waiting entries next =
+  abbrev pub moved : Parts Q QH P PH K → List (ClientPart K) → List (Sender Q RequestDetails QH) → List (Sender P ResponseDetails PH) → List (List Bool) → fin_map.FinMap nat_cmp (TableEntry HandleEntry) → ℕ → Parts Q QH P PH K
+  moved p clients client_senders server_senders waiting entries next =
       record p {
         next = next;
         clients = clients;
-        servers = servers;
         client_senders = client_senders;
         server_senders = server_senders;
         waiting = waiting;
@@ -52,10 +38,9 @@ module _ {Q QH P PH K : Type 0} where
       }
 
   -- the ports, senders and marks are as many and of the same sizes
-  pub record SameFrame (p : Parts Q QH P PH K) (clients : List (ClientPart K)) (servers : List (ServerPart K)) (client_senders : List (Sender Q RequestDetails QH)) (server_senders : List (Sender P ResponseDetails PH))
+  pub record SameFrame (p : Parts Q QH P PH K) (clients : List (ClientPart K)) (client_senders : List (Sender Q RequestDetails QH)) (server_senders : List (Sender P ResponseDetails PH))
       (waiting : List (List Bool)) (next : ℕ) : Type 0 where
-    pub clients_alike : PortsAlike (map (λ c. c.connected) p.clients) (map (λ c. c.connected) clients)
-    pub servers_alike : PortsAlike (map (λ s. s.connected) p.servers) (map (λ s. s.connected) servers)
+    pub clients_alike : map (λ c. c.connected) clients ≡ map (λ c. c.connected) p.clients
     pub client_senders_alike : SendersAlike p.client_senders client_senders
     pub server_senders_alike : SendersAlike p.server_senders server_senders
     pub marks : length waiting ≡ length p.waiting

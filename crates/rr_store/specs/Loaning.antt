@@ -1,5 +1,5 @@
 -- The parts of a core after a loan.
-use Rattle.std.specs.Prelude.{ℕ, ◌+◌, slice_set}
+use Rattle.std.specs.Prelude.{ℕ, ◌+◌, List, slice_set}
 use Rattle.rr_table.specs.TableView.{inserted}
 use Rattle.rr_table.specs.declared.place.Place.{Place}
 use Rattle.rr_sender.specs.Senders.{Messages, loaned}
@@ -11,12 +11,21 @@ use Rattle.rr_store.specs.Views.{sender_of}
 
 module _ {K : Type 0} where
   -- a client that made one more loan
-  abbrev pub with_one_loan : ClientPart K → ClientPart K
-  with_one_loan c = record c { connected = record c.connected { loans = c.loans + 1 }; loans_made = c.loans_made + 1 }
+  abbrev pub with_loan_made : ClientPart K → ClientPart K
+  with_loan_made c = record c { loans_made = c.loans_made + 1 }
 
--- a sender with other messages
-abbrev pub with_messages : {T N H : Type 0} → Sender T N H → Messages T N H → Sender T N H
-with_messages l m = record l { messages = m }
+module _ {T N H : Type 0} where
+  -- a sender with other messages
+  abbrev pub with_messages : Sender T N H → Messages T N H → Sender T N H
+  with_messages l m = record l { messages = m }
+
+  -- a sender with one message more on loan
+  abbrev pub with_one_loan : Sender T N H → Sender T N H
+  with_one_loan l = record l { loans = l.loans + 1 }
+
+  -- senders of which the one at an index changed
+  abbrev pub with_sender_at : List (Sender T N H) → ℕ → (Sender T N H → Sender T N H) → List (Sender T N H)
+  with_sender_at senders sender change = slice_set senders sender (change (sender_of sender senders))
 
 module _ {Q QH P PH K : Type 0} (p : Parts Q QH P PH K) where
   -- the details of a request that a client loans
@@ -36,8 +45,9 @@ module _ {Q QH P PH K : Type 0} (p : Parts Q QH P PH K) where
   with_loan_in_hand index c slot len header =
       record p {
         next = p.next + 1;
-        clients = slice_set p.clients index (with_one_loan c);
-        client_senders = slice_set p.client_senders c.sender (with_messages (sender_of c.sender p.client_senders) (loaned (sender_of c.sender p.client_senders).messages slot len (loan_details c) header));
+        clients = slice_set p.clients index (with_loan_made c);
+        client_senders = slice_set p.client_senders c.sender
+            (with_one_loan (with_messages (sender_of c.sender p.client_senders) (loaned (sender_of c.sender p.client_senders).messages slot len (loan_details c) header)));
       }
 
   -- and has one

@@ -8,19 +8,17 @@ use Rattle.rr_store.specs.declared.handle_entry.HandleEntry.{HandleEntry}
 use Rattle.rr_store.specs.declared.details.RequestDetails.{RequestDetails}
 use Rattle.rr_store.specs.declared.details.ResponseDetails.{ResponseDetails}
 
--- a connected port: the index of its sender, its index among the receivers of the other side, and how many loans it has
+-- a connected port: the index of its sender, and its index among the receivers of the other side
 pub record Connected (K : Type 0) : Type 0 where
   pub port : Port K
   pub sender : ℕ
   pub receiver : ℕ
-  pub loans : ℕ
 
--- a connected client, with the loans that it made, and its pending responses
+-- a connected client, with the number of loans that it made
 pub record ClientPart (K : Type 0) : Type 0 where
   pub connected : Connected K
   pub open connected use *
   pub loans_made : ℕ
-  pub pendings : ℕ
 
 -- a connected server, with the responses that it may have on loan for each request
 pub record ServerPart (K : Type 0) : Type 0 where
@@ -28,10 +26,13 @@ pub record ServerPart (K : Type 0) : Type 0 where
   pub open connected use *
   pub max_loaned_responses_per_request : ℕ
 
--- what a port sends from, the port's number, and the row in which the handles of its messages stand
+-- what a port sends from: the port's number and its index among the receivers of the other side, the row in which the handles of its messages stand, and how many messages are on loan and how many responses are pending
 pub record Sender (T N H : Type 0) : Type 0 where
   pub owner : ℕ
   pub row : ℕ
+  pub receiver : ℕ
+  pub loans : ℕ
+  pub pendings : ℕ
   pub messages : Messages T N H
 
 -- the whole. `waiting` has for each client's sender, by slot and receiver, whether that server may still answer

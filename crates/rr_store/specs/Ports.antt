@@ -23,12 +23,11 @@ module _ {K : Type 0} where
         };
         sender = p.sender;
         receiver = p.receiver;
-        loans = p.loans;
       }
 
   -- a connected client
   abbrev pub client_part : ClientPort K → ClientPart K
-  client_part c = record { connected = connected_of c.port; loans_made = c.loans_made; pendings = c.pendings }
+  client_part c = record { connected = connected_of c.port; loans_made = c.loans_made }
 
   -- a connected server
   abbrev pub server_part : ServerPort K → ServerPart K
@@ -36,7 +35,7 @@ module _ {K : Type 0} where
 
 -- a sender
 abbrev pub sender_part : {B N H T : Type 0} → OwnedSender B N H T → Sender T N H
-sender_part l = record { owner = l.owner; row = l.row; messages = l.messages }
+sender_part l = record { owner = l.owner; row = l.row; receiver = l.receiver; loans = l.loans; pendings = l.pendings; messages = l.messages }
 
 -- a row of marks
 abbrev pub marks_of : Vec Bool Global → List Bool

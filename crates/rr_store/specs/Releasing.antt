@@ -4,8 +4,7 @@ use Rattle.rr_sender.specs.Senders.{Messages, borrowed_at, with_held, with_borro
 use Rattle.rr_protocol.specs.Messages.{Handle, RequestMutUninit, RequestMut, ActiveRequest, ResponseMutUninit, ResponseMut, Response}
 use Rattle.rr_store.specs.declared.handle_entry.Stage.{Stage}
 use Rattle.rr_store.specs.declared.handle_entry.Stage.TheVariants as stage
-use Rattle.rr_store.specs.declared.port.ClientPort.{ClientPort}
-use Rattle.rr_store.specs.Parts.{ClientPart, ServerPart}
+use Rattle.rr_store.specs.Parts.{Sender}
 
 -- a request on loan
 abbrev pub is_loaned_request : {Q QH P PH : Type 0} → Handle Q QH P PH → Bool
@@ -42,15 +41,6 @@ given_back m slot = with_held m slot (slice_index m.held slot - 1)
 abbrev pub borrow_ended : {T N H : Type 0} → Messages T N H → ℕ → ℕ → ℕ → Messages T N H
 borrow_ended m receiver channel slot = given_back (with_borrowed m receiver channel (borrowed_at m receiver channel - 1)) slot
 
-module _ {K : Type 0} where
-  -- a client with one request less on loan
-  abbrev pub with_loan_ended : ClientPort K → ClientPort K
-  with_loan_ended c = record c { port = record c.port { loans = c.port.loans - 1 } }
-
-  -- the same of its part
-  abbrev pub without_loan : ClientPart K → ClientPart K
-  without_loan c = record c { connected = record c.connected { loans = c.loans - 1 } }
-
-  -- a server's part with one response less on loan
-  abbrev pub without_response_loan : ServerPart K → ServerPart K
-  without_response_loan s = record s { connected = record s.connected { loans = s.loans - 1 } }
+-- a sender with one message less on loan
+abbrev pub without_loan : {T N H : Type 0} → Sender T N H → Sender T N H
+without_loan l = record l { loans = l.loans - 1 }

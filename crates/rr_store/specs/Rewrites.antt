@@ -7,6 +7,9 @@ use Rattle.rr_store.specs.Views.{sender_of}
 pub record Outline (N : Type 0) : Type 0 where
   pub owner : ℕ
   pub row : ℕ
+  pub receiver : ℕ
+  pub loans : ℕ
+  pub pendings : ℕ
   pub details : List N
   pub held : List ℕ
   pub queues : List (List (List ℕ))
@@ -17,7 +20,7 @@ pub record Outline (N : Type 0) : Type 0 where
 -- the outline of a sender
 abbrev pub outline_of : {T N H : Type 0} → Sender T N H → Outline N
 outline_of l =
-    record { owner = l.owner; row = l.row; details = l.messages.details; held = l.messages.held; queues = l.messages.queues; borrowed = l.messages.borrowed; capacity = l.messages.capacity; room = l.messages.room }
+    record { owner = l.owner; row = l.row; receiver = l.receiver; loans = l.loans; pendings = l.pendings; details = l.messages.details; held = l.messages.held; queues = l.messages.queues; borrowed = l.messages.borrowed; capacity = l.messages.capacity; room = l.messages.room }
 
 -- other contents and user headers, as many as before
 pub record SenderRewritten {T N H : Type 0} (before after : Sender T N H) : Type 0 where

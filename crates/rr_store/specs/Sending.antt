@@ -9,10 +9,9 @@ use Rattle.rr_protocol.specs.Ports.{Port}
 use Rattle.rr_protocol.specs.Sends.{is_blocked}
 use Rattle.rr_store.specs.declared.handle_entry.HandleEntry.{HandleEntry}
 use Rattle.rr_store.specs.declared.handle_entry.Stage.TheVariants as stage
-use Rattle.rr_store.specs.declared.port.ClientPort.{ClientPort}
 use Rattle.rr_store.specs.declared.port.ServerPort.{ServerPort}
 use Rattle.rr_store.specs.Loaning.{with_messages}
-use Rattle.rr_store.specs.Parts.{ClientPart, Parts}
+use Rattle.rr_store.specs.Parts.{Sender, Parts}
 use Rattle.rr_store.specs.Views.{sender_of}
 
 module _ {T N H : Type 0} where
@@ -52,14 +51,9 @@ pub record IsPutting {T N H K : Type 0} (overflow : Bool) (slot : ℕ) (before n
 abbrev pub with_marks : List Bool → List ℕ → List Bool
 with_marks marks indices = fold (λ ms index. slice_set ms index true) marks indices
 
-module _ {K : Type 0} where
-  -- a client with one request less on loan, which waits for responses
-  abbrev pub with_sent : ClientPort K → ClientPort K
-  with_sent c = record c { port = record c.port { loans = c.port.loans - 1 }; pendings = c.pendings + 1 }
-
-  -- the same of its part
-  abbrev pub with_one_sent : ClientPart K → ClientPart K
-  with_one_sent c = record c { connected = record c.connected { loans = c.loans - 1 }; pendings = c.pendings + 1 }
+-- a sender with one request less on loan, which waits for responses
+abbrev pub with_one_sent : {T N H : Type 0} → Sender T N H → Sender T N H
+with_one_sent l = record l { loans = l.loans - 1; pendings = l.pendings + 1 }
 
 -- the handle of a request that can be sent, and the one after so many queues took it
 abbrev pub request_held : ℕ → ℕ → HandleEntry
@@ -77,17 +71,16 @@ module _ {Q QH P PH K : Type 0} (p : Parts Q QH P PH K) where
   abbrev pub server_marks : ℕ → List ℕ
   server_marks slot = map (λ s. slot * p.limits.max_servers + s.receiver) p.servers
 
-  -- a request in this slot came to all connected servers; the client that stands at an index counts it as sent, and it has no handle
-  abbrev pub with_request_in_queues : ℕ → ClientPart K → ℕ → ℕ → Parts Q QH P PH K
-  with_request_in_queues index c sender slot =
+  -- a request in this slot came to all connected servers; its sender counts it as sent, and it has no handle
+  abbrev pub with_request_in_queues : ℕ → ℕ → Parts Q QH P PH K
+  with_request_in_queues sender slot =
       record p {
-        clients = slice_set p.clients index (with_one_sent c);
         client_senders = slice_set p.client_senders sender
-            (with_messages (sender_of sender p.client_senders) (with_puts p.limits.enable_safe_overflow_for_requests slot (sender_of sender p.client_senders).messages server_places));
+            (with_one_sent (with_messages (sender_of sender p.client_senders) (with_puts p.limits.enable_safe_overflow_for_requests slot (sender_of sender p.client_senders).messages server_places)));
         waiting = slice_set p.waiting sender (with_marks (slice_index_or p.waiting sender []) (server_marks slot));
       }
 
   -- and its handle is a pending response
-  abbrev pub with_request_sent : ℕ → ClientPart K → ℕ → ℕ → ℕ → ℕ → Place → Parts Q QH P PH K
-  with_request_sent index c n sender slot connections receiver =
-      let q = with_request_in_queues index c sender slot in record q { table = inserted p.table n receiver (pending_held sender slot connections) }
+  abbrev pub with_request_sent : ℕ → ℕ → ℕ → ℕ → Place → Parts Q QH P PH K
+  with_request_sent n sender slot connections place =
+      let q = with_request_in_queues sender slot in record q { table = inserted p.table n place (pending_held sender slot connections) }

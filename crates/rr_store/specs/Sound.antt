@@ -99,11 +99,12 @@ pub record IsShaped {T N H : Type 0} (receivers channels capacity : ℕ) (m : Me
   pub within : (r c : ℕ) → length (queue_at m r c) ≤ capacity
   pub inside : (slot : ℕ) → 0 < times slot (all_entries m.queues) → slot < length m.held
 
--- each port has a sender of its own, of the size that it says, and each sender a port
+-- each port has a sender of its own, of the size that it says, which knows the port's receiver; and each sender has a port
 pub record HasSenders {T N H K : Type 0} (next ports : ℕ) (connected : List (Connected K)) (senders : List (Sender T N H)) : Type 0 where
   pub few : length connected ≤ ports
   pub own : (i : ℕ) (c : Connected K) → slice_get connected i ≡ Some c →
       (c.sender < length senders) × ((sender_of c.sender senders).owner ≡ c.port.id) × (length (sender_of c.sender senders).messages.held ≡ c.port.pool_size) × ((sender_of c.sender senders).messages.room ≡ c.port.initial_max_slice_len)
+  pub received : (i : ℕ) (c : Connected K) → slice_get connected i ≡ Some c → (sender_of c.sender senders).receiver ≡ c.receiver
   pub ported : (sender : ℕ) → sender < length senders → (i : ℕ) × (c : Connected K) × (slice_get connected i ≡ Some c) × (c.sender ≡ sender)
   pub owned_once : (i j : ℕ) → i < length senders → j < length senders → (sender_of i senders).owner ≡ (sender_of j senders).owner → i ≡ j
   pub numbered : (i : ℕ) → i < length senders → (sender_of i senders).owner < next
@@ -219,9 +220,9 @@ module _ {Q QH P PH K : Type 0} (p : Parts Q QH P PH K) where
 
   -- what is stored is what there is
   pub record IsStored (hand : Hand) : Type 0 where
-    pub request_loans : (i : ℕ) (c : ClientPart K) → slice_get p.clients i ≡ Some c → c.loans ≡ handles (is_in_sender is_request_loan c.sender) hand
-    pub pendings : (i : ℕ) (c : ClientPart K) → slice_get p.clients i ≡ Some c → c.pendings ≡ handles (is_in_sender is_pending c.sender) hand
-    pub response_loans : (i : ℕ) (c : ServerPart K) → slice_get p.servers i ≡ Some c → c.loans ≡ handles (is_in_sender is_response_loan c.sender) hand
+    pub request_loans : (sender : ℕ) → sender < length p.client_senders → (sender_of sender p.client_senders).loans ≡ handles (is_in_sender is_request_loan sender) hand
+    pub pendings : (sender : ℕ) → sender < length p.client_senders → (sender_of sender p.client_senders).pendings ≡ handles (is_in_sender is_pending sender) hand
+    pub response_loans : (sender : ℕ) → sender < length p.server_senders → (sender_of sender p.server_senders).loans ≡ handles (is_in_sender is_response_loan sender) hand
     pub active_loans : (k server loans : ℕ) (s : TableEntry HandleEntry) → fin_map.get p.table.entries k ≡ Some s → s.value.stage ≡ stage.ActiveRequest server loans → loans ≡ handles (is_loan_from k) hand
     pub borrowed_requests : (sender server : ℕ) → sender < length p.client_senders → borrowed_at (sender_of sender p.client_senders).messages (server_place server) 0 ≡ handles (is_in_sender (is_active_of server) sender) hand
     pub borrowed_responses : (sender i channel : ℕ) (c : ClientPart K) → sender < length p.server_senders → slice_get p.clients i ≡ Some c →

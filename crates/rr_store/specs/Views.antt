@@ -26,7 +26,7 @@ no_response = record { number = 0; server = 0; active_request = 0; request = 0; 
 
 -- a sender that isn't there
 abbrev pub no_sender : {T N H : Type 0} → Sender T N H
-no_sender = record { owner = 0; row = 0; messages = record { contents = []; details = []; user_headers = []; held = []; queues = []; borrowed = []; capacity = 0; room = 0 } }
+no_sender = record { owner = 0; row = 0; receiver = 0; loans = 0; pendings = 0; messages = record { contents = []; details = []; user_headers = []; held = []; queues = []; borrowed = []; capacity = 0; room = 0 } }
 
 -- the content of a slot
 abbrev pub content_of : {T N H : Type 0} → H → Messages T N H → ℕ → Content T H

@@ -108,8 +108,8 @@ pub fn insert_client<B: Body, H: Default + Drop, K: Drop>(
     port: Port<K>,
     store: ClientStore<B, H>,
 ) -> Result<(), AllocError>
-    ensures clients { clients.new.items ≡ (if is_ok result then clients.old.items ++ record { port = port; loans_made = 0; pendings = 0 } ∷ [] else clients.old.items) }
-    ensures senders { senders.new.items ≡ (if is_ok result then senders.old.items ++ record { owner = port.id; row = length table.old.rows; messages = store.messages } ∷ [] else senders.old.items) }
+    ensures clients { clients.new.items ≡ (if is_ok result then clients.old.items ++ record { port = port; loans_made = 0 } ∷ [] else clients.old.items) }
+    ensures senders { senders.new.items ≡ (if is_ok result then senders.old.items ++ record { owner = port.id; row = length table.old.rows; receiver = port.receiver; loans = 0; pendings = 0; messages = store.messages } ∷ [] else senders.old.items) }
     ensures waiting { waiting.new.items ≡ (if is_ok result then waiting.old.items ++ store.marks ∷ [] else waiting.old.items) }
     ensures table { table.new ≡ (if is_ok result then with_row table.old store.row_len else table.old) }
 {
@@ -119,44 +119,42 @@ pub fn insert_client<B: Body, H: Default + Drop, K: Drop>(
         row_len,
     } = store;
     waiting.reserve(1)?;
-    let owner = port.id;
     let client = ClientPort {
         port,
         loans_made: 0,
-        pendings: 0,
     };
-    insert_port(
-        alloc, clients, senders, table, client, owner, messages, row_len,
-    )?;
+    insert_port(alloc, clients, senders, table, client, messages, row_len)?;
     waiting.push_reserved(marks);
     Ok(())
 }
 
 /// Adds a port, the sender from which it sends, and a row of the table for its messages. Returns `AllocError` if memory was
 /// refused; the lists and the table are unchanged then.
-pub fn insert_port<P: Drop, B: Body, N: Copy, H: Drop>(
+pub fn insert_port<P: ConnectedPort, B: Body, N: Copy, H: Drop>(
     alloc: Global,
     ports: &mut Vec<P>,
     senders: &mut Vec<OwnedSender<B, N, H>>,
     table: &mut Table<HandleEntry>,
     port: P,
-    owner: u64,
     messages: Sender<B, N, H>,
     row_len: usize,
 ) -> Result<(), AllocError>
     ensures ports { ports.new.items ≡ (if is_ok result then ports.old.items ++ port ∷ [] else ports.old.items) }
-    ensures senders { senders.new.items ≡ (if is_ok result then senders.old.items ++ record { owner = owner; row = length table.old.rows; messages = messages } ∷ [] else senders.old.items) }
+    ensures senders { senders.new.items ≡ (if is_ok result then senders.old.items ++ record { owner = P.id port; row = length table.old.rows; receiver = P.receiver port; loans = 0; pendings = 0; messages = messages } ∷ [] else senders.old.items) }
     ensures table { table.new ≡ (if is_ok result then with_row table.old row_len else table.old) }
 {
     ports.reserve(1)?;
     senders.reserve(1)?;
     let row = table.add_row(alloc, row_len)?;
-    ports.push_reserved(port);
     senders.push_reserved(OwnedSender {
-        owner,
+        owner: port.id(),
         row,
+        receiver: port.receiver(),
+        loans: 0,
+        pendings: 0,
         messages,
     });
+    ports.push_reserved(port);
     Ok(())
 }
 
@@ -168,7 +166,7 @@ pub fn client_port<K: Drop>(
     sender: usize,
     receiver: usize,
 ) -> Port<K>
-    ensures { connected_of result ≡ record { port = record { id = id; strategy = settings.strategy; handler = settings.handler; allocation_strategy = settings.allocation_strategy; initial_max_slice_len = settings.initial_max_slice_len; pool_size = pool_size; has_value = true }; sender = sender; receiver = receiver; loans = 0 } }
+    ensures { connected_of result ≡ record { port = record { id = id; strategy = settings.strategy; handler = settings.handler; allocation_strategy = settings.allocation_strategy; initial_max_slice_len = settings.initial_max_slice_len; pool_size = pool_size; has_value = true }; sender = sender; receiver = receiver } }
 {
     Port {
         id,
@@ -180,7 +178,6 @@ pub fn client_port<K: Drop>(
         has_value: true,
         sender,
         receiver,
-        loans: 0,
     }
 }
 

@@ -1,8 +1,8 @@
-//! Loans of requests.
-ghost use Rattle.std.specs.Prelude.{◌≡◌, ◌<◌, ◌↔◌, Some, Err, IsTrue, IfOk, OnErr, IsErrOf, map, length, slice_get, slice_set};
+//! Loans of slots.
+ghost use Rattle.std.specs.Prelude.{◌≡◌, ◌+◌, ◌<◌, ◌^◌, ◌↔◌, Some, Err, IsTrue, IfOk, OnErr, IsErrOf, map, length, slice_get, slice_set};
 ghost use Rattle.rr_slots.specs.Families.{takes_len};
 ghost use Rattle.rr_sender.specs.Senders.{times, all_entries, loaned, used_count};
-ghost use Rattle.rr_store.specs.Loaning.{with_messages};
+ghost use Rattle.rr_store.specs.Loaning.{with_messages, with_one_loan, with_sender_at};
 ghost use Rattle.rr_store.specs.Ports.{sender_part};
 ghost use Rattle.rr_store.specs.Views.{sender_of};
 
@@ -45,4 +45,17 @@ pub fn loan_from<B: Body, N: Copy, H: Drop>(
         }),
         Err(error) => Err(error),
     }
+}
+
+/// Counts one message more on loan from a sender.
+#[inline(always)]
+pub fn count_loan_in<B: Body, N: Copy, H: Drop>(
+    senders: &mut Vec<OwnedSender<B, N, H>>,
+    sender: usize,
+)
+    requires sender { sender < length senders.old.items }
+    requires fits { (sender_of sender (map sender_part senders.old.items)).loans + 1 < 2 ^ 64 }
+    ensures { map sender_part senders.new.items ≡ with_sender_at (map sender_part senders.old.items) sender with_one_loan }
+{
+    senders[sender].loans += 1;
 }

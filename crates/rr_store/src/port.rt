@@ -13,8 +13,8 @@ use rr_protocol::{
 use rr_sender::Sender;
 use rr_slots::Body;
 
-/// What clients and servers have in common: the settings, the index of the sender from which the port sends, its index among
-/// the receivers of the other side, and how many loans it has.
+/// What clients and servers have in common: the settings, the index of the sender from which the port sends, and its index
+/// among the receivers of the other side.
 #[derive(Drop)]
 pub struct Port<K: Drop> {
     pub id: u64,
@@ -26,15 +26,13 @@ pub struct Port<K: Drop> {
     pub has_value: bool,
     pub sender: usize,
     pub receiver: usize,
-    pub loans: usize,
 }
 
-/// A connected client, with the number of loans that it made and of its pending responses.
+/// A connected client, with the number of loans that it made.
 #[derive(Drop)]
 pub struct ClientPort<K: Drop> {
     pub port: Port<K>,
     pub loans_made: u64,
-    pub pendings: usize,
 }
 
 /// A connected server, with the number of responses that it may have on loan for each request.
@@ -44,11 +42,16 @@ pub struct ServerPort<K: Drop> {
     pub max_loaned_responses_per_request: usize,
 }
 
-/// What a port sends from, the port's number, and the row of the table in which the handles of its messages stand.
+/// What a port sends from: the port's number and its index among the receivers of the other side, the row of the table in
+/// which the handles of its messages stand, and how many messages are on loan and how many responses are pending. A server's
+/// sender has no pending responses.
 #[derive(Drop)]
 pub struct OwnedSender<B: Body, N: Copy, H: Drop> {
     pub owner: u64,
     pub row: usize,
+    pub receiver: usize,
+    pub loans: usize,
+    pub pendings: usize,
     pub messages: Sender<B, N, H>,
 }
 
@@ -95,17 +98,17 @@ impl<K: BackpressureFn> Port<K> {
 }
 
 impl<K: Drop> ServerPort<K> {
-    /// Whether an active request with so many responses on loan has as many as it may, or the server has.
-    pub fn is_at_loan_limit(&self, limits: &Limits, loans: usize) -> bool
+    /// Whether an active request with so many responses on loan has as many as it may, or the server with `all` has.
+    pub fn is_at_loan_limit(&self, limits: &Limits, loans: usize, all: usize) -> bool
         requires { 0 < limits.now.max_clients }
-        ensures { result ≡ (nat_le self.now.max_loaned_responses_per_request loans || nat_le (max_loaned_responses limits.now self.now.max_loaned_responses_per_request) self.now.port.loans) }
+        ensures { result ≡ (nat_le self.now.max_loaned_responses_per_request loans || nat_le (max_loaned_responses limits.now self.now.max_loaned_responses_per_request) all) }
     {
         self.max_loaned_responses_per_request <= loans
             || is_product_within(
                 self.max_loaned_responses_per_request,
                 limits.max_active_requests_per_client,
                 limits.max_clients,
-                self.port.loans,
+                all,
             )
     }
 }

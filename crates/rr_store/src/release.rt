@@ -2,11 +2,13 @@
 ghost use Rattle.std.specs.Prelude.{◌≡◌, ◌==◌, ◌<◌, ◌+◌, ◌*◌, false, map, Some, IsSome, IsSomeAnd, [], length, slice_get, slice_index, slice_index_or, slice_set};
 ghost use Rattle.std.specs.List.{position};
 ghost use Rattle.rr_sender.specs.Senders.{borrowed_at, set_two};
-ghost use Rattle.rr_store.specs.Ports.{marks_of};
-ghost use Rattle.rr_store.specs.Releasing.{given_back, borrow_ended, with_loan_ended};
+ghost use Rattle.rr_store.specs.Loaning.{with_sender_at};
+ghost use Rattle.rr_store.specs.Ports.{marks_of, sender_part};
+ghost use Rattle.rr_store.specs.Releasing.{given_back, borrow_ended, without_loan};
+ghost use Rattle.rr_store.specs.Views.{sender_of};
 ghost use Rattle.rr_store.specs.Writing.{with_messages};
 
-use crate::{ClientPort, ConnectedPort, OwnedSender, index_of, index_of_sender};
+use crate::{ConnectedPort, OwnedSender, index_of};
 use rr_slots::Body;
 
 pub mod pending;
@@ -58,14 +60,18 @@ pub fn end_borrow_in<B: Body, N: Copy, H: Drop>(
     sender.messages.give_back(slot);
 }
 
-/// Counts one request less on loan for the client that sends in a sender.
+/// Counts one message less on loan from a sender, and returns which receiver its port is.
 #[inline(always)]
-pub fn end_request_loan<K: Drop>(clients: &mut Vec<ClientPort<K>>, sender: usize)
-    requires { IsSomeAnd (position (λ c. c.port.sender == sender) clients.old.items) (λ i. IsSomeAnd (slice_get clients.old.items i) (λ c. 0 < c.port.loans)) }
-    ensures { IsSomeAnd (position (λ c. c.port.sender == sender) clients.old.items) (λ i. IsSomeAnd (slice_get clients.old.items i) (λ c. clients.new.items ≡ slice_set clients.old.items i (with_loan_ended c))) }
+pub fn end_loan_in<B: Body, N: Copy, H: Drop>(
+    senders: &mut Vec<OwnedSender<B, N, H>>,
+    sender: usize,
+) -> usize
+    requires sender { sender < length senders.old.items }
+    requires counted { 0 < (sender_of sender (map sender_part senders.old.items)).loans }
+    ensures receiver { result ≡ (sender_of sender (map sender_part senders.old.items)).receiver }
+    ensures counted { map sender_part senders.new.items ≡ with_sender_at (map sender_part senders.old.items) sender without_loan }
 {
-    match index_of_sender(clients.as_slice(), sender) {
-        Some(index) => clients[index].port.loans -= 1,
-        None => unreachable!(),
-    }
+    let sender = &mut senders[sender];
+    sender.loans -= 1;
+    sender.receiver
 }

@@ -6,6 +6,7 @@ use Rattle.rr_protocol.specs.declared.limits.Limits.{Limits}
 use Rattle.rr_protocol.specs.declared.settings.ClientSettings.{ClientSettings}
 use Rattle.rr_protocol.specs.Creation.{client_refusal, pool_size_of, with_client}
 use Rattle.rr_protocol.specs.Limits.{hub_refusal, worst_case_requests}
+use Rattle.rr_laws.specs.Complete.{MessagesComplete}
 use Rattle.rr_laws.specs.Reached.{IsReached}
 use Rattle.rr_laws.proofs.Creating.{with_client_reached}
 use Rattle.rr_store.specs.declared.details.RequestDetails.{RequestDetails}
@@ -86,6 +87,7 @@ module _ {Q QH P PH K : Type 0} (p : Parts Q QH P PH K) (core : IsCore p) (setti
               (client_sound p settings receiver messages core.sound is_new inside vacant room_asked (not_refused (state_of p) due).0
               (omega (arith, row_is, fits)));
           reached = subst (λ s. IsReached s) (sym added_view) (with_client_reached (state_of p) core.reached settings due);
+          complete = subst (λ s. MessagesComplete s) (sym added_view) core.complete;
         }
 
       module _ (q : Parts Q QH P PH K) where

@@ -4,7 +4,9 @@ use Rattle.std.specs.Prelude.{None}
 use Rattle.rr_protocol.specs.declared.limits.Limits.{Limits}
 use Rattle.rr_protocol.specs.Limits.{hub_refusal}
 use Rattle.rr_protocol.specs.State.{empty_hub}
+use Rattle.rr_laws.specs.Complete.{MessagesComplete}
 use Rattle.rr_laws.specs.Reached.{IsReached}
+use Rattle.rr_laws.proofs.CompleteRuns.{empty_hub_complete}
 use Rattle.rr_laws.proofs.Creating.{empty_hub_reached}
 use Rattle.rr_store.specs.Parts.{Parts}
 use Rattle.rr_store.specs.Reaching.{IsCore}
@@ -25,4 +27,5 @@ module _ {Q QH P PH K : Type 0} (limits : Limits) (fits : hub_refusal limits ≡
     sound = subst (λ q. IsSound q empty_hand) (sym made)
         (start_sound Q QH P PH K limits node_id p.spare_request_header p.spare_response_header fits);
     reached = subst (λ s. IsReached s) (sym view_then) (empty_hub_reached limits node_id fits);
+    complete = subst (λ s. MessagesComplete s) (sym view_then) (empty_hub_complete Q QH P PH K limits node_id);
   }

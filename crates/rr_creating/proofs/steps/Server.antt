@@ -7,6 +7,7 @@ use Rattle.rr_protocol.specs.declared.limits.Limits.{Limits}
 use Rattle.rr_protocol.specs.declared.settings.ServerSettings.{ServerSettings}
 use Rattle.rr_protocol.specs.Creation.{loans_of, pool_size_of, server_refusal, with_server}
 use Rattle.rr_protocol.specs.Limits.{hub_refusal, is_too_large, worst_case_requests, worst_case_responses}
+use Rattle.rr_laws.specs.Complete.{MessagesComplete}
 use Rattle.rr_laws.specs.Reached.{IsReached}
 use Rattle.rr_laws.proofs.Creating.{with_server_reached}
 use Rattle.rr_store.specs.declared.details.ResponseDetails.{ResponseDetails}
@@ -91,6 +92,7 @@ module _ {Q QH P PH K : Type 0} (p : Parts Q QH P PH K) (core : IsCore p) (setti
                 (server_sound p settings receiver messages core.sound is_new inside vacant room_asked
                 (server_not_refused (state_of p) settings due).0);
             reached = subst (λ s. IsReached s) (sym added_view) (with_server_reached (state_of p) core.reached settings due);
+            complete = subst (λ s. MessagesComplete s) (sym added_view) core.complete;
           }
 
         module _ (q : Parts Q QH P PH K) where

@@ -1,9 +1,10 @@
 -- An active request's server lends a slot, both count the loan, and it gets a handle.
 use Rattle.std.proofs.Common.{◌≡◌, ◌<◌, ◌+◌, ◌^◌, ℕ, Bool, true, false, cond, Option, None, Some, Ok, Err, length, refl, sym, ap, ◌∙◌, subst, ⊎_elim, arith}
-use Rattle.std.specs.Prelude.{◌==◌, ◌||◌, ◌↔◌, IsErrOf, IsSome, IsSomeAnd, nat_le, slice_get, slice_index, slice_index_or}
+use Rattle.std.specs.Prelude.{◌==◌, ◌||◌, ◌↔◌, IsErrOf, IsSome, IsSomeAnd, nat_le, slice_get, slice_index, slice_index_or, slice_set}
 use Rattle.std.specs.List.{position}
 use Rattle.std.specs.FinMap as fin_map
 use Rattle.std.proofs.lemmas.Bool.{cases_lt, eq-eqb, eqb-true}
+use Rattle.std.proofs.lemmas.List.{length-set}
 use Rattle.std.proofs.lemmas.Option.{slice_get_within, get_or_from_slice_get}
 use Rattle.rr_slots.specs.declared.pool.AcquireError.{AcquireError}
 use Rattle.rr_table.specs.TableView.{TableEntry, IsInside, IsVacant, table_entry}
@@ -16,25 +17,28 @@ use Rattle.rr_protocol.specs.Limits.{max_loaned_responses}
 use Rattle.rr_protocol.specs.Loans.{LoansResponse, is_too_long}
 use Rattle.rr_protocol.specs.Queries.{kind_at}
 use Rattle.rr_protocol.specs.State.{numbers_left}
+use Rattle.rr_laws.proofs.CompleteCalls.{loans_response_complete}
 use Rattle.rr_laws.proofs.Loaning.{loans_response_reached}
-use Rattle.rr_store.specs.Answering.{active_entry, active_in, response_loan_details, response_loan_details_of, response_loan_place, with_one_response_loan, with_response_loan}
+use Rattle.rr_store.specs.Answering.{active_entry, active_in, response_loan_details, response_loan_details_of, response_loan_place, with_response_loan}
 use Rattle.rr_store.specs.declared.details.ResponseDetails.{ResponseDetails}
 use Rattle.rr_store.specs.declared.handle_entry.HandleEntry.{HandleEntry}
 use Rattle.rr_store.specs.declared.handle_entry.Stage.TheVariants as stage
 use Rattle.rr_store.specs.Asked.{CanInsert}
-use Rattle.rr_store.specs.Changes.{response_loan_limit, with_handle, with_new_handle, with_responses, with_server_at}
-use Rattle.rr_store.specs.Parts.{ServerPart, Parts}
+use Rattle.rr_store.specs.Changes.{response_loan_limit, with_handle, with_new_handle, with_responses, with_server_sender_at}
+use Rattle.rr_store.specs.Loaning.{with_messages, with_one_loan}
+use Rattle.rr_store.specs.Parts.{ServerPart, Parts, Sender}
 use Rattle.rr_store.specs.Reaching.{IsCore}
 use Rattle.rr_store.specs.Sound.{IsSound, empty_hand, is_active_of, is_of_request, request_details, server_place}
-use Rattle.rr_store.specs.Views.{sender_of, state_of}
+use Rattle.rr_store.specs.Views.{no_sender, sender_of, state_of}
 use Rattle.rr_store.proofs.base.hands.Vacant.{response_vacant}
 use Rattle.rr_store.proofs.base.lists.Adding.{some_clients}
-use Rattle.rr_store.proofs.base.lists.Replaced.{Standing, standing}
+use Rattle.rr_store.proofs.base.lists.Replaced.{Standing, set_alike, standing}
 use Rattle.rr_store.proofs.base.lookups.Asking.{due_refusal, no_error, not_full}
 use Rattle.rr_store.proofs.base.lookups.Placed.{value_there}
 use Rattle.rr_store.proofs.base.lookups.Shown.{request_spot}
 use Rattle.rr_store.proofs.base.senders.Entries.{used_le}
 use Rattle.rr_store.proofs.base.senders.Owners.{First, first_by}
+use Rattle.rr_store.proofs.base.senders.Stored.{stored_twice}
 use Rattle.rr_store.proofs.base.views.Counts.{listed}
 use Rattle.rr_store.proofs.loaning.response.Active.{answers_fit, loans_from_fit}
 use Rattle.rr_store.proofs.loaning.response.Inserted.{response_loan_sound}
@@ -47,7 +51,8 @@ some_is_some : {X : Type 0} {x : X} (o : Option X) → o ≡ Some x → o ≡ No
 some_is_some {X} {x} o is none = absurd (let f : Some x ≡ None = sym is ∙ none in cc)
 
 -- the first of two reasons, or none
-reasons : (a b : Bool) (r : Option LoanError) → r ≡ cond a (Some LoanError.ExceedsMaxLoanSize) (cond b (Some LoanError.ExceedsMaxLoans) None)
+reasons : (a b : Bool) (r : Option LoanError)
+    → r ≡ cond a (Some LoanError.ExceedsMaxLoanSize) (cond b (Some LoanError.ExceedsMaxLoans) None)
     → r ≡ None → (a ≡ false) × (b ≡ false)
 reasons true b r is none = absurd (let f : Some LoanError.ExceedsMaxLoanSize ≡ None = sym is ∙ none in cc)
 reasons false true r is none = absurd (let f : Some LoanError.ExceedsMaxLoans ≡ None = sym is ∙ none in cc)
@@ -132,11 +137,18 @@ module _ {Q QH P PH K : Type 0} (p : Parts Q QH P PH K) (core : IsCore p) (n : �
       own = core.sound.server_ports.own index stands.it.connected
           (listed (λ (s : ServerPart K). s.connected) p.servers index stands.it stands.at)
 
+      pub limit_asked : IsSomeAnd (slice_get p.servers index) (λ s. s.sender < length p.server_senders)
+      limit_asked = to_index (λ s. s.sender < length p.server_senders) own.0
+
+      -- how many responses it has on loan
+      abbrev on_loan : ℕ
+      on_loan = (sender_of stands.it.sender p.server_senders).loans
+
       module _ (len : ℕ) (limit : Option LoanError)
           (limited : IsSomeAnd (slice_get p.servers index) (λ s. limit ≡ response_loan_limit p s len loans)) where
         abbrev is_reached : Bool
         is_reached = nat_le stands.it.max_loaned_responses_per_request loans
-            || nat_le (max_loaned_responses p.limits stands.it.max_loaned_responses_per_request) stands.it.loans
+            || nat_le (max_loaned_responses p.limits stands.it.max_loaned_responses_per_request) on_loan
 
         limit_is : limit ≡ response_loan_limit p stands.it len loans
         limit_is = of_index (λ s. limit ≡ response_loan_limit p s len loans) limited
@@ -144,9 +156,11 @@ module _ {Q QH P PH K : Type 0} (p : Parts Q QH P PH K) (core : IsCore p) (n : �
         -- the reason that was found is the first that is due
         limit_due : (a b : Bool) (e : LoanError) → is_too_long stands.it.port len ≡ a → is_reached ≡ b
             → Some e ≡ cond a (Some LoanError.ExceedsMaxLoanSize) (cond b (Some LoanError.ExceedsMaxLoans) None)
-            → stored_refusal p core.sound index stands.it stands.at n entry.sender entry.slot loans (table_entry place entry) at is len ≡ Some e
+            → stored_refusal p core.sound index stands.it stands.at n entry.sender entry.slot loans
+            (table_entry place entry) at is len ≡ Some e
         limit_due true b e long many given =
-            first_due p core.sound index stands.it stands.at n entry.sender entry.slot loans (table_entry place entry) at is len long ∙ sym given
+            first_due p core.sound index stands.it stands.at n entry.sender entry.slot loans (table_entry place entry) at is len long
+            ∙ sym given
         limit_due false true e long many given =
             second_due p core.sound index stands.it stands.at n entry.sender entry.slot loans (table_entry place entry) at is len long many
             ∙ sym given
@@ -165,8 +179,12 @@ module _ {Q QH P PH K : Type 0} (p : Parts Q QH P PH K) (core : IsCore p) (n : �
           where
             go : (a b : Bool) → Some e ≡ cond a (Some LoanError.ExceedsMaxLoanSize) (cond b (Some LoanError.ExceedsMaxLoans) None)
                 → e ≡ LoanError.OutOfMemory → ⊥
-            go true b f m = let g : e ≡ LoanError.ExceedsMaxLoanSize = cc in let h : LoanError.ExceedsMaxLoanSize ≡ LoanError.OutOfMemory = sym g ∙ m in cc
-            go false true f m = let g : e ≡ LoanError.ExceedsMaxLoans = cc in let h : LoanError.ExceedsMaxLoans ≡ LoanError.OutOfMemory = sym g ∙ m in cc
+            go true b f m =
+                let g : e ≡ LoanError.ExceedsMaxLoanSize = cc in
+                let h : LoanError.ExceedsMaxLoanSize ≡ LoanError.OutOfMemory = sym g ∙ m in cc
+            go false true f m =
+                let g : e ≡ LoanError.ExceedsMaxLoans = cc in
+                let h : LoanError.ExceedsMaxLoans ≡ LoanError.OutOfMemory = sym g ∙ m in cc
             go false false f m = let g : Some e ≡ None = f in cc
 
         module _ (none : limit ≡ None) where
@@ -189,11 +207,14 @@ module _ {Q QH P PH K : Type 0} (p : Parts Q QH P PH K) (core : IsCore p) (n : �
             out_of_memory IsDefault error q full room same =
                 refuses p core.sound index stands.it stands.at n entry.sender entry.slot loans (table_entry place entry) at is len
                 LoanError.OutOfMemory
-                (pool_refusal p core.sound index stands.it stands.at n entry.sender entry.slot loans (table_entry place entry) at is len error
+                (pool_refusal p core.sound index stands.it stands.at n entry.sender entry.slot loans
+                (table_entry place entry) at is len error
                 passes.0 passes.1
                 (subst (λ l. IsErrOf {T = Place} (Err error) AcquireError.Full
-                ↔ (used_count (sender_of l p.server_senders).messages ≡ length (sender_of l p.server_senders).messages.held)) sender_is full)
-                (subst (λ l. IsErrOf {T = Place} (Err error) AcquireError.NoRoom → (sender_of l p.server_senders).messages.room < len) sender_is
+                ↔ (used_count (sender_of l p.server_senders).messages ≡ length
+                (sender_of l p.server_senders).messages.held)) sender_is full)
+                (subst (λ l. IsErrOf {T = Place} (Err error) AcquireError.NoRoom
+                → (sender_of l p.server_senders).messages.room < len) sender_is
                 room))
                 (state_of p) (state_of q) n refl refl (ap state_of same)
 
@@ -208,7 +229,8 @@ module _ {Q QH P PH K : Type 0} (p : Parts Q QH P PH K) (core : IsCore p) (n : �
               its_free = subst (λ l. slice_get (sender_of l p.server_senders).messages.held own_place.index ≡ Some 0) sender_is free
 
               its_unused : times own_place.index (all_entries (sender_of stands.it.sender p.server_senders).messages.queues) ≡ 0
-              its_unused = subst (λ l. times own_place.index (all_entries (sender_of l p.server_senders).messages.queues) ≡ 0) sender_is unused
+              its_unused = subst (λ l. times own_place.index (all_entries
+                  (sender_of l p.server_senders).messages.queues) ≡ 0) sender_is unused
 
               its_row : own_place.row ≡ (sender_of stands.it.sender p.server_senders).row
               its_row = row ∙ ap (λ l. (sender_of l p.server_senders).row) sender_is
@@ -217,7 +239,8 @@ module _ {Q QH P PH K : Type 0} (p : Parts Q QH P PH K) (core : IsCore p) (n : �
               its_details = response_loan_details p stands.it n entry.sender entry.slot
 
               details_are : details ≡ its_details
-              details_are = are ∙ ap (λ s. response_loan_details_of s n (request_details p entry.sender entry.slot) entry.slot p.next) (sym named)
+              details_are = are
+                  ∙ ap (λ s. response_loan_details_of s n (request_details p entry.sender entry.slot) entry.slot p.next) (sym named)
 
               abbrev loan_made : Parts Q QH P PH K
               loan_made = with_responses p stands.it.sender (λ m. loaned m own_place.index len its_details header)
@@ -226,19 +249,33 @@ module _ {Q QH P PH K : Type 0} (p : Parts Q QH P PH K) (core : IsCore p) (n : �
               q_is = lent ∙ ap (λ l. with_responses p l (λ m. loaned m own_place.index len details header)) sender_is
                   ∙ ap (λ d. with_responses p stands.it.sender (λ m. loaned m own_place.index len d header)) details_are
 
-              pub count_asked : IsSomeAnd (slice_get q.servers index) (λ s. s.loans + 1 < 2 ^ 64)
-              count_asked =
-                  subst (λ (q : Parts Q QH P PH K). IsSomeAnd (slice_get q.servers index) (λ s. s.loans + 1 < 2 ^ 64)) (sym q_is)
-                  (to_index (λ s. s.loans + 1 < 2 ^ 64) (answers_fit p core.sound index stands.it stands.at))
+              -- its sender with the loan
+              abbrev fresh : Sender P ResponseDetails PH
+              fresh = with_messages (sender_of stands.it.sender p.server_senders)
+                  (loaned (sender_of stands.it.sender p.server_senders).messages own_place.index len its_details header)
 
-              module _ (r : Parts Q QH P PH K)
-                  (counted : IsSomeAnd (slice_get q.servers index) (λ s. r ≡ with_server_at q index (with_one_response_loan s))) where
+              pub sender_still : sender < length q.server_senders
+              sender_still =
+                  subst (λ (q : Parts Q QH P PH K). sender < length q.server_senders) (sym q_is)
+                  (omega (arith, own_asked, length-set p.server_senders stands.it.sender fresh))
+
+              pub loans_still_fit : (sender_of sender q.server_senders).loans + 1 < 2 ^ 64
+              loans_still_fit =
+                  subst (λ (q : Parts Q QH P PH K). (sender_of sender q.server_senders).loans + 1 < 2 ^ 64) (sym q_is) (omega (
+                    arith,
+                    answers_fit p core.sound sender own_asked,
+                    set_alike p.server_senders stands.it.sender fresh no_sender (λ l. l.loans) refl sender,
+                  ))
+
+              module _ (r : Parts Q QH P PH K) (counted : r ≡ with_server_sender_at q sender with_one_loan) where
                 abbrev counts : Parts Q QH P PH K
-                counts = with_server_at loan_made index (with_one_response_loan stands.it)
+                counts = record p { server_senders = slice_set p.server_senders stands.it.sender (with_one_loan fresh) }
 
                 r_is : r ≡ counts
-                r_is = of_index (λ s. r ≡ with_server_at loan_made index (with_one_response_loan s))
-                    (subst (λ q. IsSomeAnd (slice_get q.servers index) (λ s. r ≡ with_server_at q index (with_one_response_loan s))) q_is counted)
+                r_is = counted ∙ ap (λ q. with_server_sender_at q sender with_one_loan) q_is
+                    ∙ ap (λ l. with_server_sender_at loan_made l with_one_loan) sender_is
+                    ∙ ap (λ ls. record p { server_senders = ls })
+                    (stored_twice p.server_senders stands.it.sender fresh with_one_loan own.0)
 
                 pub still_there : (v : HandleEntry) × (fin_map.get r.table.entries n ≡ Some (table_entry place v))
                 still_there = subst
@@ -287,17 +324,19 @@ module _ {Q QH P PH K : Type 0} (p : Parts Q QH P PH K) (core : IsCore p) (n : �
                       ∙ core.sound.numbered.fresh p.next (omega arith))
 
                   number_fits : s.next + 1 < 2 ^ 64
-                  number_fits = subst (λ (s : Parts Q QH P PH K). s.next + 1 < 2 ^ 64) (sym s_is) (omega (arith, core.sound.sized.next_fits))
+                  number_fits = subst (λ (s : Parts Q QH P PH K). s.next + 1 < 2 ^ 64) (sym s_is)
+                      (omega (arith, core.sound.sized.next_fits))
 
                   pub add_asked : CanInsert s.table s.next own_place × (s.next + 1 < 2 ^ 64)
                   add_asked = (record { inside = place_asked; vacant = vacant_asked; fresh = fresh_asked }, number_fits)
 
                   module _ (full : IsErrOf (Ok own_place) AcquireError.Full
-                      ↔ (used_count (sender_of sender p.server_senders).messages ≡ length (sender_of sender p.server_senders).messages.held))
+                      ↔ (used_count (sender_of sender p.server_senders).messages ≡ length
+                      (sender_of sender p.server_senders).messages.held))
                       (left : 0 < numbers_left (state_of p)) (k : ℕ) (number : k ≡ s.next) (t : Parts Q QH P PH K)
                       (added : t ≡ with_new_handle s own_place
                       (record { stage = stage.ResponseMutUninit; sender = sender; slot = own_place.index })) where
-                    after : t ≡ with_response_loan p index stands.it n place more its_details own_place.index len header
+                    after : t ≡ with_response_loan p stands.it n place more its_details own_place.index len header
                     after =
                         added
                         ∙ ap (λ l. with_new_handle s own_place (record {
@@ -324,7 +363,8 @@ module _ {Q QH P PH K : Type 0} (p : Parts Q QH P PH K) (core : IsCore p) (n : �
                     pub loans_told : (IsDefault : PH → Type 0) → IsDefault header
                         → LoansResponse IsDefault (state_of p) n len (Ok k) (state_of t)
                     loans_told IsDefault default =
-                        lends p core.sound index stands.it stands.at n entry.sender entry.slot loans (table_entry place entry) at is IsDefault
+                        lends p core.sound index stands.it stands.at n entry.sender entry.slot loans
+                        (table_entry place entry) at is IsDefault
                         len own_place.index k header
                         (none_due p core.sound index stands.it stands.at n entry.sender entry.slot loans (table_entry place entry) at is len
                         passes.0 passes.1 used) default its_free its_unused (state_of p) (state_of t) n refl refl
@@ -333,8 +373,11 @@ module _ {Q QH P PH K : Type 0} (p : Parts Q QH P PH K) (core : IsCore p) (n : �
                     pub core_then : (IsDefault : PH → Type 0) → IsDefault header → IsCore t
                     core_then IsDefault default = record {
                       sound = subst (λ q. IsSound q empty_hand) (sym after)
-                          (response_loan_sound p core.sound index stands.it stands.at n entry.sender entry.slot loans (table_entry place entry)
+                          (response_loan_sound p core.sound index stands.it stands.at n entry.sender entry.slot loans
+                          (table_entry place entry)
                           at is given own_place.index len header its_free its_unused (omega (arith, left)));
                       reached = loans_response_reached (state_of p) core.reached IsDefault n len (Ok k) (state_of t)
+                          (loans_told IsDefault default);
+                      complete = loans_response_complete (state_of p) core.complete IsDefault n len (Ok k) (state_of t)
                           (loans_told IsDefault default);
                     }

@@ -14,6 +14,7 @@ use Rattle.rr_protocol.specs.Ports.{Server}
 use Rattle.rr_protocol.specs.Queries.{kind_at}
 use Rattle.rr_protocol.specs.Receives.{ReceivesRequest, ReceivesUnskimmed}
 use Rattle.rr_protocol.specs.State.{State, numbers_left}
+use Rattle.rr_laws.proofs.CompleteCalls.{receives_request_complete, skims_complete}
 use Rattle.rr_laws.proofs.Receiving.{receives_request_reached, skims_reached}
 use Rattle.rr_store.specs.Answering.{active_entry}
 use Rattle.rr_store.specs.Asked.{CanInsert, CanTake}
@@ -102,6 +103,7 @@ module _ {Q QH P PH K : Type 0} (p : Parts Q QH P PH K) (core : IsCore p) (n : â
       skimmed_core = record {
         sound = ready.sound;
         reached = skims_reached ready.clients (state_of p) core.reached server.it.port.id (state_of q) ready.skims;
+        complete = skims_complete ready.clients (state_of p) core.complete server.it.port.id (state_of q) ready.skims;
       }
 
       -- and each client's sender still has a queue to the server
@@ -317,4 +319,5 @@ module _ {Q QH P PH K : Type 0} (p : Parts Q QH P PH K) (core : IsCore p) (n : â
                   sound = subst (Î» q. IsSound q empty_hand) (sym t_is)
                       (received_request_sound q ready.sound below sender here.0 server.index server.it still slot first_is);
                   reached = receives_request_reached (state_of p) core.reached n (Ok (Some k)) (state_of t) receives_then;
+                  complete = receives_request_complete (state_of p) core.complete n (Ok (Some k)) (state_of t) receives_then;
                 }

@@ -1,5 +1,5 @@
 -- A response leaves the queue from some server, and has a handle under its number.
-use Rattle.std.proofs.Common.{◌≡◌, ◌<◌, ◌+◌, ◌^◌, ℕ, None, Some, Ok, Err, [], Option, length, refl, sym, ap, ◌∙◌, subst, arith}
+use Rattle.std.proofs.Common.{◌≡◌, ◌<◌, ◌+◌, ◌^◌, ℕ, None, Some, Ok, Err, [], Option, option_map, length, refl, sym, ap, ◌∙◌, subst, arith}
 use Rattle.std.specs.Prelude.{◌==◌, IsSome, IsSomeAnd, Result, slice_get, slice_index_or}
 use Rattle.std.specs.List.{position}
 use Rattle.std.specs.FinMap as fin_map
@@ -11,6 +11,8 @@ use Rattle.rr_protocol.specs.declared.error.ReceiveError.{ReceiveError}
 use Rattle.rr_protocol.specs.declared.kind.Kind.TheVariants as kind
 use Rattle.rr_protocol.specs.Queries.{kind_at}
 use Rattle.rr_protocol.specs.Receives.{ReceivesResponse}
+use Rattle.rr_protocol.specs.State.{handle_at}
+use Rattle.rr_laws.proofs.CompleteCalls.{receives_response_complete}
 use Rattle.rr_laws.proofs.Receiving.{receives_response_reached}
 use Rattle.rr_store.specs.declared.details.ResponseDetails.{ResponseDetails}
 use Rattle.rr_store.specs.declared.handle_entry.HandleEntry.{HandleEntry}
@@ -21,12 +23,13 @@ use Rattle.rr_store.specs.Parts.{ClientPart, Parts}
 use Rattle.rr_store.specs.Reaching.{IsCore}
 use Rattle.rr_store.specs.Receiving.{IsNextSender, Reaches, borrowed_from, queue_from, received_held, with_received_response, with_taken_response}
 use Rattle.rr_store.specs.Sound.{IsSound, empty_hand, response_details, response_place}
-use Rattle.rr_store.specs.Views.{sender_of, state_of}
+use Rattle.rr_store.specs.Views.{handle_of, sender_of, state_of}
 use Rattle.rr_store.proofs.base.hands.Vacant.{response_vacant}
 use Rattle.rr_store.proofs.base.lookups.Asking.{borrows_fit}
+use Rattle.rr_store.proofs.base.lookups.Looking.{handle_at-state_of}
 use Rattle.rr_store.proofs.base.lookups.Placed.{value_there}
 use Rattle.rr_store.proofs.base.lookups.Shown.{request_spot}
-use Rattle.rr_store.proofs.base.senders.Owners.{First, client_of_sender}
+use Rattle.rr_store.proofs.base.senders.Owners.{First, client_of_sender, client_receiver}
 use Rattle.rr_store.proofs.base.senders.Ports.{of_found}
 use Rattle.rr_store.proofs.base.senders.Queues.{times_queue}
 use Rattle.rr_store.proofs.querying.Connected.{of_kind, pending_has_request}
@@ -59,17 +62,14 @@ module _ {Q QH P PH K : Type 0} (p : Parts Q QH P PH K) (core : IsCore p) (n : �
   asks : IsAsking p n client.index entry.slot client.it
   asks = asking p core.sound n entry found pending n refl client.index client.it client.at client.is
 
-  -- there is such a client
-  pub client_asked : IsSome (position (λ (c : ClientPart K). c.sender == entry.sender) p.clients)
-  client_asked = subst IsSome (sym client.found) refl
+  -- its sender is there
+  pub own_asked : entry.sender < length p.client_senders
+  own_asked = (request_spot p empty_hand core.sound.counted n entry found (pending_has_request entry.stage pending)).0
 
-  module _ (receiver : ℕ) (its : IsSomeAnd (position (λ (c : ClientPart K). c.sender == entry.sender) p.clients)
-      (λ i. IsSomeAnd (slice_get p.clients i) (λ c. receiver ≡ c.receiver))) where
+  module _ (receiver : ℕ) (its : receiver ≡ (sender_of entry.sender p.client_senders).receiver) where
     -- the receiver is that client
     receiver_is : receiver ≡ client.it.receiver
-    receiver_is =
-        of_found (λ (c : ClientPart K). c.sender == entry.sender) p.clients client.index client.it client.found client.at
-        (λ _ c. receiver ≡ c.receiver) its
+    receiver_is = its ∙ client_receiver p empty_hand core.sound entry.sender client
 
     -- each server's sender has a queue to it
     pub queues_asked : Reaches p.server_senders receiver entry.slot
@@ -194,11 +194,19 @@ module _ {Q QH P PH K : Type 0} (p : Parts Q QH P PH K) (core : IsCore p) (n : �
                 (subst (λ x. IsVacant p.table x) (sym own_is)
                 (response_vacant p core.sound sender slot here.0 (not_held p core.sound sender slot waits)))
 
-            -- the number has no handle
+            -- the number had no handle
+            unused : fin_map.get p.table.entries details.number ≡ None
+            unused =
+                ap (λ (d : ResponseDetails). fin_map.get p.table.entries d.number) details_are ∙ no_handle p core.sound sender slot waits
+
+            -- and it has none
             fresh_asked : fin_map.get q.table.entries details.number ≡ None
-            fresh_asked =
-                ap (λ (t : TableView HandleEntry). fin_map.get t.entries details.number) table_is
-                ∙ ap (λ (d : ResponseDetails). fin_map.get p.table.entries d.number) details_are ∙ no_handle p core.sound sender slot waits
+            fresh_asked = ap (λ (t : TableView HandleEntry). fin_map.get t.entries details.number) table_is ∙ unused
+
+            -- in what contracts see, too
+            pub unhandled : (k : ℕ) → k ≡ details.number → handle_at (state_of p) k ≡ None
+            unhandled k numbered = handle_at-state_of p k ∙ ap (option_map (handle_of p)) (ap (fin_map.get p.table.entries) numbered
+                ∙ unused)
 
             pub insert_asked : CanInsert q.table details.number own
             insert_asked = record { inside = place_asked; vacant = vacant_asked; fresh = fresh_asked }
@@ -226,4 +234,5 @@ module _ {Q QH P PH K : Type 0} (p : Parts Q QH P PH K) (core : IsCore p) (n : �
                 sound = subst (λ q. IsSound q empty_hand) (sym t_is)
                     (received_sound p core.sound sender here.0 client.index client.it client.at entry.slot slot asks.inside first_is);
                 reached = receives_response_reached (state_of p) core.reached n (Ok (Some k)) (state_of t) receives_then;
+                complete = receives_response_complete (state_of p) core.complete n (Ok (Some k)) (state_of t) receives_then;
               }

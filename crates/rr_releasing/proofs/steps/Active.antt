@@ -9,7 +9,9 @@ use Rattle.rr_table.specs.declared.place.Place.{Place}
 use Rattle.rr_sender.specs.Senders.{borrowed_at}
 use Rattle.rr_protocol.specs.Releases.{after_release}
 use Rattle.rr_protocol.specs.State.{handle_at}
+use Rattle.rr_laws.specs.Complete.{MessagesComplete}
 use Rattle.rr_laws.specs.Reached.{IsReached}
+use Rattle.rr_laws.proofs.CompleteReleases.{after_release_complete}
 use Rattle.rr_laws.proofs.Leaving.{after_release_reached}
 use Rattle.rr_store.specs.declared.handle_entry.HandleEntry.{HandleEntry}
 use Rattle.rr_store.specs.Changes.{with_requests, without_handle, without_mark}
@@ -71,7 +73,8 @@ module _ {Q QH P PH K : Type 0} (p : Parts Q QH P PH K) (core : IsCore p) (n : �
       queue_asked =
           subst (λ (q : Parts Q QH P PH K). (receiver < length (sender_of entry.sender q.client_senders).messages.queues)
           × (0 < length (slice_index_or (sender_of entry.sender q.client_senders).messages.queues receiver []))) (sym gone)
-          (queue_there (sender_of entry.sender p.client_senders).messages (core.sound.sized.client_senders entry.sender found.sender) receiver 0
+          (queue_there (sender_of entry.sender p.client_senders).messages
+          (core.sound.sized.client_senders entry.sender found.sender) receiver 0
           here)
 
       pub counted_asked : (0 < borrowed_at (sender_of entry.sender q.client_senders).messages receiver 0)
@@ -87,7 +90,8 @@ module _ {Q QH P PH K : Type 0} (p : Parts Q QH P PH K) (core : IsCore p) (n : �
 
         pub mark_asked : entry.slot * r.limits.max_servers + receiver < length (slice_index_or r.waiting entry.sender [])
         mark_asked =
-            subst (λ (r : Parts Q QH P PH K). entry.slot * r.limits.max_servers + receiver < length (slice_index_or r.waiting entry.sender []))
+            subst (λ (r : Parts Q QH P PH K). entry.slot * r.limits.max_servers + receiver < length
+            (slice_index_or r.waiting entry.sender []))
             (sym steps)
             (mark_within entry.slot (length (sender_of entry.sender p.client_senders).messages.held) p.limits.max_servers receiver
             (length (slice_index_or p.waiting entry.sender []))
@@ -100,7 +104,8 @@ module _ {Q QH P PH K : Type 0} (p : Parts Q QH P PH K) (core : IsCore p) (n : �
               cleared ∙ ap (λ (r : Parts Q QH P PH K). without_mark r entry.sender (entry.slot * r.limits.max_servers + receiver)) steps
               ∙ ap (λ x. without_mark (with_requests (without_handle p n) entry.sender (λ m. borrow_ended m its 0 entry.slot)) entry.sender
               (entry.slot * p.limits.max_servers + x)) receiver_is
-              ∙ ap (λ (h : HandleEntry). without_mark (with_requests (without_handle p n) h.sender (λ m. borrow_ended m its 0 h.slot)) h.sender
+              ∙ ap (λ (h : HandleEntry). without_mark (with_requests (without_handle p n) h.sender
+              (λ m. borrow_ended m its 0 h.slot)) h.sender
               (h.slot * p.limits.max_servers + its)) (sym found.is)
 
           pub view_then : state_of t ≡ after_release (state_of p) n
@@ -112,4 +117,5 @@ module _ {Q QH P PH K : Type 0} (p : Parts Q QH P PH K) (core : IsCore p) (n : �
             sound = subst (λ q. IsSound q empty_hand) (sym after)
                 (active_sound p core.sound n found.table_entry found.at found.server found.loans found.active);
             reached = subst (λ s. IsReached s) (sym view_then) (after_release_reached (state_of p) n core.reached);
+            complete = subst (λ s. MessagesComplete s) (sym view_then) (after_release_complete (state_of p) n core.complete);
           }

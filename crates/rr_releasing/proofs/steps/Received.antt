@@ -8,7 +8,9 @@ use Rattle.rr_table.specs.declared.place.Place.{Place}
 use Rattle.rr_sender.specs.Senders.{borrowed_at}
 use Rattle.rr_protocol.specs.Releases.{after_release}
 use Rattle.rr_protocol.specs.State.{handle_at}
+use Rattle.rr_laws.specs.Complete.{MessagesComplete}
 use Rattle.rr_laws.specs.Reached.{IsReached}
+use Rattle.rr_laws.proofs.CompleteReleases.{after_release_complete}
 use Rattle.rr_laws.proofs.Leaving.{after_release_reached}
 use Rattle.rr_store.specs.declared.details.ResponseDetails.{ResponseDetails}
 use Rattle.rr_store.specs.declared.handle_entry.HandleEntry.{HandleEntry}
@@ -72,7 +74,8 @@ module _ {Q QH P PH K : Type 0} (p : Parts Q QH P PH K) (core : IsCore p) (n : �
 
         here : 0 < borrowed_at (sender_of entry.sender p.server_senders).messages receiver details.channel
         here =
-            subst (λ (d : ResponseDetails). 0 < borrowed_at (sender_of entry.sender p.server_senders).messages receiver d.channel) details_are
+            subst (λ (d : ResponseDetails). 0 < borrowed_at
+            (sender_of entry.sender p.server_senders).messages receiver d.channel) details_are
             (subst (λ r. 0 < borrowed_at (sender_of entry.sender p.server_senders).messages r
             (response_details p entry.sender entry.slot).channel) (sym receiver_is)
             (subst (λ (h : HandleEntry). 0 < borrowed_at (sender_of h.sender p.server_senders).messages client.it.receiver
@@ -113,4 +116,5 @@ module _ {Q QH P PH K : Type 0} (p : Parts Q QH P PH K) (core : IsCore p) (n : �
             sound = subst (λ q. IsSound q empty_hand) (sym after)
                 (received_sound p core.sound n found.table_entry found.at found.got client.index client.it client.at its_client);
             reached = subst (λ s. IsReached s) (sym view_then) (after_release_reached (state_of p) n core.reached);
+            complete = subst (λ s. MessagesComplete s) (sym view_then) (after_release_complete (state_of p) n core.complete);
           }

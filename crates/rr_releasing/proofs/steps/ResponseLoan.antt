@@ -1,27 +1,31 @@
 -- A response on loan leaves its place, its slot, and the counts of its server and of its active request.
-use Rattle.std.proofs.Common.{◌≡◌, ◌<◌, ℕ, true, Option, Some, length, refl, sym, ap, ◌∙◌, subst}
-use Rattle.std.specs.Prelude.{◌==◌, IfSome, IsSomeAnd, slice_get, slice_index}
-use Rattle.std.specs.List.{position}
+use Rattle.std.proofs.Common.{◌≡◌, ◌<◌, ℕ, true, Option, Some, length, refl, sym, ap, ◌∙◌, subst, arith}
+use Rattle.std.specs.Prelude.{◌==◌, IfSome, IsSomeAnd, slice_index, slice_set}
 use Rattle.std.specs.FinMap as fin_map
+use Rattle.std.proofs.lemmas.List.{length-set}
 use Rattle.rr_table.specs.TableView.{table_entry}
 use Rattle.rr_table.specs.declared.place.Place.{Place}
 use Rattle.rr_protocol.specs.Releases.{after_release}
 use Rattle.rr_protocol.specs.State.{handle_at}
+use Rattle.rr_laws.specs.Complete.{MessagesComplete}
 use Rattle.rr_laws.specs.Reached.{IsReached}
+use Rattle.rr_laws.proofs.CompleteReleases.{after_release_complete}
 use Rattle.rr_laws.proofs.Leaving.{after_release_reached}
 use Rattle.rr_store.specs.declared.details.ResponseDetails.{ResponseDetails}
 use Rattle.rr_store.specs.declared.handle_entry.HandleEntry.{HandleEntry}
-use Rattle.rr_store.specs.Changes.{with_responses, with_server_at, without_handle}
+use Rattle.rr_store.specs.Changes.{with_responses, with_server_sender_at, without_handle}
+use Rattle.rr_store.specs.Loaning.{with_messages}
 use Rattle.rr_store.specs.Ending.{IsAskedPlace, IsLoanEnded, found_under}
-use Rattle.rr_store.specs.Parts.{ServerPart, Parts}
+use Rattle.rr_store.specs.Parts.{ServerPart, Parts, Sender}
 use Rattle.rr_store.specs.Reaching.{IsCore}
-use Rattle.rr_store.specs.Releasing.{given_back, is_loaned_response, without_response_loan}
+use Rattle.rr_store.specs.Releasing.{given_back, is_loaned_response, without_loan}
 use Rattle.rr_store.specs.Sound.{IsSound, empty_hand, response_details}
-use Rattle.rr_store.specs.Views.{sender_of, state_of}
+use Rattle.rr_store.specs.Views.{no_sender, sender_of, state_of}
+use Rattle.rr_store.proofs.base.lists.Replaced.{set_alike}
 use Rattle.rr_store.proofs.base.lookups.Placed.{value_there}
 use Rattle.rr_store.proofs.base.lookups.Shown.{held_within}
-use Rattle.rr_store.proofs.base.senders.Owners.{First, server_of_sender}
-use Rattle.rr_store.proofs.base.senders.Ports.{of_found, to_found}
+use Rattle.rr_store.proofs.base.senders.Owners.{First, server_of_sender, server_receiver}
+use Rattle.rr_store.proofs.base.senders.Stored.{stored_twice}
 use Rattle.rr_store.proofs.releasing.response_loan.Fields.{ResponseLoanFound, response_loan_found, has_loan, response_loan_parts}
 
 module _ {Q QH P PH K : Type 0} (p : Parts Q QH P PH K) (core : IsCore p) (n : ℕ) (place : Place) (entry : HandleEntry)
@@ -33,9 +37,9 @@ module _ {Q QH P PH K : Type 0} (p : Parts Q QH P PH K) (core : IsCore p) (n : �
   server : First (λ (s : ServerPart K). s.sender) (λ (s : ServerPart K). s.sender == entry.sender) p.servers entry.sender
   server = server_of_sender p empty_hand core.sound entry.sender found.sender
 
-  -- what the server that sends from the sender has or becomes
-  abbrev Ends : Parts Q QH P PH K → (ℕ → ServerPart K → Type 0) → Type 0
-  Ends q R = IsSomeAnd (position (λ (s : ServerPart K). s.sender == entry.sender) q.servers) (λ i. IsSomeAnd (slice_get q.servers i) (R i))
+  -- the sender without the hold of the response
+  abbrev given : Sender P ResponseDetails PH
+  given = with_messages (sender_of entry.sender p.server_senders) (given_back (sender_of entry.sender p.server_senders).messages entry.slot)
 
   module _ (q : Parts Q QH P PH K) (gone : q ≡ without_handle p n) where
     pub sender_asked : entry.sender < length q.server_senders
@@ -51,7 +55,7 @@ module _ {Q QH P PH K : Type 0} (p : Parts Q QH P PH K) (core : IsCore p) (n : �
         (sym gone) found.slot
 
     module _ (details : ResponseDetails) (are : details ≡ response_details q entry.sender entry.slot)
-        (r : Parts Q QH P PH K) (given : r ≡ with_responses q entry.sender (λ m. given_back m entry.slot)) where
+        (r : Parts Q QH P PH K) (free : r ≡ with_responses q entry.sender (λ m. given_back m entry.slot)) where
       details_are : response_details p entry.sender entry.slot ≡ details
       details_are = sym (are ∙ ap (λ q. response_details q entry.sender entry.slot) gone)
 
@@ -59,29 +63,33 @@ module _ {Q QH P PH K : Type 0} (p : Parts Q QH P PH K) (core : IsCore p) (n : �
       freed = with_responses (without_handle p n) entry.sender (λ m. given_back m entry.slot)
 
       r_is : r ≡ freed
-      r_is = given ∙ ap (λ q. with_responses q entry.sender (λ m. given_back m entry.slot)) gone
+      r_is = free ∙ ap (λ q. with_responses q entry.sender (λ m. given_back m entry.slot)) gone
 
-      pub server_asked : Ends r (λ _ s. 0 < s.loans)
-      server_asked =
-          subst (λ r. Ends r (λ _ s. 0 < s.loans)) (sym r_is)
-          (to_found (λ (s : ServerPart K). s.sender == entry.sender) p.servers server.index server.it server.found server.at (λ _ s. 0 < s.loans)
-          (has_loan p core.sound n entry found server.index server.it server.at server.is))
+      pub sender_still : entry.sender < length r.server_senders
+      sender_still = subst (λ (r : Parts Q QH P PH K). entry.sender < length r.server_senders) (sym r_is)
+          (omega (arith, found.sender, length-set p.server_senders entry.sender given))
 
-      module _ (receiver : ℕ) (s : Parts Q QH P PH K) (its : Ends r (λ _ c. receiver ≡ c.receiver))
-          (counted : Ends r (λ i c. s ≡ with_server_at r i (without_response_loan c))) where
+      pub loan_asked : 0 < (sender_of entry.sender r.server_senders).loans
+      loan_asked = subst (λ (r : Parts Q QH P PH K). 0 < (sender_of entry.sender r.server_senders).loans) (sym r_is) (omega (
+        arith,
+        has_loan p core.sound n entry found server.index server.it server.at server.is,
+        set_alike p.server_senders entry.sender given no_sender (λ l. l.loans) refl entry.sender,
+      ))
+
+      module _ (receiver : ℕ) (s : Parts Q QH P PH K) (its : receiver ≡ (sender_of entry.sender r.server_senders).receiver)
+          (counted : s ≡ with_server_sender_at r entry.sender without_loan) where
         abbrev loan_ended : Parts Q QH P PH K
-        loan_ended = with_server_at freed server.index (without_response_loan server.it)
+        loan_ended = record (without_handle p n) { server_senders = slice_set p.server_senders entry.sender (without_loan given) }
 
         receiver_is : receiver ≡ server.it.receiver
-        receiver_is =
-            of_found (λ (s : ServerPart K). s.sender == entry.sender) p.servers server.index server.it server.found server.at
-            (λ _ c. receiver ≡ c.receiver) (subst (λ r. Ends r (λ _ c. receiver ≡ c.receiver)) r_is its)
+        receiver_is = its ∙ ap (λ (r : Parts Q QH P PH K). (sender_of entry.sender r.server_senders).receiver) r_is
+            ∙ set_alike p.server_senders entry.sender given no_sender (λ l. l.receiver) refl entry.sender
+            ∙ server_receiver p empty_hand core.sound entry.sender server
 
         s_is : s ≡ loan_ended
-        s_is =
-            of_found (λ (s : ServerPart K). s.sender == entry.sender) p.servers server.index server.it server.found server.at
-            (λ i c. s ≡ with_server_at freed i (without_response_loan c))
-            (subst (λ r. Ends r (λ i c. s ≡ with_server_at r i (without_response_loan c))) r_is counted)
+        s_is = counted ∙ ap (λ r. with_server_sender_at r entry.sender without_loan) r_is
+            ∙ ap (λ ls. record (without_handle p n) { server_senders = ls })
+            (stored_twice p.server_senders entry.sender given without_loan found.sender)
 
         module _ (t : Parts Q QH P PH K) (rest : t ≡ record s { table = t.table })
             (ended : (at : Option Place) × IfSome at (IsAskedPlace s.client_senders details receiver)
@@ -93,10 +101,11 @@ module _ {Q QH P PH K : Type 0} (p : Parts Q QH P PH K) (core : IsCore p) (n : �
               × (state_of (record loan_ended { table = t.table }) ≡ after_release (state_of p) n)
           both =
               response_loan_parts p core.sound n entry found server.index server.it server.at server.is details details_are
-              loan_ended.servers loan_ended.server_senders t.table refl refl ended.0
+              loan_ended.server_senders t.table refl ended.0
               (subst (λ x. IfSome ended.0 (IsAskedPlace p.client_senders details x)) receiver_is
               (subst (λ (s : Parts Q QH P PH K). IfSome ended.0 (IsAskedPlace s.client_senders details receiver)) s_is ended.1))
-              (subst (λ (s : Parts Q QH P PH K). IsLoanEnded details.active_request (found_under s.table details.active_request ended.0) s.table
+              (subst (λ (s : Parts Q QH P PH K). IsLoanEnded details.active_request
+              (found_under s.table details.active_request ended.0) s.table
               t.table) s_is ended.2)
 
           pub view_then : state_of t ≡ after_release (state_of p) n
@@ -106,4 +115,5 @@ module _ {Q QH P PH K : Type 0} (p : Parts Q QH P PH K) (core : IsCore p) (n : �
           core_then = record {
             sound = subst (λ q. IsSound q empty_hand) (sym t_is) both.0;
             reached = subst (λ s. IsReached s) (sym view_then) (after_release_reached (state_of p) n core.reached);
+            complete = subst (λ s. MessagesComplete s) (sym view_then) (after_release_complete (state_of p) n core.complete);
           }

@@ -1,9 +1,9 @@
 -- A request that can be sent comes to all connected servers, its client counts it, and it becomes a pending response.
 use Rattle.std.proofs.Common.{◌≡◌, ◌<◌, ◌+◌, ◌*◌, ◌^◌, ℕ, true, [], None, Some, Ok, Err, length, refl, sym, ap, ◌∙◌, subst, arith}
-use Rattle.std.specs.Prelude.{◌==◌, IsSomeAnd, count_by, slice_get, slice_index, slice_index_or, Option}
+use Rattle.std.specs.Prelude.{◌==◌, IsSomeAnd, count_by, slice_get, slice_index, slice_index_or, slice_set, Option}
 use Rattle.std.specs.List.{position}
 use Rattle.std.specs.FinMap as fin_map
-use Rattle.std.proofs.lemmas.List.{length-map}
+use Rattle.std.proofs.lemmas.List.{length-map, length-set}
 use Rattle.std.proofs.lemmas.Option.{slice_get_within}
 use Rattle.std.proofs.Math.Nat.{le-mul_of_pos_right}
 use Rattle.rr_table.specs.TableView.{IsAt, TableEntry, table_entry, value_at}
@@ -16,24 +16,29 @@ use Rattle.rr_protocol.specs.Queries.{kind_at}
 use Rattle.rr_protocol.specs.Releases.{after_release}
 use Rattle.rr_protocol.specs.Sends.{SendsRequest, connections_of, request_send_refusal, with_sent_request}
 use Rattle.rr_protocol.specs.State.{handle_at}
+use Rattle.rr_laws.proofs.CompleteCalls.{sends_request_complete}
 use Rattle.rr_laws.proofs.Sending.{sends_request_reached}
+use Rattle.rr_store.specs.declared.details.RequestDetails.{RequestDetails}
 use Rattle.rr_store.specs.declared.handle_entry.HandleEntry.{HandleEntry}
 use Rattle.rr_store.specs.declared.handle_entry.Stage.TheVariants as stage
-use Rattle.rr_store.specs.Changes.{is_open_to, request_send_limit, with_client_at, with_handle, with_request_queued}
-use Rattle.rr_store.specs.Parts.{ClientPart, ServerPart, Parts}
+use Rattle.rr_store.specs.Changes.{is_open_to, request_send_limit, with_client_sender_at, with_handle, with_request_queued}
+use Rattle.rr_store.specs.Loaning.{with_messages}
+use Rattle.rr_store.specs.Parts.{ClientPart, ServerPart, Parts, Sender}
 use Rattle.rr_store.specs.Reaching.{IsCore}
 use Rattle.rr_store.specs.Releasing.{is_loaned_request}
-use Rattle.rr_store.specs.Sending.{pending_held, request_held, with_one_sent, with_request_sent}
+use Rattle.rr_store.specs.Sending.{pending_held, request_held, server_places, with_one_sent, with_puts, with_request_sent}
 use Rattle.rr_store.specs.Sound.{IsSound, empty_hand, is_in_sender, is_of_request, is_pending}
-use Rattle.rr_store.specs.Views.{handle_in, request_at, sender_of, state_of}
+use Rattle.rr_store.specs.Views.{handle_in, no_sender, request_at, sender_of, state_of}
 use Rattle.rr_store.proofs.base.lists.Adding.{makes_requests, some_loans}
+use Rattle.rr_store.proofs.base.lists.Replaced.{set_alike}
 use Rattle.rr_store.proofs.base.lists.Tallies.{tally_below}
 use Rattle.rr_store.proofs.base.lookups.Asking.{countable}
 use Rattle.rr_store.proofs.base.lookups.Looking.{shown}
 use Rattle.rr_store.proofs.base.lookups.Placed.{value_there}
 use Rattle.rr_store.proofs.base.lookups.Shown.{request_held as has_value, request_spot}
 use Rattle.rr_store.proofs.base.senders.Owners.{First, client_of_sender}
-use Rattle.rr_store.proofs.base.senders.Ports.{of_found, to_found}
+use Rattle.rr_store.proofs.base.senders.Ports.{of_found}
+use Rattle.rr_store.proofs.base.senders.Stored.{stored_twice}
 use Rattle.rr_store.proofs.querying.Connected.{mark_within, of_kind}
 use Rattle.rr_store.proofs.sending.request.Fields.{request_stage}
 use Rattle.rr_store.proofs.sending.request.Inserted.{sent_sound, taken, taken_sound, used_once}
@@ -69,7 +74,8 @@ module _ {Q QH P PH K : Type 0} (p : Parts Q QH P PH K) (core : IsCore p) (n : �
   Ends q R = IsSomeAnd (position (λ (c : ClientPart K). c.sender == entry.sender) q.clients) (λ i. IsSomeAnd (slice_get q.clients i) (R i))
 
   pub client_asked : IsSomeAnd (position (λ (c : ClientPart K). c.sender == entry.sender) p.clients) (λ i. i < length p.clients)
-  client_asked = subst (λ o. IsSomeAnd o (λ i. i < length p.clients)) (sym client.found) (slice_get_within p.clients client.index client.it client.at)
+  client_asked = subst (λ o. IsSomeAnd o (λ i. i < length p.clients)) (sym client.found)
+      (slice_get_within p.clients client.index client.it client.at)
 
   -- each server has a queue
   pub queues_asked : (i : ℕ) (s : ServerPart K) → slice_get p.servers i ≡ Some s
@@ -119,11 +125,15 @@ module _ {Q QH P PH K : Type 0} (p : Parts Q QH P PH K) (core : IsCore p) (n : �
           × (0 < slice_index (sender_of entry.sender p.client_senders).messages.held entry.slot)
           × (uses (sender_of entry.sender p.client_senders).messages entry.slot + length p.servers < 2 ^ 64)
       takes_asked = (
-        omega (arith, (core.sound.sized.client_senders entry.sender spot.0).capacity_is, makes_requests p.limits core.sound.sized.limits_fit),
+        omega (
+          arith,
+          (core.sound.sized.client_senders entry.sender spot.0).capacity_is,
+          makes_requests p.limits core.sound.sized.limits_fit,
+        ),
         has_value p empty_hand core.sound.counted n entry value (ap is_of_request stage_is),
         omega (
           arith,
-          used_once p core.sound n entry.sender entry.slot 0 (table_entry place entry) at is client.index client.it client.at client.is,
+          used_once p core.sound n entry.sender entry.slot 0 (table_entry place entry) at is,
           few,
         ),
       )
@@ -140,38 +150,52 @@ module _ {Q QH P PH K : Type 0} (p : Parts Q QH P PH K) (core : IsCore p) (n : �
 
       module _ (connections : ℕ) (count : connections ≡ count_by (is_open_to p entry.sender) p.servers) (q : Parts Q QH P PH K)
           (queued : q ≡ with_request_queued p entry.sender entry.slot) where
-        pub counts_asked : Ends q (λ _ c. (0 < c.loans) × (c.pendings + 1 < 2 ^ 64))
-        counts_asked =
-            subst (λ q. Ends q (λ _ c. (0 < c.loans) × (c.pendings + 1 < 2 ^ 64))) (sym queued)
-            (to_found (λ (c : ClientPart K). c.sender == entry.sender) p.clients client.index client.it client.found client.at
-            (λ _ c. (0 < c.loans) × (c.pendings + 1 < 2 ^ 64)) (
-              sent.has_loan (taken p core.sound n entry.sender entry.slot 0 (table_entry place entry) at is client.index client.it client.at
-                  client.is) entry.sender entry.slot 0
-                  (taken_sound p core.sound n entry.sender entry.slot 0 (table_entry place entry) at is client.index client.it client.at
-                  client.is)
-                  (used_once p core.sound n entry.sender entry.slot 0 (table_entry place entry) at is client.index client.it client.at client.is)
-                  client.index client.it client.at client.is,
-              omega (
-                arith,
-                core.sound.stored.pendings client.index client.it client.at,
-                tally_below (λ (s : TableEntry HandleEntry). is_in_sender is_pending client.it.sender s.value) p.next p.table.entries
-                    core.sound.numbered.fresh,
-                core.sound.sized.next_fits,
-              ),
+        -- the sender after it
+        abbrev put : Sender Q RequestDetails QH
+        put = with_messages (sender_of entry.sender p.client_senders)
+            (with_puts p.limits.enable_safe_overflow_for_requests entry.slot (sender_of entry.sender p.client_senders).messages
+            (server_places p))
+
+        pub sender_still : entry.sender < length q.client_senders
+        sender_still = subst (λ (q : Parts Q QH P PH K). entry.sender < length q.client_senders) (sym queued)
+            (omega (arith, spot.0, length-set p.client_senders entry.sender put))
+
+        pub loan_counted : 0 < (sender_of entry.sender q.client_senders).loans
+        loan_counted = subst (λ (q : Parts Q QH P PH K). 0 < (sender_of entry.sender q.client_senders).loans) (sym queued) (omega (
+          arith,
+          sent.has_loan (taken p core.sound n entry.sender entry.slot 0 (table_entry place entry) at is) entry.sender entry.slot 0
+              (taken_sound p core.sound n entry.sender entry.slot 0 (table_entry place entry) at is)
+              (used_once p core.sound n entry.sender entry.slot 0 (table_entry place entry) at is),
+          set_alike p.client_senders entry.sender put no_sender (λ l. l.loans) refl entry.sender,
+        ))
+
+        pub pendings_fit : (sender_of entry.sender q.client_senders).pendings + 1 < 2 ^ 64
+        pendings_fit = subst (λ (q : Parts Q QH P PH K). (sender_of entry.sender q.client_senders).pendings + 1 < 2 ^ 64) (sym queued)
+            (omega (
+              arith,
+              core.sound.stored.pendings entry.sender spot.0,
+              tally_below (λ (s : TableEntry HandleEntry). is_in_sender is_pending entry.sender s.value) p.next p.table.entries
+                  core.sound.numbered.fresh,
+              core.sound.sized.next_fits,
+              set_alike p.client_senders entry.sender put no_sender (λ l. l.pendings) refl entry.sender,
             ))
 
-        module _ (r : Parts Q QH P PH K) (counted : Ends q (λ i c. r ≡ with_client_at q i (with_one_sent c))) where
-          r_is : r ≡ with_client_at (with_request_queued p entry.sender entry.slot) client.index (with_one_sent client.it)
-          r_is =
-              of_found (λ (c : ClientPart K). c.sender == entry.sender) p.clients client.index client.it client.found client.at
-              (λ i c. r ≡ with_client_at (with_request_queued p entry.sender entry.slot) i (with_one_sent c))
-              (subst (λ q. Ends q (λ i c. r ≡ with_client_at q i (with_one_sent c))) queued counted)
+        module _ (r : Parts Q QH P PH K) (counted : r ≡ with_client_sender_at q entry.sender with_one_sent) where
+          abbrev counts : Parts Q QH P PH K
+          counts = record (with_request_queued p entry.sender entry.slot) {
+            client_senders = slice_set p.client_senders entry.sender (with_one_sent put);
+          }
+
+          r_is : r ≡ counts
+          r_is = counted ∙ ap (λ q. with_client_sender_at q entry.sender with_one_sent) queued
+              ∙ ap (λ ls. record (with_request_queued p entry.sender entry.slot) { client_senders = ls })
+              (stored_twice p.client_senders entry.sender put with_one_sent spot.0)
 
           pub still_there : IsAt r.table n place
           still_there = subst (λ (r : Parts Q QH P PH K). IsAt r.table n place) (sym r_is) (entry, at)
 
           module _ (t : Parts Q QH P PH K) (replaced : t ≡ with_handle r n place (pending_held entry.sender entry.slot connections)) where
-            after : t ≡ with_request_sent p client.index client.it n entry.sender entry.slot connections place
+            after : t ≡ with_request_sent p n entry.sender entry.slot connections place
             after = replaced ∙ ap (λ r. with_handle r n place (pending_held entry.sender entry.slot connections)) r_is
 
             count_is : connections ≡ connections_of (state_of p) (request_at p entry.sender entry.slot)
@@ -180,20 +204,21 @@ module _ {Q QH P PH K : Type 0} (p : Parts Q QH P PH K) (core : IsCore p) (n : �
 
             pub sends : SendsRequest action (state_of p) n (Ok connections) (state_of t)
             sends =
-                refusals.told p core.sound n entry.sender entry.slot (table_entry place entry) at is client.index client.it client.at client.is
+                refusals.told p core.sound n entry.sender entry.slot
+                (table_entry place entry) at is client.index client.it client.at client.is
                 (λ s m client message. (request_send_refusal action s client message ≡ None) × (connections ≡ connections_of s message)
                 × (state_of t ≡ with_sent_request s m message)) (state_of p) n refl refl (
-                  refusals.refusal_parts p core.sound n entry.sender entry.slot (table_entry place entry) at is client.index client.it client.at
+                  refusals.refusal_parts p core.sound n entry.sender entry.slot
+                      (table_entry place entry) at is client.index client.it client.at
                       client.is action ∙ sym limit_is ∙ none,
                   count_is,
-                  ap state_of after ∙ sent_view p core.sound n entry.sender entry.slot connections (table_entry place entry) at is client.index
-                      client.it client.at client.is count_is,
+                  ap state_of after ∙ sent_view p core.sound n entry.sender entry.slot connections (table_entry place entry) at is count_is,
                 )
 
             pub core_then : IsCore t
             core_then = record {
               sound = subst (λ q. IsSound q empty_hand) (sym after)
-                  (sent_sound p core.sound n entry.sender entry.slot connections (table_entry place entry) at is client.index client.it client.at
-                  client.is);
+                  (sent_sound p core.sound n entry.sender entry.slot connections (table_entry place entry) at is);
               reached = sends_request_reached (state_of p) core.reached n action (Ok connections) (state_of t) sends;
+              complete = sends_request_complete (state_of p) core.complete n action (Ok connections) (state_of t) sends;
             }

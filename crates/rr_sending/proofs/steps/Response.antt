@@ -1,8 +1,9 @@
 -- A response that can be sent comes to the queue that it reaches, and its handle, its hold and its loans end.
-use Rattle.std.proofs.Common.{◌≡◌, ◌<◌, ℕ, Bool, true, false, Option, Some, Ok, length, refl, sym, ap, ◌∙◌, subst}
-use Rattle.std.specs.Prelude.{◌==◌, IfSome, IsSomeAnd, slice_get, slice_index}
+use Rattle.std.proofs.Common.{◌≡◌, ◌<◌, ℕ, Bool, true, false, Option, Some, Ok, List, length, refl, sym, ap, ◌∙◌, subst, arith}
+use Rattle.std.specs.Prelude.{◌==◌, IfSome, IsSomeAnd, slice_get, slice_index, slice_set}
 use Rattle.std.specs.List.{position}
 use Rattle.std.specs.FinMap as fin_map
+use Rattle.std.proofs.lemmas.List.{length-set}
 use Rattle.std.proofs.lemmas.Option.{slice_get_within}
 use Rattle.rr_table.specs.TableView.{table_entry, value_at}
 use Rattle.rr_table.specs.declared.place.Place.{Place}
@@ -14,22 +15,26 @@ use Rattle.rr_protocol.specs.Queries.{kind_at}
 use Rattle.rr_protocol.specs.Releases.{after_release}
 use Rattle.rr_protocol.specs.Sends.{is_response_refused, with_response_put}
 use Rattle.rr_protocol.specs.State.{IsResponseMutAnd, handle_at}
+use Rattle.rr_laws.proofs.CompleteCalls.{sends_response_complete}
 use Rattle.rr_laws.proofs.Sending.{sends_response_reached}
 use Rattle.rr_store.specs.declared.details.ResponseDetails.{ResponseDetails}
 use Rattle.rr_store.specs.declared.handle_entry.HandleEntry.{HandleEntry}
-use Rattle.rr_store.specs.Changes.{with_responses, with_server_at, without_handle}
-use Rattle.rr_store.specs.Delivering.{HasQueue, is_refused_in, reached, with_delivered}
+use Rattle.rr_store.specs.Changes.{with_responses, with_server_sender_at, without_handle}
+use Rattle.rr_store.specs.Delivering.{HasQueue, delivered as in_queue, is_refused_in, reached, with_delivered}
 use Rattle.rr_store.specs.Ending.{IsAskedPlace, IsLoanEnded, found_under}
 use Rattle.rr_store.specs.Kinds.{stage_kind}
-use Rattle.rr_store.specs.Parts.{ClientPart, ServerPart, Parts}
+use Rattle.rr_store.specs.Loaning.{with_messages}
+use Rattle.rr_store.specs.Parts.{ClientPart, ServerPart, Parts, Sender}
 use Rattle.rr_store.specs.Reaching.{IsCore}
-use Rattle.rr_store.specs.Releasing.{given_back, is_loaned_response, without_response_loan}
+use Rattle.rr_store.specs.Releasing.{given_back, is_loaned_response, without_loan}
 use Rattle.rr_store.specs.Sound.{IsSound, empty_hand, response_details}
-use Rattle.rr_store.specs.Views.{response_at, sender_of, server_of, state_of}
+use Rattle.rr_store.specs.Views.{no_sender, response_at, sender_of, server_of, state_of}
+use Rattle.rr_store.proofs.base.lists.Replaced.{set_alike}
 use Rattle.rr_store.proofs.base.lookups.Placed.{value_there}
 use Rattle.rr_store.proofs.base.lookups.Shown.{held_within}
-use Rattle.rr_store.proofs.base.senders.Owners.{First, server_of_sender}
-use Rattle.rr_store.proofs.base.senders.Ports.{of_found, to_found}
+use Rattle.rr_store.proofs.base.senders.Owners.{First, server_of_sender, server_receiver}
+use Rattle.rr_store.proofs.base.senders.Ports.{of_found}
+use Rattle.rr_store.proofs.base.senders.Stored.{stored_twice}
 use Rattle.rr_store.proofs.base.views.Counts.{listed}
 use Rattle.rr_store.proofs.querying.Connected.{of_kind}
 use Rattle.rr_store.proofs.releasing.response_loan.Fields.{ResponseLoanFound, response_loan_found, has_loan}
@@ -88,7 +93,8 @@ module _ {Q QH P PH K : Type 0} (p : Parts Q QH P PH K) (core : IsCore p) (n : �
       refused_is =
           of_found (λ (s : ServerPart K). s.sender == entry.sender) p.servers server.index server.it server.found server.at
           (λ _ s. r ≡ is_refused_in action s.port m overflow details reach) refusal
-          ∙ fields.refused_then p core.sound n entry found server.index server.it server.at server.is action details (sym are) reach told m refl
+          ∙ fields.refused_then p core.sound n entry found server.index server.it server.at server.is action details
+          (sym are) reach told m refl
 
       -- a refusal equals a release
       pub refused : r ≡ true → (t : Parts Q QH P PH K) → state_of t ≡ after_release (state_of p) n
@@ -129,27 +135,47 @@ module _ {Q QH P PH K : Type 0} (p : Parts Q QH P PH K) (core : IsCore p) (n : �
           s_is = given ∙ ap (λ v. with_responses (with_delivered v entry.sender details.channel entry.slot reach) entry.sender
               (λ m. given_back m entry.slot)) gone
 
-          pub loan_counted : Ends s (λ _ c. 0 < c.loans)
-          loan_counted =
-              subst (λ s. Ends s (λ _ c. 0 < c.loans)) (sym s_is)
-              (to_found (λ (s : ServerPart K). s.sender == entry.sender) p.servers server.index server.it server.found server.at
-              (λ _ s. 0 < s.loans) (has_loan p core.sound n entry found server.index server.it server.at server.is))
+          -- the senders with the response in its queue, and its sender without the hold of its handle
+          abbrev mid : List (Sender P ResponseDetails PH)
+          mid = delivered.server_senders
 
-          module _ (receiver : ℕ) (u : Parts Q QH P PH K) (its : Ends s (λ _ c. receiver ≡ c.receiver))
-              (counted : Ends s (λ i c. u ≡ with_server_at s i (without_response_loan c))) where
+          abbrev put : Sender P ResponseDetails PH
+          put = with_messages (sender_of entry.sender p.server_senders) (in_queue m overflow details.channel entry.slot reach)
+
+          abbrev fresh : Sender P ResponseDetails PH
+          fresh = with_messages (sender_of entry.sender mid) (given_back (sender_of entry.sender mid).messages entry.slot)
+
+          there : entry.sender < length mid
+          there = omega (arith, found.sender, length-set p.server_senders entry.sender put)
+
+          pub loan_sender : entry.sender < length s.server_senders
+          loan_sender = subst (λ (s : Parts Q QH P PH K). entry.sender < length s.server_senders) (sym s_is)
+              (omega (arith, there, length-set mid entry.sender fresh))
+
+          pub loan_counted : 0 < (sender_of entry.sender s.server_senders).loans
+          loan_counted = subst (λ (s : Parts Q QH P PH K). 0 < (sender_of entry.sender s.server_senders).loans) (sym s_is) (omega (
+            arith,
+            has_loan p core.sound n entry found server.index server.it server.at server.is,
+            set_alike mid entry.sender fresh no_sender (λ l. l.loans) refl entry.sender,
+            set_alike p.server_senders entry.sender put no_sender (λ l. l.loans) refl entry.sender,
+          ))
+
+          module _ (receiver : ℕ) (u : Parts Q QH P PH K) (its : receiver ≡ (sender_of entry.sender s.server_senders).receiver)
+              (counted : u ≡ with_server_sender_at s entry.sender without_loan) where
             abbrev loan_ended : Parts Q QH P PH K
-            loan_ended = with_server_at freed server.index (without_response_loan server.it)
+            loan_ended = record (without_handle delivered n) { server_senders = slice_set mid entry.sender (without_loan fresh) }
 
             receiver_is : receiver ≡ server.it.receiver
             receiver_is =
-                of_found (λ (s : ServerPart K). s.sender == entry.sender) p.servers server.index server.it server.found server.at
-                (λ _ c. receiver ≡ c.receiver) (subst (λ s. Ends s (λ _ c. receiver ≡ c.receiver)) s_is its)
+                its ∙ ap (λ (s : Parts Q QH P PH K). (sender_of entry.sender s.server_senders).receiver) s_is
+                ∙ set_alike mid entry.sender fresh no_sender (λ l. l.receiver) refl entry.sender
+                ∙ set_alike p.server_senders entry.sender put no_sender (λ l. l.receiver) refl entry.sender
+                ∙ server_receiver p empty_hand core.sound entry.sender server
 
             u_is : u ≡ loan_ended
-            u_is =
-                of_found (λ (s : ServerPart K). s.sender == entry.sender) p.servers server.index server.it server.found server.at
-                (λ i c. u ≡ with_server_at freed i (without_response_loan c))
-                (subst (λ s. Ends s (λ i c. u ≡ with_server_at s i (without_response_loan c))) s_is counted)
+            u_is = counted ∙ ap (λ s. with_server_sender_at s entry.sender without_loan) s_is
+                ∙ ap (λ ls. record (without_handle delivered n) { server_senders = ls })
+                (stored_twice mid entry.sender fresh without_loan there)
 
             module _ (t : Parts Q QH P PH K) (rest : t ≡ record u { table = t.table })
                 (ended : (at : Option Place) × IfSome at (IsAskedPlace u.client_senders details receiver)
@@ -159,10 +185,13 @@ module _ {Q QH P PH K : Type 0} (p : Parts Q QH P PH K) (core : IsCore p) (n : �
 
               both : IsSound (record loan_ended { table = t.table }) empty_hand
                   × (state_of (record loan_ended { table = t.table })
-                  ≡ after_release (record (state_of p) { responses = with_response_put (state_of p) (response_at p entry.sender entry.slot) }) n)
+                  ≡ after_release (record (state_of p) {
+                    responses = with_response_put (state_of p)
+                        (response_at p entry.sender entry.slot);
+                  }) n)
               both =
                   sent_parts p core.sound n entry found server.index server.it server.at server.is details (sym are) reach told
-                  loan_ended.servers delivered.server_senders loan_ended.server_senders t.table refl refl refl ended.0
+                  delivered.server_senders loan_ended.server_senders t.table refl refl ended.0
                   (subst (λ x. IfSome ended.0 (IsAskedPlace p.client_senders details x)) receiver_is
                   (subst (λ (u : Parts Q QH P PH K). IfSome ended.0 (IsAskedPlace u.client_senders details receiver)) u_is ended.1))
                   (subst (λ (u : Parts Q QH P PH K). IsLoanEnded details.active_request
@@ -181,4 +210,5 @@ module _ {Q QH P PH K : Type 0} (p : Parts Q QH P PH K) (core : IsCore p) (n : �
               core_then is = record {
                 sound = subst (λ q. IsSound q empty_hand) (sym t_is) both.0;
                 reached = sends_response_reached (state_of p) core.reached n {U = ℕ} action (Ok 0) (state_of t) (sends is);
+                complete = sends_response_complete (state_of p) core.complete {U = ℕ} n action (Ok 0) (state_of t) (sends is);
               }

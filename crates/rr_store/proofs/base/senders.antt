@@ -1,4 +1,5 @@
 pub mod Queues
+pub mod Counted
 pub mod Entries
 pub mod Ports
 pub mod GivenBack

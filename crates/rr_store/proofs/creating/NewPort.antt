@@ -47,6 +47,7 @@ pub later_next : {T N H K : Type 0} {next ports : ℕ} {connected : List (Connec
 later_next n = record {
   few = n.few;
   own = n.own;
+  received = n.received;
   ported = n.ported;
   owned_once = n.owned_once;
   numbered = λ i h. omega (arith, n.numbered i h);
@@ -60,7 +61,8 @@ module _ {T N H K C : Type 0} (connected : C → Connected K) (next ports : ℕ)
     {slots room receivers channels capacity : ℕ} {details : N} (new : IsNew slots room receivers channels capacity details last.messages)
     (its_sender : (connected port).sender ≡ length senders) (its_id : (connected port).port.id ≡ next) (owned : last.owner ≡ next)
     (slots_are : length last.messages.held ≡ (connected port).port.pool_size)
-    (room_is : last.messages.room ≡ (connected port).port.initial_max_slice_len) (inside : (connected port).receiver < ports)
+    (room_is : last.messages.room ≡ (connected port).port.initial_max_slice_len)
+    (receiver_is : last.receiver ≡ (connected port).receiver) (inside : (connected port).receiver < ports)
     (vacant : (i : ℕ) (c : C) → slice_get cs i ≡ Some c → (connected c).receiver ≢ (connected port).receiver) (few : length cs < ports)
   where
     -- a port of the longer list is one of the list's, or the new one
@@ -108,6 +110,13 @@ module _ {T N H K C : Type 0} (connected : C → Connected K) (next ports : ℕ)
                 ap (λ (x : Sender T N H). length x.messages.held) e ∙ slots_are,
                 ap (λ (x : Sender T N H). x.messages.room) e ∙ room_is,
               ));
+          received = λ i c at. connected_cases i c at
+              (λ before h. ap (λ (x : Sender T N H). x.receiver) (sender_before senders last c.sender (n.own i c before).0)
+              ∙ n.received i c before)
+              (λ end is.
+              let Knows : Connected K → Type 0 = λ c. (sender_of c.sender (senders ++ last ∷ [])).receiver ≡ c.receiver in
+              subst Knows is (ap (λ l. (sender_of l (senders ++ last ∷ [])).receiver) its_sender
+              ∙ ap (λ (x : Sender T N H). x.receiver) (sender_last senders last) ∙ receiver_is));
           ported = λ l h. ⊎_elim
               (λ b. let o = n.ported l b in (
                 o.0,

@@ -91,6 +91,16 @@ module _ {T N H : Type 0} (senders : List (Sender T N H)) (new : Sender T N H) {
       (cases_eq l (length senders)))
       (cases_lt l (length senders))
 
+  -- what each sender counts is what there is, also for the new one, which has nothing
+  pub count_added : (count : Sender T N H → ℕ) (has : ℕ → ℕ) → count new ≡ 0 → has (length senders) ≡ 0
+      → ((l : ℕ) → l < length senders → count (sender_of l senders) ≡ has l)
+      → (l : ℕ) → l < length (senders ++ new ∷ []) → count (sender_of l (senders ++ new ∷ [])) ≡ has l
+  count_added count has none nobody old l h =
+      sender_cases l
+      (λ before e. ap count e ∙ old l before)
+      (λ last e gone. ap count e ∙ none ∙ sym nobody ∙ sym (ap has last))
+      (λ far e gone. absurd (omega (arith, h, far, length-append senders (new ∷ []))))
+
   pub looks_like : LooksLike senders (senders ++ new ∷ [])
   looks_like = record {
     held = λ l i. sender_cases l

@@ -118,9 +118,9 @@ module _ {Q QH P PH K : Type 0} (p : Parts Q QH P PH K) where
       addressed = sound.addressed;
       inserted = sound.inserted;
       stored = let n = sound.stored in record {
-        request_loans = λ i c at. n.request_loans i c at ∙ in_sender_alike is_request_loan c.sender blind_request_loan;
-        pendings = λ i c at. n.pendings i c at ∙ in_sender_alike is_pending c.sender blind_pending;
-        response_loans = λ i c at. n.response_loans i c at ∙ in_sender_alike is_response_loan c.sender blind_response_loan;
+        request_loans = λ l h. n.request_loans l h ∙ in_sender_alike is_request_loan l blind_request_loan;
+        pendings = λ l h. n.pendings l h ∙ in_sender_alike is_pending l blind_pending;
+        response_loans = λ l h. n.response_loans l h ∙ in_sender_alike is_response_loan l blind_response_loan;
         active_loans = λ k server loans s at is. n.active_loans k server loans s at is
             ∙ handles_alike (is_loan_from p k) (λ t. blind_response_loan entry.stage t
             && (response_details p entry.sender entry.slot).active_request == k);

@@ -86,14 +86,14 @@ module _ {B T N H : Type 0} (senders : List (OwnedSender B N H T)) (sender : ℕ
 module _ {Q QH P PH K : Type 0} (p : Parts Q QH P PH K) (n : ℕ) (entry : HandleEntry) (h : value_at p.table n ≡ Some entry) where
   -- where one handle alone shows another message, its state is the changed one
   pub viewed : (client_senders : List (Sender Q RequestDetails QH)) (server_senders : List (Sender P ResponseDetails PH))
-      → let q = moved p p.clients p.servers client_senders server_senders p.waiting p.table.entries p.next in
+      → let q = moved p p.clients client_senders server_senders p.waiting p.table.entries p.next in
       ((key : RequestKey) → requests_at q key ≡ requests_at p key) → ((key : ResponseKey) → responses_at q key ≡ responses_at p key)
       → ((k : ℕ) (x : TableEntry HandleEntry) → fin_map.get p.table.entries k ≡ Some x → k ≢ n → handle_of p x ≡ handle_of q x)
       → (change : Handle Q QH P PH → Handle Q QH P PH) → handle_in q entry.stage entry.sender entry.slot ≡ change
       (handle_in p entry.stage entry.sender entry.slot)
       → state_of q ≡ with_changed (state_of p) n change
   viewed client_senders server_senders requests responses others change its =
-      let q = moved p p.clients p.servers client_senders server_senders p.waiting p.table.entries p.next in
+      let q = moved p p.clients client_senders server_senders p.waiting p.table.entries p.next in
       let f = table_entry_under p.table n entry h in
       same_state (state_of q) (with_changed (state_of p) n change) refl refl refl refl
       (map_values-but (handle_of p) (handle_of q) p.table.entries n f.0 f.1 others

@@ -26,7 +26,7 @@ pub fn server_port<K: Drop>(
     sender: usize,
     receiver: usize,
 ) -> Port<K>
-    ensures { connected_of result ≡ record { port = record { id = id; strategy = settings.strategy; handler = settings.handler; allocation_strategy = settings.allocation_strategy; initial_max_slice_len = settings.initial_max_slice_len; pool_size = pool_size; has_value = true }; sender = sender; receiver = receiver; loans = 0 } }
+    ensures { connected_of result ≡ record { port = record { id = id; strategy = settings.strategy; handler = settings.handler; allocation_strategy = settings.allocation_strategy; initial_max_slice_len = settings.initial_max_slice_len; pool_size = pool_size; has_value = true }; sender = sender; receiver = receiver } }
 {
     Port {
         id,
@@ -38,6 +38,5 @@ pub fn server_port<K: Drop>(
         has_value: true,
         sender,
         receiver,
-        loans: 0,
     }
 }

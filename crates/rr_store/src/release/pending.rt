@@ -1,27 +1,28 @@
 //! Releases of pending responses.
-ghost use Rattle.std.specs.Prelude.{◌≡◌, ◌==◌, ◌<◌, map, IsSomeAnd, slice_get, slice_set};
-ghost use Rattle.std.specs.List.{position};
-ghost use Rattle.rr_store.specs.Clearing.{channel_cleared, with_pending_ended};
+ghost use Rattle.std.specs.Prelude.{◌≡◌, ◌<◌, length, map};
+ghost use Rattle.rr_store.specs.Clearing.{channel_cleared, without_pending};
+ghost use Rattle.rr_store.specs.Loaning.{with_sender_at};
 ghost use Rattle.rr_store.specs.Ports.{sender_part};
 ghost use Rattle.rr_store.specs.Receiving.{Reaches};
+ghost use Rattle.rr_store.specs.Views.{sender_of};
 
-use crate::{ClientPort, OwnedSender, index_of_sender};
+use crate::OwnedSender;
 use rr_slots::Body;
 
-/// Counts one pending response less for the client that sends in a sender. Returns that client's index as a receiver.
+/// Counts one pending response less of a sender, and returns which receiver its port is.
 #[inline(always)]
-pub fn end_pending<K: Drop>(clients: &mut Vec<ClientPort<K>>, sender: usize) -> usize
-    requires { IsSomeAnd (position (λ c. c.port.sender == sender) clients.old.items) (λ i. IsSomeAnd (slice_get clients.old.items i) (λ c. 0 < c.pendings)) }
-    ensures { IsSomeAnd (position (λ c. c.port.sender == sender) clients.old.items) (λ i. IsSomeAnd (slice_get clients.old.items i) (λ c. (result ≡ c.port.receiver) × (clients.new.items ≡ slice_set clients.old.items i (with_pending_ended c)))) }
+pub fn end_pending_in<B: Body, N: Copy, H: Drop>(
+    senders: &mut Vec<OwnedSender<B, N, H>>,
+    sender: usize,
+) -> usize
+    requires sender { sender < length senders.old.items }
+    requires counted { 0 < (sender_of sender (map sender_part senders.old.items)).pendings }
+    ensures receiver { result ≡ (sender_of sender (map sender_part senders.old.items)).receiver }
+    ensures counted { map sender_part senders.new.items ≡ with_sender_at (map sender_part senders.old.items) sender without_pending }
 {
-    match index_of_sender(clients.as_slice(), sender) {
-        Some(index) => {
-            let client = &mut clients[index];
-            client.pendings -= 1;
-            client.port.receiver
-        }
-        None => unreachable!(),
-    }
+    let sender = &mut senders[sender];
+    sender.pendings -= 1;
+    sender.receiver
 }
 
 /// Drops what waits in the senders for a receiver on a channel.

@@ -5,29 +5,12 @@ ghost use Rattle.rr_table.specs.declared.place.Place as place;
 ghost use Rattle.std.specs.FinMap as fin_map;
 ghost use Rattle.rr_table.specs.TableView.{table_entry};
 ghost use Rattle.rr_store.specs.Answering.{active_in};
-ghost use Rattle.rr_store.specs.Ending.{IsAskedPlace, IsCountedLess, IsLoanEnded, found_under, with_response_loan_ended};
+ghost use Rattle.rr_store.specs.Ending.{IsAskedPlace, IsCountedLess, IsLoanEnded, found_under};
 ghost use Rattle.rr_store.specs.Ports.{sender_part};
 
-use crate::{HandleEntry, OwnedSender, ResponseDetails, ServerPort, Stage, index_of_sender};
+use crate::{HandleEntry, OwnedSender, ResponseDetails, Stage};
 use rr_slots::Body;
 use rr_table::{Place, Table};
-
-/// Counts one response less on loan for the server that sends in a sender, and returns its index as a receiver.
-#[inline(always)]
-pub fn end_response_loan<K: Drop>(servers: &mut Vec<ServerPort<K>>, sender: usize) -> usize
-    requires { IsSomeAnd (position (λ s. s.port.sender == sender) servers.old.items) (λ i. IsSomeAnd (slice_get servers.old.items i) (λ s. 0 < s.port.loans)) }
-    ensures receiver { IsSomeAnd (position (λ s. s.port.sender == sender) servers.old.items) (λ i. IsSomeAnd (slice_get servers.old.items i) (λ s. result ≡ s.port.receiver)) }
-    ensures counted { IsSomeAnd (position (λ s. s.port.sender == sender) servers.old.items) (λ i. IsSomeAnd (slice_get servers.old.items i) (λ s. servers.new.items ≡ slice_set servers.old.items i (with_response_loan_ended s))) }
-{
-    match index_of_sender(servers.as_slice(), sender) {
-        Some(index) => {
-            let receiver = servers[index].port.receiver;
-            servers[index].port.loans -= 1;
-            receiver
-        }
-        None => unreachable!(),
-    }
-}
 
 /// Returns where the active request of a response stands, if it stands. `receiver` is its server. Returns `None` if its client
 /// has no sender, or no row has so many places.

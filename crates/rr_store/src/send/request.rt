@@ -1,12 +1,14 @@
 //! Sends of requests.
-ghost use Rattle.std.specs.Prelude.{◌≡◌, ◌==◌, ◌<◌, ◌+◌, ◌*◌, ◌^◌, not, ℕ, Some, IsSomeAnd, [], count_by, length, map, slice_get, slice_index, slice_index_or, slice_set};
-ghost use Rattle.std.specs.List.{list_any, position};
+ghost use Rattle.std.specs.Prelude.{◌≡◌, ◌<◌, ◌+◌, ◌*◌, ◌^◌, not, ℕ, Some, IsSomeAnd, [], count_by, length, map, slice_get, slice_index, slice_index_or, slice_set};
+ghost use Rattle.std.specs.List.{list_any};
 ghost use Rattle.rr_sender.specs.Senders.{uses};
-ghost use Rattle.rr_store.specs.Ports.{connected_of, marks_of};
-ghost use Rattle.rr_store.specs.Sending.{HasQueues, is_blocked_at, is_refused_at, receivers_of, with_marks, with_puts, with_sent};
+ghost use Rattle.rr_store.specs.Loaning.{with_sender_at};
+ghost use Rattle.rr_store.specs.Ports.{connected_of, marks_of, sender_part};
+ghost use Rattle.rr_store.specs.Sending.{HasQueues, is_blocked_at, is_refused_at, receivers_of, with_marks, with_one_sent, with_puts};
+ghost use Rattle.rr_store.specs.Views.{sender_of};
 ghost use Rattle.rr_store.specs.Writing.{with_messages};
 
-use crate::{ClientPort, OwnedSender, Port, ServerPort, index_of_sender};
+use crate::{OwnedSender, Port, ServerPort};
 use rr_protocol::BackpressureFn;
 use rr_sender::Sender;
 use rr_slots::Body;
@@ -22,6 +24,24 @@ pub fn is_blocked<B: Body, N: Copy, H: Drop>(
     ensures { result ≡ is_blocked_at overflow messages.now receiver }
 {
     !overflow && messages.is_full(receiver, 0)
+}
+
+/// Whether the queue to some server can take no more.
+#[inline(always)]
+pub fn is_any_blocked<B: Body, N: Copy, H: Drop, K: Drop>(
+    messages: &Sender<B, N, H>,
+    servers: &[ServerPort<K>],
+    overflow: bool,
+) -> bool
+    requires { HasQueues messages.now servers.now }
+    ensures { result ≡ list_any (λ s. is_blocked_at overflow messages.now s.port.receiver) servers.now }
+{
+    for server in servers {
+        if is_blocked(messages, server.port.receiver, overflow) {
+            return true;
+        }
+    }
+    false
 }
 
 /// Whether the queue to some server can take no more, and the sender doesn't pass it over.
@@ -128,18 +148,18 @@ pub fn set_marks<K: Drop>(
     }
 }
 
-/// Counts one request less on loan, and one pending response more, for the client that sends in a sender.
+/// Counts one request less on loan from a sender, and one pending response more.
 #[inline(always)]
-pub fn count_as_sent<K: Drop>(clients: &mut Vec<ClientPort<K>>, sender: usize)
-    requires { IsSomeAnd (position (λ c. c.port.sender == sender) clients.old.items) (λ i. IsSomeAnd (slice_get clients.old.items i) (λ c. (0 < c.port.loans) × (c.pendings + 1 < 2 ^ 64))) }
-    ensures { IsSomeAnd (position (λ c. c.port.sender == sender) clients.old.items) (λ i. IsSomeAnd (slice_get clients.old.items i) (λ c. clients.new.items ≡ slice_set clients.old.items i (with_sent c))) }
+pub fn count_sent_in<B: Body, N: Copy, H: Drop>(
+    senders: &mut Vec<OwnedSender<B, N, H>>,
+    sender: usize,
+)
+    requires sender { sender < length senders.old.items }
+    requires loaned { 0 < (sender_of sender (map sender_part senders.old.items)).loans }
+    requires fits { (sender_of sender (map sender_part senders.old.items)).pendings + 1 < 2 ^ 64 }
+    ensures { map sender_part senders.new.items ≡ with_sender_at (map sender_part senders.old.items) sender with_one_sent }
 {
-    match index_of_sender(clients.as_slice(), sender) {
-        Some(index) => {
-            let client = &mut clients[index];
-            client.port.loans -= 1;
-            client.pendings += 1;
-        }
-        None => unreachable!(),
-    }
+    let sender = &mut senders[sender];
+    sender.loans -= 1;
+    sender.pendings += 1;
 }

@@ -1,10 +1,9 @@
 //! Sends of responses.
 ghost use Rattle.std.specs.Prelude.{◌≡◌, ◌<◌, ℕ, Some, map, length, slice_get};
-ghost use Rattle.rr_store.specs.Delivering.{HasQueue, is_refused_in, reached};
-ghost use Rattle.rr_store.specs.Ports.{client_part, connected_of, sender_part};
+ghost use Rattle.rr_store.specs.Delivering.{HasQueue, is_blocked_in, reached};
+ghost use Rattle.rr_store.specs.Ports.{client_part, sender_part};
 
-use crate::{ClientPort, HandleEntry, OwnedSender, Port, ResponseDetails, index_of};
-use rr_protocol::BackpressureFn;
+use crate::{ClientPort, HandleEntry, OwnedSender, ResponseDetails, index_of};
 use rr_sender::Sender;
 use rr_slots::Body;
 use rr_table::{Place, Table};
@@ -32,24 +31,19 @@ pub fn reached_receiver<K: Drop, B: Body, N: Copy, H: Drop>(
     }
 }
 
-/// Whether the queue that a response reaches can take no more, and the sender doesn't pass it over.
+/// Whether the queue that a response reaches can take no more, and drops nothing for it.
 #[inline(always)]
-pub fn is_refused<B: Body, N: Copy, H: Drop, K: BackpressureFn>(
-    port: &Port<K>,
+pub fn is_blocked<B: Body, N: Copy, H: Drop>(
     messages: &Sender<B, N, H>,
     reach: Option<usize>,
-    details: ResponseDetails,
+    channel: usize,
     overflow: bool,
 ) -> bool
-    requires { HasQueue messages.now details.channel reach }
-    ensures { result ≡ is_refused_in K.action (connected_of port.now).port messages.now overflow details reach }
+    requires { HasQueue messages.now channel reach }
+    ensures { result ≡ is_blocked_in messages.now overflow channel reach }
 {
     match reach {
-        Some(receiver) => {
-            !overflow
-                && messages.is_full(receiver, details.channel)
-                && !port.discards(details.client)
-        }
+        Some(receiver) => !overflow && messages.is_full(receiver, channel),
         None => false,
     }
 }

@@ -162,7 +162,6 @@ impl<QB: Body, QH: Default + Drop, PB: Body, PH: Default + Drop, K: Backpressure
             &mut self.server_senders,
             &mut self.table,
             server,
-            number,
             messages,
             slots,
         )?;

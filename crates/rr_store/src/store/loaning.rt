@@ -3,13 +3,13 @@ ghost use Rattle.std.specs.Prelude.{◌≡◌, ◌==◌, ◌+◌, ◌<◌, ◌^�
 ghost use Rattle.std.specs.List.{position};
 ghost use Rattle.rr_slots.specs.Families.{takes_len};
 ghost use Rattle.rr_sender.specs.Senders.{all_entries, loaned, times, used_count};
-ghost use Rattle.rr_store.specs.Answering.{response_loan_details_of, with_one_response_loan};
-ghost use Rattle.rr_store.specs.Changes.{request_loan_limit, response_loan_limit, with_client_at, with_requests, with_responses, with_server_at};
-ghost use Rattle.rr_store.specs.Loaning.{loan_details, with_one_loan};
+ghost use Rattle.rr_store.specs.Answering.{response_loan_details_of};
+ghost use Rattle.rr_store.specs.Changes.{request_loan_limit, response_loan_limit, with_client_at, with_client_sender_at, with_requests, with_responses, with_server_sender_at};
+ghost use Rattle.rr_store.specs.Loaning.{loan_details, with_loan_made, with_one_loan};
 ghost use Rattle.rr_store.specs.Sound.{request_details};
 ghost use Rattle.rr_store.specs.Views.{sender_of};
 
-use crate::loan::loan_from;
+use crate::loan::{count_loan_in, loan_from};
 use crate::store::Store;
 use crate::{RequestDetails, ResponseDetails, index_of};
 use rr_protocol::{BackpressureFn, LoanError};
@@ -68,14 +68,14 @@ impl<QB: Body, QH: Default + Drop, PB: Body, PH: Default + Drop, K: Backpressure
     /// Returns whether a request of `len` elements is too long for a client, or the client has too many on loan.
     #[inline(always)]
     pub fn request_loan_limit(&self, index: usize, len: usize) -> Option<LoanError>
-        requires { index < length self.now.clients }
+        requires { IsSomeAnd (slice_get self.now.clients index) (λ c. c.sender < length self.now.client_senders) }
         ensures { IsSomeAnd (slice_get self.now.clients index) (λ c. result ≡ request_loan_limit self.now c len) }
     {
         let port = &self.clients[index].port;
         if port.is_too_long(len) {
             return Some(LoanError::ExceedsMaxLoanSize);
         }
-        if self.limits.max_loaned_requests <= port.loans {
+        if self.limits.max_loaned_requests <= self.client_senders[port.sender].loans {
             return Some(LoanError::ExceedsMaxLoans);
         }
         None
@@ -85,7 +85,7 @@ impl<QB: Body, QH: Default + Drop, PB: Body, PH: Default + Drop, K: Backpressure
     /// an active request that has `loans`.
     #[inline(always)]
     pub fn response_loan_limit(&self, index: usize, len: usize, loans: usize) -> Option<LoanError>
-        requires index { index < length self.now.servers }
+        requires sender { IsSomeAnd (slice_get self.now.servers index) (λ s. s.sender < length self.now.server_senders) }
         requires clients { 0 < self.now.limits.max_clients }
         ensures { IsSomeAnd (slice_get self.now.servers index) (λ s. result ≡ response_loan_limit self.now s len loans) }
     {
@@ -93,7 +93,8 @@ impl<QB: Body, QH: Default + Drop, PB: Body, PH: Default + Drop, K: Backpressure
         if server.port.is_too_long(len) {
             return Some(LoanError::ExceedsMaxLoanSize);
         }
-        if server.is_at_loan_limit(&self.limits, loans) {
+        let all = self.server_senders[server.port.sender].loans;
+        if server.is_at_loan_limit(&self.limits, loans, all) {
             return Some(LoanError::ExceedsMaxLoans);
         }
         None
@@ -196,23 +197,25 @@ impl<QB: Body, QH: Default + Drop, PB: Body, PH: Default + Drop, K: Backpressure
         loan_from(&mut self.server_senders, sender, len, details, user_header)
     }
 
-    /// Counts one request more on loan for the client at an index.
+    /// Counts one request more on loan from a sender, and one loan more that the client at an index made.
     #[inline(always)]
-    pub fn count_request_loan(&mut self, index: usize)
-        requires { IsSomeAnd (slice_get self.old.clients index) (λ c. (c.loans + 1 < 2 ^ 64) × (c.loans_made + 1 < 2 ^ 64)) }
-        ensures { IsSomeAnd (slice_get self.old.clients index) (λ c. self.new ≡ with_client_at self.old index (with_one_loan c)) }
+    pub fn count_request_loan(&mut self, index: usize, sender: usize)
+        requires client { IsSomeAnd (slice_get self.old.clients index) (λ c. c.loans_made + 1 < 2 ^ 64) }
+        requires sender { sender < length self.old.client_senders }
+        requires fits { (sender_of sender self.old.client_senders).loans + 1 < 2 ^ 64 }
+        ensures { IsSomeAnd (slice_get self.old.clients index) (λ c. self.new ≡ with_client_sender_at (with_client_at self.old index (with_loan_made c)) sender with_one_loan) }
     {
-        let client = &mut self.clients[index];
-        client.port.loans += 1;
-        client.loans_made += 1;
+        self.clients[index].loans_made += 1;
+        count_loan_in(&mut self.client_senders, sender);
     }
 
-    /// Counts one response more on loan for the server at an index.
+    /// Counts one response more on loan from a sender.
     #[inline(always)]
-    pub fn count_response_loan(&mut self, index: usize)
-        requires { IsSomeAnd (slice_get self.old.servers index) (λ s. s.loans + 1 < 2 ^ 64) }
-        ensures { IsSomeAnd (slice_get self.old.servers index) (λ s. self.new ≡ with_server_at self.old index (with_one_response_loan s)) }
+    pub fn count_response_loan(&mut self, sender: usize)
+        requires sender { sender < length self.old.server_senders }
+        requires fits { (sender_of sender self.old.server_senders).loans + 1 < 2 ^ 64 }
+        ensures { self.new ≡ with_server_sender_at self.old sender with_one_loan }
     {
-        self.servers[index].port.loans += 1;
+        count_loan_in(&mut self.server_senders, sender);
     }
 }

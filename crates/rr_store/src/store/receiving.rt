@@ -1,6 +1,5 @@
 //! What a receiver takes.
-ghost use Rattle.std.specs.Prelude.{◌≡◌, ◌==◌, ◌+◌, ◌*◌, ◌<◌, ◌^◌, Some, IsSome, IsSomeAnd, false, true, length, slice_get};
-ghost use Rattle.std.specs.List.{position};
+ghost use Rattle.std.specs.Prelude.{◌≡◌, ◌+◌, ◌*◌, ◌<◌, ◌^◌, Some, false, true, length, slice_get};
 ghost use Rattle.rr_store.specs.Asked.{CanTake};
 ghost use Rattle.rr_store.specs.Changes.{with_first_request_taken, with_first_response_taken, with_request_senders};
 ghost use Rattle.rr_store.specs.Receiving.{IsNextSender, Reaches, queue_from};
@@ -8,7 +7,6 @@ ghost use Rattle.rr_store.specs.Skimming.{IsSkimmedBelow};
 ghost use Rattle.rr_store.specs.Sound.{response_place};
 ghost use Rattle.rr_store.specs.Views.{sender_of};
 
-use crate::index_of_sender;
 use crate::receive::next_sender;
 use crate::receive::request::{active_place, skim};
 use crate::store::Store;
@@ -23,16 +21,13 @@ impl<QB: Body, QH: Default + Drop, PB: Body, PH: Default + Drop, K: Backpressure
     PH,
     K,
 > {
-    /// Returns which receiver the client is that sends from a sender.
+    /// Returns which receiver the client of a sender is.
     #[inline(always)]
     pub fn receiver_of_sender(&self, sender: usize) -> usize
-        requires { IsSome (position (λ c. c.sender == sender) self.now.clients) }
-        ensures { IsSomeAnd (position (λ c. c.sender == sender) self.now.clients) (λ i. IsSomeAnd (slice_get self.now.clients i) (λ c. result ≡ c.receiver)) }
+        requires { sender < length self.now.client_senders }
+        ensures { result ≡ (sender_of sender self.now.client_senders).receiver }
     {
-        match index_of_sender(self.clients.as_slice(), sender) {
-            Some(index) => self.clients[index].port.receiver,
-            None => unreachable!(),
-        }
+        self.client_senders[sender].receiver
     }
 
     /// Returns from which server's sender a client takes its next response on a channel.

@@ -3,11 +3,11 @@ ghost use Rattle.std.specs.Prelude.{◌≡◌, ◌==◌, ◌+◌, ◌*◌, ◌<�
 ghost use Rattle.std.specs.List.{position};
 ghost use Rattle.rr_sender.specs.Senders.{borrowed_at};
 ghost use Rattle.rr_table.specs.declared.place.Place as place;
-ghost use Rattle.rr_store.specs.Changes.{with_client_at, with_server_at, with_requests, with_responses, with_channel_cleared, without_mark};
+ghost use Rattle.rr_store.specs.Changes.{with_client_sender_at, with_server_sender_at, with_requests, with_responses, with_channel_cleared, without_mark};
 ghost use Rattle.rr_store.specs.Clearing.{without_pending};
 ghost use Rattle.rr_store.specs.Ending.{IsAskedPlace, IsLoanEnded, found_under};
 ghost use Rattle.rr_store.specs.Receiving.{Reaches};
-ghost use Rattle.rr_store.specs.Releasing.{borrow_ended, given_back, without_loan, without_response_loan};
+ghost use Rattle.rr_store.specs.Releasing.{borrow_ended, given_back, without_loan};
 ghost use Rattle.rr_store.specs.Sound.{request_details, response_details};
 ghost use Rattle.rr_store.specs.Views.{sender_of};
 
@@ -92,32 +92,36 @@ impl<QB: Body, QH: Default + Drop, PB: Body, PH: Default + Drop, K: Backpressure
         release::end_borrow_in(&mut self.server_senders, sender, receiver, channel, slot);
     }
 
-    /// Counts one request less on loan for the client that sends from a sender.
+    /// Counts one request less on loan from a sender.
     #[inline(always)]
     pub fn end_request_loan(&mut self, sender: usize)
-        requires { IsSomeAnd (position (λ c. c.sender == sender) self.old.clients) (λ i. IsSomeAnd (slice_get self.old.clients i) (λ c. 0 < c.loans)) }
-        ensures { IsSomeAnd (position (λ c. c.sender == sender) self.old.clients) (λ i. IsSomeAnd (slice_get self.old.clients i) (λ c. self.new ≡ with_client_at self.old i (without_loan c))) }
+        requires sender { sender < length self.old.client_senders }
+        requires counted { 0 < (sender_of sender self.old.client_senders).loans }
+        ensures { self.new ≡ with_client_sender_at self.old sender without_loan }
     {
-        release::end_request_loan(&mut self.clients, sender);
+        release::end_loan_in(&mut self.client_senders, sender);
     }
 
-    /// Counts one pending response less for the client that sends from a sender, and returns which receiver it is.
+    /// Counts one pending response less of a sender, and returns which receiver its client is.
     #[inline(always)]
     pub fn end_pending(&mut self, sender: usize) -> usize
-        requires { IsSomeAnd (position (λ c. c.sender == sender) self.old.clients) (λ i. IsSomeAnd (slice_get self.old.clients i) (λ c. 0 < c.pendings)) }
-        ensures { IsSomeAnd (position (λ c. c.sender == sender) self.old.clients) (λ i. IsSomeAnd (slice_get self.old.clients i) (λ c. (result ≡ c.receiver) × (self.new ≡ with_client_at self.old i (without_pending c)))) }
+        requires sender { sender < length self.old.client_senders }
+        requires counted { 0 < (sender_of sender self.old.client_senders).pendings }
+        ensures receiver { result ≡ (sender_of sender self.old.client_senders).receiver }
+        ensures counted { self.new ≡ with_client_sender_at self.old sender without_pending }
     {
-        of_pending::end_pending(&mut self.clients, sender)
+        of_pending::end_pending_in(&mut self.client_senders, sender)
     }
 
-    /// Counts one response less on loan for the server that sends from a sender, and returns which receiver it is.
+    /// Counts one response less on loan from a sender, and returns which receiver its server is.
     #[inline(always)]
     pub fn end_response_loan(&mut self, sender: usize) -> usize
-        requires { IsSomeAnd (position (λ s. s.sender == sender) self.old.servers) (λ i. IsSomeAnd (slice_get self.old.servers i) (λ s. 0 < s.loans)) }
-        ensures receiver { IsSomeAnd (position (λ s. s.sender == sender) self.old.servers) (λ i. IsSomeAnd (slice_get self.old.servers i) (λ s. result ≡ s.receiver)) }
-        ensures counted { IsSomeAnd (position (λ s. s.sender == sender) self.old.servers) (λ i. IsSomeAnd (slice_get self.old.servers i) (λ s. self.new ≡ with_server_at self.old i (without_response_loan s))) }
+        requires sender { sender < length self.old.server_senders }
+        requires counted { 0 < (sender_of sender self.old.server_senders).loans }
+        ensures receiver { result ≡ (sender_of sender self.old.server_senders).receiver }
+        ensures counted { self.new ≡ with_server_sender_at self.old sender without_loan }
     {
-        of_response_loan::end_response_loan(&mut self.servers, sender)
+        release::end_loan_in(&mut self.server_senders, sender)
     }
 
     /// Drops what is queued for a client on a channel.

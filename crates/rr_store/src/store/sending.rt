@@ -2,7 +2,7 @@
 ghost use Rattle.std.specs.Prelude.{◌≡◌, ◌==◌, ◌+◌, ◌*◌, ◌<◌, ◌^◌, ℕ, [], Some, IsSomeAnd, count_by, length, not, slice_get, slice_index, slice_index_or};
 ghost use Rattle.std.specs.List.{position};
 ghost use Rattle.rr_sender.specs.Senders.{uses};
-ghost use Rattle.rr_store.specs.Changes.{is_open_to, request_send_limit, with_client_at, with_request_queued, with_responses};
+ghost use Rattle.rr_store.specs.Changes.{is_open_to, request_send_limit, with_client_sender_at, with_request_queued, with_responses};
 ghost use Rattle.rr_store.specs.Delivering.{HasQueue, is_refused_in, reached, with_delivered};
 ghost use Rattle.rr_store.specs.Parts.{ClientPart, ServerPart};
 ghost use Rattle.rr_store.specs.Releasing.{given_back};
@@ -31,16 +31,19 @@ impl<QB: Body, QH: Default + Drop, PB: Body, PH: Default + Drop, K: Backpressure
         requires queues { (i : ℕ) (s : ServerPart K) → slice_get self.now.servers i ≡ Some s → (s.receiver < length (sender_of sender self.now.client_senders).messages.queues) × (0 < length (slice_index_or (sender_of sender self.now.client_senders).messages.queues s.receiver [])) }
         ensures { IsSomeAnd (position (λ c. c.sender == sender) self.now.clients) (λ i. IsSomeAnd (slice_get self.now.clients i) (λ c. result ≡ request_send_limit self.now K.action c sender)) }
     {
-        let client = match index_of_sender(self.clients.as_slice(), sender) {
-            Some(index) => &self.clients[index],
-            None => unreachable!(),
-        };
-        if self.limits.max_active_requests_per_client <= client.pendings {
+        if self.limits.max_active_requests_per_client <= self.client_senders[sender].pendings {
             return Some(RequestSendError::ExceedsMaxActiveRequests);
         }
         let messages = &self.client_senders[sender].messages;
         let overflow = self.limits.enable_safe_overflow_for_requests;
         let servers = self.servers.as_slice();
+        if !of_request::is_any_blocked(messages, servers, overflow) {
+            return None;
+        }
+        let client = match index_of_sender(self.clients.as_slice(), sender) {
+            Some(index) => &self.clients[index],
+            None => unreachable!(),
+        };
         if of_request::is_refused(messages, &client.port, servers, overflow) {
             return Some(RequestSendError::SendError(SendError::UnableToDeliver));
         }
@@ -69,13 +72,15 @@ impl<QB: Body, QH: Default + Drop, PB: Body, PH: Default + Drop, K: Backpressure
         count
     }
 
-    /// Counts one request less on loan, and one pending response more, for the client that sends from a sender.
+    /// Counts one request less on loan from a sender, and one pending response more.
     #[inline(always)]
     pub fn count_as_sent(&mut self, sender: usize)
-        requires { IsSomeAnd (position (λ c. c.sender == sender) self.old.clients) (λ i. IsSomeAnd (slice_get self.old.clients i) (λ c. (0 < c.loans) × (c.pendings + 1 < 2 ^ 64))) }
-        ensures { IsSomeAnd (position (λ c. c.sender == sender) self.old.clients) (λ i. IsSomeAnd (slice_get self.old.clients i) (λ c. self.new ≡ with_client_at self.old i (with_one_sent c))) }
+        requires sender { sender < length self.old.client_senders }
+        requires loaned { 0 < (sender_of sender self.old.client_senders).loans }
+        requires fits { (sender_of sender self.old.client_senders).pendings + 1 < 2 ^ 64 }
+        ensures { self.new ≡ with_client_sender_at self.old sender with_one_sent }
     {
-        of_request::count_as_sent(&mut self.clients, sender);
+        of_request::count_sent_in(&mut self.client_senders, sender);
     }
 
     /// Returns which receiver the client of a response is. `None` if it isn't connected, or if its request has no pending
@@ -101,13 +106,16 @@ impl<QB: Body, QH: Default + Drop, PB: Body, PH: Default + Drop, K: Backpressure
         requires queue { HasQueue (sender_of sender self.now.server_senders).messages details.channel reach }
         ensures { IsSomeAnd (position (λ s. s.sender == sender) self.now.servers) (λ i. IsSomeAnd (slice_get self.now.servers i) (λ s. result ≡ is_refused_in K.action s.port (sender_of sender self.now.server_senders).messages self.now.limits.enable_safe_overflow_for_responses details reach)) }
     {
+        let messages = &self.server_senders[sender].messages;
+        let overflow = self.limits.enable_safe_overflow_for_responses;
+        if !of_response::is_blocked(messages, reach, details.channel, overflow) {
+            return false;
+        }
         let server = match index_of_sender(self.servers.as_slice(), sender) {
             Some(index) => &self.servers[index],
             None => unreachable!(),
         };
-        let messages = &self.server_senders[sender].messages;
-        let overflow = self.limits.enable_safe_overflow_for_responses;
-        of_response::is_refused(&server.port, messages, reach, details, overflow)
+        !server.port.discards(details.client)
     }
 
     /// Makes the hold of a response's handle the hold of an entry in the queue that it reaches, or gives it back if the response

@@ -1,14 +1,16 @@
 -- The handle of a message that was written whole stands in another stage.
-use Rattle.std.proofs.Common.{◌≡◌, ℕ, Some, refl, sym, ap, ◌∙◌, subst, ⊎_elim, inl, inr}
-use Rattle.std.specs.Prelude.{◌⊎◌, IfSome}
+use Rattle.std.proofs.Common.{◌≡◌, ℕ, true, Some, refl, sym, ap, ◌∙◌, subst, ⊎_elim, inl, inr}
+use Rattle.std.specs.Prelude.{◌⊎◌, IfSome, IsSomeAnd}
 use Rattle.std.specs.FinMap as fin_map
 use Rattle.rr_table.specs.TableView.{TableEntry, TableView, inserted, table_entry, value_at}
 use Rattle.rr_table.specs.declared.place.Place.{Place}
 use Rattle.rr_protocol.specs.declared.kind.Kind.{Kind}
 use Rattle.rr_protocol.specs.Queries.{kind_at}
-use Rattle.rr_protocol.specs.State.{with_changed}
+use Rattle.rr_protocol.specs.State.{handle_at, with_changed}
 use Rattle.rr_protocol.specs.Writing.{after_init}
+use Rattle.rr_laws.specs.Complete.{MessagesComplete}
 use Rattle.rr_laws.specs.Reached.{IsReached}
+use Rattle.rr_laws.proofs.CompleteCalls.{init_complete}
 use Rattle.rr_laws.proofs.Changing.{init_reached}
 use Rattle.rr_store.specs.declared.handle_entry.HandleEntry.{HandleEntry}
 use Rattle.rr_store.specs.declared.handle_entry.Stage.{Stage}
@@ -18,7 +20,7 @@ use Rattle.rr_store.specs.Parts.{Parts}
 use Rattle.rr_store.specs.Reaching.{IsCore}
 use Rattle.rr_store.specs.Sound.{IsSound, empty_hand}
 use Rattle.rr_store.specs.Views.{state_of}
-use Rattle.rr_store.specs.Writing.{initialised}
+use Rattle.rr_store.specs.Writing.{initialised, is_ready}
 use Rattle.rr_store.proofs.base.lookups.Placed.{value_there}
 use Rattle.rr_store.proofs.querying.Connected.{of_kind}
 use Rattle.rr_store.proofs.writing.Initialise.{initialised_sound, initialised_view}
@@ -60,12 +62,15 @@ module _ {Q QH P PH K : Type 0} (p : Parts Q QH P PH K) (core : IsCore p) (n : �
         ∙ initialised_view p n entry here table_then entry_then
         (ap (λ (g : Stage). record { stage = g; sender = entry.sender; slot = entry.slot }) is) replaced_there
 
-    -- what is true then
-    pub core_then : IsCore q
-    core_then = record {
+    -- what is true then, if all elements were written
+    pub core_then : IsSomeAnd (handle_at (state_of p) n) (λ handle. is_ready handle ≡ true) → IsCore q
+    core_then whole = record {
       sound = subst (λ q. IsSound q empty_hand) (sym replaced)
           (initialised_sound p n entry here table_then entry_then
           (ap (λ (g : Stage). record { stage = g; sender = entry.sender; slot = entry.slot }) is) replaced_there empty_hand
           core.sound uninit);
       reached = subst (λ s. IsReached s) (sym view_then) (init_reached (state_of p) n core.reached);
+      complete = subst (λ s. MessagesComplete s) (sym view_then) (init_complete (state_of p) core.complete n (λ h e.
+          let full : is_ready h ≡ true = subst (λ o. IsSomeAnd o (λ handle. is_ready handle ≡ true)) e whole in
+          (λ m is. sym (ap is_ready is) ∙ full, λ m is. sym (ap is_ready is) ∙ full)));
     }

@@ -11,6 +11,7 @@ use Rattle.rr_protocol.specs.Messages.{ResponseMessage, response_in}
 use Rattle.rr_protocol.specs.Queries.{kind_at}
 use Rattle.rr_protocol.specs.State.{handle_at, with_changed}
 use Rattle.rr_protocol.specs.Writing.{is_complete, with_element, with_response_content}
+use Rattle.rr_laws.proofs.CompleteCalls.{push_response_complete}
 use Rattle.rr_laws.proofs.Changing.{push_reached, response_content_role}
 use Rattle.rr_store.specs.declared.handle_entry.HandleEntry.{HandleEntry}
 use Rattle.rr_store.specs.declared.handle_entry.Stage.TheVariants as stage
@@ -77,4 +78,5 @@ module _ {Q QH P PH K : Type 0} (p : Parts Q QH P PH K) (core : IsCore p) (n : â
       sound = subst (Î» q. IsSound q empty_hand) (sym after) (pushed_response_sound p core.sound n entry here item uninit told);
       reached = push_reached (state_of p) n (with_response_content (with_element item)) (response_content_role (with_element item)) told _ _
           _ core.reached view_then;
+      complete = push_response_complete (state_of p) core.complete n item told (state_of q) view_then;
     }

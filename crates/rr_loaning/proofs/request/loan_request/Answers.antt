@@ -1,10 +1,13 @@
 use Rattle.std.proofs.Common.{◌≡◌, ◌∙◌}
 use Rattle.rr_laws.proofs.Memory.{request_finds_memory}
-use Rattle.rr_loaning.proofs.steps.Request.{client_asked, refused, not_memory, sender_asked, out_of_memory, counts_asked, add_asked, loans, core_then}
+use Rattle.rr_loaning.proofs.steps.Request.{client_asked, refused, not_memory, sender_asked, out_of_memory, limit_asked, client_counts, sender_still, loans_still_fit, add_asked, loans, core_then}
 use Rattle.rr_loaning.proofs.request.loan_request.Goals as goal
 
 pub client_index-index-requires : goal.client_index-index-requires
 client_index-index-requires g c = client_asked c.args.store.now c.requires.core c.args.client c.requires.kind
+
+pub request_loan_limit-requires : goal.request_loan_limit-requires
+request_loan_limit-requires g c = limit_asked c.args.store.now c.requires.core c.args.client c.requires.kind _ c.client_index-index.ensures
 
 pub returns-in-Some-clause-loans : goal.returns-in-Some-clause-loans
 returns-in-Some-clause-loans g c =
@@ -13,17 +16,34 @@ returns-in-Some-clause-loans g c =
 
 pub returns-in-Some-clause-unreduced : goal.returns-in-Some-clause-unreduced
 returns-in-Some-clause-unreduced g c pool same =
-    not_memory c.args.store.now c.requires.core c.args.client c.requires.kind _ c.client_index-index.ensures _ _ c.request_loan_limit.ensures
+    not_memory c.args.store.now c.requires.core c.args.client c.requires.kind _ c.client_index-index.ensures _ _
+    c.request_loan_limit.ensures
     c.in-Some.refusal c.in-Some.is (let is : c.in-Some.refusal ≡ _ = cc in is)
 
 pub loan_request_slot-requires-clause-sender : goal.loan_request_slot-requires-clause-sender
 loan_request_slot-requires-clause-sender g c =
-    sender_asked c.args.store.now c.requires.core c.args.client c.requires.kind _ c.client_index-index.ensures _ _ c.request_loan_limit.ensures
+    sender_asked c.args.store.now c.requires.core c.args.client c.requires.kind _ c.client_index-index.ensures _ _
+    c.request_loan_limit.ensures
     c.in_default.is _ c.client_sender-sender.ensures
 
-pub count_request_loan-requires : goal.count_request_loan-requires
-count_request_loan-requires g c =
-    counts_asked c.args.store.now c.requires.core c.args.client c.requires.kind _ c.client_index-index.ensures _ _ c.request_loan_limit.ensures
+pub count_request_loan-requires-clause-client : goal.count_request_loan-requires-clause-client
+count_request_loan-requires-clause-client g c =
+    client_counts c.args.store.now c.requires.core c.args.client c.requires.kind _ c.client_index-index.ensures _ _
+    c.request_loan_limit.ensures
+    c.in_default.is _ c.client_sender-sender.ensures _ c.new_request_details-details.ensures _ c.in-Ok.place _ c.in-Ok.ensures.row
+    c.in-Ok.ensures.free c.in-Ok.ensures.unused c.in-Ok.ensures.ok
+
+pub count_request_loan-requires-clause-sender : goal.count_request_loan-requires-clause-sender
+count_request_loan-requires-clause-sender g c =
+    sender_still c.args.store.now c.requires.core c.args.client c.requires.kind _ c.client_index-index.ensures _ _
+    c.request_loan_limit.ensures
+    c.in_default.is _ c.client_sender-sender.ensures _ c.new_request_details-details.ensures _ c.in-Ok.place _ c.in-Ok.ensures.row
+    c.in-Ok.ensures.free c.in-Ok.ensures.unused c.in-Ok.ensures.ok
+
+pub count_request_loan-requires-clause-fits : goal.count_request_loan-requires-clause-fits
+count_request_loan-requires-clause-fits g c =
+    loans_still_fit c.args.store.now c.requires.core c.args.client c.requires.kind _ c.client_index-index.ensures _ _
+    c.request_loan_limit.ensures
     c.in_default.is _ c.client_sender-sender.ensures _ c.new_request_details-details.ensures _ c.in-Ok.place _ c.in-Ok.ensures.row
     c.in-Ok.ensures.free c.in-Ok.ensures.unused c.in-Ok.ensures.ok
 

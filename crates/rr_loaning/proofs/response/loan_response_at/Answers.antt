@@ -1,6 +1,6 @@
 use Rattle.std.proofs.Common.{◌≡◌, sym, ◌∙◌, arith}
 use Rattle.rr_laws.proofs.Memory.{response_finds_memory}
-use Rattle.rr_loaning.proofs.steps.Response.{is_active, server_asked, loans_fit, sender_asked, slot_asked, index_asked, clients_asked, refused, not_memory, own_asked, out_of_memory, count_asked, still_there, add_asked, loans_told, core_then}
+use Rattle.rr_loaning.proofs.steps.Response.{is_active, server_asked, loans_fit, sender_asked, slot_asked, index_asked, clients_asked, refused, not_memory, own_asked, out_of_memory, limit_asked, sender_still, loans_still_fit, still_there, add_asked, loans_told, core_then}
 use Rattle.rr_loaning.proofs.response.loan_response_at.Goals as goal
 
 pub unreachable-requires : goal.unreachable-requires
@@ -13,9 +13,9 @@ server_index-index-requires g c =
     server_asked c.args.store.now c.requires.core c.args.number c.args.place c.at-active.result c.at-active.ensures c.requires.kind _ _
     (sym c.active.ensures ∙ c.in-Some.is)
 
-pub response_loan_limit-requires-clause-index : goal.response_loan_limit-requires-clause-index
-response_loan_limit-requires-clause-index g c =
-    index_asked c.args.store.now c.requires.core c.args.number c.args.place c.at-active.result c.at-active.ensures c.requires.kind _ _
+pub response_loan_limit-requires-clause-sender : goal.response_loan_limit-requires-clause-sender
+response_loan_limit-requires-clause-sender g c =
+    limit_asked c.args.store.now c.requires.core c.args.number c.args.place c.at-active.result c.at-active.ensures c.requires.kind _ _
     (sym c.active.ensures ∙ c.in-Some.is) _ c.server_index-index.ensures
 
 pub response_loan_limit-requires-clause-clients : goal.response_loan_limit-requires-clause-clients
@@ -56,9 +56,16 @@ loan_response_slot-requires-clause-sender g c =
     c.active.ensures ∙ c.in-Some.is) _ c.server_index-index.ensures _ _ c.response_loan_limit.ensures c.in_default.is _
     c.server_sender-sender.ensures
 
-pub count_response_loan-requires : goal.count_response_loan-requires
-count_response_loan-requires g c =
-    count_asked c.args.store.now c.requires.core c.args.number c.args.place c.at-active.result c.at-active.ensures c.requires.kind _ _
+pub count_response_loan-requires-clause-sender : goal.count_response_loan-requires-clause-sender
+count_response_loan-requires-clause-sender g c =
+    sender_still c.args.store.now c.requires.core c.args.number c.args.place c.at-active.result c.at-active.ensures c.requires.kind _ _
+    (sym c.active.ensures ∙ c.in-Some.is) _ c.server_index-index.ensures _ _ c.response_loan_limit.ensures c.in_default.is _
+    c.server_sender-sender.ensures _ c.new_response_details-details.ensures _ c.in-Ok.own _ c.in-Ok.ensures.row c.in-Ok.ensures.free
+    c.in-Ok.ensures.unused c.in-Ok.ensures.ok
+
+pub count_response_loan-requires-clause-fits : goal.count_response_loan-requires-clause-fits
+count_response_loan-requires-clause-fits g c =
+    loans_still_fit c.args.store.now c.requires.core c.args.number c.args.place c.at-active.result c.at-active.ensures c.requires.kind _ _
     (sym c.active.ensures ∙ c.in-Some.is) _ c.server_index-index.ensures _ _ c.response_loan_limit.ensures c.in_default.is _
     c.server_sender-sender.ensures _ c.new_response_details-details.ensures _ c.in-Ok.own _ c.in-Ok.ensures.row c.in-Ok.ensures.free
     c.in-Ok.ensures.unused c.in-Ok.ensures.ok

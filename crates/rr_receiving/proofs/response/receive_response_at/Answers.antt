@@ -1,6 +1,7 @@
 use Rattle.std.proofs.Common.{Ok, ap, ◌∙◌}
-use Rattle.rr_receiving.proofs.steps.Response.{client_asked, queues_asked, none_then, error_then, take_asked, taken_sender_asked, slot_asked}
-use Rattle.rr_receiving.proofs.steps.Response.{insert_asked, core_then, receives_then}
+use Rattle.rr_laws.proofs.Naming.{received_names_nothing}
+use Rattle.rr_receiving.proofs.steps.Response.{own_asked, queues_asked, none_then, error_then, take_asked, taken_sender_asked, slot_asked}
+use Rattle.rr_receiving.proofs.steps.Response.{insert_asked, core_then, receives_then, unhandled}
 use Rattle.rr_receiving.proofs.response.receive_response_at.Goals as goal
 
 pub at-request-requires : goal.at-request-requires
@@ -8,7 +9,7 @@ at-request-requires g c = c.requires.at
 
 pub receiver_of_sender-receiver-requires : goal.receiver_of_sender-receiver-requires
 receiver_of_sender-receiver-requires g c =
-    client_asked c.args.store.now c.requires.core c.args.number c.args.place _ c.at-request.ensures c.requires.kind
+    own_asked c.args.store.now c.requires.core c.args.number c.args.place _ c.at-request.ensures c.requires.kind
 
 pub next_response_sender-requires : goal.next_response_sender-requires
 next_response_sender-requires g c =
@@ -58,6 +59,14 @@ returns-in-Ok-Some-clause-receives g c =
     c.receiver_of_sender-receiver.ensures _ c.next_response_sender.ensures _ (c.in-Ok-Some.is ∙ ap Ok c.in-Ok-Some.field-0-is) _ _
     c.take_response-slot.ensures.first c.take_response-slot.ensures.within c.take_response-slot.ensures.taken _ _
     c.response_details-details.ensures c.response_place-own.ensures _ c.insert.ensures _ c.new.ensures
+
+pub returns-in-Ok-Some-clause-unnamed : goal.returns-in-Ok-Some-clause-unnamed
+returns-in-Ok-Some-clause-unnamed g c =
+    received_names_nothing _ c.requires.core.reached c.args.number _ _ (returns-in-Ok-Some-clause-receives g c)
+    (unhandled c.args.store.now c.requires.core c.args.number c.args.place _ c.at-request.ensures c.requires.kind _
+    c.receiver_of_sender-receiver.ensures _ c.next_response_sender.ensures _ (c.in-Ok-Some.is ∙ ap Ok c.in-Ok-Some.field-0-is) _ _
+    c.take_response-slot.ensures.first c.take_response-slot.ensures.within c.take_response-slot.ensures.taken _ _
+    c.response_details-details.ensures c.response_place-own.ensures _ c.new.ensures)
 
 pub returns-in-Ok-None-clause-core : goal.returns-in-Ok-None-clause-core
 returns-in-Ok-None-clause-core g c = c.requires.core

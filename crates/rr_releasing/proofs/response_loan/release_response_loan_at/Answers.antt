@@ -1,4 +1,4 @@
-use Rattle.rr_releasing.proofs.steps.ResponseLoan.{sender_asked, slot_asked, held_asked, server_asked, core_then, view_then}
+use Rattle.rr_releasing.proofs.steps.ResponseLoan.{sender_asked, slot_asked, held_asked, sender_still, loan_asked, core_then, view_then}
 use Rattle.rr_releasing.proofs.response_loan.release_response_loan_at.Goals as goal
 
 pub take-entry-requires : goal.take-entry-requires
@@ -24,9 +24,14 @@ give_back_response-requires-clause-held g c =
     held_asked c.args.store.now c.requires.core c.args.number c.args.place _ c.take-entry.ensures.taken c.requires.kind _
     c.take-entry.ensures.gone
 
-pub end_response_loan-receiver-requires : goal.end_response_loan-receiver-requires
-end_response_loan-receiver-requires g c =
-    server_asked c.args.store.now c.requires.core c.args.number c.args.place _ c.take-entry.ensures.taken c.requires.kind _
+pub end_response_loan-receiver-requires-clause-sender : goal.end_response_loan-receiver-requires-clause-sender
+end_response_loan-receiver-requires-clause-sender g c =
+    sender_still c.args.store.now c.requires.core c.args.number c.args.place _ c.take-entry.ensures.taken c.requires.kind _
+    c.take-entry.ensures.gone _ c.response_details-details.ensures _ c.give_back_response.ensures
+
+pub end_response_loan-receiver-requires-clause-counted : goal.end_response_loan-receiver-requires-clause-counted
+end_response_loan-receiver-requires-clause-counted g c =
+    loan_asked c.args.store.now c.requires.core c.args.number c.args.place _ c.take-entry.ensures.taken c.requires.kind _
     c.take-entry.ensures.gone _ c.response_details-details.ensures _ c.give_back_response.ensures
 
 pub returns-clause-core : goal.returns-clause-core

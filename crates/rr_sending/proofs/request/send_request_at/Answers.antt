@@ -1,4 +1,4 @@
-use Rattle.rr_sending.proofs.steps.Request.{sender_asked, client_asked, queues_asked, loan_asked, refused, takes_asked, marks_asked, rows_asked, counts_asked, still_there, sends, core_then}
+use Rattle.rr_sending.proofs.steps.Request.{sender_asked, client_asked, queues_asked, loan_asked, refused, takes_asked, marks_asked, rows_asked, sender_still, loan_counted, pendings_fit, still_there, sends, core_then}
 use Rattle.rr_sending.proofs.request.send_request_at.Goals as goal
 
 pub request_send_limit-requires-clause-sender : goal.request_send_limit-requires-clause-sender
@@ -56,9 +56,21 @@ queue_request-connections-requires-clause-rows g c =
     rows_asked c.args.store.now c.requires.core c.args.number c.args.place c.at-entry.result c.at-entry.ensures c.requires.kind
     g.K.BackpressureFn.action _ c.request_send_limit.ensures c.in_default.is
 
-pub count_as_sent-requires : goal.count_as_sent-requires
-count_as_sent-requires g c =
-    counts_asked c.args.store.now c.requires.core c.args.number c.args.place c.at-entry.result c.at-entry.ensures c.requires.kind
+pub count_as_sent-requires-clause-sender : goal.count_as_sent-requires-clause-sender
+count_as_sent-requires-clause-sender g c =
+    sender_still c.args.store.now c.requires.core c.args.number c.args.place c.at-entry.result c.at-entry.ensures c.requires.kind
+    g.K.BackpressureFn.action _ c.request_send_limit.ensures c.in_default.is _ c.queue_request-connections.ensures.count _
+    c.queue_request-connections.ensures.queued
+
+pub count_as_sent-requires-clause-loaned : goal.count_as_sent-requires-clause-loaned
+count_as_sent-requires-clause-loaned g c =
+    loan_counted c.args.store.now c.requires.core c.args.number c.args.place c.at-entry.result c.at-entry.ensures c.requires.kind
+    g.K.BackpressureFn.action _ c.request_send_limit.ensures c.in_default.is _ c.queue_request-connections.ensures.count _
+    c.queue_request-connections.ensures.queued
+
+pub count_as_sent-requires-clause-fits : goal.count_as_sent-requires-clause-fits
+count_as_sent-requires-clause-fits g c =
+    pendings_fit c.args.store.now c.requires.core c.args.number c.args.place c.at-entry.result c.at-entry.ensures c.requires.kind
     g.K.BackpressureFn.action _ c.request_send_limit.ensures c.in_default.is _ c.queue_request-connections.ensures.count _
     c.queue_request-connections.ensures.queued
 

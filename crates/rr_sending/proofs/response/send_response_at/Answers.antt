@@ -1,4 +1,4 @@
-use Rattle.rr_sending.proofs.steps.Response.{sender_asked, slot_asked, loan_asked, clients_asked, server_asked, queue_asked, refused, sender_still, queue_still, takes_still, loan_counted, sends, core_then}
+use Rattle.rr_sending.proofs.steps.Response.{sender_asked, slot_asked, loan_asked, clients_asked, server_asked, queue_asked, refused, sender_still, queue_still, takes_still, loan_sender, loan_counted, sends, core_then}
 use Rattle.rr_sending.proofs.response.send_response_at.Goals as goal
 
 pub response_details-details-requires-clause-sender : goal.response_details-details-requires-clause-sender
@@ -72,8 +72,14 @@ pub take-requires : goal.take-requires
 take-requires g c =
     (c.at-entry.result, c.at-entry.ensures)
 
-pub end_response_loan-receiver-requires : goal.end_response_loan-receiver-requires
-end_response_loan-receiver-requires g c =
+pub end_response_loan-receiver-requires-clause-sender : goal.end_response_loan-receiver-requires-clause-sender
+end_response_loan-receiver-requires-clause-sender g c =
+    loan_sender c.args.store.now c.requires.core c.args.number c.args.place c.at-entry.result c.at-entry.ensures c.requires.kind
+    g.K.BackpressureFn.action _ c.response_details-details.ensures _ c.reached_receiver-reach.ensures _ c.is_response_refused.ensures _
+    c.take.ensures.gone _ c.hand_over_response.ensures
+
+pub end_response_loan-receiver-requires-clause-counted : goal.end_response_loan-receiver-requires-clause-counted
+end_response_loan-receiver-requires-clause-counted g c =
     loan_counted c.args.store.now c.requires.core c.args.number c.args.place c.at-entry.result c.at-entry.ensures c.requires.kind
     g.K.BackpressureFn.action _ c.response_details-details.ensures _ c.reached_receiver-reach.ensures _ c.is_response_refused.ensures _
     c.take.ensures.gone _ c.hand_over_response.ensures

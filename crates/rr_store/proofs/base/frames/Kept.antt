@@ -9,20 +9,20 @@ use Rattle.rr_store.specs.declared.handle_entry.Stage.{Stage}
 use Rattle.rr_store.specs.declared.handle_entry.Stage.TheVariants as stage
 use Rattle.rr_store.specs.declared.details.RequestDetails.{RequestDetails}
 use Rattle.rr_store.specs.declared.details.ResponseDetails.{ResponseDetails}
-use Rattle.rr_store.specs.Parts.{Parts, ClientPart, ServerPart, Sender}
+use Rattle.rr_store.specs.Parts.{Parts, Connected, ClientPart, Sender}
 use Rattle.rr_store.specs.Views.{sender_of}
 use Rattle.rr_store.specs.Sound.{IsSound, IsNumbered, IsAddressed, IsPlaced, Hand, is_of_request, is_of_response, server_place, place_at, request_uses, response_uses, request_details, response_details}
-use Rattle.rr_store.specs.Frames.{Frame, moved, SameFrame}
+use Rattle.rr_store.specs.Frames.{moved, SameFrame}
 use Rattle.rr_store.specs.Kept.{DetailsKept}
-use Rattle.rr_store.proofs.base.frames.Frames.{client_after, place_kept}
+use Rattle.rr_store.proofs.base.frames.Frames.{client_after}
 use Rattle.rr_store.proofs.base.hands.Stages.{loan_is_request, pending_is_request, received_is_response}
 
 module _ {Q QH P PH K : Type 0} (p : Parts Q QH P PH K) (hand : Hand) (sound : IsSound p hand)
-    (clients : List (ClientPart K)) (servers : List (ServerPart K)) (client_senders : List (Sender Q RequestDetails QH))
+    (clients : List (ClientPart K)) (client_senders : List (Sender Q RequestDetails QH))
     (server_senders : List (Sender P ResponseDetails PH)) (waiting : List (List Bool))
-    (next : ℕ) (frame : SameFrame p clients servers client_senders server_senders waiting next) where
+    (next : ℕ) (frame : SameFrame p clients client_senders server_senders waiting next) where
   abbrev after : Parts Q QH P PH K
-  after = moved p clients servers client_senders server_senders waiting p.table.entries next
+  after = moved p clients client_senders server_senders waiting p.table.entries next
 
   -- the place of each handle is as it was
   pub same_placing : (g : Stage) (sender slot : ℕ) → place_at after g sender slot ≡ place_at p g sender slot
@@ -35,14 +35,9 @@ module _ {Q QH P PH K : Type 0} (p : Parts Q QH P PH K) (hand : Hand) (sound : I
       (frame.client_senders_alike.each sender).row
       ∙ ap (λ n. record { row = (sender_of sender p.client_senders).row; index = (at_place + 1) * n + slot })
       (frame.client_senders_alike.each sender).slots
-      ∙ ap (λ n. record {
-        row = (sender_of sender p.client_senders).row;
-        index = (n + 1) * length (sender_of sender p.client_senders).messages.held + slot;
-      })
-      (place_kept p hand sound clients servers client_senders server_senders waiting p.table.entries next frame server)
     where
       at_place : ℕ
-      at_place = server_place after server
+      at_place = server_place p server
   same_placing stage.ResponseMutUninit sender slot = ap (λ r. record { row = r; index = slot }) (frame.server_senders_alike.each sender).row
   same_placing stage.ResponseMut sender slot = ap (λ r. record { row = r; index = slot }) (frame.server_senders_alike.each sender).row
   same_placing stage.Response sender slot = ap (λ r. record { row = r; index = slot }) (frame.server_senders_alike.each sender).row
@@ -69,11 +64,7 @@ module _ {Q QH P PH K : Type 0} (p : Parts Q QH P PH K) (hand : Hand) (sound : I
             (sym (ss.each l).row ∙ e ∙ (ss.each m).row);
         rows_apart = λ l m h g e. n.rows_apart l m (omega (arith, h, cs.many)) (omega (arith, g, ss.many))
             (sym (cs.each l).row ∙ e ∙ (ss.each m).row);
-        active_servers = λ k server s at is. omega (
-          arith,
-          n.active_servers k server s at is,
-          place_kept p hand sound clients servers client_senders server_senders waiting p.table.entries next frame server,
-        );
+        active_servers = n.active_servers;
       }
 
   module _ (kept : DetailsKept p after) where
@@ -111,10 +102,9 @@ module _ {Q QH P PH K : Type 0} (p : Parts Q QH P PH K) (hand : Hand) (sound : I
           );
           received = λ k s at is.
               let r = n.received k s at is in
-              let c = client_after p hand sound clients servers client_senders server_senders waiting p.table.entries next frame r.0 r.1 r.2
-              in
+              let c = client_after p hand sound clients client_senders server_senders waiting p.table.entries next frame r.0 r.1 r.2 in
               let details = kept.responses_noted s.value.sender s.value.slot (responses k s at (received_is_response s.value.stage is)) in
-              (r.0, c.0, c.1, ap (λ (f : Frame K). f.port.id) c.2 ∙ r.3 ∙ sym (ap (λ (n : ResponseDetails). n.client) details));
+              (r.0, c.0, c.1, ap (λ (f : Connected K). f.port.id) c.2 ∙ r.3 ∙ sym (ap (λ (n : ResponseDetails). n.client) details));
           answering = λ l i k server loans s u at is f.
               let details : response_details after l i ≡ response_details p l i = kept.responses_noted l i u in
               let a = n.answering l i k server loans s (kept.responses_used l i u) at is

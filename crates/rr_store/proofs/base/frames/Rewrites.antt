@@ -20,6 +20,7 @@ module _ {T N H : Type 0} where
   rewritten_alike before after r = record {
     owner = ap (λ (o : Outline N). o.owner) r.outline;
     row = ap (λ (o : Outline N). o.row) r.outline;
+    receiver = ap (λ (o : Outline N). o.receiver) r.outline;
     slots = ap (λ (o : Outline N). length o.held) r.outline;
     room = ap (λ (o : Outline N). o.room) r.outline;
     shaped = λ receivers channels capacity s.
@@ -52,12 +53,11 @@ module _ {Q QH P PH K : Type 0} (p : Parts Q QH P PH K) (hand : Hand) (sound : I
     (c : SendersRewritten p.client_senders client_senders) (s : SendersRewritten p.server_senders server_senders) where
   -- the core with those senders
   abbrev pub rewritten : Parts Q QH P PH K
-  rewritten = moved p p.clients p.servers client_senders server_senders p.waiting p.table.entries p.next
+  rewritten = moved p p.clients client_senders server_senders p.waiting p.table.entries p.next
 
-  frame : SameFrame p p.clients p.servers client_senders server_senders p.waiting p.next
+  frame : SameFrame p p.clients client_senders server_senders p.waiting p.next
   frame = record {
     clients_alike = refl;
-    servers_alike = refl;
     client_senders_alike = senders_alike p.client_senders client_senders c;
     server_senders_alike = senders_alike p.server_senders server_senders s;
     marks = refl;
@@ -103,9 +103,10 @@ module _ {Q QH P PH K : Type 0} (p : Parts Q QH P PH K) (hand : Hand) (sound : I
 
   rewritten_stored : IsStored rewritten hand
   rewritten_stored = let n = sound.stored in record {
-    request_loans = n.request_loans;
-    pendings = n.pendings;
-    response_loans = n.response_loans;
+    request_loans = λ l h. ap (λ (o : Outline RequestDetails). o.loans) (c.each l).outline ∙ n.request_loans l (omega (arith, h, c.many));
+    pendings = λ l h. ap (λ (o : Outline RequestDetails). o.pendings) (c.each l).outline ∙ n.pendings l (omega (arith, h, c.many));
+    response_loans = λ l h. ap (λ (o : Outline ResponseDetails). o.loans) (s.each l).outline
+        ∙ n.response_loans l (omega (arith, h, s.many));
     active_loans = λ k server loans t at is. n.active_loans k server loans t at is
         ∙ sym (λ i. handles p (λ h. is_response_loan h.stage && (response_details_same h.sender h.slot i).active_request == k) hand);
     borrowed_requests = λ l server h.
@@ -138,10 +139,10 @@ module _ {Q QH P PH K : Type 0} (p : Parts Q QH P PH K) (hand : Hand) (sound : I
   rewritten_sound = record {
     counted = rewritten_counted;
     held_once = rewritten_once;
-    numbered = kept_numbered p hand sound p.clients p.servers client_senders server_senders p.waiting p.next frame details_kept
+    numbered = kept_numbered p hand sound p.clients client_senders server_senders p.waiting p.next frame details_kept
         (λ k t at is. omega (arith, handle_uses_request p hand sound.counted k t at is, request_uses_same t.value.sender t.value.slot))
         (λ k t at is. omega (arith, handle_uses_response p hand sound.counted k t at is, response_uses_same t.value.sender t.value.slot));
-    addressed = kept_addressed p hand sound p.clients p.servers client_senders server_senders p.waiting p.next frame details_kept
+    addressed = kept_addressed p hand sound p.clients client_senders server_senders p.waiting p.next frame details_kept
         (λ l i channel j client at waits.
         let a = sound.addressed.entries l i channel j client at
         (subst (λ (o : Outline ResponseDetails). 0 < times i (at_two [] o.queues client.receiver channel)) (s.each l).outline waits) in (
@@ -149,14 +150,14 @@ module _ {Q QH P PH K : Type 0} (p : Parts Q QH P PH K) (hand : Hand) (sound : I
           ap (λ (n : ResponseDetails). n.channel) (response_details_same l i)
               ∙ a.1,
         ));
-    inserted = framed_inserted p hand sound p.clients p.servers client_senders server_senders p.waiting p.next frame;
+    inserted = framed_inserted p hand sound p.clients client_senders server_senders p.waiting p.next frame;
     stored = rewritten_stored;
-    sized = framed_sized p hand sound p.clients p.servers client_senders server_senders p.waiting p.table.entries p.next frame
+    sized = framed_sized p hand sound p.clients client_senders server_senders p.waiting p.table.entries p.next frame
         sound.sized.next_fits sound.sized.loans_made;
     vacated = rewritten_vacated;
-    have_values = framed_by_value p hand sound p.clients p.servers client_senders server_senders p.waiting p.table.entries p.next frame;
-    client_ports = framed_client_ports p hand sound p.clients p.servers client_senders server_senders p.waiting p.table.entries p.next
+    have_values = framed_by_value p hand sound p.clients client_senders server_senders p.waiting p.table.entries p.next frame;
+    client_ports = framed_client_ports p hand sound p.clients client_senders server_senders p.waiting p.table.entries p.next
         frame;
-    server_ports = framed_server_ports p hand sound p.clients p.servers client_senders server_senders p.waiting p.table.entries p.next
+    server_ports = framed_server_ports p hand sound p.clients client_senders server_senders p.waiting p.table.entries p.next
         frame;
   }

@@ -35,7 +35,7 @@ never false = refl
 -- senders are alike to themselves
 pub senders_same : {T N H : Type 0} (senders : List (Sender T N H)) → SendersAlike senders senders
 senders_same senders = record
-    { many = refl; each = λ l. record { owner = refl; row = refl; slots = refl; room = refl; shaped = λ r c k h. h } }
+    { many = refl; each = λ l. record { owner = refl; row = refl; receiver = refl; slots = refl; room = refl; shaped = λ r c k h. h } }
 
 module _ {Q QH P PH K : Type 0} (p : Parts Q QH P PH K) where
   -- what is true whatever handles stand in the table
@@ -129,9 +129,9 @@ module _ {Q QH P PH K : Type 0} (p : Parts Q QH P PH K) where
         active_servers = λ j server t e. n.active_servers j server t (still j t e);
       };
       stored = let n = sound.stored in record {
-        request_loans = λ i c e. n.request_loans i c e ∙ same_taken _;
-        pendings = λ i c e. n.pendings i c e ∙ same_taken _;
-        response_loans = λ i c e. n.response_loans i c e ∙ same_taken _;
+        request_loans = λ l h. n.request_loans l h ∙ same_taken _;
+        pendings = λ l h. n.pendings l h ∙ same_taken _;
+        response_loans = λ l h. n.response_loans l h ∙ same_taken _;
         active_loans = λ j server loans t e is. n.active_loans j server loans t (still j t e) is ∙ same_taken (is_loan_from p j);
         borrowed_requests = λ l server h. n.borrowed_requests l server h ∙ same_taken _;
         borrowed_responses = λ l i channel c h e. n.borrowed_responses l i channel c h e ∙ same_taken _;
@@ -237,9 +237,9 @@ module _ {Q QH P PH K : Type 0} (p : Parts Q QH P PH K) where
             (λ b. n.active_servers j server t b);
       };
       stored = let n = sound.stored in record {
-        request_loans = λ i c e. n.request_loans i c e ∙ same_given _;
-        pendings = λ i c e. n.pendings i c e ∙ same_given _;
-        response_loans = λ i c e. n.response_loans i c e ∙ same_given _;
+        request_loans = λ l h. n.request_loans l h ∙ same_given _;
+        pendings = λ l h. n.pendings l h ∙ same_given _;
+        response_loans = λ l h. n.response_loans l h ∙ same_given _;
         active_loans = λ j server loans t e. cases j t e
             (λ m is. let R : TableEntry HandleEntry → Type 0 = λ t. t.value.stage ≡ stage.ActiveRequest server loans
             → loans ≡ handles given (is_loan_from given j) hand in

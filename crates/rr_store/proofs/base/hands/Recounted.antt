@@ -39,9 +39,9 @@ module _ {Q QH P PH K : Type 0} (p : Parts Q QH P PH K) (hand : Hand) (server se
     addressed = sound.addressed;
     inserted = sound.inserted;
     stored = let n = sound.stored in record {
-      request_loans = λ i c at. n.request_loans i c at ∙ same_handles _ refl;
-      pendings = λ i c at. n.pendings i c at ∙ same_handles _ refl;
-      response_loans = λ i c at. n.response_loans i c at ∙ same_handles _ refl;
+      request_loans = λ l h. n.request_loans l h ∙ same_handles _ refl;
+      pendings = λ l h. n.pendings l h ∙ same_handles _ refl;
+      response_loans = λ l h. n.response_loans l h ∙ same_handles _ refl;
       active_loans = λ k a loans s at is. n.active_loans k a loans s at is ∙ same_handles _ refl;
       borrowed_requests = λ l a h. n.borrowed_requests l a h ∙ same_handles _ refl;
       borrowed_responses = λ l i channel c h at. n.borrowed_responses l i channel c h at ∙ same_handles _ refl;

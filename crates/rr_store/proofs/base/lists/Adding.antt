@@ -7,7 +7,7 @@ use Rattle.std.proofs.lemmas.List.{length-map}
 use Rattle.rr_table.specs.TableView.{TableView}
 use Rattle.rr_store.specs.declared.handle_entry.HandleEntry.{HandleEntry}
 use Rattle.rr_store.specs.declared.details.ResponseDetails.{ResponseDetails}
-use Rattle.rr_store.specs.Parts.{Parts, Connected, ServerPart, Sender}
+use Rattle.rr_store.specs.Parts.{Parts, Connected, Sender}
 use Rattle.rr_store.specs.Sound.{HasSenders}
 use Rattle.rr_store.specs.Views.{state_of, client_of, server_of}
 use Rattle.rr_protocol.specs.State.{State, numbers_left}
@@ -74,22 +74,17 @@ mapped {X} {Y} f xs i y e = go (slice_get xs i) refl (sym (slice_get-map f xs i)
     go (Some x) h g = let is : Some (f x) ≡ Some y = g in let same : f x ≡ y = cc in (x, h, same)
 
 module _ {Q QH P PH K : Type 0} where
-  -- a core with other servers, senders of servers and handles
-  abbrev pub with_servers : Parts Q QH P PH K → List (ServerPart K) → List (Sender P ResponseDetails PH) → TableView HandleEntry → ℕ
-      → Parts Q QH P PH K
-  with_servers p servers senders table next = record p { servers = servers; server_senders = senders; table = table; next = next }
+  -- a core with other senders of servers and handles
+  abbrev pub with_responders : Parts Q QH P PH K → List (Sender P ResponseDetails PH) → TableView HandleEntry → ℕ → Parts Q QH P PH K
+  with_responders p senders table next = record p { server_senders = senders; table = table; next = next }
 
   -- with the same ones it is as it was
-  pub same_servers : (p q : Parts Q QH P PH K) (servers : List (ServerPart K)) (senders : List (Sender P ResponseDetails PH))
-      (table : TableView HandleEntry)
-      (next : ℕ)
-      → servers ≡ q.servers → senders ≡ q.server_senders → table ≡ q.table → next ≡ q.next
-      → q ≡ with_servers p q.servers q.server_senders q.table q.next
-      → with_servers p servers senders table next ≡ q
-  same_servers p q servers senders table next a b d e is =
-      ap (λ x. with_servers p x senders table next) a ∙ ap (λ x. with_servers p q.servers x table next) b
-      ∙ ap (λ x. with_servers p q.servers q.server_senders x next) d
-      ∙ ap (λ x. with_servers p q.servers q.server_senders q.table x) e ∙ sym is
+  pub same_responders : (p q : Parts Q QH P PH K) (senders : List (Sender P ResponseDetails PH)) (table : TableView HandleEntry) (next : ℕ)
+      → senders ≡ q.server_senders → table ≡ q.table → next ≡ q.next → q ≡ with_responders p q.server_senders q.table q.next
+      → with_responders p senders table next ≡ q
+  same_responders p q senders table next a b d is =
+      ap (λ x. with_responders p x table next) a ∙ ap (λ x. with_responders p q.server_senders x next) b
+      ∙ ap (λ x. with_responders p q.server_senders q.table x) d ∙ sym is
 
 -- a connected port's number was given before
 pub given_before : {T N H K : Type 0} (next ports : ℕ) (connected : List (Connected K)) (senders : List (Sender T N H))

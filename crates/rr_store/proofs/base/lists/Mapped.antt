@@ -42,7 +42,8 @@ module _ {X Y : Type 0} (f : X → Y) where
 
   module _ (t : Y → Bool) (xs : List X) (R : ℕ → Y → Type 0) (S : ℕ → X → Type 0) where
     -- what is asked of the first one that passes
-    pub of_mapped : ((i : ℕ) (x : X) → R i (f x) → S i x) → IsSomeAnd (position t (map f xs)) (λ i. IsSomeAnd (slice_get (map f xs) i) (R i))
+    pub of_mapped : ((i : ℕ) (x : X) → R i (f x) → S i x)
+        → IsSomeAnd (position t (map f xs)) (λ i. IsSomeAnd (slice_get (map f xs) i) (R i))
         → IsSomeAnd (position (λ x. t (f x)) xs) (λ i. IsSomeAnd (slice_get xs i) (S i))
     of_mapped each h =
         some_each (position (λ x. t (f x)) xs) (λ i. IsSomeAnd (slice_get (map f xs) i) (R i)) (λ i. IsSomeAnd (slice_get xs i) (S i))

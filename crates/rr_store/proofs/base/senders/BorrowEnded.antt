@@ -69,14 +69,15 @@ module _ (rows : List (List ℕ)) (i j : ℕ) where
         ))
         (cases_eq i r)
 
-module _ {T N H : Type 0} (senders : List (Sender T N H)) (sender slot receiver channel : ℕ) (there : sender < length senders)
+module _ {T N H : Type 0} (senders : List (Sender T N H)) (sender slot receiver channel loans pendings : ℕ)
+    (there : sender < length senders)
     (held : 0 < slice_index_or (sender_of sender senders).messages.held slot 0)
     (some : 0 < borrowed_at (sender_of sender senders).messages receiver channel) where
   abbrev rows : List (List ℕ)
   rows = (sender_of sender senders).messages.borrowed
 
   abbrev after : List (Sender T N H)
-  after = senders_less senders sender slot (one_less rows receiver channel)
+  after = senders_less senders sender slot (one_less rows receiver channel) loans pendings
 
   -- one receiver has one less from one channel of one sender
   pub borrowed_less : (l r q : ℕ) → borrowed_at (sender_of l after).messages r q + mark
@@ -86,14 +87,15 @@ module _ {T N H : Type 0} (senders : List (Sender T N H)) (sender slot receiver 
       (λ e. omega (
         arith,
         ap (λ (x : Sender T N H). borrowed_at x.messages r q) (sym (ap (λ l. sender_of l after) e)
-            ∙ here_is senders sender slot (one_less rows receiver channel) there held),
+            ∙ here_is senders sender slot (one_less rows receiver channel) loans pendings there held),
         less_at rows receiver channel some r q,
         ap (λ l. borrowed_at (sender_of l senders).messages r q) e,
         ap (λ b. mark (b && (receiver == r && channel == q))) (eq-eqb sender l e),
       ))
       (λ n. omega (
         arith,
-        ap (λ (x : Sender T N H). borrowed_at x.messages r q) (there_is senders sender slot (one_less rows receiver channel) l n),
+        ap (λ (x : Sender T N H). borrowed_at x.messages r q) (there_is senders sender slot
+            (one_less rows receiver channel) loans pendings l n),
         ap (λ b. mark (b && (receiver == r && channel == q))) (ne_eqb sender l n),
       ))
       (cases_eq sender l)

@@ -34,6 +34,18 @@ module _ {X : Type 0} (test : X → Bool) (items : List X) where
       go None e = absurd (false≢true (sym (found_none test items (standing_nowhere test items e) j x at) ∙ is))
       go (Some i) e = (i, e, standing test items i e)
 
+  -- what is true of each port is true of the one that is found
+  pub of_each : (R : X → Type 0) → IsSomeAnd (position test items) (λ i. i < length items) → ((x : X) → R x)
+      → IsSomeAnd (position test items) (λ i. IsSomeAnd (slice_get items i) R)
+  of_each R found each = go (position test items) refl found
+    where
+      go : (o : Option ℕ) → position test items ≡ o → IsSomeAnd o (λ i. i < length items)
+          → IsSomeAnd o (λ i. IsSomeAnd (slice_get items i) R)
+      go None e t = t
+      go (Some i) e t =
+          let it = standing test items i e in
+          subst (λ o. IsSomeAnd o R) (sym it.at) (each it.it)
+
   module _ (i : ℕ) (x : X) (is : position test items ≡ Some i) (at : slice_get items i ≡ Some x) (R : ℕ → X → Type 0) where
     -- what is true of the port that is found
     pub of_found : IsSomeAnd (position test items) (λ j. IsSomeAnd (slice_get items j) (R j)) → R i x
@@ -41,13 +53,6 @@ module _ {X : Type 0} (test : X → Bool) (items : List X) where
         let S : Option ℕ → Type 0 = λ p. IsSomeAnd p (λ j. IsSomeAnd (slice_get items j) (R j)) in
         let T : Option X → Type 0 = λ p. IsSomeAnd p (R i) in
         subst T at (subst S is all)
-
-    -- and what is asked of it
-    pub to_found : R i x → IsSomeAnd (position test items) (λ j. IsSomeAnd (slice_get items j) (R j))
-    to_found r =
-        let S : Option ℕ → Type 0 = λ p. IsSomeAnd p (λ j. IsSomeAnd (slice_get items j) (R j)) in
-        let T : Option X → Type 0 = λ p. IsSomeAnd p (R i) in
-        subst S (sym is) (subst T (sym at) r)
 
 -- where something is asked of the element at an index, there is one
 pub asked_within : {X : Type 0} (xs : List X) (i : ℕ) (R : X → Type 0) → IsSomeAnd (slice_get xs i) R → i < length xs

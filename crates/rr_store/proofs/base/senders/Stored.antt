@@ -36,8 +36,17 @@ module _ {B N H T : Type 0} (items : List (OwnedSender B N H T)) (sender : ℕ) 
       ∙ map-set_one sender_part items sender (with_messages x (change x.messages))
       ∙ ap (λ y. slice_set (map sender_part items) sender (part.with_messages y (change y.messages))) (sym stored_is)
 
+-- the senders after one of them, which was read, changed
+pub stored_changed : {B N H T : Type 0} (items : List (OwnedSender B N H T)) (sender : ℕ) (x : OwnedSender B N H T) → sender < length items
+    → x ≡ get_or items sender x → (y : OwnedSender B N H T) (change : Sender T N H → Sender T N H) → sender_part y ≡ change (sender_part x)
+    → map sender_part (slice_set items sender y) ≡ part.with_sender_at (map sender_part items) sender change
+stored_changed items sender x there read y change is =
+    map-set_one sender_part items sender y
+    ∙ ap (slice_set (map sender_part items) sender) (is ∙ ap change (sym (sender_is items sender x there read)))
+
 -- a sender that changed twice
 pub stored_twice : {T N H : Type 0} (senders : List (Sender T N H)) (i : ℕ) (x : Sender T N H) (change : Sender T N H → Sender T N H)
-    → i < length senders → slice_set (slice_set senders i x) i (change (sender_of i (slice_set senders i x))) ≡ slice_set senders i (change x)
+    → i < length senders
+    → slice_set (slice_set senders i x) i (change (sender_of i (slice_set senders i x))) ≡ slice_set senders i (change x)
 stored_twice senders i x change there =
     ap (λ y. slice_set (slice_set senders i x) i (change y)) (get_or-set_same senders i x no_sender there) ∙ set-set senders i x (change x)

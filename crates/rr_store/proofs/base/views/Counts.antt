@@ -76,8 +76,12 @@ module _ {Q QH P PH K : Type 0} (p : Parts Q QH P PH K) where
           ∙ its_sender p.next p.limits.max_clients _ p.client_senders sound.client_ports i c.connected
           (listed (λ c. c.connected) p.clients i c at) s.value.sender (request_sender p empty_hand sound.counted k s e is)
 
-      pub loans_counted : loaned_requests (state_of p) c.port.id ≡ c.loans
-      loans_counted = counted_by (is_request_loan c.port.id) sound_of.is_request_loan c.sender (sound.stored.request_loans i c at) go
+      there : c.sender < length p.client_senders
+      there = (sound.client_ports.own i c.connected (listed (λ c. c.connected) p.clients i c at)).0
+
+      pub loans_counted : loaned_requests (state_of p) c.port.id ≡ (sender_of c.sender p.client_senders).loans
+      loans_counted = counted_by (is_request_loan c.port.id) sound_of.is_request_loan c.sender
+          (sound.stored.request_loans c.sender there) go
         where
           go : (k : ℕ) (s : TableEntry HandleEntry) → fin_map.get p.table.entries k ≡ Some s → (g : Stage) → s.value.stage ≡ g
               → is_request_loan c.port.id (handle_in p g s.value.sender s.value.slot)
@@ -86,8 +90,8 @@ module _ {Q QH P PH K : Type 0} (p : Parts Q QH P PH K) where
           go k s e stage.RequestMut is = owned k s e (ap is_of_request is)
           go k s e other is = refl
 
-      pub pendings_counted : pending_responses (state_of p) c.port.id ≡ c.pendings
-      pendings_counted = counted_by (is_pending_of c.port.id) sound_of.is_pending c.sender (sound.stored.pendings i c at) go
+      pub pendings_counted : pending_responses (state_of p) c.port.id ≡ (sender_of c.sender p.client_senders).pendings
+      pendings_counted = counted_by (is_pending_of c.port.id) sound_of.is_pending c.sender (sound.stored.pendings c.sender there) go
         where
           go : (k : ℕ) (s : TableEntry HandleEntry) → fin_map.get p.table.entries k ≡ Some s → (g : Stage) → s.value.stage ≡ g
               → is_pending_of c.port.id (handle_in p g s.value.sender s.value.slot) ≡ (sound_of.is_pending g && s.value.sender == c.sender)
@@ -104,8 +108,9 @@ module _ {Q QH P PH K : Type 0} (p : Parts Q QH P PH K) where
           ∙ its_sender p.next p.limits.max_servers _ p.server_senders sound.server_ports i c.connected
           (listed (λ c. c.connected) p.servers i c at) s.value.sender (response_sender p empty_hand sound.counted k s e is)
 
-      pub responses_counted : loaned_responses (state_of p) c.port.id ≡ c.loans
-      responses_counted = counted_by (is_response_loan c.port.id) sound_of.is_response_loan c.sender (sound.stored.response_loans i c at) go
+      pub responses_counted : loaned_responses (state_of p) c.port.id ≡ (sender_of c.sender p.server_senders).loans
+      responses_counted = counted_by (is_response_loan c.port.id) sound_of.is_response_loan c.sender
+          (sound.stored.response_loans c.sender (sound.server_ports.own i c.connected (listed (λ c. c.connected) p.servers i c at)).0) go
         where
           go : (k : ℕ) (s : TableEntry HandleEntry) → fin_map.get p.table.entries k ≡ Some s → (g : Stage) → s.value.stage ≡ g
               → is_response_loan c.port.id (handle_in p g s.value.sender s.value.slot) ≡

@@ -1,9 +1,8 @@
 -- What contracts see of a core does not depend on what it counts.
-use Rattle.std.proofs.Common.{◌≡◌, ℕ, zero, suc, Bool, true, false, cond, List, [], ◌∷◌, map, find, option_map, refl, sym, ap, ◌∙◌}
-use Rattle.std.specs.Prelude.{◌==◌, Option, None, Some, filter}
+use Rattle.std.proofs.Common.{◌≡◌, ℕ, zero, suc, Bool, List, [], ◌∷◌, map, find, option_map, refl, sym, ap, ◌∙◌}
+use Rattle.std.specs.Prelude.{◌==◌, Option, None, Some}
 use Rattle.std.specs.Option.{option_map_or}
 use Rattle.std.specs.FinMap as fin_map
-use Rattle.std.proofs.lemmas.Simd.{map-map}
 use Rattle.rr_table.specs.TableView.{TableEntry}
 use Rattle.rr_maps.proofs.MapLaws.{map_values-same}
 use Rattle.rr_sender.specs.Senders.{queue_at}
@@ -13,21 +12,14 @@ use Rattle.rr_store.specs.declared.handle_entry.HandleEntry.{HandleEntry}
 use Rattle.rr_store.specs.declared.details.RequestDetails.{RequestDetails}
 use Rattle.rr_store.specs.declared.details.ResponseDetails.{ResponseDetails}
 use Rattle.rr_store.specs.Parts.{Parts, ClientPart, ServerPart, Sender}
-use Rattle.rr_store.specs.Views.{sender_of, state_of, client_of, server_of, request_in_slot, response_in_slot, handle_of, requests_at, responses_at, waiting_at, is_awaited}
+use Rattle.rr_store.specs.Views.{sender_of, state_of, request_in_slot, response_in_slot, handle_of, requests_at, responses_at}
 use Rattle.rr_store.specs.Frames.{moved}
 use Rattle.rr_store.proofs.base.views.Agreeing.{same_handle, same_requests, same_responses, same_state}
 use Rattle.rr_store.proofs.base.lists.Replaced.{find_mapped}
 
 -- a sender without its counts of handles
 abbrev pub bare_sender : {T N H : Type 0} → Sender T N H → Sender T N H
-bare_sender l = record l { messages = record l.messages { held = []; borrowed = [] } }
-
--- a client and a server without their counts
-abbrev pub bare_client : {K : Type 0} → ClientPart K → ClientPart K
-bare_client c = record c { connected = record c.connected { loans = 0 }; pendings = 0 }
-
-abbrev pub bare_server : {K : Type 0} → ServerPart K → ServerPart K
-bare_server s = record s { connected = record s.connected { loans = 0 } }
+bare_sender l = record l { loans = 0; pendings = 0; messages = record l.messages { held = []; borrowed = [] } }
 
 -- the sender at an index without its counts
 bare_at : {T N H : Type 0} (senders : List (Sender T N H)) (l : ℕ) → sender_of l (map bare_sender senders) ≡ bare_sender
@@ -57,48 +49,27 @@ found_same {X} bare test f default before after alike = sym (by after) ∙ ap (�
         (find (λ x. test (bare x)) xs) default
     by xs = ap (λ o. option_map_or f o default) (find_mapped bare test xs) ∙ of_mapped (find (λ x. test (bare x)) xs)
 
--- what is seen of those that pass
-passing_same : {X Y : Type 0} (bare : X → X) (test : X → Bool) (f : X → Y) (before after : List X) → map bare after ≡ map bare before
-    → map (λ x. f (bare x)) (filter (λ x. test (bare x)) after) ≡ map (λ x. f (bare x)) (filter (λ x. test (bare x)) before)
-passing_same {X} {Y} bare test f before after alike = sym (by after) ∙ ap (λ (xs : List X). map f (filter test xs)) alike ∙ by before
-  where
-    by : (xs : List X) → map f (filter test (map bare xs)) ≡ map (λ x. f (bare x)) (filter (λ x. test (bare x)) xs)
-    by [] = refl
-    by (x ∷ xs) = go (test (bare x)) (by xs)
-      where
-        go : (b : Bool) → map f (filter test (map bare xs)) ≡ map (λ x. f (bare x)) (filter (λ x. test (bare x)) xs)
-            → map f (cond b (bare x ∷ filter test (map bare xs)) (filter test (map bare xs))) ≡ map (λ x. f (bare x))
-            (cond b (x ∷ filter (λ x. test (bare x)) xs) (filter (λ x. test (bare x)) xs))
-        go true rest = ap (λ (ys : List Y). f (bare x) ∷ ys) rest
-        go false rest = rest
-
-module _ {Q QH P PH K : Type 0} (p : Parts Q QH P PH K) (clients : List (ClientPart K)) (servers : List (ServerPart K))
-    (client_senders : List (Sender Q RequestDetails QH)) (server_senders : List (Sender P ResponseDetails PH))
-    (cs : map bare_client clients ≡ map bare_client p.clients) (ss : map bare_server servers ≡ map bare_server p.servers)
+module _ {Q QH P PH K : Type 0} (p : Parts Q QH P PH K) (client_senders : List (Sender Q RequestDetails QH))
+    (server_senders : List (Sender P ResponseDetails PH))
     (cl : map bare_sender client_senders ≡ map bare_sender p.client_senders)
     (sl : map bare_sender server_senders ≡ map bare_sender p.server_senders) where
   -- the core with those counts
   abbrev pub recounted : Parts Q QH P PH K
-  recounted = moved p clients servers client_senders server_senders p.waiting p.table.entries p.next
-
-  awaits : (sender slot : ℕ) → waiting_at recounted sender slot ≡ waiting_at p sender slot
-  awaits sender slot = passing_same bare_server (λ s. is_awaited p sender slot s.receiver) (λ s. s.port.id) p.servers servers ss
+  recounted = moved p p.clients client_senders server_senders p.waiting p.table.entries p.next
 
   handles : (k : ℕ) (s : TableEntry HandleEntry) → fin_map.get p.table.entries k ≡ Some s → handle_of recounted s ≡ handle_of p s
   handles k s e =
       same_handle recounted p s.value.stage s.value.sender s.value.slot
       (λ is. (
         read_same (λ x. request_in_slot p.spare_request_header x.messages s.value.slot) p.client_senders client_senders cl s.value.sender,
-        awaits s.value.sender s.value.slot,
+        refl,
       ))
       (λ is. read_same (λ x. response_in_slot p.spare_response_header x.messages s.value.slot) p.server_senders server_senders sl
       s.value.sender)
 
   requests : (key : RequestKey) → requests_at recounted key ≡ requests_at p key
   requests key =
-      found_same bare_server (λ s. s.port.id == key.server) (λ s. option_map_or (waits s.receiver)
-      (find (λ (sender : Sender Q RequestDetails QH). sender.owner == key.client) client_senders) []) [] p.servers servers ss
-      ∙ go (find (λ s. s.port.id == key.server) p.servers)
+      go (find (λ s. s.port.id == key.server) p.servers)
     where
       waits : ℕ → Sender Q RequestDetails QH → List (RequestMessage Q QH)
       waits receiver sender = map (request_in_slot p.spare_request_header sender.messages) (queue_at sender.messages receiver 0)
@@ -114,9 +85,7 @@ module _ {Q QH P PH K : Type 0} (p : Parts Q QH P PH K) (clients : List (ClientP
 
   responses : (key : ResponseKey) → responses_at recounted key ≡ responses_at p key
   responses key =
-      found_same bare_client (λ c. c.port.id == key.client) (λ c. option_map_or (waits c.receiver)
-      (find (λ (sender : Sender P ResponseDetails PH). sender.owner == key.server) server_senders) []) [] p.clients clients cs
-      ∙ go (find (λ c. c.port.id == key.client) p.clients)
+      go (find (λ c. c.port.id == key.client) p.clients)
     where
       waits : ℕ → Sender P ResponseDetails PH → List (ResponseMessage P PH)
       waits receiver sender = map (response_in_slot p.spare_response_header sender.messages) (queue_at sender.messages receiver key.channel)
@@ -129,15 +98,9 @@ module _ {Q QH P PH K : Type 0} (p : Parts Q QH P PH K) (clients : List (ClientP
       go None = refl
       go (Some c) = found_same bare_sender (λ sender. sender.owner == key.server) (waits c.receiver) [] p.server_senders server_senders sl
 
-  seen_clients : map client_of clients ≡ map client_of p.clients
-  seen_clients = sym (map-map client_of bare_client clients) ∙ ap (map client_of) cs ∙ map-map client_of bare_client p.clients
-
-  seen_servers : map server_of servers ≡ map server_of p.servers
-  seen_servers = sym (map-map server_of bare_server servers) ∙ ap (map server_of) ss ∙ map-map server_of bare_server p.servers
-
   -- contracts see the same
   pub uncounted : state_of recounted ≡ state_of p
   uncounted =
-      same_state (state_of recounted) (state_of p) refl refl seen_clients seen_servers
+      same_state (state_of recounted) (state_of p) refl refl refl refl
       (map_values-same (handle_of recounted) (handle_of p) p.table.entries handles)
       (same_requests recounted p requests) (same_responses recounted p responses) refl refl

@@ -16,9 +16,9 @@ use Rattle.rr_store.specs.declared.handle_entry.Stage.TheVariants as stage
 use Rattle.rr_store.specs.declared.details.RequestDetails.{RequestDetails}
 use Rattle.rr_store.specs.Parts.{Parts, ClientPart, Sender}
 use Rattle.rr_store.specs.Views.{no_request, sender_of}
-use Rattle.rr_store.specs.Sound.{IsSound, IsCounted, IsNumbered, IsAddressed, IsPlaced, IsStored, IsSized, IsVacated, IsShaped, empty_hand, is_of_request, is_request_loan, is_pending, is_active_of, is_received, is_received_at, request_details, response_details, request_uses, server_place, place_at}
+use Rattle.rr_store.specs.Sound.{IsSound, IsCounted, IsNumbered, IsAddressed, IsPlaced, IsStored, IsSized, IsVacated, IsShaped, empty_hand, handles, is_in_sender, is_of_request, is_request_loan, is_pending, is_active_of, is_received, is_received_at, request_details, response_details, request_uses, server_place, place_at}
 use Rattle.rr_store.specs.Creating.{IsNew, client_port, with_client_part}
-use Rattle.rr_store.proofs.creating.NewSenders.{LooksLike, looks_like, sender_before, sender_cases, mark_of_more}
+use Rattle.rr_store.proofs.creating.NewSenders.{LooksLike, count_added, looks_like, sender_before, sender_cases, mark_of_more}
 use Rattle.rr_store.proofs.base.lists.Adding.{pool_fits, makes_channels}
 use Rattle.rr_store.proofs.creating.NewPort.{port_added, later_next, new_shaped}
 use Rattle.rr_protocol.specs.Limits.{worst_case_requests}
@@ -40,13 +40,12 @@ module _ {Q QH P PH K : Type 0} (p : Parts Q QH P PH K) (settings : ClientSettin
 
   abbrev last_client : ClientPart K
   last_client = record {
-    connected = record { port = client_port p settings; sender = length p.client_senders; receiver = receiver; loans = 0 };
+    connected = record { port = client_port p settings; sender = length p.client_senders; receiver = receiver };
     loans_made = 0;
-    pendings = 0;
   }
 
   abbrev last : Sender Q RequestDetails QH
-  last = record { owner = p.next; row = length p.table.rows; messages = m }
+  last = record { owner = p.next; row = length p.table.rows; receiver = receiver; loans = 0; pendings = 0; messages = m }
 
   like : LooksLike p.client_senders after.client_senders
   like = looks_like p.client_senders last new
@@ -210,12 +209,11 @@ module _ {Q QH P PH K : Type 0} (p : Parts Q QH P PH K) (settings : ClientSettin
   stored =
       let n = sound.stored in
       record {
-        request_loans = λ i c at. snoc_cases p.clients _ i c at
-            (λ before h. n.request_loans i c before)
-            (λ e is. rw (← is) (omega (arith, none_last is_request_loan loan_is_request)));
-        pendings = λ i c at. snoc_cases p.clients _ i c at
-            (λ before h. n.pendings i c before)
-            (λ e is. rw (← is) (omega (arith, none_last is_pending pending_is_request)));
+        request_loans = count_added p.client_senders last new (λ x. x.loans) (λ l. handles p
+            (is_in_sender is_request_loan l) empty_hand) refl
+            (omega (arith, none_last is_request_loan loan_is_request)) n.request_loans;
+        pendings = count_added p.client_senders last new (λ x. x.pendings) (λ l. handles p (is_in_sender is_pending l) empty_hand) refl
+            (omega (arith, none_last is_pending pending_is_request)) n.pendings;
         response_loans = n.response_loans;
         active_loans = n.active_loans;
         borrowed_requests = λ l server h. like.borrowed l (server_place p server) 0 ∙ sender_cases p.client_senders last new l
@@ -324,6 +322,6 @@ module _ {Q QH P PH K : Type 0} (p : Parts Q QH P PH K) (settings : ClientSettin
     };
     client_ports = port_added (λ (c : ClientPart K). c.connected) p.next p.limits.max_clients p.clients p.client_senders sound.client_ports
         last_client last
-        new refl refl refl slots_are new.room_is inside vacant few;
+        new refl refl refl slots_are new.room_is refl inside vacant few;
     server_ports = later_next sound.server_ports;
   }

@@ -59,7 +59,15 @@ module _ {Q QH P PH K : Type 0} (p : Parts Q QH P PH K) (settings : ClientSettin
       go : (server : Option (ServerPart K)) (sender : Option (Sender Q RequestDetails QH)) (b : Bool)
           → option_map_or (λ s. option_map_or
           (λ l. map (request_in_slot p.spare_request_header l.messages) (queue_at l.messages s.receiver 0))
-          (option_or sender (cond b (Some (record { owner = p.next; row = length p.table.rows; messages = m })) None)) []) server []
+          (option_or sender (cond b (Some (record {
+            owner = p.next;
+            row = length p.table.rows;
+            receiver = receiver;
+            loans = 0;
+            pendings =
+                0;
+            messages = m;
+          })) None)) []) server []
           ≡ option_map_or (λ s. option_map_or
           (λ l. map (request_in_slot p.spare_request_header l.messages) (queue_at l.messages s.receiver 0))
           sender []) server []
@@ -81,9 +89,8 @@ module _ {Q QH P PH K : Type 0} (p : Parts Q QH P PH K) (settings : ClientSettin
 
       last : ClientPart K
       last = record {
-        connected = record { port = client_port p settings; sender = length p.client_senders; receiver = receiver; loans = 0 };
+        connected = record { port = client_port p settings; sender = length p.client_senders; receiver = receiver };
         loans_made = 0;
-        pendings = 0;
       }
 
       go : (client : Option (ClientPart K)) (sender : Option (Sender P ResponseDetails PH)) (b : Bool)
@@ -95,10 +102,8 @@ module _ {Q QH P PH K : Type 0} (p : Parts Q QH P PH K) (settings : ClientSettin
               port = client_port p settings;
               sender = length p.client_senders;
               receiver = receiver;
-              loans = 0;
             };
             loans_made = 0;
-            pendings = 0;
           })) None)) []
           ≡ option_map_or (λ c. option_map_or (λ l. map (response_in_slot p.spare_response_header l.messages)
           (queue_at l.messages c.receiver key.channel)) sender []) client []

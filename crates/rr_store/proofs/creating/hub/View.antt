@@ -29,6 +29,7 @@ no_ports = record {
   few = omega arith;
   own = λ i c e. no_element i c e;
   ported = λ l h. absurd (omega (arith, h));
+  received = λ i c e. no_element i c e;
   owned_once = λ i j h. absurd (omega arith);
   numbered = λ i h. absurd (omega arith);
   placed = λ i c e. no_element i c e;
@@ -88,9 +89,9 @@ module _ (Q QH P PH K : Type 0) (limits : Limits) (node_id : ℕ) (h : QH) (g : 
       active_servers = λ k server s e. nothing_there k s e;
     };
     stored = record {
-      request_loans = λ i c e. no_element i c e;
-      pendings = λ i c e. no_element i c e;
-      response_loans = λ i c e. no_element i c e;
+      request_loans = λ l h. absurd (omega (arith, h));
+      pendings = λ l h. absurd (omega (arith, h));
+      response_loans = λ l h. absurd (omega (arith, h));
       active_loans = λ k server loans s e. nothing_there k s e;
       borrowed_requests = λ l server h. absurd (omega arith);
       borrowed_responses = λ l i channel c h. absurd (omega arith);

@@ -20,10 +20,10 @@ use Rattle.rr_store.specs.declared.handle_entry.Stage.TheVariants as stage
 use Rattle.rr_store.specs.declared.details.ResponseDetails.{ResponseDetails}
 use Rattle.rr_store.specs.Parts.{Parts, ServerPart, Sender}
 use Rattle.rr_store.specs.Views.{no_response, sender_of}
-use Rattle.rr_store.specs.Sound.{IsSound, IsCounted, IsHeldOnce, IsNumbered, IsAddressed, IsPlaced, IsStored, IsSized, IsVacated, IsShaped, empty_hand, is_of_response, is_active_of, is_response_loan, is_received, has_request_at, is_received_at, response_details, response_uses, server_place, place_at}
+use Rattle.rr_store.specs.Sound.{IsSound, IsCounted, IsHeldOnce, IsNumbered, IsAddressed, IsPlaced, IsStored, IsSized, IsVacated, IsShaped, empty_hand, handles, is_in_sender, is_of_response, is_active_of, is_response_loan, is_received, has_request_at, is_received_at, response_details, response_uses, server_place, place_at}
 use Rattle.rr_store.specs.Creating.{IsNew, server_port, with_server_part}
 use Rattle.rr_store.proofs.base.lists.Found.{find_last}
-use Rattle.rr_store.proofs.creating.NewSenders.{LooksLike, looks_like, sender_before, sender_cases, new_queue}
+use Rattle.rr_store.proofs.creating.NewSenders.{LooksLike, count_added, looks_like, sender_before, sender_cases, new_queue}
 use Rattle.rr_store.proofs.creating.NewPort.{port_added, later_next, new_shaped}
 use Rattle.rr_store.proofs.base.views.Agreeing.{response_sender}
 use Rattle.rr_store.proofs.base.hands.Stages.{response_loan_is_response, received_is_response, handle_uses_response}
@@ -42,12 +42,12 @@ module _ {Q QH P PH K : Type 0} (p : Parts Q QH P PH K) (settings : ServerSettin
 
   abbrev last_server : ServerPart K
   last_server = record {
-    connected = record { port = server_port p settings; sender = length p.server_senders; receiver = receiver; loans = 0 };
+    connected = record { port = server_port p settings; sender = length p.server_senders; receiver = receiver };
     max_loaned_responses_per_request = loans_of settings;
   }
 
   abbrev last : Sender P ResponseDetails PH
-  last = record { owner = p.next; row = length p.table.rows; messages = m }
+  last = record { owner = p.next; row = length p.table.rows; receiver = receiver; loans = 0; pendings = 0; messages = m }
 
   like : LooksLike p.server_senders after.server_senders
   like = looks_like p.server_senders last new
@@ -308,9 +308,8 @@ module _ {Q QH P PH K : Type 0} (p : Parts Q QH P PH K) (settings : ServerSettin
       record {
         request_loans = n.request_loans;
         pendings = n.pendings;
-        response_loans = λ i c at. snoc_cases p.servers last_server i c at
-            (λ before h. n.response_loans i c before)
-            (λ e is. rw (← is) (omega (arith, none_last is_response_loan response_loan_is_response)));
+        response_loans = count_added p.server_senders last new (λ x. x.loans) (λ l. handles p (is_in_sender is_response_loan l) empty_hand)
+            refl (omega (arith, none_last is_response_loan response_loan_is_response)) n.response_loans;
         active_loans = λ k server loans s at is. n.active_loans k server loans s at is
             ∙ ap (λ n. n + 0) (sym (noted_alike is_response_loan response_loan_is_response (λ s details. details.active_request == k)));
         borrowed_requests = λ l server h. place_cases server
@@ -388,5 +387,5 @@ module _ {Q QH P PH K : Type 0} (p : Parts Q QH P PH K) (settings : ServerSettin
     client_ports = later_next sound.client_ports;
     server_ports = port_added (λ (s : ServerPart K). s.connected) p.next p.limits.max_servers p.servers p.server_senders sound.server_ports
         last_server last
-        new refl refl refl slots_are new.room_is inside vacant few;
+        new refl refl refl slots_are new.room_is refl inside vacant few;
   }

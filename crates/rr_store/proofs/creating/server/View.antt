@@ -43,7 +43,7 @@ module _ {Q QH P PH K : Type 0} (p : Parts Q QH P PH K) (settings : ServerSettin
 
   abbrev last : ServerPart K
   last = record {
-    connected = record { port = server_port p settings; sender = length p.server_senders; receiver = receiver; loans = 0 };
+    connected = record { port = server_port p settings; sender = length p.server_senders; receiver = receiver };
     max_loaned_responses_per_request = loans_of settings;
   }
 
@@ -75,7 +75,14 @@ module _ {Q QH P PH K : Type 0} (p : Parts Q QH P PH K) (settings : ServerSettin
       go : (client : Option (ClientPart K)) (sender : Option (Sender P ResponseDetails PH)) (b : Bool)
           → option_map_or (λ c. option_map_or (λ l. map (response_in_slot p.spare_response_header l.messages)
           (queue_at l.messages c.receiver key.channel)) (option_or sender
-          (cond b (Some (record { owner = p.next; row = length p.table.rows; messages = m })) None)) []) client []
+          (cond b (Some (record {
+            owner = p.next;
+            row = length p.table.rows;
+            receiver = receiver;
+            loans = 0;
+            pendings = 0;
+            messages = m;
+          })) None)) []) client []
           ≡ option_map_or (λ c. option_map_or (λ l. map (response_in_slot p.spare_response_header l.messages)
           (queue_at l.messages c.receiver key.channel)) sender []) client []
       go None sender b = refl
@@ -100,7 +107,7 @@ module _ {Q QH P PH K : Type 0} (p : Parts Q QH P PH K) (settings : ServerSettin
           (λ l. map (request_in_slot p.spare_request_header l.messages) (queue_at l.messages s.receiver 0))
           sender []) (option_or server (cond b (Some (record {
             connected =
-                record { port = server_port p settings; sender = length p.server_senders; receiver = receiver; loans = 0 };
+                record { port = server_port p settings; sender = length p.server_senders; receiver = receiver };
             max_loaned_responses_per_request = loans_of settings;
           })) None)) []
           ≡ option_map_or (λ s. option_map_or

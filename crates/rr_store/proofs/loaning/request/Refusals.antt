@@ -35,11 +35,15 @@ use Rattle.rr_store.proofs.base.hands.Stages.{handle_uses_request}
 
 module _ {Q QH P PH K : Type 0} (p : Parts Q QH P PH K) (sound : IsSound p empty_hand) (index : ℕ) (c : ClientPart K)
     (at : slice_get p.clients index ≡ Some c) where
+  -- how many requests the client has on loan
+  abbrev pub on_loan : ℕ
+  on_loan = (sender_of c.sender p.client_senders).loans
+
   -- the reasons by what is stored
   abbrev pub stored_refusal : ℕ → Option LoanError
   stored_refusal len =
       if is_too_long c.port len then Some LoanError.ExceedsMaxLoanSize
-      else if nat_le p.limits.max_loaned_requests c.loans then Some LoanError.ExceedsMaxLoans
+      else if nat_le p.limits.max_loaned_requests on_loan then Some LoanError.ExceedsMaxLoans
       else if nat_le c.port.pool_size (used_count (sender_of c.sender p.client_senders).messages) then Some LoanError.OutOfMemory
       else None
 
@@ -50,7 +54,7 @@ module _ {Q QH P PH K : Type 0} (p : Parts Q QH P PH K) (sound : IsSound p empty
       (cond (nat_le c.port.pool_size (live_requests (state_of p) c.port.id)) (Some LoanError.OutOfMemory) None)))
       (loans_counted p sound index c at)
       ∙ ap {B = Option LoanError} (λ n. cond (is_too_long c.port len) (Some LoanError.ExceedsMaxLoanSize)
-      (cond (nat_le p.limits.max_loaned_requests c.loans) (Some LoanError.ExceedsMaxLoans)
+      (cond (nat_le p.limits.max_loaned_requests on_loan) (Some LoanError.ExceedsMaxLoans)
       (cond (nat_le c.port.pool_size n) (Some LoanError.OutOfMemory) None))) (live_requests_used p sound index c at)
 
   -- only a handle of a request holds a channel: its slot
@@ -145,22 +149,22 @@ module _ {Q QH P PH K : Type 0} (p : Parts Q QH P PH K) (sound : IsSound p empty
   pub first_due : (len : ℕ) → is_too_long c.port len ≡ true → stored_refusal len ≡ Some LoanError.ExceedsMaxLoanSize
   first_due len h = rw h refl
 
-  pub second_due : (len : ℕ) → is_too_long c.port len ≡ false → p.limits.max_loaned_requests ≤ c.loans
+  pub second_due : (len : ℕ) → is_too_long c.port len ≡ false → p.limits.max_loaned_requests ≤ on_loan
       → stored_refusal len ≡ Some LoanError.ExceedsMaxLoans
-  second_due len h g = rw h (rw (le-leb p.limits.max_loaned_requests c.loans g) refl)
+  second_due len h g = rw h (rw (le-leb p.limits.max_loaned_requests on_loan g) refl)
 
-  pub third_due : (len : ℕ) → is_too_long c.port len ≡ false → c.loans < p.limits.max_loaned_requests
+  pub third_due : (len : ℕ) → is_too_long c.port len ≡ false → on_loan < p.limits.max_loaned_requests
       → c.port.pool_size ≤ used_count (sender_of c.sender p.client_senders).messages → stored_refusal len ≡ Some LoanError.OutOfMemory
-  third_due len h g l = rw h (rw (lt-leb p.limits.max_loaned_requests c.loans g)
+  third_due len h g l = rw h (rw (lt-leb p.limits.max_loaned_requests on_loan g)
       (rw (le-leb c.port.pool_size (used_count (sender_of c.sender p.client_senders).messages) l) refl))
 
-  pub none_due : (len : ℕ) → is_too_long c.port len ≡ false → c.loans < p.limits.max_loaned_requests
+  pub none_due : (len : ℕ) → is_too_long c.port len ≡ false → on_loan < p.limits.max_loaned_requests
       → used_count (sender_of c.sender p.client_senders).messages < c.port.pool_size → stored_refusal len ≡ None
-  none_due len h g l = rw h (rw (lt-leb p.limits.max_loaned_requests c.loans g)
+  none_due len h g l = rw h (rw (lt-leb p.limits.max_loaned_requests on_loan g)
       (rw (lt-leb c.port.pool_size (used_count (sender_of c.sender p.client_senders).messages) l) refl))
 
   -- what a sender that lends nothing tells is want of memory
-  pub pool_refusal : (len : ℕ) (error : AcquireError) → is_too_long c.port len ≡ false → c.loans < p.limits.max_loaned_requests
+  pub pool_refusal : (len : ℕ) (error : AcquireError) → is_too_long c.port len ≡ false → on_loan < p.limits.max_loaned_requests
       → (IsErrOf {T = Place} (Err error) AcquireError.Full ↔ (used_count (sender_of c.sender p.client_senders).messages ≡ length
       (sender_of c.sender p.client_senders).messages.held))
       → (IsErrOf {T = Place} (Err error) AcquireError.NoRoom → (sender_of c.sender p.client_senders).messages.room < len)

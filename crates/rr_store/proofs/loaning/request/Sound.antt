@@ -1,8 +1,8 @@
 -- What is true of a core stays true as a request is loaned.
-use Rattle.std.proofs.Common.{◌≡◌, ◌≢◌, ◌<◌, ◌+◌, ◌^◌, ℕ, [], ◌∷◌, None, Some, length, get_or, map, refl, sym, ap, ◌∙◌, subst, ⊎_elim, option_map, arith}
+use Rattle.std.proofs.Common.{◌≡◌, ◌<◌, ◌+◌, ◌^◌, ℕ, true, false, [], ◌∷◌, None, Some, length, get_or, refl, sym, ap, ◌∙◌, subst, ⊎_elim, option_map, arith}
 use Rattle.std.specs.Prelude.{◌==◌, ◌&&◌, slice_get, slice_index, count_by}
 use Rattle.std.specs.FinMap as fin_map
-use Rattle.std.proofs.lemmas.Bool.{false≢true, cases_lt, eq-eqb, ne_eqb}
+use Rattle.std.proofs.lemmas.Bool.{false≢true, cases_lt}
 use Rattle.std.proofs.lemmas.List.{get_or-set_same, get_or-set_other, length-set}
 use Rattle.std.proofs.lemmas.Option.{slice_get-map, slice_get_within, get_or_from_slice_get}
 use Rattle.rr_maps.specs.Maps.{mark}
@@ -11,17 +11,18 @@ use Rattle.rr_sender.specs.Senders.{Messages, times, queue_at, borrowed_at, all_
 use Rattle.rr_store.specs.declared.handle_entry.HandleEntry.{HandleEntry}
 use Rattle.rr_store.specs.declared.handle_entry.Stage.TheVariants as stage
 use Rattle.rr_store.specs.declared.details.RequestDetails.{RequestDetails}
-use Rattle.rr_store.specs.Parts.{Parts, ClientPart, Sender}
+use Rattle.rr_store.specs.Parts.{Parts, Connected, ClientPart, Sender}
 use Rattle.rr_store.specs.Views.{no_sender, no_request, sender_of}
 use Rattle.rr_store.specs.Sound.{IsSound, IsCounted, IsHeldOnce, IsNumbered, IsAddressed, IsStored, IsVacated, IsShaped, empty_hand, handles, is_of_request, is_request_at, is_response_at, is_active_at, is_request_loan, is_in_sender, is_pending, is_active_of, is_response_loan, is_loan_from, is_received_at, request_details, request_uses, server_place}
-use Rattle.rr_store.specs.Frames.{Frame, frame_of, SameFrame}
-use Rattle.rr_store.specs.Loaning.{with_one_loan, with_messages, loan_details, loan_held, loan_place, with_loan_in_hand, with_request_loan}
+use Rattle.rr_store.specs.Frames.{SameFrame}
+use Rattle.rr_store.specs.Loaning.{with_loan_made, with_one_loan, with_messages, loan_details, loan_held, loan_place, with_loan_in_hand, with_request_loan}
 use Rattle.rr_store.proofs.loaning.LoanedSender.{slot_cases, both_true, held_once_more, noted_elsewhere}
+use Rattle.rr_store.proofs.base.senders.Counted.{counted_set}
 use Rattle.rr_store.proofs.base.lists.Replaced.{set_alike, set_cases}
 use Rattle.rr_store.proofs.base.hands.Stages.{loan_is_request, pending_is_request, handle_uses_request}
 use Rattle.rr_store.proofs.base.frames.Frames.{client_before, client_after, framed_client_ports, framed_server_ports, framed_by_value, framed_sized, senders_set, ports_set}
 use Rattle.rr_store.proofs.base.frames.Kept.{framed_inserted}
-use Rattle.rr_store.proofs.base.hands.Hands.{count-cons, one_in_hand, none_in_hand, never, senders_same, inserted_sound}
+use Rattle.rr_store.proofs.base.hands.Hands.{count-cons, none_in_hand, never, senders_same, inserted_sound}
 
 module _ {Q QH P PH K : Type 0} (p : Parts Q QH P PH K) (sound : IsSound p empty_hand) (index : ℕ) (c : ClientPart K)
     (at : slice_get p.clients index ≡ Some c) (slot len : ℕ) (header : QH)
@@ -31,7 +32,7 @@ module _ {Q QH P PH K : Type 0} (p : Parts Q QH P PH K) (sound : IsSound p empty
   m = (sender_of c.sender p.client_senders).messages
 
   abbrev fresh : Sender Q RequestDetails QH
-  fresh = with_messages (sender_of c.sender p.client_senders) (loaned m slot len (loan_details p c) header)
+  fresh = with_one_loan (with_messages (sender_of c.sender p.client_senders) (loaned m slot len (loan_details p c) header))
 
   abbrev after : Parts Q QH P PH K
   after = with_loan_in_hand p index c slot len header
@@ -62,13 +63,13 @@ module _ {Q QH P PH K : Type 0} (p : Parts Q QH P PH K) (sound : IsSound p empty
   pub not_here : (k j : ℕ) → 0 < request_uses p k j → (c.sender ≡ k) → (slot ≡ j) → ⊥
   not_here k j used e f = omega (arith, used, not_used, ap (λ a. request_uses p a j) e, ap (λ b. request_uses p c.sender b) f)
 
-  frame : SameFrame p after.clients p.servers after.client_senders p.server_senders p.waiting (p.next + 1)
+  frame : SameFrame p after.clients after.client_senders p.server_senders p.waiting (p.next + 1)
   frame = record {
-    clients_alike = ports_set (λ (c : ClientPart K). c.connected) p.clients index c (with_one_loan c) at refl;
-    servers_alike = refl;
+    clients_alike = ports_set (λ (c : ClientPart K). c.connected) p.clients index c (with_loan_made c) at refl;
     client_senders_alike = senders_set p.client_senders c.sender fresh (record {
       owner = refl;
       row = refl;
+      receiver = refl;
       slots = length-set m.held slot 1;
       room = refl;
       shaped = λ r n k h. record {
@@ -191,9 +192,9 @@ module _ {Q QH P PH K : Type 0} (p : Parts Q QH P PH K) (sound : IsSound p empty
         );
         received = λ k s e is.
             let r = n.received k s e is in
-            let d = client_after p empty_hand sound after.clients p.servers after.client_senders p.server_senders p.waiting p.table.entries
+            let d = client_after p empty_hand sound after.clients after.client_senders p.server_senders p.waiting p.table.entries
             (p.next + 1) frame r.0 r.1 r.2 in
-            (r.0, d.0, d.1, ap (λ (f : Frame K). f.port.id) d.2 ∙ r.3);
+            (r.0, d.0, d.1, ap (λ (f : Connected K). f.port.id) d.2 ∙ r.3);
         answering = λ l i k server loans s u e is f.
             let a = n.answering l i k server loans s u e is f in (
               number_of (noted_before s.value.sender s.value.slot
@@ -207,8 +208,8 @@ module _ {Q QH P PH K : Type 0} (p : Parts Q QH P PH K) (sound : IsSound p empty
   owner_kept k = same_of (λ x. x.owner) refl k
 
   before : (i : ℕ) (d : ClientPart K) → slice_get after.clients i ≡ Some d → (b : ClientPart K) × (slice_get p.clients i ≡ Some b)
-      × (frame_of b.connected ≡ frame_of d.connected)
-  before = client_before p empty_hand sound after.clients p.servers after.client_senders p.server_senders p.waiting p.table.entries
+      × (b.connected ≡ d.connected)
+  before = client_before p empty_hand sound after.clients after.client_senders p.server_senders p.waiting p.table.entries
       (p.next + 1) frame
 
   addressed : IsAddressed after
@@ -231,43 +232,25 @@ module _ {Q QH P PH K : Type 0} (p : Parts Q QH P PH K) (sound : IsSound p empty
             let r = n.entries l i channel j b.0 b.1 (omega (
               arith,
               some,
-              ap (λ (f : Frame K). times i (queue_at (sender_of l p.server_senders).messages f.receiver channel)) b.2,
+              ap (λ (f : Connected K). times i (queue_at (sender_of l p.server_senders).messages f.receiver channel)) b.2,
             )) in
-            (r.0 ∙ ap (λ (f : Frame K). f.port.id) b.2, r.1);
+            (r.0 ∙ ap (λ (f : Connected K). f.port.id) b.2, r.1);
       }
-
-  -- another client has another sender
-  other_sender : (j : ℕ) (d : ClientPart K) → j ≢ index → slice_get p.clients j ≡ Some d → c.sender ≢ d.sender
-  other_sender j d n e same =
-      let listed : (i : ℕ) (b : ClientPart K) → slice_get p.clients i ≡ Some b
-      → slice_get (map (λ c. c.connected) p.clients) i ≡ Some b.connected =
-      λ i b f. slice_get-map (λ (c : ClientPart K). c.connected) p.clients i ∙ ap (option_map (λ (c : ClientPart K). c.connected)) f in
-      let o = sound.client_ports.own j d.connected (listed j d e) in
-      n (sound.client_ports.numbered_once j index d.connected c.connected (listed j d e) (listed index c at)
-      (sym o.1 ∙ sym (ap (λ k. (sender_of k p.client_senders).owner) same) ∙ own.1))
 
   stored : IsStored after (entry ∷ [])
   stored =
       let n = sound.stored in
       record {
-        request_loans = λ j d e. set_cases p.clients index (with_one_loan c) j d e
-            (λ _ is. let R : ClientPart K → Type 0 = λ d. d.loans ≡ handles after (is_in_sender is_request_loan d.sender) (entry ∷ []) in
-            subst R is (omega (
-              arith,
-              n.request_loans index c at,
-              one_in_hand (is_in_sender is_request_loan c.sender) entry (eq-eqb c.sender c.sender refl),
-            )))
-            (λ far b. omega (
-              arith,
-              n.request_loans j d b,
-              none_in_hand (is_in_sender is_request_loan d.sender) entry
-                  (ne_eqb c.sender d.sender (other_sender j d far b)),
-            ));
-        pendings = λ j d e. set_cases p.clients index (with_one_loan c) j d e
-            (λ _ is. let R : ClientPart K → Type 0 = λ d. d.pendings ≡ handles after (is_in_sender is_pending d.sender) (entry ∷ []) in
-            subst R is (omega (arith, n.pendings index c at, none_in_hand (is_in_sender is_pending c.sender) entry refl)))
-            (λ far b. omega (arith, n.pendings j d b, none_in_hand (is_in_sender is_pending d.sender) entry refl));
-        response_loans = λ j d e. omega (arith, n.response_loans j d e, none_in_hand (is_in_sender is_response_loan d.sender) entry refl);
+        request_loans = counted_set p.client_senders c.sender fresh own.0 (λ x. x.loans) false true
+            (λ l. handles p (is_in_sender is_request_loan l) []) (λ l. handles after (is_in_sender is_request_loan l) (entry ∷ []))
+            (λ l. omega (arith, count-cons (is_in_sender is_request_loan l) entry [])) (omega arith) n.request_loans;
+        pendings = λ l h. omega (
+          arith,
+          same_of (λ x. x.pendings) refl l,
+          n.pendings l (omega (arith, h, length-set p.client_senders c.sender fresh)),
+          none_in_hand (is_in_sender is_pending l) entry refl,
+        );
+        response_loans = λ l h. omega (arith, n.response_loans l h, none_in_hand (is_in_sender is_response_loan l) entry refl);
         active_loans = λ k server loans s e is. omega (
           arith,
           n.active_loans k server loans s e is,
@@ -281,7 +264,7 @@ module _ {Q QH P PH K : Type 0} (p : Parts Q QH P PH K) (sound : IsSound p empty
         );
         borrowed_responses = λ k j channel d h e.
             let b = before j d e in
-            let R : Frame K → Type 0 = λ f. borrowed_at (sender_of k p.server_senders).messages f.receiver channel ≡ handles p
+            let R : Connected K → Type 0 = λ f. borrowed_at (sender_of k p.server_senders).messages f.receiver channel ≡ handles p
             (is_received_at p k f.port.id channel) [] in
             omega (
               arith,
@@ -293,9 +276,9 @@ module _ {Q QH P PH K : Type 0} (p : Parts Q QH P PH K) (sound : IsSound p empty
   vacated : IsVacated after
   vacated = record {
     of_clients = λ k receiver channel none. sound.vacated.of_clients k receiver channel (λ i b e.
-        let d = client_after p empty_hand sound after.clients p.servers after.client_senders p.server_senders p.waiting p.table.entries
+        let d = client_after p empty_hand sound after.clients after.client_senders p.server_senders p.waiting p.table.entries
         (p.next + 1) frame i b e in
-        λ is. none i d.0 d.1 (ap (λ (f : Frame K). f.receiver) d.2 ∙ is));
+        λ is. none i d.0 d.1 (ap (λ (f : Connected K). f.receiver) d.2 ∙ is));
     of_servers = λ k receiver channel none.
         let r = sound.vacated.of_servers k receiver channel none in (
           same_of (λ x. queue_at x.messages receiver channel) refl k ∙ r.0,
@@ -312,21 +295,21 @@ module _ {Q QH P PH K : Type 0} (p : Parts Q QH P PH K) (sound : IsSound p empty
     held_once = held_once;
     numbered = numbered;
     addressed = addressed;
-    inserted = framed_inserted p empty_hand sound after.clients p.servers after.client_senders p.server_senders p.waiting (p.next + 1)
+    inserted = framed_inserted p empty_hand sound after.clients after.client_senders p.server_senders p.waiting (p.next + 1)
         frame;
     stored = stored;
-    sized = framed_sized p empty_hand sound after.clients p.servers after.client_senders p.server_senders p.waiting p.table.entries
+    sized = framed_sized p empty_hand sound after.clients after.client_senders p.server_senders p.waiting p.table.entries
         (p.next + 1) frame (omega (arith, left))
-        (λ i d e. set_cases p.clients index (with_one_loan c) i d e
+        (λ i d e. set_cases p.clients index (with_loan_made c) i d e
         (λ _ is. omega (arith, ap (λ (d : ClientPart K). d.loans_made) is, sound.sized.loans_made index c at))
         (λ _ b. omega (arith, sound.sized.loans_made i d b)));
     vacated = vacated;
-    have_values = framed_by_value p empty_hand sound after.clients p.servers after.client_senders p.server_senders p.waiting p.table.entries
+    have_values = framed_by_value p empty_hand sound after.clients after.client_senders p.server_senders p.waiting p.table.entries
         (p.next + 1) frame;
-    client_ports = framed_client_ports p empty_hand sound after.clients p.servers after.client_senders p.server_senders p.waiting
+    client_ports = framed_client_ports p empty_hand sound after.clients after.client_senders p.server_senders p.waiting
         p.table.entries
         (p.next + 1) frame;
-    server_ports = framed_server_ports p empty_hand sound after.clients p.servers after.client_senders p.server_senders p.waiting
+    server_ports = framed_server_ports p empty_hand sound after.clients after.client_senders p.server_senders p.waiting
         p.table.entries
         (p.next + 1) frame;
   }

@@ -20,7 +20,7 @@ use Rattle.rr_store.specs.declared.details.ResponseDetails.{ResponseDetails}
 use Rattle.rr_store.specs.Parts.{Parts, ClientPart, ServerPart, Sender}
 use Rattle.rr_store.specs.Views.{no_sender, no_request, sender_of, state_of, client_of, request_in_slot, response_in_slot, request_at, handle_of, requests_at, responses_at}
 use Rattle.rr_store.specs.Sound.{IsSound, empty_hand, request_uses}
-use Rattle.rr_store.specs.Loaning.{with_one_loan, with_messages, loan_details, loan_held, loan_place, with_request_loan}
+use Rattle.rr_store.specs.Loaning.{with_loan_made, with_one_loan, with_messages, loan_details, loan_held, loan_place, with_request_loan}
 use Rattle.rr_store.proofs.base.views.Agreeing.{same_handle, same_requests, same_responses, same_state}
 use Rattle.rr_store.proofs.base.lists.Replaced.{map-set_one, map_but, find_read, map_without}
 use Rattle.rr_store.proofs.base.hands.Stages.{handle_uses_request}
@@ -85,8 +85,9 @@ module _ {Q QH P PH K : Type 0} (p : Parts Q QH P PH K) (sound : IsSound p empty
       built j a b d = rw a (rw b (rw d refl))
 
   -- the sender of the client, and another
-  here_is : sender_of c.sender after.client_senders ≡ with_messages (sender_of c.sender p.client_senders) new
-  here_is = get_or-set_same p.client_senders c.sender (with_messages (sender_of c.sender p.client_senders) new) no_sender sender_there
+  here_is : sender_of c.sender after.client_senders ≡ with_one_loan (with_messages (sender_of c.sender p.client_senders) new)
+  here_is = get_or-set_same p.client_senders c.sender (with_one_loan (with_messages
+      (sender_of c.sender p.client_senders) new)) no_sender sender_there
 
   -- a request that was used says what it said
   used_says : (k j : ℕ) → 0 < request_uses p k j → request_at after k j ≡ request_at p k j
@@ -98,7 +99,8 @@ module _ {Q QH P PH K : Type 0} (p : Parts Q QH P PH K) (sound : IsSound p empty
       ∙ other_slot j (λ f. not_here p sound index c at slot len header free unused k j used e (sym f))
       ∙ ap (λ k. request_in_slot p.spare_request_header (sender_of k p.client_senders).messages j) e)
       (λ n. ap (λ (x : Sender Q RequestDetails QH). request_in_slot p.spare_request_header x.messages j)
-      (get_or-set_other p.client_senders c.sender k (with_messages (sender_of c.sender p.client_senders) new) no_sender (λ e. n (sym e))))
+      (get_or-set_other p.client_senders c.sender k (with_one_loan (with_messages (sender_of c.sender p.client_senders) new)) no_sender
+      (λ e. n (sym e))))
       (cases_eq c.sender k)
 
   -- the handles show what they did
@@ -132,7 +134,7 @@ module _ {Q QH P PH K : Type 0} (p : Parts Q QH P PH K) (sound : IsSound p empty
       go None = refl
       go (Some s) =
           find_read (λ (sender : Sender Q RequestDetails QH). sender.owner == key.client) (waits s.receiver) [] p.client_senders c.sender
-          (with_messages (sender_of c.sender p.client_senders) new) no_sender refl
+          (with_one_loan (with_messages (sender_of c.sender p.client_senders) new)) no_sender refl
           (map_without (request_in_slot p.spare_request_header m) (request_in_slot p.spare_request_header new) slot other_slot
           (queue_at m s.receiver 0) (omega (arith, unused, times_queue m slot s.receiver 0)))
 
@@ -143,7 +145,7 @@ module _ {Q QH P PH K : Type 0} (p : Parts Q QH P PH K) (sound : IsSound p empty
       (queue_at sender.messages d.receiver key.channel))
       (find (λ (sender : Sender P ResponseDetails PH). sender.owner == key.server) p.server_senders)
       [])
-      [] p.clients index (with_one_loan c) c
+      [] p.clients index (with_loan_made c) c
       (ap (λ (d : ClientPart K). d.port.id == key.client) (sym it))
       (ap (λ (d : ClientPart K). option_map_or (λ (sender : Sender P ResponseDetails PH). map
       (response_in_slot p.spare_response_header sender.messages) (queue_at sender.messages d.receiver key.channel))
@@ -155,13 +157,13 @@ module _ {Q QH P PH K : Type 0} (p : Parts Q QH P PH K) (sound : IsSound p empty
   -- one client made one more loan
   clients : map client_of after.clients ≡ map (with_loan_counted c.port.id) (map client_of p.clients)
   clients =
-      map-set_one client_of p.clients index (with_one_loan c)
+      map-set_one client_of p.clients index (with_loan_made c)
       ∙ ap (λ d. slice_set (map client_of p.clients) index d) (sym this)
       ∙ sym (map_but (λ d. d) (with_loan_counted c.port.id) (map client_of p.clients) index (client_of c)
       (listed client_of p.clients index c at) others
       ∙ ap (λ (ds : List (Client K)). slice_set ds index (with_loan_counted c.port.id (client_of c))) (map-id (map client_of p.clients)))
     where
-      this : with_loan_counted c.port.id (client_of c) ≡ client_of (with_one_loan c)
+      this : with_loan_counted c.port.id (client_of c) ≡ client_of (with_loan_made c)
       this = rw (eq-eqb c.port.id c.port.id refl) refl
 
       others : (j : ℕ) (d : Client K) → j ≢ index → slice_get (map client_of p.clients) j ≡ Some d → with_loan_counted c.port.id d ≡ d

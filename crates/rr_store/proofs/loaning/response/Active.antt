@@ -1,11 +1,11 @@
 -- An active request has a server, and what it and its server count can grow.
-use Rattle.std.proofs.Common.{◌≡◌, ◌<◌, ◌+◌, ◌^◌, ℕ, Some, arith}
-use Rattle.std.specs.Prelude.{slice_get}
+use Rattle.std.proofs.Common.{◌≡◌, ◌<◌, ◌+◌, ◌^◌, ℕ, Some, length, arith}
 use Rattle.std.specs.FinMap as fin_map
 use Rattle.rr_table.specs.TableView.{TableEntry}
 use Rattle.rr_store.specs.declared.handle_entry.HandleEntry.{HandleEntry}
 use Rattle.rr_store.specs.declared.handle_entry.Stage.TheVariants as stage
-use Rattle.rr_store.specs.Parts.{Parts, ServerPart}
+use Rattle.rr_store.specs.Parts.{Parts}
+use Rattle.rr_store.specs.Views.{sender_of}
 use Rattle.rr_store.specs.Sound.{IsSound, empty_hand, is_in_sender, is_loan_from, is_response_loan}
 use Rattle.rr_store.proofs.base.lists.Tallies.{tally_below}
 
@@ -21,13 +21,13 @@ module _ {Q QH P PH K : Type 0} (p : Parts Q QH P PH K) (sound : IsSound p empty
         sound.sized.next_fits,
       )
 
-  -- and so can one more of a server
-  pub answers_fit : (i : ℕ) (c : ServerPart K) → slice_get p.servers i ≡ Some c → c.loans + 1 < 2 ^ 64
-  answers_fit i c at =
+  -- and so can one more from a server's sender
+  pub answers_fit : (sender : ℕ) → sender < length p.server_senders → (sender_of sender p.server_senders).loans + 1 < 2 ^ 64
+  answers_fit sender there =
       omega (
         arith,
-        sound.stored.response_loans i c at,
+        sound.stored.response_loans sender there,
         tally_below
-            (λ (t : TableEntry HandleEntry). is_in_sender is_response_loan c.sender t.value) p.next p.table.entries sound.numbered.fresh,
+            (λ (t : TableEntry HandleEntry). is_in_sender is_response_loan sender t.value) p.next p.table.entries sound.numbered.fresh,
         sound.sized.next_fits,
       )

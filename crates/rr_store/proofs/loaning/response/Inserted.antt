@@ -50,7 +50,7 @@ module _ {Q QH P PH K : Type 0} (p : Parts Q QH P PH K) (sound : IsSound p empty
   gone = get-remove_same p.table.entries n n refl
 
   abbrev answered : Parts Q QH P PH K
-  answered = with_response_loan_in_hand taken index c details slot len header
+  answered = with_response_loan_in_hand taken c details slot len header
 
   both : IsSound answered (more ∷ loan ∷ [])
   both = loan_sound.response_loan_in_hand taken index c at n rl rs (loans + 1) in_hand gone given slot len header free unused left
@@ -76,18 +76,14 @@ module _ {Q QH P PH K : Type 0} (p : Parts Q QH P PH K) (sound : IsSound p empty
     fresh = gone;
     below = omega (arith, given);
     placed = sound.inserted.placed n s here ∙ ap (place_of p) is
-        ∙ sym (same_placing taken (more ∷ []) in_hand p.clients answered.servers p.client_senders answered.server_senders p.waiting
+        ∙ sym (same_placing taken (more ∷ []) in_hand p.clients p.client_senders answered.server_senders p.waiting
         (p.next + 1)
         (loan_sound.frame taken index c at n rl rs (loans + 1) in_hand gone given slot len header free unused) more.stage rl rs);
     loan = λ h. absurd (false≢true h);
     pending = λ h. absurd (false≢true h);
     response = λ h. absurd (false≢true h);
     once = λ k j. omega (arith, both.held_once.responses k j, count-cons (is_response_at k j) more (loan ∷ []));
-    inside = λ server h. omega (
-      arith,
-      loan_sound.same_place taken index c at n rl rs (loans + 1) in_hand gone given slot len header free unused server,
-      sound.inserted.active_servers n server s here (ap (λ (x : HandleEntry). is_active_of server x.stage) is ∙ h),
-    );
+    inside = λ server h. sound.inserted.active_servers n server s here (ap (λ (x : HandleEntry). is_active_of server x.stage) is ∙ h);
     apart = λ server h k j.
         let a = sound.numbered.actives_apart n server k j s here (ap (λ (x : HandleEntry). is_active_of server x.stage) is ∙ h) in (
           a.0,
@@ -148,7 +144,7 @@ module _ {Q QH P PH K : Type 0} (p : Parts Q QH P PH K) (sound : IsSound p empty
   }
 
   -- both in the table
-  pub response_loan_sound : IsSound (with_response_loan p index c n s.place more details slot len header) empty_hand
+  pub response_loan_sound : IsSound (with_response_loan p c n s.place more details slot len header) empty_hand
   response_loan_sound =
       let R : fin_map.FinMap _ (TableEntry HandleEntry) → Type 0 = λ m. IsSound
       (record answered {

@@ -41,17 +41,21 @@ none_reached false false x y h = refl
 module _ {Q QH P PH K : Type 0} (p : Parts Q QH P PH K) (sound : IsSound p empty_hand) (index : ℕ) (c : ServerPart K)
     (at : slice_get p.servers index ≡ Some c) (n rl rs loans : ℕ)
     (s : TableEntry HandleEntry) (here : fin_map.get p.table.entries n ≡ Some s) (is : s.value ≡ active_entry c.port.id rl rs loans) where
+  -- how many responses the server has on loan
+  abbrev pub on_loan : ℕ
+  on_loan = (sender_of c.sender p.server_senders).loans
+
   -- whether a limit of loans was reached
   abbrev pub is_reached : Bool
   is_reached = nat_le c.max_loaned_responses_per_request loans
-      || nat_le (max_loaned_responses p.limits c.max_loaned_responses_per_request) c.loans
+      || nat_le (max_loaned_responses p.limits c.max_loaned_responses_per_request) on_loan
 
   -- the reasons by what is stored
   abbrev pub stored_refusal : ℕ → Option LoanError
   stored_refusal len =
       if is_too_long c.port len then Some LoanError.ExceedsMaxLoanSize
       else if nat_le c.max_loaned_responses_per_request loans then Some LoanError.ExceedsMaxLoans
-      else if nat_le (max_loaned_responses p.limits c.max_loaned_responses_per_request) c.loans then Some LoanError.ExceedsMaxLoans
+      else if nat_le (max_loaned_responses p.limits c.max_loaned_responses_per_request) on_loan then Some LoanError.ExceedsMaxLoans
       else if nat_le c.port.pool_size (used_count (sender_of c.sender p.server_senders).messages) then Some LoanError.OutOfMemory
       else None
 
@@ -69,7 +73,7 @@ module _ {Q QH P PH K : Type 0} (p : Parts Q QH P PH K) (sound : IsSound p empty
       ap (λ k. refusal_of len k (loaned_responses (state_of p) c.port.id) (live_responses (state_of p) c.port.id))
       (loans_from_counted p sound n c.port.id loans s here (ap (λ (h : HandleEntry). h.stage) is))
       ∙ ap (λ k. refusal_of len loans k (live_responses (state_of p) c.port.id)) (responses_counted p sound index c at)
-      ∙ ap (λ k. refusal_of len loans c.loans k) (live_responses_used p sound index c at)
+      ∙ ap (λ k. refusal_of len loans on_loan k) (live_responses_used p sound index c at)
 
   -- the active request as it is seen, and its server
   abbrev active : Active Q QH
@@ -109,7 +113,7 @@ module _ {Q QH P PH K : Type 0} (p : Parts Q QH P PH K) (sound : IsSound p empty
       → slice_get (sender_of c.sender p.server_senders).messages.held slot ≡ Some 0
       → times slot (all_entries (sender_of c.sender p.server_senders).messages.queues) ≡ 0
       → (t new : State Q QH P PH K) (j : ℕ) → state_of p ≡ t → n ≡ j → k ≡ p.next
-      → new ≡ state_of (with_response_loan p index c n s.place (active_entry c.port.id rl rs (loans + 1))
+      → new ≡ state_of (with_response_loan p c n s.place (active_entry c.port.id rl rs (loans + 1))
       (response_loan_details p c n rl rs) slot len header)
       → IsActiveAnd t j (λ server active. (response_loan_refusal t server j len ≡ None) × (k ≡ t.next)
       × ((h : PH) × IsDefault h × (new ≡ with_loaned_response t j active len h)))
@@ -133,14 +137,14 @@ module _ {Q QH P PH K : Type 0} (p : Parts Q QH P PH K) (sound : IsSound p empty
   -- then a limit of loans
   pub second_due : (len : ℕ) → is_too_long c.port len ≡ false → is_reached ≡ true → stored_refusal len ≡ Some LoanError.ExceedsMaxLoans
   second_due len h g = rw h (one_reached (nat_le c.max_loaned_responses_per_request loans)
-      (nat_le (max_loaned_responses p.limits c.max_loaned_responses_per_request) c.loans) (Some LoanError.ExceedsMaxLoans) _ g)
+      (nat_le (max_loaned_responses p.limits c.max_loaned_responses_per_request) on_loan) (Some LoanError.ExceedsMaxLoans) _ g)
 
   -- where no limit of loans was reached, the pool decides
   past_limits : (len : ℕ) → is_too_long c.port len ≡ false → is_reached ≡ false
       → stored_refusal len ≡ cond (nat_le c.port.pool_size (used_count (sender_of c.sender p.server_senders).messages))
       (Some LoanError.OutOfMemory) None
   past_limits len h g = rw h (none_reached (nat_le c.max_loaned_responses_per_request loans)
-      (nat_le (max_loaned_responses p.limits c.max_loaned_responses_per_request) c.loans) (Some LoanError.ExceedsMaxLoans) _ g)
+      (nat_le (max_loaned_responses p.limits c.max_loaned_responses_per_request) on_loan) (Some LoanError.ExceedsMaxLoans) _ g)
 
   -- then a full pool
   pub third_due : (len : ℕ) → is_too_long c.port len ≡ false → is_reached ≡ false

@@ -1,8 +1,8 @@
 -- What is true of a core stays true as a response is loaned.
-use Rattle.std.proofs.Common.{◌≡◌, ◌≢◌, ◌<◌, ◌+◌, ◌^◌, ℕ, Bool, true, false, [], ◌∷◌, None, Some, length, get_or, refl, sym, ap, ◌∙◌, subst, ⊎_elim, arith}
+use Rattle.std.proofs.Common.{◌≡◌, ◌<◌, ◌+◌, ◌^◌, ℕ, Bool, true, false, [], ◌∷◌, None, Some, length, get_or, refl, sym, ap, ◌∙◌, ⊎_elim, arith}
 use Rattle.std.specs.Prelude.{◌==◌, ◌&&◌, slice_get, slice_index, count_by}
 use Rattle.std.specs.FinMap as fin_map
-use Rattle.std.proofs.lemmas.Bool.{cases_lt, eq-eqb, ne_eqb}
+use Rattle.std.proofs.lemmas.Bool.{cases_lt, ne_eqb}
 use Rattle.std.proofs.lemmas.List.{get_or-set_same, get_or-set_other, length-set}
 use Rattle.std.proofs.lemmas.Option.{slice_get_within, get_or_from_slice_get}
 use Rattle.rr_maps.specs.Maps.{tally, mark}
@@ -13,13 +13,14 @@ use Rattle.rr_store.specs.declared.handle_entry.HandleEntry.{HandleEntry}
 use Rattle.rr_store.specs.declared.details.ResponseDetails.{ResponseDetails}
 use Rattle.rr_store.specs.Parts.{Parts, ServerPart, Sender}
 use Rattle.rr_store.specs.Views.{no_sender, no_response, sender_of}
-use Rattle.rr_store.specs.Sound.{IsSound, IsCounted, IsHeldOnce, IsNumbered, IsAddressed, IsStored, IsVacated, IsShaped, Hand, handles, is_request_at, is_response_at, is_active_at, is_of_response, is_request_loan, is_in_sender, is_pending, is_active_of, is_response_loan, is_loan_from, is_received, is_received_at, response_details, request_uses, response_uses, server_place}
-use Rattle.rr_store.specs.Frames.{Frame, SameFrame}
-use Rattle.rr_store.specs.Loaning.{with_messages}
-use Rattle.rr_store.specs.Answering.{active_entry, response_loan_held, response_loan_details, with_one_response_loan, with_response_loan_in_hand}
-use Rattle.rr_store.proofs.base.lists.Replaced.{set_alike, set_cases}
+use Rattle.rr_store.specs.Sound.{IsSound, IsCounted, IsHeldOnce, IsNumbered, IsAddressed, IsStored, IsVacated, IsShaped, Hand, handles, is_request_at, is_response_at, is_active_at, is_of_response, is_request_loan, is_in_sender, is_pending, is_active_of, is_response_loan, is_loan_from, is_received, is_received_at, response_details, request_uses, response_uses}
+use Rattle.rr_store.specs.Frames.{SameFrame}
+use Rattle.rr_store.specs.Loaning.{with_messages, with_one_loan}
+use Rattle.rr_store.specs.Answering.{active_entry, response_loan_held, response_loan_details, with_response_loan_in_hand}
+use Rattle.rr_store.proofs.base.senders.Counted.{counted_set}
+use Rattle.rr_store.proofs.base.lists.Replaced.{set_alike}
 use Rattle.rr_store.proofs.base.hands.Stages.{handle_uses_response, response_loan_is_response, received_is_response}
-use Rattle.rr_store.proofs.base.frames.Frames.{place_kept, server_after, framed_client_ports, framed_server_ports, framed_by_value, framed_sized, senders_set, ports_set}
+use Rattle.rr_store.proofs.base.frames.Frames.{framed_client_ports, framed_server_ports, framed_by_value, framed_sized, senders_set}
 use Rattle.rr_store.proofs.base.frames.Kept.{framed_inserted}
 use Rattle.rr_store.proofs.base.hands.Hands.{count-cons, one_in_hand, none_in_hand, senders_same}
 use Rattle.rr_store.proofs.base.views.Agreeing.{sender_within}
@@ -42,11 +43,11 @@ module _ {Q QH P PH K : Type 0} (p : Parts Q QH P PH K) (index : ℕ) (c : Serve
   details = response_loan_details p c n rl rs
 
   abbrev fresh : Sender P ResponseDetails PH
-  fresh = with_messages (sender_of c.sender p.server_senders) (loaned m slot len details header)
+  fresh = with_one_loan (with_messages (sender_of c.sender p.server_senders) (loaned m slot len details header))
 
   -- the parts then
   abbrev pub after : Parts Q QH P PH K
-  after = with_response_loan_in_hand p index c details slot len header
+  after = with_response_loan_in_hand p c details slot len header
 
   abbrev active : HandleEntry
   active = active_entry c.port.id rl rs loans
@@ -90,14 +91,14 @@ module _ {Q QH P PH K : Type 0} (p : Parts Q QH P PH K) (index : ℕ) (c : Serve
       omega (arith, sound.counted.requests rl rs, one_in_hand (is_request_at rl rs) active here)
 
   -- ports and senders are as many, and of the same sizes
-  pub frame : SameFrame p p.clients after.servers p.client_senders after.server_senders p.waiting (p.next + 1)
+  pub frame : SameFrame p p.clients p.client_senders after.server_senders p.waiting (p.next + 1)
   frame = record {
     clients_alike = refl;
-    servers_alike = ports_set (λ (c : ServerPart K). c.connected) p.servers index c (with_one_response_loan c) at refl;
     client_senders_alike = senders_same p.client_senders;
     server_senders_alike = senders_set p.server_senders c.sender fresh (record {
       owner = refl;
       row = refl;
+      receiver = refl;
       slots = length-set m.held slot 1;
       room = refl;
       shaped = λ r n k h. record {
@@ -117,11 +118,6 @@ module _ {Q QH P PH K : Type 0} (p : Parts Q QH P PH K) (index : ℕ) (c : Serve
     marks_each = λ l. refl;
     numbers = omega arith;
   }
-
-  -- the server's receiver is as it was
-  pub same_place : (server : ℕ) → server_place after server ≡ server_place p server
-  same_place = place_kept p hand sound p.clients after.servers p.client_senders after.server_senders p.waiting p.table.entries (p.next + 1)
-      frame
 
   -- what is the same of the new sender is the same of each
   pub same_of : {Y : Type 0} (f : Sender P ResponseDetails PH → Y) → f fresh ≡ f (sender_of c.sender p.server_senders) → (k : ℕ)
@@ -215,7 +211,6 @@ module _ {Q QH P PH K : Type 0} (p : Parts Q QH P PH K) (index : ℕ) (c : Serve
     servers = λ k j server. omega (
       arith,
       sound.held_once.servers k j server,
-      ap (λ r. times j (queue_at (sender_of k p.client_senders).messages r 0)) (same_place server),
       no_more (is_active_at k j server) refl,
     );
     responses = λ k j. let e : count_by (is_response_at k j) (entry ∷ []) ≡ mark (c.sender == k && slot == j) + 0 = count-cons
@@ -309,39 +304,22 @@ module _ {Q QH P PH K : Type 0} (p : Parts Q QH P PH K) (index : ℕ) (c : Serve
         one_in_hand (is_request_at rl rs) active (both_true rl rs rl rs refl refl),
       ))
 
-  -- another server has another sender
-  other_sender : (j : ℕ) (d : ServerPart K) → j ≢ index → slice_get p.servers j ≡ Some d → c.sender ≢ d.sender
-  other_sender j d n e same =
-      let o = sound.server_ports.own j d.connected (listed (λ c. c.connected) p.servers j d e) in
-      n (sound.server_ports.numbered_once j index d.connected c.connected (listed (λ c. c.connected) p.servers j d e)
-      (listed (λ c. c.connected) p.servers index c at) (sym o.1 ∙ sym (ap (λ k. (sender_of k p.server_senders).owner) same) ∙ own.1))
-
   stored : IsStored after hand_after
   stored =
       let old = sound.stored in
       record {
-        request_loans = λ j d e. omega (arith, old.request_loans j d e, no_more (is_in_sender is_request_loan d.sender) refl);
-        pendings = λ j d e. omega (arith, old.pendings j d e, no_more (is_in_sender is_pending d.sender) refl);
-        response_loans = λ j d e. set_cases p.servers index (with_one_response_loan c) j d e
-            (λ _ is. let R : ServerPart K → Type 0 = λ d. d.loans ≡ handles after (is_in_sender is_response_loan d.sender) hand_after in
-            subst R is (omega (
-              arith,
-              old.response_loans index c at,
-              in_hand (is_in_sender is_response_loan c.sender),
-              one_in_hand (is_in_sender is_response_loan c.sender) entry (eq-eqb c.sender c.sender refl),
-            )))
-            (λ far b. omega (
-              arith,
-              old.response_loans j d b,
-              no_more (is_in_sender is_response_loan d.sender) (ne_eqb c.sender d.sender (other_sender j d far b)),
-            ));
+        request_loans = λ l h. omega (arith, old.request_loans l h, no_more (is_in_sender is_request_loan l) refl);
+        pendings = λ l h. omega (arith, old.pendings l h, no_more (is_in_sender is_pending l) refl);
+        response_loans = counted_set p.server_senders c.sender fresh own.0 (λ x. x.loans) false true
+            (λ l. handles p (is_in_sender is_response_loan l) hand) (λ l. handles after (is_in_sender is_response_loan l) hand_after)
+            (λ l. omega (arith, in_hand (is_in_sender is_response_loan l), count-cons (is_in_sender is_response_loan l) entry []))
+            (omega arith) old.response_loans;
         active_loans = λ k server loans s e is.
             let other : is_loan_from after k entry ≡ false = ap (λ (a : ResponseDetails). a.active_request == k) details_here
             ∙ ne_eqb n k (λ f. absurd (let g : None ≡ Some s = sym (ap (fin_map.get p.table.entries) (sym f) ∙ taken) ∙ e in cc)) in
             omega (arith, old.active_loans k server loans s e is, loans_same k, no_more (is_loan_from after k) other, same_hand k);
         borrowed_requests = λ k server h. omega (
           arith,
-          ap (λ r. borrowed_at (sender_of k p.client_senders).messages r 0) (same_place server),
           old.borrowed_requests k server h,
           no_more (is_in_sender (is_active_of server) k) refl,
         );
@@ -374,16 +352,9 @@ module _ {Q QH P PH K : Type 0} (p : Parts Q QH P PH K) (index : ℕ) (c : Serve
           same_of (λ x. borrowed_at x.messages receiver channel) refl k
               ∙ r.1,
         );
-    of_servers = λ k receiver channel none. sound.vacated.of_servers k receiver channel (nowhere receiver none);
-    awaits_none = λ k j receiver none. sound.vacated.awaits_none k j receiver (nowhere receiver none);
+    of_servers = sound.vacated.of_servers;
+    awaits_none = sound.vacated.awaits_none;
   }
-    where
-      nowhere : (receiver : ℕ) → ((i : ℕ) (d : ServerPart K) → slice_get after.servers i ≡ Some d → d.receiver ≢ receiver)
-          → (i : ℕ) (b : ServerPart K) → slice_get p.servers i ≡ Some b → b.receiver ≢ receiver
-      nowhere receiver none i b e is =
-          let d = server_after p hand sound p.clients after.servers p.client_senders after.server_senders p.waiting p.table.entries
-          (p.next + 1) frame i b e in
-          none i d.0 d.1 (ap (λ (f : Frame K). f.receiver) d.2 ∙ is)
 
   -- the loan in hand beside the active request
   pub response_loan_in_hand : p.next < 2 ^ 62 → IsSound after hand_after
@@ -392,17 +363,17 @@ module _ {Q QH P PH K : Type 0} (p : Parts Q QH P PH K) (index : ℕ) (c : Serve
     held_once = held_once;
     numbered = numbered;
     addressed = addressed;
-    inserted = framed_inserted p hand sound p.clients after.servers p.client_senders after.server_senders p.waiting (p.next + 1) frame;
+    inserted = framed_inserted p hand sound p.clients p.client_senders after.server_senders p.waiting (p.next + 1) frame;
     stored = stored;
-    sized = framed_sized p hand sound p.clients after.servers p.client_senders after.server_senders p.waiting p.table.entries (p.next + 1)
+    sized = framed_sized p hand sound p.clients p.client_senders after.server_senders p.waiting p.table.entries (p.next + 1)
         frame
         (omega (arith, left))
         (λ i d e. omega (arith, sound.sized.loans_made i d e));
     vacated = vacated;
-    have_values = framed_by_value p hand sound p.clients after.servers p.client_senders after.server_senders p.waiting p.table.entries
+    have_values = framed_by_value p hand sound p.clients p.client_senders after.server_senders p.waiting p.table.entries
         (p.next + 1) frame;
-    client_ports = framed_client_ports p hand sound p.clients after.servers p.client_senders after.server_senders p.waiting p.table.entries
+    client_ports = framed_client_ports p hand sound p.clients p.client_senders after.server_senders p.waiting p.table.entries
         (p.next + 1) frame;
-    server_ports = framed_server_ports p hand sound p.clients after.servers p.client_senders after.server_senders p.waiting p.table.entries
+    server_ports = framed_server_ports p hand sound p.clients p.client_senders after.server_senders p.waiting p.table.entries
         (p.next + 1) frame;
   }

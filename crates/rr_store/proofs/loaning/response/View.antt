@@ -1,6 +1,6 @@
 -- What contracts see of a core after a response was loaned.
-use Rattle.std.proofs.Common.{◌≡◌, ◌≢◌, ◌<◌, ◌+◌, ℕ, Bool, List, [], ◌∷◌, None, Some, Option, option_map, cond, true, false, zero, suc, length, get_or, map, refl, sym, ap, ◌∙◌, ⊎_elim, arith}
-use Rattle.std.specs.Prelude.{◌==◌, slice_get, slice_set, filter, find}
+use Rattle.std.proofs.Common.{◌≡◌, ◌≢◌, ◌<◌, ◌+◌, ℕ, List, [], None, Some, Option, option_map, length, get_or, map, refl, sym, ap, ◌∙◌, ⊎_elim, arith}
+use Rattle.std.specs.Prelude.{◌==◌, slice_get, find}
 use Rattle.std.specs.Option.{option_map_or}
 use Rattle.std.specs.FinMap as fin_map
 use Rattle.std.proofs.lemmas.Bool.{cases_eq}
@@ -11,42 +11,22 @@ use Rattle.rr_maps.specs.Maps.{map_values}
 use Rattle.rr_maps.proofs.MapLaws.{get-map_values, insert_itself, map_values-insert, map_values-same}
 use Rattle.rr_sender.specs.Senders.{Messages, times, queue_at, all_entries, loaned, content_at}
 use Rattle.rr_slots.specs.Pools.{nothing_written}
-use Rattle.rr_protocol.specs.Keys.{RequestKey, ResponseKey}
+use Rattle.rr_protocol.specs.Keys.{ResponseKey}
 use Rattle.rr_protocol.specs.Limits.{worst_case_requests}
 use Rattle.rr_protocol.specs.Loans.{with_loaned_response, empty_content}
-use Rattle.rr_protocol.specs.Messages.{Active, Handle, ActiveRequest, ResponseMutUninit, RequestMessage, ResponseMessage}
+use Rattle.rr_protocol.specs.Messages.{Active, Handle, ActiveRequest, ResponseMutUninit, ResponseMessage}
 use Rattle.rr_store.specs.declared.handle_entry.HandleEntry.{HandleEntry}
-use Rattle.rr_store.specs.declared.details.RequestDetails.{RequestDetails}
 use Rattle.rr_store.specs.declared.details.ResponseDetails.{ResponseDetails}
 use Rattle.rr_store.specs.Parts.{Parts, ClientPart, ServerPart, Sender}
-use Rattle.rr_store.specs.Views.{no_sender, no_response, sender_of, state_of, server_of, request_in_slot, response_in_slot, request_at, response_at, handle_of, handle_in, requests_at, responses_at, waiting_at, is_awaited}
+use Rattle.rr_store.specs.Views.{no_sender, no_response, sender_of, state_of, response_in_slot, request_at, response_at, handle_of, handle_in, responses_at}
 use Rattle.rr_store.specs.Sound.{IsSound, IsShaped, empty_hand, response_uses}
-use Rattle.rr_store.specs.Loaning.{with_messages}
-use Rattle.rr_store.specs.Answering.{active_entry, response_loan_held, response_loan_details, response_loan_place, with_one_response_loan, with_response_loan}
-use Rattle.rr_store.proofs.base.views.Agreeing.{same_handle, same_requests, same_responses, same_state}
+use Rattle.rr_store.specs.Loaning.{with_messages, with_one_loan}
+use Rattle.rr_store.specs.Answering.{active_entry, response_loan_held, response_loan_details, response_loan_place, with_response_loan}
+use Rattle.rr_store.proofs.base.views.Agreeing.{same_handle, same_responses, same_state}
 use Rattle.rr_store.proofs.base.views.Counts.{listed}
-use Rattle.rr_store.proofs.base.lists.Replaced.{map-set_alike, find_read, map_without}
+use Rattle.rr_store.proofs.base.lists.Replaced.{find_read, map_without}
 use Rattle.rr_store.proofs.base.senders.Queues.{times_queue}
 use Rattle.rr_store.proofs.base.hands.Stages.{handle_uses_response}
-
--- what is read of the elements that pass is as it was, if neither the test nor the reading tells a new element from the old one
-passing_set : {X Y : Type 0} (test : X → Bool) (f : X → Y) (xs : List X) (i : ℕ) (y d : X) → test y ≡ test (get_or xs i d)
-    → f y ≡ f (get_or xs i d)
-    → map f (filter test (slice_set xs i y)) ≡ map f (filter test xs)
-passing_set test f [] i y d t e = refl
-passing_set {X} {Y} test f (x ∷ xs) zero y d t e =
-    ap (λ b. map f (cond b (y ∷ filter test xs) (filter test xs))) t ∙ go (test x)
-  where
-    go : (b : Bool) → map f (cond b (y ∷ filter test xs) (filter test xs)) ≡ map f (cond b (x ∷ filter test xs) (filter test xs))
-    go true = ap (λ (z : Y). z ∷ map f (filter test xs)) e
-    go false = refl
-passing_set {X} {Y} test f (x ∷ xs) (suc i) y d t e = go (test x) (passing_set test f xs i y d t e)
-  where
-    go : (b : Bool) → map f (filter test (slice_set xs i y)) ≡ map f (filter test xs)
-        → map f (cond b (x ∷ filter test (slice_set xs i y)) (filter test (slice_set xs i y))) ≡ map f
-        (cond b (x ∷ filter test xs) (filter test xs))
-    go true rest = ap (λ (ys : List Y). f x ∷ ys) rest
-    go false rest = rest
 
 module _ {Q QH P PH K : Type 0} (p : Parts Q QH P PH K) (sound : IsSound p empty_hand) (index : ℕ) (c : ServerPart K)
     (at : slice_get p.servers index ≡ Some c) (n rl rs loans : ℕ)
@@ -68,7 +48,7 @@ module _ {Q QH P PH K : Type 0} (p : Parts Q QH P PH K) (sound : IsSound p empty
   more = active_entry c.port.id rl rs (loans + 1)
 
   abbrev after : Parts Q QH P PH K
-  after = with_response_loan p index c n s.place more details slot len header
+  after = with_response_loan p c n s.place more details slot len header
 
   own : (c.sender < length p.server_senders) × ((sender_of c.sender p.server_senders).owner ≡ c.port.id)
       × (length m.held ≡ c.port.pool_size)
@@ -136,8 +116,9 @@ module _ {Q QH P PH K : Type 0} (p : Parts Q QH P PH K) (sound : IsSound p empty
       built j a b d = rw a (rw b (rw d refl))
 
   -- the sender of the server
-  here_is : sender_of c.sender after.server_senders ≡ with_messages (sender_of c.sender p.server_senders) new
-  here_is = get_or-set_same p.server_senders c.sender (with_messages (sender_of c.sender p.server_senders) new) no_sender own.0
+  here_is : sender_of c.sender after.server_senders ≡ with_one_loan (with_messages (sender_of c.sender p.server_senders) new)
+  here_is = get_or-set_same p.server_senders c.sender (with_one_loan (with_messages
+      (sender_of c.sender p.server_senders) new)) no_sender own.0
 
   -- a response that was used says what it said
   used_says : (k j : ℕ) → 0 < response_uses p k j → response_at after k j ≡ response_at p k j
@@ -149,24 +130,15 @@ module _ {Q QH P PH K : Type 0} (p : Parts Q QH P PH K) (sound : IsSound p empty
       ∙ other_slot j (λ f. not_here k j used e (sym f))
       ∙ ap (λ k. response_in_slot p.spare_response_header (sender_of k p.server_senders).messages j) e)
       (λ n. ap (λ (x : Sender P ResponseDetails PH). response_in_slot p.spare_response_header x.messages j)
-      (get_or-set_other p.server_senders c.sender k (with_messages (sender_of c.sender p.server_senders) new) no_sender (λ e. n (sym e))))
+      (get_or-set_other p.server_senders c.sender k (with_one_loan (with_messages (sender_of c.sender p.server_senders) new)) no_sender
+      (λ e. n (sym e))))
       (cases_eq c.sender k)
-
-  -- the server stands at its index
-  it : get_or p.servers index c ≡ c
-  it = get_or_from_slice_get p.servers index c c at
-
-  -- the servers that may answer are who they were
-  same_waiting : (sender slot : ℕ) → waiting_at after sender slot ≡ waiting_at p sender slot
-  same_waiting sender slot = passing_set (λ (d : ServerPart K). is_awaited p sender slot d.receiver) (λ d. d.port.id) p.servers index
-      (with_one_response_loan c) c (ap (λ (d : ServerPart K). is_awaited p sender slot d.receiver) (sym it))
-      (ap (λ (d : ServerPart K). d.port.id) (sym it))
 
   -- the handles show what they did
   shows : (k : ℕ) (t : TableEntry HandleEntry) → fin_map.get p.table.entries k ≡ Some t → handle_of after t ≡ handle_of p t
   shows k t e =
       same_handle after p t.value.stage t.value.sender t.value.slot
-      (λ h. (refl, same_waiting t.value.sender t.value.slot))
+      (λ h. (refl, refl))
       (λ h. used_says t.value.sender t.value.slot (handle_uses_response p empty_hand sound.counted k t e h))
 
   -- the active request is shown as it was
@@ -190,17 +162,6 @@ module _ {Q QH P PH K : Type 0} (p : Parts Q QH P PH K) (sound : IsSound p empty
       ∙ still)
 
   -- what waits is as it was
-  requests : (key : RequestKey) → requests_at after key ≡ requests_at p key
-  requests key =
-      find_read (λ (d : ServerPart K). d.port.id == key.server) waits [] p.servers index (with_one_response_loan c) c
-      (ap (λ (d : ServerPart K). d.port.id == key.server) (sym it))
-      (ap waits (sym it))
-    where
-      waits : ServerPart K → List (RequestMessage Q QH)
-      waits d = option_map_or (λ (sender : Sender Q RequestDetails QH). map (request_in_slot p.spare_request_header sender.messages)
-          (queue_at sender.messages d.receiver 0))
-          (find (λ (sender : Sender Q RequestDetails QH). sender.owner == key.client) p.client_senders) []
-
   responses : (key : ResponseKey) → responses_at after key ≡ responses_at p key
   responses key = go (find (λ d. d.port.id == key.client) p.clients)
     where
@@ -215,16 +176,12 @@ module _ {Q QH P PH K : Type 0} (p : Parts Q QH P PH K) (sound : IsSound p empty
       go None = refl
       go (Some d) =
           find_read (λ (sender : Sender P ResponseDetails PH). sender.owner == key.server) (waits d.receiver) [] p.server_senders c.sender
-          (with_messages (sender_of c.sender p.server_senders) new) no_sender refl
+          (with_one_loan (with_messages (sender_of c.sender p.server_senders) new)) no_sender refl
           (map_without (response_in_slot p.spare_response_header m) (response_in_slot p.spare_response_header new) slot other_slot
           (queue_at m d.receiver key.channel) (omega (arith, unused, times_queue m slot d.receiver key.channel)))
-
-  -- the servers are seen as they were
-  servers : map server_of after.servers ≡ map server_of p.servers
-  servers = map-set_alike server_of p.servers index (with_one_response_loan c) c (ap server_of (sym it))
 
   -- contracts see the state with the loaned response
   pub response_loan_view : state_of after ≡ with_loaned_response (state_of p) n active len header
   response_loan_view =
       same_state (state_of after) (with_loaned_response (state_of p) n active len header) refl refl
-      refl servers all_handles (same_requests after p requests) (same_responses after p responses) refl refl
+      refl refl all_handles refl (same_responses after p responses) refl refl

@@ -59,12 +59,11 @@ module _ {Q QH P PH K : Type 0} (p : Parts Q QH P PH K) (sound : IsSound p empty
         inside = λ i some. h.inside i (omega (arith, some, all_less m shaped c.receiver 0 slot placed one first i));
       }
 
-  frame : SameFrame p p.clients p.servers after_skim.client_senders p.server_senders p.waiting p.next
+  frame : SameFrame p p.clients after_skim.client_senders p.server_senders p.waiting p.next
   frame = record {
     clients_alike = refl;
-    servers_alike = refl;
     client_senders_alike = senders_set p.client_senders sender fresh
-        (record { owner = refl; row = refl; slots = refl; room = refl; shaped = shape });
+        (record { owner = refl; row = refl; receiver = refl; slots = refl; room = refl; shaped = shape });
     server_senders_alike = senders_same p.server_senders;
     marks = refl;
     marks_each = λ l. refl;
@@ -146,8 +145,9 @@ module _ {Q QH P PH K : Type 0} (p : Parts Q QH P PH K) (sound : IsSound p empty
   stored =
       let n = sound.stored in
       record {
-        request_loans = n.request_loans;
-        pendings = n.pendings;
+        request_loans = λ k h. same_of (λ x. x.loans) refl k
+            ∙ n.request_loans k (omega (arith, h, length-set p.client_senders sender fresh));
+        pendings = λ k h. same_of (λ x. x.pendings) refl k ∙ n.pendings k (omega (arith, h, length-set p.client_senders sender fresh));
         response_loans = n.response_loans;
         active_loans = n.active_loans;
         borrowed_requests = λ k server h. same_of (λ x. borrowed_at x.messages (server_place p server) 0) refl k
@@ -172,23 +172,23 @@ module _ {Q QH P PH K : Type 0} (p : Parts Q QH P PH K) (sound : IsSound p empty
   skim_sound = record {
     counted = counted;
     held_once = held_once;
-    numbered = kept_numbered p empty_hand sound p.clients p.servers after_skim.client_senders p.server_senders p.waiting p.next frame kept
+    numbered = kept_numbered p empty_hand sound p.clients after_skim.client_senders p.server_senders p.waiting p.next frame kept
         (handle_uses_request after_skim empty_hand counted) (handle_uses_response after_skim empty_hand counted);
-    addressed = kept_addressed p empty_hand sound p.clients p.servers after_skim.client_senders p.server_senders p.waiting p.next frame kept
+    addressed = kept_addressed p empty_hand sound p.clients after_skim.client_senders p.server_senders p.waiting p.next frame kept
         (λ l i ch j d e some. sound.addressed.entries l i ch j d e some);
-    inserted = framed_inserted p empty_hand sound p.clients p.servers after_skim.client_senders p.server_senders p.waiting p.next frame;
+    inserted = framed_inserted p empty_hand sound p.clients after_skim.client_senders p.server_senders p.waiting p.next frame;
     stored = stored;
-    sized = framed_sized p empty_hand sound p.clients p.servers after_skim.client_senders p.server_senders p.waiting p.table.entries p.next
+    sized = framed_sized p empty_hand sound p.clients after_skim.client_senders p.server_senders p.waiting p.table.entries p.next
         frame
         sound.sized.next_fits sound.sized.loans_made;
     vacated = vacated;
-    have_values = framed_by_value p empty_hand sound p.clients p.servers after_skim.client_senders p.server_senders p.waiting
+    have_values = framed_by_value p empty_hand sound p.clients after_skim.client_senders p.server_senders p.waiting
         p.table.entries
         p.next frame;
-    client_ports = framed_client_ports p empty_hand sound p.clients p.servers after_skim.client_senders p.server_senders p.waiting
+    client_ports = framed_client_ports p empty_hand sound p.clients after_skim.client_senders p.server_senders p.waiting
         p.table.entries
         p.next frame;
-    server_ports = framed_server_ports p empty_hand sound p.clients p.servers after_skim.client_senders p.server_senders p.waiting
+    server_ports = framed_server_ports p empty_hand sound p.clients after_skim.client_senders p.server_senders p.waiting
         p.table.entries
         p.next frame;
   }

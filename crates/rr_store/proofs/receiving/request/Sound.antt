@@ -78,14 +78,14 @@ module _ {Q QH P PH K : Type 0} (p : Parts Q QH P PH K) (sound : IsSound p empty
   its_place : (server : ℕ) → (c.port.id == server) ≡ (c.receiver == server_place p server)
   its_place server = servers_apart p sound c.port.id server served ∙ ap (λ r. r == server_place p server) place_is
 
-  pub frame : SameFrame p p.clients p.servers after.client_senders p.server_senders p.waiting (p.next + 1)
+  pub frame : SameFrame p p.clients after.client_senders p.server_senders p.waiting (p.next + 1)
   frame = record {
     clients_alike = refl;
-    servers_alike = refl;
     client_senders_alike = senders_set p.client_senders sender fresh
         (record {
           owner = refl;
           row = refl;
+          receiver = refl;
           slots = length-set m.held slot _;
           room = refl;
           shaped = taken_shaped m shaped c.receiver 0 slot placed one first;
@@ -251,9 +251,19 @@ module _ {Q QH P PH K : Type 0} (p : Parts Q QH P PH K) (sound : IsSound p empty
   stored =
       let n = sound.stored in
       record {
-        request_loans = λ i d e. omega (arith, n.request_loans i d e, none_in_hand (is_in_sender is_request_loan d.sender) entry refl);
-        pendings = λ i d e. omega (arith, n.pendings i d e, none_in_hand (is_in_sender is_pending d.sender) entry refl);
-        response_loans = λ i d e. omega (arith, n.response_loans i d e, none_in_hand (is_in_sender is_response_loan d.sender) entry refl);
+        request_loans = λ k h. omega (
+          arith,
+          same_of (λ x. x.loans) refl k,
+          n.request_loans k (omega (arith, h, length-set p.client_senders sender fresh)),
+          none_in_hand (is_in_sender is_request_loan k) entry refl,
+        );
+        pendings = λ k h. omega (
+          arith,
+          same_of (λ x. x.pendings) refl k,
+          n.pendings k (omega (arith, h, length-set p.client_senders sender fresh)),
+          none_in_hand (is_in_sender is_pending k) entry refl,
+        );
+        response_loans = λ k h. omega (arith, n.response_loans k h, none_in_hand (is_in_sender is_response_loan k) entry refl);
         active_loans = λ k server loans s e is. omega (
           arith,
           n.active_loans k server loans s e is,
@@ -301,24 +311,24 @@ module _ {Q QH P PH K : Type 0} (p : Parts Q QH P PH K) (sound : IsSound p empty
   request_in_hand = record {
     counted = counted;
     held_once = held_once;
-    numbered = kept_numbered p empty_hand sound p.clients p.servers after.client_senders p.server_senders p.waiting (p.next + 1) frame kept
+    numbered = kept_numbered p empty_hand sound p.clients after.client_senders p.server_senders p.waiting (p.next + 1) frame kept
         (λ k s e is. omega (arith, handle_uses_request p empty_hand sound.counted k s e is, used_same s.value.sender s.value.slot))
         (λ k s e is. handle_uses_response p empty_hand sound.counted k s e is);
-    addressed = kept_addressed p empty_hand sound p.clients p.servers after.client_senders p.server_senders p.waiting (p.next + 1) frame
+    addressed = kept_addressed p empty_hand sound p.clients after.client_senders p.server_senders p.waiting (p.next + 1) frame
         kept
         (λ l i ch j d e some. sound.addressed.entries l i ch j d e some);
-    inserted = framed_inserted p empty_hand sound p.clients p.servers after.client_senders p.server_senders p.waiting (p.next + 1) frame;
+    inserted = framed_inserted p empty_hand sound p.clients after.client_senders p.server_senders p.waiting (p.next + 1) frame;
     stored = stored;
-    sized = framed_sized p empty_hand sound p.clients p.servers after.client_senders p.server_senders p.waiting p.table.entries (p.next + 1)
+    sized = framed_sized p empty_hand sound p.clients after.client_senders p.server_senders p.waiting p.table.entries (p.next + 1)
         frame
         (omega (arith, left)) (λ i d e. omega (arith, sound.sized.loans_made i d e));
     vacated = vacated;
-    have_values = framed_by_value p empty_hand sound p.clients p.servers after.client_senders p.server_senders p.waiting p.table.entries
+    have_values = framed_by_value p empty_hand sound p.clients after.client_senders p.server_senders p.waiting p.table.entries
         (p.next + 1) frame;
-    client_ports = framed_client_ports p empty_hand sound p.clients p.servers after.client_senders p.server_senders p.waiting
+    client_ports = framed_client_ports p empty_hand sound p.clients after.client_senders p.server_senders p.waiting
         p.table.entries
         (p.next + 1) frame;
-    server_ports = framed_server_ports p empty_hand sound p.clients p.servers after.client_senders p.server_senders p.waiting
+    server_ports = framed_server_ports p empty_hand sound p.clients after.client_senders p.server_senders p.waiting
         p.table.entries
         (p.next + 1) frame;
   }

@@ -50,15 +50,15 @@ module _ {Q QH P PH K : Type 0} (p : Parts Q QH P PH K) (sound : IsSound p empty
   pub placed : c.receiver < p.limits.max_clients
   placed = sound.client_ports.placed index c.connected (listed (λ (c : ClientPart K). c.connected) p.clients index c at)
 
-  frame : SameFrame p p.clients p.servers p.client_senders after.server_senders p.waiting p.next
+  frame : SameFrame p p.clients p.client_senders after.server_senders p.waiting p.next
   frame = record {
     clients_alike = refl;
-    servers_alike = refl;
     client_senders_alike = senders_same p.client_senders;
     server_senders_alike = senders_set p.server_senders sender fresh
         (record {
           owner = refl;
           row = refl;
+          receiver = refl;
           slots = length-set m.held slot _;
           room = refl;
           shaped = taken_shaped m shaped c.receiver channel slot placed inside first;
@@ -170,9 +170,14 @@ module _ {Q QH P PH K : Type 0} (p : Parts Q QH P PH K) (sound : IsSound p empty
   stored =
       let n = sound.stored in
       record {
-        request_loans = λ i d e. omega (arith, n.request_loans i d e, none_in_hand (is_in_sender is_request_loan d.sender) entry refl);
-        pendings = λ i d e. omega (arith, n.pendings i d e, none_in_hand (is_in_sender is_pending d.sender) entry refl);
-        response_loans = λ i d e. omega (arith, n.response_loans i d e, none_in_hand (is_in_sender is_response_loan d.sender) entry refl);
+        request_loans = λ k h. omega (arith, n.request_loans k h, none_in_hand (is_in_sender is_request_loan k) entry refl);
+        pendings = λ k h. omega (arith, n.pendings k h, none_in_hand (is_in_sender is_pending k) entry refl);
+        response_loans = λ k h. omega (
+          arith,
+          same_of (λ x. x.loans) refl k,
+          n.response_loans k (omega (arith, h, length-set p.server_senders sender fresh)),
+          none_in_hand (is_in_sender is_response_loan k) entry refl,
+        );
         active_loans = λ k server loans s e is. n.active_loans k server loans s e is
             ∙ sym (same_count (is_loan_from p k) (is_loan_from after k)
             (λ h. ap (λ (n : ResponseDetails). is_response_loan h.stage && n.active_request == k) (details_same h.sender h.slot))
@@ -303,28 +308,28 @@ module _ {Q QH P PH K : Type 0} (p : Parts Q QH P PH K) (sound : IsSound p empty
   in_hand = record {
     counted = counted;
     held_once = held_once;
-    numbered = kept_numbered p empty_hand sound p.clients p.servers p.client_senders after.server_senders p.waiting p.next frame kept
+    numbered = kept_numbered p empty_hand sound p.clients p.client_senders after.server_senders p.waiting p.next frame kept
         (λ k s e is. handle_uses_request p empty_hand sound.counted k s e is)
         (λ k s e is. omega (arith, handle_uses_response p empty_hand sound.counted k s e is, used_same s.value.sender s.value.slot));
-    addressed = kept_addressed p empty_hand sound p.clients p.servers p.client_senders after.server_senders p.waiting p.next frame kept
+    addressed = kept_addressed p empty_hand sound p.clients p.client_senders after.server_senders p.waiting p.next frame kept
         (λ l i ch j d e some.
         let r = sound.addressed.entries l i ch j d e (omega (arith, some, queue_less l i d.receiver ch)) in (
           ap (λ (n : ResponseDetails). n.client) (details_same l i) ∙ r.0,
           ap (λ (n : ResponseDetails). n.channel) (details_same l i)
               ∙ r.1,
         ));
-    inserted = framed_inserted p empty_hand sound p.clients p.servers p.client_senders after.server_senders p.waiting p.next frame;
+    inserted = framed_inserted p empty_hand sound p.clients p.client_senders after.server_senders p.waiting p.next frame;
     stored = stored;
-    sized = framed_sized p empty_hand sound p.clients p.servers p.client_senders after.server_senders p.waiting p.table.entries p.next frame
+    sized = framed_sized p empty_hand sound p.clients p.client_senders after.server_senders p.waiting p.table.entries p.next frame
         sound.sized.next_fits sound.sized.loans_made;
     vacated = vacated;
-    have_values = framed_by_value p empty_hand sound p.clients p.servers p.client_senders after.server_senders p.waiting p.table.entries
+    have_values = framed_by_value p empty_hand sound p.clients p.client_senders after.server_senders p.waiting p.table.entries
         p.next
         frame;
-    client_ports = framed_client_ports p empty_hand sound p.clients p.servers p.client_senders after.server_senders p.waiting
+    client_ports = framed_client_ports p empty_hand sound p.clients p.client_senders after.server_senders p.waiting
         p.table.entries
         p.next frame;
-    server_ports = framed_server_ports p empty_hand sound p.clients p.servers p.client_senders after.server_senders p.waiting
+    server_ports = framed_server_ports p empty_hand sound p.clients p.client_senders after.server_senders p.waiting
         p.table.entries
         p.next frame;
   }

@@ -18,7 +18,7 @@ use Rattle.rr_store.specs.Dropping.{IsDropped}
 use Rattle.rr_store.proofs.base.senders.BorrowEnded.{one_less, less_rows, less_row, borrowed_less, borrowed_le}
 use Rattle.rr_store.proofs.base.hands.Dropping.{dropped_sound}
 use Rattle.rr_store.proofs.base.lists.Found.{found_passes, found_somewhere}
-use Rattle.rr_store.proofs.base.senders.GivenBack.{less, senders_less, less_senders, same_of, held_less}
+use Rattle.rr_store.proofs.base.senders.GivenBack.{less, senders_less, less_senders, same_of, held_less, count_less}
 use Rattle.rr_store.proofs.base.views.Counts.{listed}
 use Rattle.rr_store.proofs.base.hands.Hands.{count-cons, senders_same, removed_sound}
 use Rattle.rr_store.proofs.releasing.active.MayAnswer.{not_marked, as_many_rows, as_many_marks}
@@ -95,18 +95,21 @@ module _ {Q QH P PH K : Type 0} (p : Parts Q QH P PH K) (sound : IsSound p empty
   spot : (entry.sender < length p.client_senders) × (0 < slice_index (sender_of entry.sender p.client_senders).messages.held entry.slot)
   spot = request_there p sound k s at (ap is_of_request is)
 
+  abbrev own : Sender Q RequestDetails QH
+  own = sender_of entry.sender p.client_senders
+
   abbrev borrowed : List (List ℕ)
   borrowed = one_less (sender_of entry.sender p.client_senders).messages.borrowed receiver 0
 
   abbrev pub senders : List (Sender Q RequestDetails QH)
-  senders = senders_less p.client_senders entry.sender entry.slot borrowed
+  senders = senders_less p.client_senders entry.sender entry.slot borrowed own.loans own.pendings
 
   abbrev pub marks : List (List Bool)
   marks = set_two p.waiting entry.sender (entry.slot * p.limits.max_servers + receiver) false
 
   -- the core without the active request
   abbrev pub after_active : Parts Q QH P PH K
-  after_active = moved taken p.clients p.servers senders p.server_senders marks taken.table.entries p.next
+  after_active = moved taken p.clients senders p.server_senders marks taken.table.entries p.next
 
   pub inside : receiver < p.limits.max_servers
   inside = sound.inserted.active_servers k server s at (ap (is_active_of server) is ∙ eq-eqb server server refl)
@@ -124,16 +127,16 @@ module _ {Q QH P PH K : Type 0} (p : Parts Q QH P PH K) (sound : IsSound p empty
     counted_here,
   )
 
-  same : {Y : Type 0} (f : Sender Q RequestDetails QH → Y) → f (less p.client_senders entry.sender entry.slot borrowed) ≡ f
+  same : {Y : Type 0} (f : Sender Q RequestDetails QH → Y) → f (less p.client_senders entry.sender entry.slot borrowed own.loans
+      own.pendings) ≡ f
       (sender_of entry.sender p.client_senders) → (l : ℕ) → f (sender_of l senders) ≡ f (sender_of l p.client_senders)
-  same = same_of p.client_senders entry.sender entry.slot borrowed
+  same = same_of p.client_senders entry.sender entry.slot borrowed own.loans own.pendings
 
-  dropped : IsDropped taken entry p.clients p.servers senders p.server_senders marks
+  dropped : IsDropped taken entry senders p.server_senders marks
   dropped = record {
     frame = record {
       clients_alike = refl;
-      servers_alike = refl;
-      client_senders_alike = less_senders p.client_senders entry.sender entry.slot borrowed
+      client_senders_alike = less_senders p.client_senders entry.sender entry.slot borrowed own.loans own.pendings
           (less_rows (sender_of entry.sender p.client_senders).messages.borrowed receiver 0)
           (less_row (sender_of entry.sender p.client_senders).messages.borrowed receiver 0);
       server_senders_alike = senders_same p.server_senders;
@@ -141,10 +144,9 @@ module _ {Q QH P PH K : Type 0} (p : Parts Q QH P PH K) (sound : IsSound p empty
       marks_each = as_many_marks p.waiting entry.sender (entry.slot * p.limits.max_servers + receiver);
       numbers = omega arith;
     };
-    loans_made = sound.sized.loans_made;
     requests_held = λ l i. omega (
       arith,
-      held_less p.client_senders entry.sender entry.slot borrowed spot.0 spot.1 l i,
+      held_less p.client_senders entry.sender entry.slot borrowed own.loans own.pendings spot.0 spot.1 l i,
       ap (λ g. mark (is_of_request g && (entry.sender == l && entry.slot == i))) is,
     );
     responses_held = λ l i. omega
@@ -155,31 +157,20 @@ module _ {Q QH P PH K : Type 0} (p : Parts Q QH P PH K) (sound : IsSound p empty
     responses_used = λ l i. omega arith;
     responses_wait = λ l receiver channel i. omega arith;
     responses_none = λ l receiver channel e. e;
-    requests_borrowed = borrowed_le p.client_senders entry.sender entry.slot receiver 0 spot.0 spot.1 has_active;
+    requests_borrowed = borrowed_le p.client_senders entry.sender entry.slot receiver 0 own.loans own.pendings spot.0 spot.1 has_active;
     responses_borrowed = λ l receiver channel. omega arith;
     awaited = λ l i r e. not_marked p.waiting entry.sender (entry.slot * p.limits.max_servers + receiver) l (i * p.limits.max_servers + r)
         e;
-    client_counts = λ i d e. (
-      d,
-      e,
-      refl,
-      omega (arith, unmarked (is_request_loan entry.stage) (entry.sender == d.sender) (ap is_request_loan is)),
-      omega (arith, unmarked (is_pending entry.stage) (entry.sender == d.sender) (ap is_pending is)),
-    );
-    server_counts = λ i d e. (
-      d,
-      e,
-      refl,
-      omega (
-        arith,
-        unmarked (is_response_loan entry.stage) (entry.sender == d.sender)
-            (ap is_response_loan is),
-      ),
-    );
+    request_loans = count_less p.client_senders entry.sender entry.slot borrowed own.loans own.pendings spot.0 spot.1 (λ x. x.loans)
+        (is_request_loan entry.stage) (omega (arith, ap (λ g. mark (is_request_loan g)) is));
+    pendings = count_less p.client_senders entry.sender entry.slot borrowed own.loans own.pendings spot.0 spot.1 (λ x. x.pendings)
+        (is_pending entry.stage) (omega (arith, ap (λ g. mark (is_pending g)) is));
+    response_loans = λ l. omega (arith, unmarked (is_response_loan entry.stage) (entry.sender == l) (ap is_response_loan is));
     loans_from = λ n other loans t e _. ap (λ g. is_response_loan g && (response_details p entry.sender entry.slot).active_request == n) is;
     request_borrows = λ l other h. omega (
       arith,
-      borrowed_less p.client_senders entry.sender entry.slot receiver 0 spot.0 spot.1 has_active l (server_place p other) 0,
+      borrowed_less p.client_senders entry.sender entry.slot receiver 0 own.loans own.pendings spot.0 spot.1 has_active l
+          (server_place p other) 0,
       ap (λ g. mark (is_active_of other g && entry.sender == l)) is,
       swapped (server == other) (receiver == server_place p other) (entry.sender == l) (servers_apart p sound server other inside),
     );
@@ -198,4 +189,4 @@ module _ {Q QH P PH K : Type 0} (p : Parts Q QH P PH K) (sound : IsSound p empty
 
   -- the core stays sound
   pub active_sound : IsSound after_active empty_hand
-  active_sound = dropped_sound taken entry [] in_hand p.clients p.servers senders p.server_senders marks dropped
+  active_sound = dropped_sound taken entry [] in_hand senders p.server_senders marks dropped

@@ -12,7 +12,8 @@ use Rattle.rr_protocol.specs.State.{State, with_changed}
 use Rattle.rr_store.specs.declared.handle_entry.HandleEntry.{HandleEntry}
 use Rattle.rr_store.specs.declared.handle_entry.Stage.{Stage}
 use Rattle.rr_store.specs.declared.handle_entry.Stage.TheVariants as stage
-use Rattle.rr_store.specs.Parts.{Parts, ServerPart}
+use Rattle.rr_store.specs.declared.details.RequestDetails.{RequestDetails}
+use Rattle.rr_store.specs.Parts.{Parts, ServerPart, Sender}
 use Rattle.rr_store.specs.Views.{state_of, server_of, handle_in, handle_of, is_awaited, waiting_at, request_at}
 use Rattle.rr_store.specs.Sound.{IsSound, empty_hand, is_of_request, is_pending, request_details, request_uses, server_place}
 use Rattle.rr_store.proofs.releasing.active.Sound.{senders, marks, after_active, inside, server_is, server_placed}
@@ -198,10 +199,12 @@ module _ {Q QH P PH K : Type 0} (p : Parts Q QH P PH K) (sound : IsSound p empty
       (server_in_use (with_changed without number (without_server server)) f.0 (server_of f.1) (listed server_of p.servers f.0 f.1 f.2)
       (sound.have_values.servers f.0 f.1 f.2) server f.3)
 
+  abbrev own : Sender Q RequestDetails QH
+  own = sender_of entry.sender p.client_senders
+
   -- contracts see the handle go, and that the request's pending response doesn't wait for the server any more
   pub active_view : state_of (after_active p sound k s at server loans is) ≡ after_release (state_of p) k
   active_view =
-      uncounted unmarked p.clients p.servers (senders p sound k s at server loans is) p.server_senders refl refl
-      (bare_less p.client_senders entry.sender entry.slot (one_less (sender_of entry.sender p.client_senders).messages.borrowed receiver 0))
-      refl
+      uncounted unmarked (senders p sound k s at server loans is) p.server_senders
+      (bare_less p.client_senders entry.sender entry.slot (one_less own.messages.borrowed receiver 0) own.loans own.pendings) refl
       ∙ unmarked_view ∙ ap (λ t. with_changed t number (without_server server)) (removed_view p k) ∙ sym active_is

@@ -107,6 +107,7 @@ module _ {T N H : Type 0} (senders : List (Sender T N H)) (receivers channels ca
   alike_there l there = record {
     owner = refl;
     row = refl;
+    receiver = refl;
     slots = refl;
     room = refl;
     shaped = λ r n k h. record {

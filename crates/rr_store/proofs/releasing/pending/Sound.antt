@@ -1,8 +1,8 @@
 -- A pending response is released: what stays true.
-use Rattle.std.proofs.Common.{◌≡◌, ◌≢◌, ◌<◌, ℕ, Bool, true, List, [], ◌∷◌, Some, length, map, refl, sym, ap, ◌∙◌, arith}
-use Rattle.std.specs.Prelude.{◌==◌, ◌&&◌, slice_get, slice_index, slice_set}
+use Rattle.std.proofs.Common.{◌≡◌, ◌<◌, ◌-◌, ℕ, Bool, true, List, [], ◌∷◌, Some, length, map, refl, ap, ◌∙◌, arith}
+use Rattle.std.specs.Prelude.{◌==◌, ◌&&◌, slice_get, slice_index}
 use Rattle.std.specs.FinMap as fin_map
-use Rattle.std.proofs.lemmas.Bool.{eq-eqb, ne_eqb}
+use Rattle.std.proofs.lemmas.Bool.{eq-eqb}
 use Rattle.rr_maps.specs.Maps.{mark}
 use Rattle.rr_table.specs.TableView.{TableEntry, removed}
 use Rattle.rr_sender.specs.Senders.{borrowed_at}
@@ -14,16 +14,14 @@ use Rattle.rr_store.specs.declared.details.ResponseDetails.{ResponseDetails}
 use Rattle.rr_store.specs.Parts.{Parts, ClientPart, Sender}
 use Rattle.rr_store.specs.Views.{sender_of}
 use Rattle.rr_store.specs.Sound.{IsSound, empty_hand, is_of_request, is_of_response, is_request_loan, is_pending, is_active_of, is_response_loan, is_received, is_in_sender, response_details, server_place}
-use Rattle.rr_store.specs.Frames.{moved, frame_of}
-use Rattle.rr_store.specs.Clearing.{channel_cleared, without_pending}
+use Rattle.rr_store.specs.Frames.{moved}
+use Rattle.rr_store.specs.Clearing.{channel_cleared}
 use Rattle.rr_store.specs.Dropping.{IsDropped}
 use Rattle.rr_store.proofs.releasing.pending.Cleared.{cleared_at, cleared_alike, all_less, queue_less, stays_empty}
 use Rattle.rr_store.proofs.base.hands.Dropping.{dropped_sound}
-use Rattle.rr_store.proofs.base.frames.Frames.{ports_set}
-use Rattle.rr_store.proofs.base.senders.GivenBack.{less, senders_less, less_senders, same_of, held_less}
-use Rattle.rr_store.proofs.base.views.Counts.{listed, ids_apart}
+use Rattle.rr_store.proofs.base.senders.GivenBack.{less, senders_less, less_senders, same_of, held_less, count_less}
+use Rattle.rr_store.proofs.base.views.Counts.{listed}
 use Rattle.rr_store.proofs.base.hands.Hands.{count-cons, removed_sound}
-use Rattle.rr_store.proofs.base.lists.Replaced.{set_cases}
 use Rattle.rr_store.proofs.releasing.request.Sound.{request_there, unmarked}
 use Rattle.rr_store.proofs.base.lookups.Shown.{held_within}
 
@@ -46,25 +44,31 @@ module _ {Q QH P PH K : Type 0} (p : Parts Q QH P PH K) (sound : IsSound p empty
   spot : (entry.sender < length p.client_senders) × (0 < slice_index (sender_of entry.sender p.client_senders).messages.held entry.slot)
   spot = request_there p sound k s at of_request
 
-  abbrev pub senders : List (Sender Q RequestDetails QH)
-  senders = senders_less p.client_senders entry.sender entry.slot (sender_of entry.sender p.client_senders).messages.borrowed
+  abbrev pub own : Sender Q RequestDetails QH
+  own = sender_of entry.sender p.client_senders
 
-  abbrev pub clients : List (ClientPart K)
-  clients = slice_set p.clients index (without_pending c)
+  abbrev pub senders : List (Sender Q RequestDetails QH)
+  senders = senders_less p.client_senders entry.sender entry.slot own.messages.borrowed own.loans (own.pendings - 1)
 
   abbrev pub server_senders : List (Sender P ResponseDetails PH)
   server_senders = map (channel_cleared c.receiver entry.slot) p.server_senders
 
   -- the core without the pending response
   abbrev pub after_pending : Parts Q QH P PH K
-  after_pending = moved taken clients p.servers senders server_senders p.waiting taken.table.entries p.next
+  after_pending = moved taken p.clients senders server_senders p.waiting taken.table.entries p.next
 
-  counted_here : mark (is_in_sender is_pending c.sender entry) ≡ 1
-  counted_here = ap (λ b. mark (b && entry.sender == c.sender)) (ap is_pending pending) ∙ ap mark (eq-eqb entry.sender c.sender (sym sends))
+  counted_here : mark (is_in_sender is_pending entry.sender entry) ≡ 1
+  counted_here = ap (λ b. mark (b && entry.sender == entry.sender)) (ap is_pending pending)
+      ∙ ap mark (eq-eqb entry.sender entry.sender refl)
 
-  -- the client has it
-  pub has_pending : 0 < c.pendings
-  has_pending = omega (arith, in_hand.stored.pendings index c there, count-cons (is_in_sender is_pending c.sender) entry [], counted_here)
+  -- the sender has it
+  pub has_pending : 0 < own.pendings
+  has_pending = omega (
+    arith,
+    in_hand.stored.pendings entry.sender spot.0,
+    count-cons (is_in_sender is_pending entry.sender) entry [],
+    counted_here,
+  )
 
   -- the client is one of the receivers, and its slots are channels
   pub placed : c.receiver < p.limits.max_clients
@@ -77,29 +81,19 @@ module _ {Q QH P PH K : Type 0} (p : Parts Q QH P PH K) (sound : IsSound p empty
     sound.sized.channels entry.sender spot.0,
   )
 
-  same : {Y : Type 0} (f : Sender Q RequestDetails QH → Y) → f (less p.client_senders entry.sender entry.slot
-      (sender_of entry.sender p.client_senders).messages.borrowed) ≡ f (sender_of entry.sender p.client_senders) → (l : ℕ)
+  same : {Y : Type 0} (f : Sender Q RequestDetails QH → Y) → f (less p.client_senders entry.sender entry.slot own.messages.borrowed
+      own.loans (own.pendings - 1)) ≡ f (sender_of entry.sender p.client_senders) → (l : ℕ)
       → f (sender_of l senders) ≡ f (sender_of l p.client_senders)
-  same = same_of p.client_senders entry.sender entry.slot (sender_of entry.sender p.client_senders).messages.borrowed
+  same = same_of p.client_senders entry.sender entry.slot own.messages.borrowed own.loans (own.pendings - 1)
 
   is : (l : ℕ) → sender_of l server_senders ≡ channel_cleared c.receiver entry.slot (sender_of l p.server_senders)
   is l = cleared_at c.receiver entry.slot p.server_senders l
 
-  other_sender : (i : ℕ) (d : ClientPart K) → i ≢ index → slice_get p.clients i ≡ Some d → entry.sender ≢ d.sender
-  other_sender i d n e is =
-      let a = sound.client_ports.own i d.connected (listed (λ c. c.connected) p.clients i d e) in
-      let b = sound.client_ports.own index c.connected (listed (λ c. c.connected) p.clients index c there) in
-      ids_apart (λ (c : ClientPart K). c.connected) p.next p.limits.max_clients p.clients p.client_senders sound.client_ports i index d c e
-      there n
-      (sym a.1 ∙ ap (λ l. (sender_of l p.client_senders).owner) (sym is ∙ sym sends) ∙ b.1)
-
-  dropped : IsDropped taken entry clients p.servers senders server_senders p.waiting
+  dropped : IsDropped taken entry senders server_senders p.waiting
   dropped = record {
     frame = record {
-      clients_alike = ports_set (λ (c : ClientPart K). c.connected) p.clients index c (without_pending c) there refl;
-      servers_alike = refl;
-      client_senders_alike = less_senders p.client_senders entry.sender entry.slot
-          (sender_of entry.sender p.client_senders).messages.borrowed refl
+      clients_alike = refl;
+      client_senders_alike = less_senders p.client_senders entry.sender entry.slot own.messages.borrowed own.loans (own.pendings - 1) refl
           (λ r. refl);
       server_senders_alike = cleared_alike p.server_senders p.limits.max_clients
           (worst_case_requests p.limits) p.limits.max_response_buffer_size c.receiver entry.slot sound.sized.server_senders placed inside;
@@ -107,12 +101,9 @@ module _ {Q QH P PH K : Type 0} (p : Parts Q QH P PH K) (sound : IsSound p empty
       marks_each = λ l. refl;
       numbers = omega arith;
     };
-    loans_made = λ i d e. set_cases p.clients index (without_pending c) i d e
-        (λ _ is. omega (arith, ap (λ (d : ClientPart K). d.loans_made) is, sound.sized.loans_made index c there))
-        (λ _ b. sound.sized.loans_made i d b);
     requests_held = λ l i. omega (
       arith,
-      held_less p.client_senders entry.sender entry.slot (sender_of entry.sender p.client_senders).messages.borrowed spot.0 spot.1 l i,
+      held_less p.client_senders entry.sender entry.slot own.messages.borrowed own.loans (own.pendings - 1) spot.0 spot.1 l i,
       ap (λ b. mark (b && (entry.sender == l && entry.slot == i))) of_request,
     );
     responses_held = λ l i. omega (
@@ -137,38 +128,14 @@ module _ {Q QH P PH K : Type 0} (p : Parts Q QH P PH K) (sound : IsSound p empty
     responses_borrowed = λ l receiver channel. omega
         (arith, ap (λ (x : Sender P ResponseDetails PH). borrowed_at x.messages receiver channel) (is l));
     awaited = λ l slot receiver e. e;
-    client_counts = λ i d e. set_cases p.clients index (without_pending c) i d e
-        (λ j is. (
-          c,
-          ap (slice_get p.clients) j ∙ there,
-          ap (λ (d : ClientPart K). frame_of d.connected) is,
-          omega (
-            arith,
-            unmarked (is_request_loan entry.stage) (entry.sender == c.sender) (ap is_request_loan pending),
-            ap (λ (d : ClientPart K). d.loans) is,
-          ),
-          omega (arith, has_pending, counted_here, ap (λ (d : ClientPart K). d.pendings) is),
-        ))
-        (λ n b. (
-          d,
-          b,
-          refl,
-          omega (arith, unmarked (is_request_loan entry.stage) (entry.sender == d.sender) (ap is_request_loan pending)),
-          omega (
-            arith,
-            ap (λ a. mark (a && entry.sender == d.sender)) (ap is_pending pending),
-            ap mark (ne_eqb entry.sender d.sender (other_sender i d n b)),
-          ),
-        ));
-    server_counts = λ i d e. (
-      d,
-      e,
-      refl,
-      omega (
-        arith,
-        unmarked (is_response_loan entry.stage) (entry.sender == d.sender)
-            (ap is_response_loan pending),
-      ),
+    request_loans = count_less p.client_senders entry.sender entry.slot own.messages.borrowed own.loans (own.pendings - 1) spot.0 spot.1
+        (λ x. x.loans) (is_request_loan entry.stage) (omega (arith, ap (λ g. mark (is_request_loan g)) pending));
+    pendings = count_less p.client_senders entry.sender entry.slot own.messages.borrowed own.loans (own.pendings - 1) spot.0 spot.1
+        (λ x. x.pendings) (is_pending entry.stage) (omega (arith, has_pending, ap (λ g. mark (is_pending g)) pending));
+    response_loans = λ l. omega (
+      arith,
+      ap (λ (x : Sender P ResponseDetails PH). x.loans) (is l),
+      unmarked (is_response_loan entry.stage) (entry.sender == l) (ap is_response_loan pending),
     );
     loans_from = λ n server loans t e is. ap (λ a. a && (response_details p entry.sender entry.slot).active_request == n)
         (ap is_response_loan pending);
@@ -187,4 +154,4 @@ module _ {Q QH P PH K : Type 0} (p : Parts Q QH P PH K) (sound : IsSound p empty
 
   -- the core stays sound
   pub pending_sound : IsSound after_pending empty_hand
-  pending_sound = dropped_sound taken entry [] in_hand clients p.servers senders server_senders p.waiting dropped
+  pending_sound = dropped_sound taken entry [] in_hand senders server_senders p.waiting dropped

@@ -1,5 +1,5 @@
 -- What contracts see of a core after a pending response was released.
-use Rattle.std.proofs.Common.{◌≡◌, ℕ, Bool, true, false, cond, List, [], Option, None, Some, option_map, map, refl, sym, ap, ◌∙◌, ⊎_elim}
+use Rattle.std.proofs.Common.{◌≡◌, ◌-◌, ℕ, Bool, true, false, cond, List, [], Option, None, Some, option_map, map, refl, sym, ap, ◌∙◌, ⊎_elim}
 use Rattle.std.specs.Prelude.{◌==◌, ◌&&◌, not, slice_get, find}
 use Rattle.std.specs.Option.{option_map_or}
 use Rattle.std.specs.FinMap as fin_map
@@ -20,7 +20,7 @@ use Rattle.rr_store.specs.declared.handle_entry.HandleEntry.{HandleEntry}
 use Rattle.rr_store.specs.declared.handle_entry.Stage.{Stage}
 use Rattle.rr_store.specs.declared.handle_entry.Stage.TheVariants as stage
 use Rattle.rr_store.specs.declared.details.ResponseDetails.{ResponseDetails}
-use Rattle.rr_store.specs.Clearing.{channel_cleared, without_pending}
+use Rattle.rr_store.specs.Clearing.{channel_cleared}
 use Rattle.rr_store.specs.Parts.{Parts, ClientPart, Sender}
 use Rattle.rr_store.specs.Sound.{IsSound, empty_hand, is_of_request, request_details}
 use Rattle.rr_store.specs.Views.{sender_of, no_sender, state_of, client_of, response_in_slot, handle_in, handle_of, responses_at}
@@ -30,12 +30,12 @@ use Rattle.rr_store.proofs.base.lists.Found.{found_passes, found_somewhere}
 use Rattle.rr_store.proofs.base.senders.GivenBack.{bare_less}
 use Rattle.rr_store.proofs.base.views.Counts.{listed}
 use Rattle.rr_store.proofs.base.views.Keyed.{at_responses}
-use Rattle.rr_store.proofs.releasing.pending.Sound.{taken, senders, clients, server_senders, after_pending, placed, inside}
-use Rattle.rr_store.proofs.base.lists.Replaced.{find_mapped, map-set_alike}
+use Rattle.rr_store.proofs.releasing.pending.Sound.{taken, own, senders, server_senders, after_pending, placed, inside}
+use Rattle.rr_store.proofs.base.lists.Replaced.{find_mapped}
 use Rattle.rr_store.proofs.receiving.response.View.{nobody_left}
 use Rattle.rr_store.proofs.releasing.View.{release_is, client_in_use, removed_view, table_entry_shown}
 use Rattle.rr_store.proofs.base.hands.Stages.{handle_uses_request}
-use Rattle.rr_store.proofs.base.views.Uncounted.{uncounted, bare_client}
+use Rattle.rr_store.proofs.base.views.Uncounted.{uncounted}
 
 module _ {Q QH P PH K : Type 0} (p : Parts Q QH P PH K) (sound : IsSound p empty_hand) (k : ℕ) (s : TableEntry HandleEntry)
     (at : fin_map.get p.table.entries k ≡ Some s) (hint : Bool) (connections : ℕ)
@@ -200,9 +200,9 @@ module _ {Q QH P PH K : Type 0} (p : Parts Q QH P PH K) (sound : IsSound p empty
 
   its_port : (request_details p s.value.sender channel).client ≡ c.port.id
   its_port =
-      let own = sound.client_ports.own index c.connected (listed (λ c. c.connected) p.clients index c there) in
+      let o = sound.client_ports.own index c.connected (listed (λ c. c.connected) p.clients index c there) in
       sound.addressed.requests s.value.sender channel (handle_uses_request p empty_hand sound.counted k s at (ap is_of_request pending))
-      ∙ sym (ap (λ l. (sender_of l p.client_senders).owner) sends) ∙ own.1
+      ∙ sym (ap (λ l. (sender_of l p.client_senders).owner) sends) ∙ o.1
 
   handle_is : handle_of p s ≡ handle_in p (stage.PendingResponse hint connections) s.value.sender channel
   handle_is = ap (λ (g : Stage). handle_in p g s.value.sender channel) pending
@@ -220,9 +220,7 @@ module _ {Q QH P PH K : Type 0} (p : Parts Q QH P PH K) (sound : IsSound p empty
 
   pub pending_view : state_of (after_pending p sound k s at hint connections pending index c there sends) ≡ after_release (state_of p) k
   pending_view =
-      uncounted emptied (clients p sound k s at hint connections pending index c there sends) p.servers
-      (senders p sound k s at hint connections pending index c there sends) emptied.server_senders
-      (map-set_alike bare_client p.clients index (without_pending c) c
-      (ap bare_client (sym (get_or_from_slice_get p.clients index c c there)))) refl
-      (bare_less p.client_senders s.value.sender channel (sender_of s.value.sender p.client_senders).messages.borrowed) refl
+      let its = own p sound k s at hint connections pending index c there sends in
+      uncounted emptied (senders p sound k s at hint connections pending index c there sends) emptied.server_senders
+      (bare_less p.client_senders s.value.sender channel its.messages.borrowed its.loans (its.pendings - 1)) refl
       ∙ emptied_view ∙ ap (λ t. with_empty_channel t c.port.id channel) (removed_view p k) ∙ sym released_is

@@ -1,9 +1,8 @@
 -- A request on loan is released: what stays true, and what contracts see.
-use Rattle.std.proofs.Common.{◌≡◌, ◌≢◌, ◌<◌, ℕ, Bool, true, false, List, [], ◌∷◌, Some, length, get_or, refl, sym, ap, ◌∙◌, arith}
-use Rattle.std.specs.Prelude.{◌==◌, ◌&&◌, slice_get, slice_index, slice_set}
+use Rattle.std.proofs.Common.{◌≡◌, ◌<◌, ◌-◌, ℕ, Bool, true, false, List, [], ◌∷◌, Some, length, refl, sym, ap, ◌∙◌, arith}
+use Rattle.std.specs.Prelude.{◌==◌, ◌&&◌, slice_get, slice_index}
 use Rattle.std.specs.FinMap as fin_map
-use Rattle.std.proofs.lemmas.Bool.{false≢true, eq-eqb, ne_eqb}
-use Rattle.std.proofs.lemmas.Option.{get_or_from_slice_get}
+use Rattle.std.proofs.lemmas.Bool.{false≢true, eq-eqb}
 use Rattle.rr_maps.specs.Maps.{mark}
 use Rattle.rr_table.specs.TableView.{TableEntry, removed}
 use Rattle.rr_maps.proofs.MapLaws.{tally-at}
@@ -18,19 +17,16 @@ use Rattle.rr_store.specs.declared.details.RequestDetails.{RequestDetails}
 use Rattle.rr_store.specs.Parts.{Parts, ClientPart, Sender}
 use Rattle.rr_store.specs.Views.{sender_of, state_of, client_of, handle_in, handle_of}
 use Rattle.rr_store.specs.Sound.{IsSound, empty_hand, is_of_request, is_of_response, is_request_loan, is_pending, is_active_of, is_response_loan, is_received, is_in_sender, has_request_at, request_details, response_details, server_place}
-use Rattle.rr_store.specs.Frames.{moved, frame_of}
+use Rattle.rr_store.specs.Frames.{moved}
 use Rattle.rr_store.specs.Dropping.{IsDropped}
-use Rattle.rr_store.specs.Releasing.{without_loan}
 use Rattle.rr_store.proofs.base.views.Agreeing.{request_sender}
 use Rattle.rr_store.proofs.base.hands.Dropping.{dropped_sound}
-use Rattle.rr_store.proofs.base.frames.Frames.{ports_set}
-use Rattle.rr_store.proofs.base.senders.GivenBack.{less, senders_less, less_senders, same_of, held_less, bare_less}
-use Rattle.rr_store.proofs.base.views.Counts.{listed, ids_apart}
+use Rattle.rr_store.proofs.base.senders.GivenBack.{less, senders_less, less_senders, same_of, held_less, bare_less, count_less}
+use Rattle.rr_store.proofs.base.views.Counts.{listed}
 use Rattle.rr_store.proofs.base.hands.Hands.{count-cons, senders_same, removed_sound}
-use Rattle.rr_store.proofs.base.lists.Replaced.{set_cases, map-set_alike}
 use Rattle.rr_store.proofs.releasing.View.{release_is, client_in_use, removed_view, table_entry_shown}
 use Rattle.rr_store.proofs.base.hands.Stages.{loan_is_request, handle_uses_request}
-use Rattle.rr_store.proofs.base.views.Uncounted.{uncounted, bare_client}
+use Rattle.rr_store.proofs.base.views.Uncounted.{uncounted}
 
 -- what a request on loan is not
 record IsLoanAlone (g : Stage) : Type 0 where
@@ -87,60 +83,47 @@ module _ {Q QH P PH K : Type 0} (p : Parts Q QH P PH K) (sound : IsSound p empty
   alone : IsLoanAlone entry.stage
   alone = loan_alone entry.stage loan
 
-  abbrev senders : List (Sender Q RequestDetails QH)
-  senders = senders_less p.client_senders entry.sender entry.slot (sender_of entry.sender p.client_senders).messages.borrowed
+  abbrev own : Sender Q RequestDetails QH
+  own = sender_of entry.sender p.client_senders
 
-  abbrev clients : List (ClientPart K)
-  clients = slice_set p.clients index (without_loan c)
+  abbrev senders : List (Sender Q RequestDetails QH)
+  senders = senders_less p.client_senders entry.sender entry.slot own.messages.borrowed (own.loans - 1) own.pendings
 
   -- the core without the request
   abbrev pub after_loan : Parts Q QH P PH K
-  after_loan = moved taken clients p.servers senders p.server_senders p.waiting taken.table.entries p.next
+  after_loan = moved taken p.clients senders p.server_senders p.waiting taken.table.entries p.next
 
-  counted_here : mark (is_in_sender is_request_loan c.sender entry) ≡ 1
-  counted_here = ap (λ b. mark (b && entry.sender == c.sender)) loan ∙ ap mark (eq-eqb entry.sender c.sender (sym sends))
+  counted_here : mark (is_in_sender is_request_loan entry.sender entry) ≡ 1
+  counted_here = ap (λ b. mark (b && entry.sender == entry.sender)) loan ∙ ap mark (eq-eqb entry.sender entry.sender refl)
 
-  -- the client has it on loan
-  pub has_loan : 0 < c.loans
+  -- the sender has it on loan
+  pub has_loan : 0 < own.loans
   has_loan = omega (
     arith,
-    in_hand.stored.request_loans index c there,
-    count-cons (is_in_sender is_request_loan c.sender) entry [],
+    in_hand.stored.request_loans entry.sender spot.0,
+    count-cons (is_in_sender is_request_loan entry.sender) entry [],
     counted_here,
   )
 
-  same : {Y : Type 0} (f : Sender Q RequestDetails QH → Y) → f (less p.client_senders entry.sender entry.slot
-      (sender_of entry.sender p.client_senders).messages.borrowed) ≡ f (sender_of entry.sender p.client_senders) → (l : ℕ)
+  same : {Y : Type 0} (f : Sender Q RequestDetails QH → Y) → f (less p.client_senders entry.sender entry.slot own.messages.borrowed
+      (own.loans - 1) own.pendings) ≡ f (sender_of entry.sender p.client_senders) → (l : ℕ)
       → f (sender_of l senders) ≡ f (sender_of l p.client_senders)
-  same = same_of p.client_senders entry.sender entry.slot (sender_of entry.sender p.client_senders).messages.borrowed
+  same = same_of p.client_senders entry.sender entry.slot own.messages.borrowed (own.loans - 1) own.pendings
 
-  other_sender : (i : ℕ) (d : ClientPart K) → i ≢ index → slice_get p.clients i ≡ Some d → entry.sender ≢ d.sender
-  other_sender i d n e is =
-      let a = sound.client_ports.own i d.connected (listed (λ c. c.connected) p.clients i d e) in
-      let b = sound.client_ports.own index c.connected (listed (λ c. c.connected) p.clients index c there) in
-      ids_apart (λ (c : ClientPart K). c.connected) p.next p.limits.max_clients p.clients p.client_senders sound.client_ports i index d c e
-      there n
-      (sym a.1 ∙ ap (λ l. (sender_of l p.client_senders).owner) (sym is ∙ sym sends) ∙ b.1)
-
-  dropped : IsDropped taken entry clients p.servers senders p.server_senders p.waiting
+  dropped : IsDropped taken entry senders p.server_senders p.waiting
   dropped = record {
     frame = record {
-      clients_alike = ports_set (λ (c : ClientPart K). c.connected) p.clients index c (without_loan c) there refl;
-      servers_alike = refl;
-      client_senders_alike = less_senders p.client_senders entry.sender entry.slot
-          (sender_of entry.sender p.client_senders).messages.borrowed refl
+      clients_alike = refl;
+      client_senders_alike = less_senders p.client_senders entry.sender entry.slot own.messages.borrowed (own.loans - 1) own.pendings refl
           (λ r. refl);
       server_senders_alike = senders_same p.server_senders;
       marks = refl;
       marks_each = λ l. refl;
       numbers = omega arith;
     };
-    loans_made = λ i d e. set_cases p.clients index (without_loan c) i d e
-        (λ _ is. omega (arith, ap (λ (d : ClientPart K). d.loans_made) is, sound.sized.loans_made index c there))
-        (λ _ b. sound.sized.loans_made i d b);
     requests_held = λ l i. omega (
       arith,
-      held_less p.client_senders entry.sender entry.slot (sender_of entry.sender p.client_senders).messages.borrowed spot.0 spot.1 l i,
+      held_less p.client_senders entry.sender entry.slot own.messages.borrowed (own.loans - 1) own.pendings spot.0 spot.1 l i,
       ap (λ b. mark (b && (entry.sender == l && entry.slot == i))) (loan_is_request entry.stage loan),
     );
     responses_held = λ l i. omega (arith, unmarked (is_of_response entry.stage) (entry.sender == l && entry.slot == i) alone.response);
@@ -153,28 +136,11 @@ module _ {Q QH P PH K : Type 0} (p : Parts Q QH P PH K) (sound : IsSound p empty
     requests_borrowed = λ l receiver channel. omega (arith, same (λ x. borrowed_at x.messages receiver channel) refl l);
     responses_borrowed = λ l receiver channel. omega arith;
     awaited = λ l slot receiver e. e;
-    client_counts = λ i d e. set_cases p.clients index (without_loan c) i d e
-        (λ j is. (
-          c,
-          ap (slice_get p.clients) j ∙ there,
-          ap (λ (d : ClientPart K). frame_of d.connected) is,
-          omega (arith, has_loan, counted_here, ap (λ (d : ClientPart K). d.loans) is),
-          omega (
-            arith,
-            unmarked (is_pending entry.stage) (entry.sender == c.sender) alone.pending,
-            ap (λ (d : ClientPart K). d.pendings)
-                is,
-          ),
-        ))
-        (λ n b. (
-          d,
-          b,
-          refl,
-          omega (arith, ap (λ a. mark (a && entry.sender == d.sender)) loan, ap mark (ne_eqb entry.sender d.sender (other_sender i d n b))),
-          omega (arith, unmarked (is_pending entry.stage) (entry.sender == d.sender) alone.pending),
-        ));
-    server_counts = λ i d e.
-        (d, e, refl, omega (arith, unmarked (is_response_loan entry.stage) (entry.sender == d.sender) alone.response_loan));
+    request_loans = count_less p.client_senders entry.sender entry.slot own.messages.borrowed (own.loans - 1) own.pendings spot.0 spot.1
+        (λ x. x.loans) (is_request_loan entry.stage) (omega (arith, has_loan, ap mark loan));
+    pendings = count_less p.client_senders entry.sender entry.slot own.messages.borrowed (own.loans - 1) own.pendings spot.0 spot.1
+        (λ x. x.pendings) (is_pending entry.stage) (omega (arith, ap mark alone.pending));
+    response_loans = λ l. omega (arith, unmarked (is_response_loan entry.stage) (entry.sender == l) alone.response_loan);
     loans_from = λ n server loans t e is. ap (λ a. a && (response_details p entry.sender entry.slot).active_request == n)
         alone.response_loan;
     request_borrows = λ l server h. omega (
@@ -192,7 +158,7 @@ module _ {Q QH P PH K : Type 0} (p : Parts Q QH P PH K) (sound : IsSound p empty
 
   -- the core stays sound
   pub released_sound : IsSound after_loan empty_hand
-  released_sound = dropped_sound taken entry [] in_hand clients p.servers senders p.server_senders p.waiting dropped
+  released_sound = dropped_sound taken entry [] in_hand senders p.server_senders p.waiting dropped
 
   -- contracts see the handle go, and nothing else
   gone_alone : (s : State Q QH P PH K) (g : Stage) (sender slot : ℕ) → is_request_loan g ≡ true
@@ -220,8 +186,8 @@ module _ {Q QH P PH K : Type 0} (p : Parts Q QH P PH K) (sound : IsSound p empty
 
   its_port : c.port.id ≡ port_of (handle_of p s)
   its_port =
-      let own = sound.client_ports.own index c.connected (listed (λ c. c.connected) p.clients index c there) in
-      sym own.1 ∙ ap (λ l. (sender_of l p.client_senders).owner) sends
+      let o = sound.client_ports.own index c.connected (listed (λ c. c.connected) p.clients index c there) in
+      sym o.1 ∙ ap (λ l. (sender_of l p.client_senders).owner) sends
       ∙ sym (sound.addressed.requests entry.sender entry.slot (handle_uses_request p empty_hand sound.counted k s at
       (loan_is_request entry.stage loan)))
       ∙ sym (port_is entry.stage entry.sender entry.slot loan)
@@ -237,10 +203,6 @@ module _ {Q QH P PH K : Type 0} (p : Parts Q QH P PH K) (sound : IsSound p empty
 
   pub released_view : state_of after_loan ≡ after_release (state_of p) k
   released_view =
-      uncounted taken clients p.servers senders p.server_senders
-      (map-set_alike bare_client p.clients index (without_loan c) c (ap bare_client (sym (it there)))) refl
-      (bare_less p.client_senders entry.sender entry.slot (sender_of entry.sender p.client_senders).messages.borrowed) refl
+      uncounted taken senders p.server_senders
+      (bare_less p.client_senders entry.sender entry.slot own.messages.borrowed (own.loans - 1) own.pendings) refl
       ∙ removed_view p k ∙ sym released_is
-    where
-      it : slice_get p.clients index ≡ Some c → get_or p.clients index c ≡ c
-      it e = get_or_from_slice_get p.clients index c c e

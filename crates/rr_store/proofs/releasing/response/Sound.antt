@@ -22,7 +22,7 @@ use Rattle.rr_store.specs.Dropping.{IsDropped}
 use Rattle.rr_store.proofs.base.views.Agreeing.{response_sender}
 use Rattle.rr_store.proofs.base.senders.BorrowEnded.{one_less, less_rows, less_row, borrowed_less, borrowed_le}
 use Rattle.rr_store.proofs.base.hands.Dropping.{dropped_sound}
-use Rattle.rr_store.proofs.base.senders.GivenBack.{less, senders_less, less_senders, same_of, held_less, bare_less}
+use Rattle.rr_store.proofs.base.senders.GivenBack.{less, senders_less, less_senders, same_of, held_less, bare_less, count_less}
 use Rattle.rr_store.proofs.base.views.Counts.{listed}
 use Rattle.rr_store.proofs.base.hands.Hands.{count-cons, senders_same, removed_sound}
 use Rattle.rr_store.proofs.releasing.View.{release_is, client_in_use, removed_view, table_entry_shown}
@@ -85,15 +85,18 @@ module _ {Q QH P PH K : Type 0} (p : Parts Q QH P PH K) (sound : IsSound p empty
   alone : IsReceivedAlone entry.stage
   alone = received_alone entry.stage got
 
+  abbrev own : Sender P ResponseDetails PH
+  own = sender_of entry.sender p.server_senders
+
   abbrev borrowed : List (List ℕ)
   borrowed = one_less (sender_of entry.sender p.server_senders).messages.borrowed c.receiver channel
 
   abbrev senders : List (Sender P ResponseDetails PH)
-  senders = senders_less p.server_senders entry.sender entry.slot borrowed
+  senders = senders_less p.server_senders entry.sender entry.slot borrowed own.loans own.pendings
 
   -- the core without the response
   abbrev pub after_received : Parts Q QH P PH K
-  after_received = moved taken p.clients p.servers p.client_senders senders p.waiting taken.table.entries p.next
+  after_received = moved taken p.clients p.client_senders senders p.waiting taken.table.entries p.next
 
   counted_here : mark (is_received_at p entry.sender c.port.id channel entry) ≡ 1
   counted_here =
@@ -113,9 +116,10 @@ module _ {Q QH P PH K : Type 0} (p : Parts Q QH P PH K) (sound : IsSound p empty
     counted_here,
   )
 
-  same : {Y : Type 0} (f : Sender P ResponseDetails PH → Y) → f (less p.server_senders entry.sender entry.slot borrowed) ≡ f
+  same : {Y : Type 0} (f : Sender P ResponseDetails PH → Y) → f (less p.server_senders entry.sender entry.slot borrowed own.loans
+      own.pendings) ≡ f
       (sender_of entry.sender p.server_senders) → (l : ℕ) → f (sender_of l senders) ≡ f (sender_of l p.server_senders)
-  same = same_of p.server_senders entry.sender entry.slot borrowed
+  same = same_of p.server_senders entry.sender entry.slot borrowed own.loans own.pendings
 
   -- the response is the client's exactly if it came to the client's receiver
   its_place : (i : ℕ) (d : ClientPart K) → slice_get p.clients i ≡ Some d
@@ -134,24 +138,22 @@ module _ {Q QH P PH K : Type 0} (p : Parts Q QH P PH K) (sound : IsSound p empty
       (sym is)))))
       (cases_eq i index)
 
-  dropped : IsDropped taken entry p.clients p.servers p.client_senders senders p.waiting
+  dropped : IsDropped taken entry p.client_senders senders p.waiting
   dropped = record {
     frame = record {
       clients_alike = refl;
-      servers_alike = refl;
       client_senders_alike = senders_same p.client_senders;
-      server_senders_alike = less_senders p.server_senders entry.sender entry.slot borrowed
+      server_senders_alike = less_senders p.server_senders entry.sender entry.slot borrowed own.loans own.pendings
           (less_rows (sender_of entry.sender p.server_senders).messages.borrowed c.receiver channel)
           (less_row (sender_of entry.sender p.server_senders).messages.borrowed c.receiver channel);
       marks = refl;
       marks_each = λ l. refl;
       numbers = omega arith;
     };
-    loans_made = sound.sized.loans_made;
     requests_held = λ l i. omega (arith, unmarked (is_of_request entry.stage) (entry.sender == l && entry.slot == i) alone.request);
     responses_held = λ l i. omega (
       arith,
-      held_less p.server_senders entry.sender entry.slot borrowed spot.0 spot.1 l i,
+      held_less p.server_senders entry.sender entry.slot borrowed own.loans own.pendings spot.0 spot.1 l i,
       ap (λ b. mark (b && (entry.sender == l && entry.slot == i))) (received_is_response entry.stage got),
     );
     all_request_details = λ l. refl;
@@ -165,23 +167,20 @@ module _ {Q QH P PH K : Type 0} (p : Parts Q QH P PH K) (sound : IsSound p empty
     responses_wait = λ l receiver channel i. omega (arith, ap (times i) (same (λ x. queue_at x.messages receiver channel) refl l));
     responses_none = λ l receiver channel e. same (λ x. queue_at x.messages receiver channel) refl l ∙ e;
     requests_borrowed = λ l receiver channel. omega arith;
-    responses_borrowed = borrowed_le p.server_senders entry.sender entry.slot c.receiver channel spot.0 spot.1 has_received;
+    responses_borrowed = borrowed_le p.server_senders entry.sender entry.slot c.receiver channel own.loans own.pendings spot.0 spot.1
+        has_received;
     awaited = λ l slot receiver e. e;
-    client_counts = λ i d e. (
-      d,
-      e,
-      refl,
-      omega (arith, unmarked (is_request_loan entry.stage) (entry.sender == d.sender) alone.loan),
-      omega (arith, unmarked (is_pending entry.stage) (entry.sender == d.sender) alone.pending),
-    );
-    server_counts = λ i d e.
-        (d, e, refl, omega (arith, unmarked (is_response_loan entry.stage) (entry.sender == d.sender) alone.response_loan));
+    request_loans = λ l. omega (arith, unmarked (is_request_loan entry.stage) (entry.sender == l) alone.loan);
+    pendings = λ l. omega (arith, unmarked (is_pending entry.stage) (entry.sender == l) alone.pending);
+    response_loans = count_less p.server_senders entry.sender entry.slot borrowed own.loans own.pendings spot.0 spot.1 (λ x. x.loans)
+        (is_response_loan entry.stage) (omega (arith, ap mark alone.response_loan));
     loans_from = λ n server loans t e is. ap (λ a. a && (response_details p entry.sender entry.slot).active_request == n)
         alone.response_loan;
     request_borrows = λ l server h. omega (arith, unmarked (is_active_of server entry.stage) (entry.sender == l) (alone.active server));
     response_borrows = λ l i q d h e. omega (
       arith,
-      borrowed_less p.server_senders entry.sender entry.slot c.receiver channel spot.0 spot.1 has_received l d.receiver q,
+      borrowed_less p.server_senders entry.sender entry.slot c.receiver channel own.loans own.pendings spot.0 spot.1 has_received l
+          d.receiver q,
       ap (λ b. mark (b && (entry.sender == l && ((response_details p entry.sender entry.slot).client == d.port.id && channel == q)))) got,
       ap (λ b. mark (entry.sender == l && (b && channel == q))) (its_place i d e),
     );
@@ -189,7 +188,7 @@ module _ {Q QH P PH K : Type 0} (p : Parts Q QH P PH K) (sound : IsSound p empty
 
   -- the core stays sound
   pub received_sound : IsSound after_received empty_hand
-  received_sound = dropped_sound taken entry [] in_hand p.clients p.servers p.client_senders senders p.waiting dropped
+  received_sound = dropped_sound taken entry [] in_hand p.client_senders senders p.waiting dropped
 
   gone_alone : (s : State Q QH P PH K) (g : Stage) (sender slot : ℕ) → is_received g ≡ true
       → after_handle_gone s (handle_in p g sender slot) ≡ s
@@ -226,6 +225,6 @@ module _ {Q QH P PH K : Type 0} (p : Parts Q QH P PH K) (sound : IsSound p empty
   -- contracts see the handle go, and nothing else
   pub received_view : state_of after_received ≡ after_release (state_of p) k
   received_view =
-      uncounted taken p.clients p.servers p.client_senders senders refl refl refl
-      (bare_less p.server_senders entry.sender entry.slot borrowed)
+      uncounted taken p.client_senders senders refl
+      (bare_less p.server_senders entry.sender entry.slot borrowed own.loans own.pendings)
       ∙ removed_view p k ∙ sym received_is

@@ -17,8 +17,8 @@ use Rattle.rr_store.specs.Loaning as part
 use Rattle.rr_store.specs.Parts.{ServerPart, Sender, Parts}
 use Rattle.rr_store.specs.Views.{sender_of, handle_in, state_of}
 use Rattle.rr_store.specs.Sound.{IsSound, empty_hand, is_in_sender, is_response_loan, response_details}
-use Rattle.rr_store.specs.Releasing.{is_loaned_response, given_back, without_response_loan}
-use Rattle.rr_store.proofs.base.lists.Adding.{with_servers, same_servers}
+use Rattle.rr_store.specs.Releasing.{is_loaned_response, given_back, without_loan}
+use Rattle.rr_store.proofs.base.lists.Adding.{with_responders, same_responders}
 use Rattle.rr_store.proofs.releasing.response_loan.View.{response_loan_gone}
 use Rattle.rr_store.proofs.releasing.response_loan.Place.{asked_right}
 use Rattle.rr_store.proofs.releasing.response_loan.Taken.{ended, ended_well}
@@ -79,36 +79,35 @@ module _ {Q QH P PH K : Type 0} (p : Parts Q QH P PH K) where
     pub taken_sound : IsSound taken (entry ∷ [])
     taken_sound = subst (λ (h : HandleEntry). IsSound taken (h ∷ [])) f.is (removed_sound p [] k f.table_entry f.at sound)
 
-    -- its server has it on loan
-    pub has_loan : 0 < c.loans
+    -- its sender has it on loan
+    pub has_loan : 0 < (sender_of entry.sender p.server_senders).loans
     has_loan =
-        let here : is_in_sender is_response_loan c.sender entry ≡ true = rw loan_is (eq-eqb entry.sender c.sender (sym sends)) in
+        let here : is_in_sender is_response_loan entry.sender entry ≡ true = rw loan_is (eq-eqb entry.sender entry.sender refl) in
         omega (
           arith,
-          taken_sound.stored.response_loans index c there,
-          count-cons (is_in_sender is_response_loan c.sender) entry [],
+          taken_sound.stored.response_loans entry.sender f.sender,
+          count-cons (is_in_sender is_response_loan entry.sender) entry [],
           ap mark here,
         )
 
     -- the parts without it
     pub response_loan_parts : (details : ResponseDetails) → response_details p entry.sender entry.slot ≡ details
-        → (servers : List (ServerPart K)) (senders : List (Sender P ResponseDetails PH)) (table : TableView HandleEntry)
-        → servers ≡ slice_set p.servers index (without_response_loan c)
-        → senders ≡ slice_set p.server_senders entry.sender (part.with_messages (sender_of entry.sender p.server_senders)
-        (given_back (sender_of entry.sender p.server_senders).messages entry.slot))
+        → (senders : List (Sender P ResponseDetails PH)) (table : TableView HandleEntry)
+        → senders ≡ slice_set p.server_senders entry.sender (without_loan (part.with_messages (sender_of entry.sender p.server_senders)
+        (given_back (sender_of entry.sender p.server_senders).messages entry.slot)))
         → (place : Option Place) → IfSome place (IsAskedPlace p.client_senders details c.receiver)
         → IsLoanEnded details.active_request (found_under (removed p.table k) details.active_request place) (removed p.table k) table
-        → IsSound (with_servers p servers senders table p.next) empty_hand
-        × (state_of (with_servers p servers senders table p.next) ≡ after_release (state_of p) k)
-    response_loan_parts details noted servers senders table ss ls place asked told =
+        → IsSound (with_responders p senders table p.next) empty_hand
+        × (state_of (with_responders p senders table p.next) ≡ after_release (state_of p) k)
+    response_loan_parts details noted senders table ls place asked told =
         let R : ResponseDetails → Type 0 = λ n. IfSome place (IsAskedPlace p.client_senders n c.receiver)
         × IsLoanEnded n.active_request (found_under (removed p.table k) n.active_request place) (removed p.table k) table in
         let r = subst R (sym noted) (asked, told) in
-        let e = ended_well taken entry taken_sound loan_is index c there sends place
+        let e = ended_well taken entry taken_sound loan_is place
         (λ server loans t here is. asked_right taken entry taken_sound loan_is index c there sends server loans t here is place r.0) table
         r.1 in
-        let same : with_servers p servers senders table p.next ≡ ended taken entry taken_sound loan_is index c there sends table =
-        same_servers p (ended taken entry taken_sound loan_is index c there sends table) servers senders table p.next ss ls refl refl refl
+        let same : with_responders p senders table p.next ≡ ended taken entry taken_sound loan_is table =
+        same_responders p (ended taken entry taken_sound loan_is table) senders table p.next ls refl refl refl
         in
         let gone : after_release (state_of p) k ≡ record (state_of p) { handles = fin_map.remove (state_of p).handles k } =
         response_loan_gone p sound k f.table_entry f.at f.loan index c there (sends ∙ sym (ap (λ (h : HandleEntry). h.sender) f.is))

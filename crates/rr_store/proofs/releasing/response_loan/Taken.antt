@@ -1,10 +1,9 @@
 -- A response on loan in a call's hand is released, and its active request, if it stands in the table, has one less on loan.
-use Rattle.std.proofs.Common.{◌≡◌, ◌≢◌, ◌<◌, ◌+◌, ◌-◌, ◌*◌, ℕ, Bool, true, false, List, [], ◌∷◌, Option, None, Some, length, get_or, option_map, refl, sym, ap, ◌∙◌, subst, ⊎_elim, inl, inr, arith}
-use Rattle.std.specs.Prelude.{◌==◌, ◌&&◌, ◌⊎◌, IfSome, slice_get, slice_index, slice_set, option_and_then}
+use Rattle.std.proofs.Common.{◌≡◌, ◌≢◌, ◌<◌, ◌+◌, ◌-◌, ℕ, Bool, true, false, List, [], ◌∷◌, Option, None, Some, length, get_or, option_map, refl, sym, ap, ◌∙◌, subst, ⊎_elim, inl, inr, arith}
+use Rattle.std.specs.Prelude.{◌==◌, ◌&&◌, ◌⊎◌, IfSome, slice_index, option_and_then}
 use Rattle.std.specs.Ordering.{nat_cmp}
 use Rattle.std.specs.FinMap as fin_map
 use Rattle.std.proofs.lemmas.Bool.{false≢true, cases_lt, eq-eqb, eqb-true}
-use Rattle.std.proofs.lemmas.Option.{get_or_from_slice_get}
 use Rattle.rr_maps.specs.Maps.{mark, map_values}
 use Rattle.rr_table.specs.TableView.{TableEntry, TableView, table_entry, inserted, removed, kept_in}
 use Rattle.rr_table.specs.declared.place.Place.{Place}
@@ -17,23 +16,20 @@ use Rattle.rr_store.specs.declared.handle_entry.Stage.TheVariants as stage
 use Rattle.rr_store.specs.declared.details.ResponseDetails.{ResponseDetails}
 use Rattle.rr_store.specs.Answering.{active_in, active_entry}
 use Rattle.rr_store.specs.Ending.{found_under, IsCountedLess, IsLoanEnded}
-use Rattle.rr_store.specs.Parts.{Parts, ServerPart}
+use Rattle.rr_store.specs.Parts.{Parts, Sender}
 use Rattle.rr_store.specs.Views.{sender_of, no_response, state_of, handle_in, handle_of}
 use Rattle.rr_store.specs.Hands.{IsInsertable}
 use Rattle.rr_store.specs.Dropping.{IsDropped}
 use Rattle.rr_store.specs.Kept.{DetailsKept}
-use Rattle.rr_store.specs.Releasing.{without_response_loan}
 use Rattle.rr_store.specs.Sound.{IsSound, empty_hand, handles, is_response_loan, is_active_of, is_request_at, is_response_at, is_active_at, is_in_sender, is_loan_from, is_received_at, is_request_loan, is_pending, response_details, server_place, place_at}
 use Rattle.rr_store.proofs.base.views.Agreeing.{sender_within}
 use Rattle.rr_store.proofs.releasing.response_loan.Sound.{after_response_loan, response_loan_sound, dropped}
 use Rattle.rr_store.proofs.base.hands.Dropping.{details_kept}
-use Rattle.rr_store.proofs.base.frames.Frames.{place_kept}
 use Rattle.rr_store.proofs.base.senders.GivenBack.{senders_less, bare_less}
 use Rattle.rr_store.proofs.base.hands.Hands.{count-cons, removed_sound, inserted_sound}
-use Rattle.rr_store.proofs.base.lists.Replaced.{map-set_alike}
 use Rattle.rr_store.proofs.base.hands.Recounted.{recounted_sound}
 use Rattle.rr_store.proofs.base.hands.Stages.{response_loan_is_response}
-use Rattle.rr_store.proofs.base.views.Uncounted.{uncounted, bare_server}
+use Rattle.rr_store.proofs.base.views.Uncounted.{uncounted}
 
 module _ {Q QH P PH K : Type 0} (p : Parts Q QH P PH K) (a b : HandleEntry) where
   turned : (test : HandleEntry → Bool) → handles p test (a ∷ b ∷ []) ≡ handles p test (b ∷ a ∷ [])
@@ -56,9 +52,9 @@ module _ {Q QH P PH K : Type 0} (p : Parts Q QH P PH K) (a b : HandleEntry) wher
     addressed = sound.addressed;
     inserted = sound.inserted;
     stored = let n = sound.stored in record {
-      request_loans = λ i c at. n.request_loans i c at ∙ turned (is_in_sender is_request_loan c.sender);
-      pendings = λ i c at. n.pendings i c at ∙ turned (is_in_sender is_pending c.sender);
-      response_loans = λ i c at. n.response_loans i c at ∙ turned (is_in_sender is_response_loan c.sender);
+      request_loans = λ l h. n.request_loans l h ∙ turned (is_in_sender is_request_loan l);
+      pendings = λ l h. n.pendings l h ∙ turned (is_in_sender is_pending l);
+      response_loans = λ l h. n.response_loans l h ∙ turned (is_in_sender is_response_loan l);
       active_loans = λ k other loans s at is. n.active_loans k other loans s at is ∙ turned (is_loan_from p k);
       borrowed_requests = λ l other h. n.borrowed_requests l other h ∙ turned (is_in_sender (is_active_of other) l);
       borrowed_responses = λ l i channel c h at. n.borrowed_responses l i channel c h at ∙ turned (is_received_at p l c.port.id channel);
@@ -77,8 +73,7 @@ replaced table n place v = ap (λ (m : fin_map.FinMap nat_cmp (TableEntry Handle
     (insert-remove table.entries n (table_entry place v))
 
 module _ {Q QH P PH K : Type 0} (q : Parts Q QH P PH K) (entry : HandleEntry)
-    (sound : IsSound q (entry ∷ [])) (loan : is_response_loan entry.stage ≡ true)
-    (index : ℕ) (c : ServerPart K) (at : slice_get q.servers index ≡ Some c) (sends : c.sender ≡ entry.sender) where
+    (sound : IsSound q (entry ∷ [])) (loan : is_response_loan entry.stage ≡ true) where
   -- where the response stands
   pub spot : (entry.sender < length q.server_senders) × (0 < slice_index (sender_of entry.sender q.server_senders).messages.held entry.slot)
   spot =
@@ -93,33 +88,28 @@ module _ {Q QH P PH K : Type 0} (q : Parts Q QH P PH K) (entry : HandleEntry)
       ) in
       (sender_within q.server_senders entry.sender entry.slot some, some)
 
-  abbrev borrowed : List (List ℕ)
-  borrowed = (sender_of entry.sender q.server_senders).messages.borrowed
+  abbrev own : Sender P ResponseDetails PH
+  own = sender_of entry.sender q.server_senders
+
+  -- the senders without the response
+  abbrev senders : List (Sender P ResponseDetails PH)
+  senders = senders_less q.server_senders entry.sender entry.slot own.messages.borrowed (own.loans - 1) own.pendings
 
   -- the core without the response, with another table
   abbrev pub ended : TableView HandleEntry → Parts Q QH P PH K
-  ended table = record q {
-    servers = slice_set q.servers index (without_response_loan c);
-    server_senders = senders_less q.server_senders entry.sender entry.slot borrowed;
-    table = table;
-  }
+  ended table = record q { server_senders = senders; table = table }
 
   -- contracts see what they see of the table
   ended_view : (table : TableView HandleEntry) → state_of (ended table) ≡ state_of (record q { table = table })
   ended_view table =
-      uncounted (record q { table = table }) q.clients (slice_set q.servers index (without_response_loan c)) q.client_senders
-      (senders_less q.server_senders entry.sender entry.slot borrowed) refl
-      (map-set_alike bare_server q.servers index (without_response_loan c) c (ap bare_server (sym it))) refl
-      (bare_less q.server_senders entry.sender entry.slot borrowed)
-    where
-      it : get_or q.servers index c ≡ c
-      it = get_or_from_slice_get q.servers index c c at
+      uncounted (record q { table = table }) q.client_senders senders refl
+      (bare_less q.server_senders entry.sender entry.slot own.messages.borrowed (own.loans - 1) own.pendings)
 
   -- where its active request is gone
   orphan_sound : ((k server loans : ℕ) (t : TableEntry HandleEntry) → fin_map.get q.table.entries k ≡ Some t
       → t.value.stage ≡ stage.ActiveRequest server loans → (response_details q entry.sender entry.slot).active_request ≢ k)
       → IsSound (ended q.table) empty_hand
-  orphan_sound apart = response_loan_sound q entry [] sound loan spot.0 spot.1 index c at sends apart
+  orphan_sound apart = response_loan_sound q entry [] sound loan spot.0 spot.1 apart
 
   -- where it stands
   module _ (n server loans : ℕ) (t : TableEntry HandleEntry) (here : fin_map.get q.table.entries n ≡ Some t)
@@ -138,7 +128,7 @@ module _ {Q QH P PH K : Type 0} (q : Parts Q QH P PH K) (entry : HandleEntry)
     apart k other m u e _ f = (get-remove_cases q.table.entries n k u e).0 (sym f ∙ named)
 
     abbrev left : Parts Q QH P PH K
-    left = after_response_loan one entry (t.value ∷ []) in_hand loan spot.0 spot.1 index c at sends apart
+    left = after_response_loan one entry (t.value ∷ []) in_hand loan spot.0 spot.1 apart
 
     abbrev counted : HandleEntry
     counted = active_entry server t.value.sender t.value.slot (loans - 1)
@@ -149,20 +139,16 @@ module _ {Q QH P PH K : Type 0} (q : Parts Q QH P PH K) (entry : HandleEntry)
     left_sound : IsSound left (counted ∷ [])
     left_sound = recounted_sound left [] server t.value.sender t.value.slot loans (loans - 1)
         (subst (λ (h : HandleEntry). IsSound left (h ∷ [])) whole (response_loan_sound one entry
-        (t.value ∷ []) in_hand loan spot.0 spot.1 index c at sends apart))
+        (t.value ∷ []) in_hand loan spot.0 spot.1 apart))
 
-    its : IsDropped one entry q.clients left.servers q.client_senders left.server_senders q.waiting
-    its = dropped one entry (t.value ∷ []) in_hand loan spot.0 spot.1 index c at sends apart
+    its : IsDropped one entry q.client_senders left.server_senders q.waiting
+    its = dropped one entry (t.value ∷ []) in_hand loan spot.0 spot.1 apart
 
     kept : DetailsKept one left
-    kept = details_kept one entry (t.value ∷ []) in_hand q.clients left.servers q.client_senders left.server_senders q.waiting its
+    kept = details_kept one entry (t.value ∷ []) in_hand q.client_senders left.server_senders q.waiting its
 
     details_same : (l i : ℕ) → response_details left l i ≡ response_details q l i
     details_same l i = ap (λ (ns : List ResponseDetails). get_or ns i no_response) (its.all_response_details l)
-
-    same_place : server_place left server ≡ server_place q server
-    same_place = place_kept one (entry ∷ t.value ∷ []) in_hand q.clients left.servers q.client_senders left.server_senders q.waiting
-        left.table.entries q.next its.frame server
 
     -- it has one less on loan
     one_less : loans ≡ handles left (is_loan_from left n) (counted ∷ []) + 1
@@ -190,11 +176,7 @@ module _ {Q QH P PH K : Type 0} (q : Parts Q QH P PH K) (entry : HandleEntry)
     insertable = record {
       fresh = get-remove_same q.table.entries n n refl;
       below = ⊎_elim (λ l. l) (λ l. absurd (let f : None ≡ Some t = sym (sound.numbered.fresh n l) ∙ here in cc)) (cases_lt n q.next);
-      placed = sound.inserted.placed n t here ∙ ap (λ g. place_at q g t.value.sender t.value.slot) is
-          ∙ ap (λ r. record {
-            row = (sender_of t.value.sender q.client_senders).row;
-            index = (r + 1) * length (sender_of t.value.sender q.client_senders).messages.held + t.value.slot;
-          }) (sym same_place);
+      placed = sound.inserted.placed n t here ∙ ap (λ g. place_at q g t.value.sender t.value.slot) is;
       loan = λ h. absurd (false≢true h);
       pending = λ h. absurd (false≢true h);
       response = λ h. absurd (false≢true h);
@@ -203,7 +185,6 @@ module _ {Q QH P PH K : Type 0} (q : Parts Q QH P PH K) (entry : HandleEntry)
           let same : server ≡ other = eqb-true server other h in
           omega (
             arith,
-            same_place,
             sound.inserted.active_servers n server t here (ap (is_active_of server) is ∙ eq-eqb server server refl),
             ap (server_place left) same,
           );

@@ -1,6 +1,5 @@
 -- A core is sound once a request that was sent stands in the table as a pending response.
 use Rattle.std.proofs.Common.{◌≡◌, ℕ, true, [], ◌∷◌, Some, refl, sym, ap, ◌∙◌, subst, arith}
-use Rattle.std.specs.Prelude.{slice_get}
 use Rattle.std.specs.FinMap as fin_map
 use Rattle.std.proofs.lemmas.Bool.{false≢true}
 use Rattle.rr_table.specs.TableView.{TableEntry, table_entry, removed}
@@ -8,7 +7,7 @@ use Rattle.rr_maps.proofs.MapLaws.{get-remove_same, insert-remove}
 use Rattle.rr_store.specs.declared.handle_entry.HandleEntry.{HandleEntry}
 use Rattle.rr_store.specs.declared.handle_entry.Stage.TheVariants as stage
 use Rattle.rr_store.specs.declared.details.RequestDetails.{RequestDetails}
-use Rattle.rr_store.specs.Parts.{Parts, ClientPart}
+use Rattle.rr_store.specs.Parts.{Parts}
 use Rattle.rr_store.specs.Sound.{IsSound, empty_hand, is_request_loan, request_uses, request_details, place_of}
 use Rattle.rr_store.specs.Hands.{IsInsertable}
 use Rattle.rr_store.specs.Sending.{request_held, pending_held, with_request_in_queues, with_request_sent}
@@ -17,8 +16,7 @@ use Rattle.rr_store.proofs.sending.request.Sound as sent
 
 module _ {Q QH P PH K : Type 0} (p : Parts Q QH P PH K) (sound : IsSound p empty_hand) (k sender slot connections : ℕ)
     (s : TableEntry HandleEntry)
-    (at : fin_map.get p.table.entries k ≡ Some s) (is : s.value ≡ request_held sender slot)
-    (index : ℕ) (c : ClientPart K) (there : slice_get p.clients index ≡ Some c) (sends : c.sender ≡ sender) where
+    (at : fin_map.get p.table.entries k ≡ Some s) (is : s.value ≡ request_held sender slot) where
   abbrev pub taken : Parts Q QH P PH K
   taken = record p { table = removed p.table k }
 
@@ -37,21 +35,21 @@ module _ {Q QH P PH K : Type 0} (p : Parts Q QH P PH K) (sound : IsSound p empty
       subst R is (sound.numbered.requests k s at) refl
 
   abbrev queued : Parts Q QH P PH K
-  queued = with_request_in_queues taken index c sender slot
+  queued = with_request_in_queues taken sender slot
 
   queued_sound : IsSound queued (pending_held sender slot connections ∷ [])
-  queued_sound = sent.in_queues taken sender slot connections taken_sound used_once index c there sends
+  queued_sound = sent.in_queues taken sender slot connections taken_sound used_once
 
   entries : IsInsertable queued [] k s.place (pending_held sender slot connections)
   entries = record {
     fresh = get-remove_same p.table.entries k k refl;
     below = omega (arith, numbered, sound.numbered.requests_below sender slot (omega (arith, used_once)));
     placed = sound.inserted.placed k s at ∙ ap (place_of p) is
-        ∙ ap (λ r. record { row = r; index = slot }) (sym (sent.same_of taken sender slot connections taken_sound used_once index c there
-        sends (λ x. x.row) refl sender));
+        ∙ ap (λ r. record { row = r; index = slot }) (sym (sent.same_of taken sender slot connections taken_sound used_once
+        (λ x. x.row) refl sender));
     loan = λ h. absurd (false≢true h);
     pending = λ h. numbered ∙ sym (ap (λ (n : RequestDetails). n.number)
-        (sent.details_same taken sender slot connections taken_sound used_once index c there sends sender slot));
+        (sent.details_same taken sender slot connections taken_sound used_once sender slot));
     response = λ h. absurd (false≢true h);
     once = λ l i. sound.held_once.responses l i;
     inside = λ server h. absurd (false≢true h);
@@ -62,7 +60,7 @@ module _ {Q QH P PH K : Type 0} (p : Parts Q QH P PH K) (sound : IsSound p empty
   }
 
   -- the request that was sent is in the table
-  pub sent_sound : IsSound (with_request_sent p index c k sender slot connections s.place) empty_hand
+  pub sent_sound : IsSound (with_request_sent p k sender slot connections s.place) empty_hand
   sent_sound =
       let R : fin_map.FinMap _ (TableEntry HandleEntry) → Type 0 = λ m. IsSound
       (record queued { table = record { entries = m; rows = p.table.rows } }) empty_hand in

@@ -13,6 +13,7 @@ use Rattle.rr_protocol.specs.declared.error.RequestSendError.{RequestSendError}
 use Rattle.rr_protocol.specs.declared.error.SendError.{SendError}
 use Rattle.rr_protocol.specs.declared.settings.BackpressureAction.{BackpressureAction}
 use Rattle.rr_protocol.specs.Backpressure.{discards}
+use Rattle.rr_protocol.specs.Counts.{pending_responses}
 use Rattle.rr_protocol.specs.Keys.{RequestKey, request_key}
 use Rattle.rr_protocol.specs.Messages.{Handle, RequestMut, RequestMessage, as_request_mut}
 use Rattle.rr_protocol.specs.Ports.{Client}
@@ -55,7 +56,7 @@ module _ {Q QH P PH K : Type 0} (p : Parts Q QH P PH K) (sound : IsSound p empty
   its_client : message.client ≡ c.port.id
   its_client =
       let own = sound.client_ports.own index c.connected (listed (λ (c : ClientPart K). c.connected) p.clients index c there) in
-      view.its_owner p sound k sender slot 0 s at_s is index c there sends ∙ ap (λ l. (sender_of l p.client_senders).owner) (sym sends)
+      view.its_owner p sound k sender slot 0 s at_s is ∙ ap (λ l. (sender_of l p.client_senders).owner) (sym sends)
       ∙ own.1
 
   client_shown : client_at (state_of p) message.client ≡ Some (client_of c)
@@ -89,11 +90,10 @@ module _ {Q QH P PH K : Type 0} (p : Parts Q QH P PH K) (sound : IsSound p empty
   blocked_stored i d at =
       let queue = queue_at m d.receiver 0 in
       ap (is_blocked overflow p.limits.max_active_requests_per_client)
-      (view.waits_for p sound k sender slot 0 s at_s is index c there sends i d at)
+      (view.waits_for p sound k sender slot 0 s at_s is i d at)
       ∙ ap (λ n. not overflow && nat_le p.limits.max_active_requests_per_client n)
-      (length-map queue (view.says p sound k sender slot 0 s at_s is index c there sends))
-      ∙ ap (λ n. not overflow && nat_le n (length queue)) (sym (view.shaped p sound k sender slot 0 s at_s is index c there
-      sends).capacity_is)
+      (length-map queue (view.says p sound k sender slot 0 s at_s is))
+      ∙ ap (λ n. not overflow && nat_le n (length queue)) (sym (view.shaped p sound k sender slot 0 s at_s is).capacity_is)
 
   -- whether a queue refuses the request, and how many take it
   refused_parts : (action : K → ℕ → ℕ → BackpressureAction) → is_request_refused action (state_of p) (client_of c) message
@@ -101,7 +101,7 @@ module _ {Q QH P PH K : Type 0} (p : Parts Q QH P PH K) (sound : IsSound p empty
   refused_parts action =
       let test : RequestKey → Bool = λ key. is_request_list_blocked (state_of p) key && not (discards action c.port key.server) in
       let stored : Server K → Bool = λ d. is_closed_to p sender d && not (discards action c.port d.port.id) in
-      ap (list_any test) (view.reach_is p sound k sender slot 0 s at_s is index c there sends)
+      ap (list_any test) (view.reach_is p sound k sender slot 0 s at_s is)
       ∙ any-map (λ (d : Server K). request_key message.client d.port.id) test p.servers
       ∙ any_same (λ d. test (request_key message.client d.port.id)) stored p.servers
       (λ i d at. ap (λ b. b && not (discards action c.port d.port.id)) (blocked_stored i d at))
@@ -109,10 +109,13 @@ module _ {Q QH P PH K : Type 0} (p : Parts Q QH P PH K) (sound : IsSound p empty
   pub connections_parts : connections_of (state_of p) message ≡ count_by (is_open_to p sender) p.servers
   connections_parts =
       let test : RequestKey → Bool = λ key. not (is_request_list_blocked (state_of p) key) in
-      ap (count_by test) (view.reach_is p sound k sender slot 0 s at_s is index c there sends)
+      ap (count_by test) (view.reach_is p sound k sender slot 0 s at_s is)
       ∙ count-map (λ (d : Server K). request_key message.client d.port.id) test p.servers
       ∙ count_same (λ d. test (request_key message.client d.port.id)) (is_open_to p sender) p.servers
       (λ i d at. ap not (blocked_stored i d at))
+
+  its_pendings : pending_responses (state_of p) c.port.id ≡ (sender_of sender p.client_senders).pendings
+  its_pendings = pendings_counted p sound index c there ∙ ap (λ l. (sender_of l p.client_senders).pendings) sends
 
   -- the reasons against sending it
   pub refusal_parts : (action : K → ℕ → ℕ → BackpressureAction)
@@ -121,7 +124,8 @@ module _ {Q QH P PH K : Type 0} (p : Parts Q QH P PH K) (sound : IsSound p empty
       ap {B = Option RequestSendError} (λ n. cond (nat_le p.limits.max_active_requests_per_client n)
       (Some RequestSendError.ExceedsMaxActiveRequests)
       (cond (is_request_refused action (state_of p) (client_of c) message)
-      (Some (RequestSendError.SendError SendError.UnableToDeliver)) None)) (pendings_counted p sound index c there)
-      ∙ ap {B = Option RequestSendError} (λ b. cond (nat_le p.limits.max_active_requests_per_client c.pendings)
+      (Some (RequestSendError.SendError SendError.UnableToDeliver)) None)) its_pendings
+      ∙ ap {B = Option RequestSendError} (λ b. cond (nat_le p.limits.max_active_requests_per_client
+      (sender_of sender p.client_senders).pendings)
       (Some RequestSendError.ExceedsMaxActiveRequests)
       (cond b (Some (RequestSendError.SendError SendError.UnableToDeliver)) None)) (refused_parts action)

@@ -1,8 +1,8 @@
 -- What is true of a core stays true as a request in hand is put into the queues to all servers, and waits for them.
-use Rattle.std.proofs.Common.{◌≡◌, ◌≢◌, ◌<◌, ◌≤◌, ◌+◌, ℕ, Bool, true, false, [], ◌∷◌, Some, length, get_or, refl, sym, ap, ◌∙◌, ⊎_elim, arith}
+use Rattle.std.proofs.Common.{◌≡◌, ◌≢◌, ◌<◌, ◌≤◌, ◌+◌, ℕ, Bool, true, [], ◌∷◌, Some, length, get_or, refl, sym, ap, ◌∙◌, ⊎_elim, arith}
 use Rattle.std.specs.Prelude.{◌==◌, ◌&&◌, slice_get, slice_index}
 use Rattle.std.specs.FinMap as fin_map
-use Rattle.std.proofs.lemmas.Bool.{cases_eq, eq-eqb, ne_eqb, and_parts}
+use Rattle.std.proofs.lemmas.Bool.{cases_eq, eq-eqb, and_parts}
 use Rattle.std.proofs.lemmas.List.{get_or-set_same, get_or-set_other, length-set}
 use Rattle.rr_maps.specs.Maps.{tally, mark}
 use Rattle.rr_table.specs.TableView.{TableEntry}
@@ -12,20 +12,20 @@ use Rattle.rr_sender.proofs.EntryLaws.{mark-same, mark-other}
 use Rattle.rr_store.specs.declared.handle_entry.HandleEntry.{HandleEntry}
 use Rattle.rr_store.specs.declared.handle_entry.Stage.{Stage}
 use Rattle.rr_store.specs.declared.details.RequestDetails.{RequestDetails}
-use Rattle.rr_store.specs.Parts.{Parts, ClientPart, ServerPart, Sender}
+use Rattle.rr_store.specs.Parts.{Parts, ServerPart, Sender}
 use Rattle.rr_store.specs.Views.{no_sender, no_request, sender_of}
 use Rattle.rr_store.specs.Sound.{IsSound, IsCounted, IsHeldOnce, IsStored, IsVacated, IsShaped, handles, is_request_at, is_response_at, is_active_at, is_in_sender, is_request_loan, is_pending, is_active_of, is_response_loan, is_loan_from, is_received_at, has_request_at, request_uses, request_details, server_place}
-use Rattle.rr_store.specs.Frames.{Frame, SameFrame}
+use Rattle.rr_store.specs.Frames.{SameFrame}
 use Rattle.rr_store.specs.Kept.{DetailsKept}
 use Rattle.rr_store.specs.Loaning.{with_messages}
 use Rattle.rr_store.specs.Sending.{request_held, pending_held, with_one_sent, with_puts, server_places, with_request_in_queues}
 use Rattle.rr_store.proofs.base.lists.Adding.{makes_requests}
 use Rattle.rr_store.proofs.base.views.Agreeing.{sender_within}
-use Rattle.rr_store.proofs.base.frames.Frames.{client_after, client_before, framed_client_ports, framed_server_ports, framed_by_value, framed_sized, senders_set, ports_set}
-use Rattle.rr_store.proofs.base.views.Counts.{listed, ids_apart}
+use Rattle.rr_store.proofs.base.frames.Frames.{framed_client_ports, framed_server_ports, framed_by_value, framed_sized, senders_set}
 use Rattle.rr_store.proofs.base.hands.Hands.{count-cons, one_in_hand, none_in_hand, never, senders_same}
 use Rattle.rr_store.proofs.base.frames.Kept.{framed_inserted, kept_numbered, kept_addressed}
-use Rattle.rr_store.proofs.base.lists.Replaced.{set_alike, set_cases}
+use Rattle.rr_store.proofs.base.senders.Counted.{counted_set}
+use Rattle.rr_store.proofs.base.lists.Replaced.{set_alike}
 use Rattle.rr_store.proofs.sending.put.Sender.{queue_there, queue_other, times_queue_put, times_all_put, put_shaped}
 use Rattle.rr_store.proofs.base.senders.Queues.{times_queue}
 use Rattle.rr_store.proofs.sending.request.MayAnswer.{servers_placed, places_apart, as_long, awaited_there}
@@ -33,8 +33,7 @@ use Rattle.rr_store.proofs.base.lookups.Shown.{held_within}
 use Rattle.rr_store.proofs.base.hands.Stages.{loan_is_request, handle_uses_request, handle_uses_response}
 
 module _ {Q QH P PH K : Type 0} (p : Parts Q QH P PH K) (sender slot connections : ℕ)
-    (sound : IsSound p (request_held sender slot ∷ [])) (one : request_uses p sender slot ≡ 1)
-    (index : ℕ) (c : ClientPart K) (at : slice_get p.clients index ≡ Some c) (sends : c.sender ≡ sender) where
+    (sound : IsSound p (request_held sender slot ∷ [])) (one : request_uses p sender slot ≡ 1) where
   abbrev entry : HandleEntry
   entry = request_held sender slot
 
@@ -48,10 +47,10 @@ module _ {Q QH P PH K : Type 0} (p : Parts Q QH P PH K) (sender slot connections
   m = (sender_of sender p.client_senders).messages
 
   abbrev pub fresh : Sender Q RequestDetails QH
-  fresh = with_messages (sender_of sender p.client_senders) (with_puts overflow slot m (server_places p))
+  fresh = with_one_sent (with_messages (sender_of sender p.client_senders) (with_puts overflow slot m (server_places p)))
 
   abbrev after : Parts Q QH P PH K
-  after = with_request_in_queues p index c sender slot
+  after = with_request_in_queues p sender slot
 
   -- the request in hand is the only use of its slot
   counts_here : slice_index m.held slot ≡ tally (has_request_at sender slot) p.table.entries + 1
@@ -82,13 +81,13 @@ module _ {Q QH P PH K : Type 0} (p : Parts Q QH P PH K) (sender slot connections
   pub capacity : 0 < m.capacity
   capacity = omega (arith, shaped.capacity_is, makes_requests p.limits sound.sized.limits_fit)
 
-  frame : SameFrame p after.clients p.servers after.client_senders p.server_senders after.waiting p.next
+  frame : SameFrame p p.clients after.client_senders p.server_senders after.waiting p.next
   frame = record {
-    clients_alike = ports_set (λ (c : ClientPart K). c.connected) p.clients index c (with_one_sent c) at refl;
-    servers_alike = refl;
+    clients_alike = refl;
     client_senders_alike = senders_set p.client_senders sender fresh (record {
       owner = refl;
       row = refl;
+      receiver = refl;
       slots = refl;
       room = refl;
       shaped = put_shaped m shaped capacity overflow slot has_value (λ (s : ServerPart K). s.receiver) p.servers
@@ -242,88 +241,44 @@ module _ {Q QH P PH K : Type 0} (p : Parts Q QH P PH K) (sender slot connections
     );
   }
 
-  -- another client sends from another sender
-  other_sender : (i : ℕ) (d : ClientPart K) → i ≢ index → slice_get p.clients i ≡ Some d → sender ≢ d.sender
-  other_sender i d n e is =
-      let a = sound.client_ports.own i d.connected (listed (λ (c : ClientPart K). c.connected) p.clients i d e) in
-      let b = sound.client_ports.own index c.connected (listed (λ (c : ClientPart K). c.connected) p.clients index c at) in
-      ids_apart (λ (c : ClientPart K). c.connected) p.next p.limits.max_clients p.clients p.client_senders sound.client_ports i index d c e
-      at
-      n
-      (sym a.1 ∙ ap (λ l. (sender_of l p.client_senders).owner) (sym is ∙ sym sends) ∙ b.1)
+  -- the sender has it on loan
+  pub has_loan : 0 < (sender_of sender p.client_senders).loans
+  has_loan = omega (
+    arith,
+    sound.stored.request_loans sender there,
+    count-cons (is_in_sender is_request_loan sender) entry [],
+    ap mark (eq-eqb sender sender refl),
+  )
 
-  its_sender : mark (sender == c.sender) ≡ 1
-  its_sender = ap mark (eq-eqb sender c.sender (sym sends))
-
-  -- the client has it on loan
-  pub has_loan : 0 < c.loans
-  has_loan = omega (arith, sound.stored.request_loans index c at, count-cons (is_in_sender is_request_loan c.sender) entry [], its_sender)
-
-  -- a handle of the client's sender passes a test by its stage alone, and one of another sender never
-  in_sender : (b : Bool) → mark (b && (sender == c.sender)) ≡ mark b
-  in_sender true = its_sender
-  in_sender false = refl
-
-  off_sender : (b : Bool) (l : ℕ) → sender ≢ l → mark (b && (sender == l)) ≡ 0
-  off_sender true l n = ap mark (ne_eqb sender l n)
-  off_sender false l n = refl
-
-  -- what is stored of each client still counts its handles, if the client's own number follows what is in hand
-  recounted : (test : Stage → Bool) (stored : ClientPart K → ℕ)
-      → ((i : ℕ) (d : ClientPart K) → slice_get p.clients i ≡ Some d → stored d ≡ handles p (is_in_sender test d.sender) (entry ∷ []))
-      → stored (with_one_sent c) + mark (test entry.stage) ≡ stored c + mark (test pend.stage)
-      → (i : ℕ) (d : ClientPart K) → slice_get after.clients i ≡ Some d → stored d ≡ handles after (is_in_sender test d.sender) (pend ∷ [])
-  recounted test stored was now i d e =
-      set_cases p.clients index (with_one_sent c) i d e
-      (λ _ is. omega (
-        arith,
-        now,
-        was index c at,
-        swapped c.sender,
-        in_sender (test entry.stage),
-        in_sender (test pend.stage),
-        ap stored is,
-        ap (λ (d : ClientPart K). handles after (is_in_sender test d.sender) (pend ∷ [])) is,
-      ))
-      (λ far b. omega (
-        arith,
-        was i d b,
-        swapped d.sender,
-        off_sender (test entry.stage) d.sender (other_sender i d far b),
-        off_sender (test pend.stage) d.sender (other_sender i d far b),
-      ))
-    where
-      swapped : (l : ℕ) → handles p (is_in_sender test l) (entry ∷ []) + mark (is_in_sender test l pend) ≡ handles after
-          (is_in_sender test l)
-          (pend ∷ []) + mark (is_in_sender test l entry)
-      swapped l = omega (arith, count-cons (is_in_sender test l) entry [], count-cons (is_in_sender test l) pend [])
+  -- what is stored of each sender still counts its handles, if the sender's own number follows what is in hand
+  recounted : (test : Stage → Bool) (count : Sender Q RequestDetails QH → ℕ)
+      → count fresh + mark (test entry.stage) ≡ count (sender_of sender p.client_senders) + mark (test pend.stage)
+      → ((l : ℕ) → l < length p.client_senders → count (sender_of l p.client_senders) ≡ handles p (is_in_sender test l) (entry ∷ []))
+      → (l : ℕ) → l < length after.client_senders
+      → count (sender_of l after.client_senders) ≡ handles after (is_in_sender test l) (pend ∷ [])
+  recounted test count =
+      counted_set p.client_senders sender fresh there count (test entry.stage) (test pend.stage)
+      (λ l. handles p (is_in_sender test l) (entry ∷ [])) (λ l. handles after (is_in_sender test l) (pend ∷ []))
+      (λ l. omega (arith, count-cons (is_in_sender test l) entry [], count-cons (is_in_sender test l) pend []))
 
   stored : IsStored after (pend ∷ [])
   stored =
       let n = sound.stored in
       record {
-        request_loans = recounted is_request_loan (λ d. d.loans) n.request_loans (omega (arith, has_loan));
-        pendings = recounted is_pending (λ d. d.pendings) n.pendings (omega arith);
-        response_loans = λ i d e. n.response_loans i d e ∙ same_handles (is_in_sender is_response_loan d.sender) refl;
+        request_loans = recounted is_request_loan (λ l. l.loans) (omega (arith, has_loan)) n.request_loans;
+        pendings = recounted is_pending (λ l. l.pendings) (omega arith) n.pendings;
+        response_loans = λ l h. n.response_loans l h ∙ same_handles (is_in_sender is_response_loan l) refl;
         active_loans = λ k server loans s e is. n.active_loans k server loans s e is ∙ same_handles (is_loan_from p k) refl;
         borrowed_requests = λ l server h. same_of (λ x. borrowed_at x.messages (server_place p server) 0) refl l
             ∙ n.borrowed_requests l server (omega (arith, h, length-set p.client_senders sender fresh))
             ∙ same_handles (is_in_sender (is_active_of server) l) refl;
-        borrowed_responses = λ l i channel d h e. set_cases p.clients index (with_one_sent c) i d e
-            (λ j is. ap (λ (d : ClientPart K). borrowed_at (sender_of l p.server_senders).messages d.receiver channel) (sym is)
-            ∙ n.borrowed_responses l index channel c h at ∙ same_handles (is_received_at p l c.port.id channel) refl
-            ∙ ap (λ (d : ClientPart K). handles after (is_received_at after l d.port.id channel) (pend ∷ [])) is)
-            (λ far b. n.borrowed_responses l i channel d h b ∙ same_handles (is_received_at p l d.port.id channel) refl);
+        borrowed_responses = λ l i channel d h e. n.borrowed_responses l i channel d h e
+            ∙ same_handles (is_received_at p l d.port.id channel) refl;
       }
 
   vacated : IsVacated after
   vacated = record {
-    of_clients = λ l r ch none. sound.vacated.of_clients l r ch
-        (λ i d e is.
-        let f = client_after p (entry ∷ []) sound after.clients p.servers after.client_senders p.server_senders after.waiting
-        p.table.entries
-        p.next frame i d e in
-        none i f.0 f.1 (ap (λ (f : Frame K). f.receiver) f.2 ∙ is));
+    of_clients = sound.vacated.of_clients;
     of_servers = λ l r ch none.
         let old = sound.vacated.of_servers l r ch none in (
           ⊎_elim
@@ -354,32 +309,23 @@ module _ {Q QH P PH K : Type 0} (p : Parts Q QH P PH K) (sender slot connections
   in_queues = record {
     counted = counted;
     held_once = held_once;
-    numbered = kept_numbered p (entry ∷ []) sound after.clients p.servers after.client_senders p.server_senders after.waiting p.next frame
+    numbered = kept_numbered p (entry ∷ []) sound p.clients after.client_senders p.server_senders after.waiting p.next frame
         kept
         (handle_uses_request after (pend ∷ []) counted) (handle_uses_response after (pend ∷ []) counted);
-    addressed = kept_addressed p (entry ∷ []) sound after.clients p.servers after.client_senders p.server_senders after.waiting p.next frame
+    addressed = kept_addressed p (entry ∷ []) sound p.clients after.client_senders p.server_senders after.waiting p.next frame
         kept
-        (λ l i channel j d e waits.
-        let f = client_before p (entry ∷ []) sound after.clients p.servers after.client_senders p.server_senders after.waiting
-        p.table.entries
-        p.next frame j d e in
-        let r = sound.addressed.entries l i channel j f.0 f.1
-        (omega (arith, waits, ap (λ (f : Frame K). times i (queue_at (sender_of l p.server_senders).messages f.receiver channel)) f.2)) in
-        (r.0 ∙ ap (λ (f : Frame K). f.port.id) f.2, r.1));
-    inserted = framed_inserted p (entry ∷ []) sound after.clients p.servers after.client_senders p.server_senders after.waiting p.next
+        sound.addressed.entries;
+    inserted = framed_inserted p (entry ∷ []) sound p.clients after.client_senders p.server_senders after.waiting p.next
         frame;
     stored = stored;
-    sized = framed_sized p (entry ∷ []) sound after.clients p.servers after.client_senders p.server_senders after.waiting p.table.entries
+    sized = framed_sized p (entry ∷ []) sound p.clients after.client_senders p.server_senders after.waiting p.table.entries
         p.next
-        frame sound.sized.next_fits
-        (λ i d e. set_cases p.clients index (with_one_sent c) i d e
-        (λ _ is. omega (arith, ap (λ (d : ClientPart K). d.loans_made) is, sound.sized.loans_made index c at))
-        (λ _ b. sound.sized.loans_made i d b));
+        frame sound.sized.next_fits sound.sized.loans_made;
     vacated = vacated;
-    have_values = framed_by_value p (entry ∷ []) sound after.clients p.servers after.client_senders p.server_senders after.waiting
+    have_values = framed_by_value p (entry ∷ []) sound p.clients after.client_senders p.server_senders after.waiting
         p.table.entries p.next frame;
-    client_ports = framed_client_ports p (entry ∷ []) sound after.clients p.servers after.client_senders p.server_senders after.waiting
+    client_ports = framed_client_ports p (entry ∷ []) sound p.clients after.client_senders p.server_senders after.waiting
         p.table.entries p.next frame;
-    server_ports = framed_server_ports p (entry ∷ []) sound after.clients p.servers after.client_senders p.server_senders after.waiting
+    server_ports = framed_server_ports p (entry ∷ []) sound p.clients after.client_senders p.server_senders after.waiting
         p.table.entries p.next frame;
   }

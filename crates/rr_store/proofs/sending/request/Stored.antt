@@ -1,6 +1,6 @@
 -- Servers as they are stored, and as parts: their queues, marks and numbers.
-use Rattle.std.proofs.Common.{◌≡◌, ◌<◌, ◌+◌, ◌*◌, ℕ, Bool, List, [], Some, length, map, sym, ap, ◌∙◌, subst, Vec, Global}
-use Rattle.std.specs.Prelude.{IsSomeAnd, slice_get, slice_index_or}
+use Rattle.std.proofs.Common.{◌≡◌, ◌<◌, ◌+◌, ◌*◌, ℕ, Bool, true, false, List, [], ◌∷◌, Some, length, map, refl, sym, ap, ◌∙◌, subst, Vec, Global}
+use Rattle.std.specs.Prelude.{◌&&◌, ◌||◌, IsSomeAnd, slice_get, slice_index_or}
 use Rattle.std.specs.List.{list_any}
 use Rattle.std.proofs.lemmas.Simd.{map-map}
 use Rattle.std.proofs.lemmas.Option.{slice_get-get_or}
@@ -12,6 +12,16 @@ use Rattle.rr_store.specs.Sending.{HasQueues, receivers_of}
 use Rattle.rr_store.proofs.base.lists.Mapped.{of_index}
 use Rattle.rr_store.proofs.base.lookups.Looking.{list_any-map}
 use Rattle.rr_store.proofs.base.views.Counts.{listed}
+
+-- where no element passes a test, none passes it and another one
+pub none_and : {X : Type 0} (t u : X → Bool) (xs : List X) → list_any t xs ≡ false → list_any (λ x. t x && u x) xs ≡ false
+none_and t u [] none = refl
+none_and t u (x ∷ xs) none = go (t x) none (none_and t u xs)
+  where
+    go : (b : Bool) → (b || list_any t xs) ≡ false → (list_any t xs ≡ false → list_any (λ x. t x && u x) xs ≡ false)
+        → ((b && u x) || list_any (λ x. t x && u x) xs) ≡ false
+    go true e rest = absurd (let f : true ≡ false = e in cc)
+    go false e rest = rest e
 
 module _ {K : Type 0} (items slice : List (ServerPort K)) (same : slice ≡ items) where
   -- a server of the slice is one of the parts

@@ -1,5 +1,5 @@
 -- What contracts see of a core after a request was sent.
-use Rattle.std.proofs.Common.{◌≡◌, ◌≢◌, ◌<◌, ℕ, Bool, true, false, List, [], Option, None, Some, length, get_or, map, refl, sym, ap, ◌∙◌, subst, ⊎_elim, arith}
+use Rattle.std.proofs.Common.{◌≡◌, ◌≢◌, ◌<◌, ℕ, Bool, true, false, List, [], Option, None, Some, length, map, refl, sym, ap, ◌∙◌, subst, ⊎_elim, arith}
 use Rattle.std.specs.Prelude.{◌==◌, slice_get, find, fold}
 use Rattle.std.specs.Option.{option_map_or}
 use Rattle.std.specs.FinMap as fin_map
@@ -12,23 +12,22 @@ use Rattle.rr_maps.specs.Maps.{map_values}
 use Rattle.rr_table.specs.TableView.{TableEntry, table_entry}
 use Rattle.rr_maps.proofs.MapLaws.{map_values-insert, map_values-same, tally-at, get-remove_other}
 use Rattle.rr_sender.specs.Senders.{Messages, queue_at}
-use Rattle.rr_protocol.specs.Keys.{RequestKey, ResponseKey, request_key, request_key_cmp}
+use Rattle.rr_protocol.specs.Keys.{RequestKey, request_key, request_key_cmp}
 use Rattle.rr_protocol.specs.Lists.{Lists, at}
-use Rattle.rr_protocol.specs.Messages.{Handle, RequestMut, PendingResponse, RequestMessage, ResponseMessage}
+use Rattle.rr_protocol.specs.Messages.{Handle, RequestMut, PendingResponse, RequestMessage}
 use Rattle.rr_protocol.specs.Sends.{put, request_reach, with_request_put, with_sent_request, connections_of}
 use Rattle.rr_protocol.proofs.KeyLaws.{request_keys_total, request_keys_exact}
 use Rattle.rr_protocol.proofs.ListsLaws.{same_lists}
 use Rattle.rr_store.specs.declared.handle_entry.HandleEntry.{HandleEntry}
 use Rattle.rr_store.specs.declared.details.RequestDetails.{RequestDetails}
-use Rattle.rr_store.specs.Parts.{Parts, ClientPart, ServerPart, Sender}
-use Rattle.rr_store.specs.Views.{no_sender, sender_of, state_of, request_in_slot, request_at, handle_of, handle_in, requests_at, responses_at, response_in_slot, waiting_at, client_of, server_of}
+use Rattle.rr_store.specs.Parts.{Parts, ServerPart, Sender}
+use Rattle.rr_store.specs.Views.{no_sender, sender_of, state_of, request_in_slot, request_at, handle_of, handle_in, requests_at, waiting_at, server_of}
 use Rattle.rr_store.specs.Sound.{IsSound, IsShaped, empty_hand, is_of_request, has_request_at, request_uses}
-use Rattle.rr_store.specs.Sending.{request_held, pending_held, with_one_sent, with_request_sent}
-use Rattle.rr_store.proofs.base.views.Agreeing.{same_handle, same_responses, same_state}
+use Rattle.rr_store.specs.Sending.{request_held, pending_held, with_request_sent}
+use Rattle.rr_store.proofs.base.views.Agreeing.{same_handle, same_state}
 use Rattle.rr_store.proofs.base.senders.Entries.{found_alone, found_none}
 use Rattle.rr_store.proofs.base.lists.Found.{found_passes, found_somewhere}
 use Rattle.rr_store.proofs.base.views.Keyed.{at_requests}
-use Rattle.rr_store.proofs.base.lists.Replaced.{find_read, map-set_alike}
 use Rattle.rr_store.proofs.sending.put.Sender.{queue_here}
 use Rattle.rr_store.proofs.sending.put.Queues.{map_put}
 use Rattle.rr_store.proofs.receiving.response.View.{find_skip}
@@ -39,13 +38,12 @@ use Rattle.rr_store.proofs.sending.request.MayAnswer.{servers_placed, places_apa
 
 module _ {Q QH P PH K : Type 0} (p : Parts Q QH P PH K) (sound : IsSound p empty_hand) (k sender slot connections : ℕ)
     (s : TableEntry HandleEntry)
-    (at_s : fin_map.get p.table.entries k ≡ Some s) (is : s.value ≡ request_held sender slot)
-    (index : ℕ) (c : ClientPart K) (there : slice_get p.clients index ≡ Some c) (sends : c.sender ≡ sender) where
+    (at_s : fin_map.get p.table.entries k ≡ Some s) (is : s.value ≡ request_held sender slot) where
   abbrev m : Messages Q RequestDetails QH
   m = (sender_of sender p.client_senders).messages
 
   abbrev after : Parts Q QH P PH K
-  after = with_request_sent p index c k sender slot connections s.place
+  after = with_request_sent p k sender slot connections s.place
 
   abbrev pub message : RequestMessage Q QH
   message = request_at p sender slot
@@ -57,23 +55,23 @@ module _ {Q QH P PH K : Type 0} (p : Parts Q QH P PH K) (sound : IsSound p empty
   says = request_in_slot p.spare_request_header m
 
   used : request_uses p sender slot ≡ 1
-  used = inserted.used_once p sound k sender slot connections s at_s is index c there sends
+  used = inserted.used_once p sound k sender slot connections s at_s is
 
   abbrev fresh : Sender Q RequestDetails QH
-  fresh = sent.fresh (inserted.taken p sound k sender slot connections s at_s is index c there sends) sender slot connections
-      (inserted.taken_sound p sound k sender slot connections s at_s is index c there sends) used index c there sends
+  fresh = sent.fresh (inserted.taken p sound k sender slot connections s at_s is) sender slot connections
+      (inserted.taken_sound p sound k sender slot connections s at_s is) used
 
   sender_there : sender < length p.client_senders
-  sender_there = sent.there (inserted.taken p sound k sender slot connections s at_s is index c there sends) sender slot connections
-      (inserted.taken_sound p sound k sender slot connections s at_s is index c there sends) used index c there sends
+  sender_there = sent.there (inserted.taken p sound k sender slot connections s at_s is) sender slot connections
+      (inserted.taken_sound p sound k sender slot connections s at_s is) used
 
   slot_there : slot < length m.held
-  slot_there = sent.inside (inserted.taken p sound k sender slot connections s at_s is index c there sends) sender slot connections
-      (inserted.taken_sound p sound k sender slot connections s at_s is index c there sends) used index c there sends
+  slot_there = sent.inside (inserted.taken p sound k sender slot connections s at_s is) sender slot connections
+      (inserted.taken_sound p sound k sender slot connections s at_s is) used
 
   pub shaped : IsShaped p.limits.max_servers 1 p.limits.max_active_requests_per_client m
-  shaped = sent.shaped (inserted.taken p sound k sender slot connections s at_s is index c there sends) sender slot connections
-      (inserted.taken_sound p sound k sender slot connections s at_s is index c there sends) used index c there sends
+  shaped = sent.shaped (inserted.taken p sound k sender slot connections s at_s is) sender slot connections
+      (inserted.taken_sound p sound k sender slot connections s at_s is) used
 
   -- the lists after it came, by the servers
   abbrev put_lists : Lists request_key_cmp (RequestMessage Q QH)
@@ -100,10 +98,10 @@ module _ {Q QH P PH K : Type 0} (p : Parts Q QH P PH K) (sound : IsSound p empty
 
   the_sender_now : find (λ l. l.owner == (sender_of sender p.client_senders).owner) after.client_senders ≡ Some fresh
   the_sender_now =
-      let now = (inserted.sent_sound p sound k sender slot connections s at_s is index c there sends).client_ports in
+      let now = (inserted.sent_sound p sound k sender slot connections s at_s is).client_ports in
       let here : sender_of sender after.client_senders ≡ fresh = sent.here_is
-      (inserted.taken p sound k sender slot connections s at_s is index c there sends) sender slot connections
-      (inserted.taken_sound p sound k sender slot connections s at_s is index c there sends) used index c there sends in
+      (inserted.taken p sound k sender slot connections s at_s is) sender slot connections
+      (inserted.taken_sound p sound k sender slot connections s at_s is) used in
       let many : length after.client_senders ≡ length p.client_senders = length-set p.client_senders sender fresh in
       found_alone (λ (l : Sender Q RequestDetails QH). l.owner == (sender_of sender p.client_senders).owner) after.client_senders sender
       fresh
@@ -129,11 +127,11 @@ module _ {Q QH P PH K : Type 0} (p : Parts Q QH P PH K) (sound : IsSound p empty
   waits_now i d at_d =
       (rw (the_server i d at_d) (rw the_sender_now refl))
       ∙ ap (map says) (queue_here m shaped
-      (sent.capacity (inserted.taken p sound k sender slot connections s at_s is index c there sends) sender
-      slot connections (inserted.taken_sound p sound k sender slot connections s at_s is index c there sends) used index c there sends)
+      (sent.capacity (inserted.taken p sound k sender slot connections s at_s is) sender
+      slot connections (inserted.taken_sound p sound k sender slot connections s at_s is) used)
       overflow slot
-      (sent.has_value (inserted.taken p sound k sender slot connections s at_s is index c there sends) sender slot connections
-      (inserted.taken_sound p sound k sender slot connections s at_s is index c there sends) used index c there sends)
+      (sent.has_value (inserted.taken p sound k sender slot connections s at_s is) sender slot connections
+      (inserted.taken_sound p sound k sender slot connections s at_s is) used)
       (λ (d : ServerPart K). d.receiver) p.servers (servers_placed p empty_hand sound) (places_apart p empty_hand sound) i d at_d)
       ∙ map_put overflow m.capacity slot says (queue_at m d.receiver 0)
       ∙ ap (λ n. put overflow n (map says (queue_at m d.receiver 0)) message) shaped.capacity_is
@@ -192,23 +190,9 @@ module _ {Q QH P PH K : Type 0} (p : Parts Q QH P PH K) (sound : IsSound p empty
   requests = same_lists request_keys_total request_keys_exact (state_of after).requests (with_request_put (state_of p) message)
       (λ key. at_requests after key ∙ each key)
 
-  it_was : c ≡ get_or p.clients index c
-  it_was = sym (get_or_from_slice_get p.clients index c c there)
-
-  clients : (state_of after).clients ≡ (state_of p).clients
-  clients = map-set_alike client_of p.clients index (with_one_sent c) c (ap client_of it_was)
-
-  responses : (key : ResponseKey) → responses_at after key ≡ responses_at p key
-  responses key = find_read (λ (d : ClientPart K). d.port.id == key.client) reads [] p.clients index (with_one_sent c) c
-      (ap (λ (d : ClientPart K). d.port.id == key.client) it_was) (ap reads it_was)
-    where
-      reads : ClientPart K → List (ResponseMessage P PH)
-      reads d = option_map_or (λ l. map (response_in_slot p.spare_response_header l.messages) (queue_at l.messages d.receiver key.channel))
-          (find (λ l. l.owner == key.server) p.server_senders) []
-
   same_message : (l i : ℕ) → request_at after l i ≡ request_at p l i
-  same_message l i = sent.same_of (inserted.taken p sound k sender slot connections s at_s is index c there sends) sender slot connections
-      (inserted.taken_sound p sound k sender slot connections s at_s is index c there sends) used index c there sends
+  same_message l i = sent.same_of (inserted.taken p sound k sender slot connections s at_s is) sender slot connections
+      (inserted.taken_sound p sound k sender slot connections s at_s is) used
       (λ x. request_in_slot p.spare_request_header x.messages i) refl l
 
   -- the other handles show what they did
@@ -239,10 +223,10 @@ module _ {Q QH P PH K : Type 0} (p : Parts Q QH P PH K) (sound : IsSound p empty
               absurd (omega (
                 arith,
                 tally-at (has_request_at sender slot)
-                    (inserted.taken p sound k sender slot connections s at_s is index c there sends).table.entries
+                    (inserted.taken p sound k sender slot connections s at_s is).table.entries
                     j t (get-remove_other p.table.entries k j n ∙ e) here,
-                sent.no_other (inserted.taken p sound k sender slot connections s at_s is index c there sends) sender slot connections
-                    (inserted.taken_sound p sound k sender slot connections s at_s is index c there sends) used index c there sends,
+                sent.no_other (inserted.taken p sound k sender slot connections s at_s is) sender slot connections
+                    (inserted.taken_sound p sound k sender slot connections s at_s is) used,
               ))
 
   abbrev shown : Handle Q QH P PH
@@ -271,7 +255,7 @@ module _ {Q QH P PH K : Type 0} (p : Parts Q QH P PH K) (sound : IsSound p empty
   -- a request was sent
   pub sent_view : connections ≡ connections_of (state_of p) message → state_of after ≡ with_sent_request (state_of p) k message
   sent_view counted =
-      same_state (state_of after) (with_sent_request (state_of p) k message) refl refl clients refl
+      same_state (state_of after) (with_sent_request (state_of p) k message) refl refl refl refl
       (handles ∙ ap (λ n. fin_map.insert (state_of p).handles k
       (PendingResponse (record {
         message = message;
@@ -279,4 +263,4 @@ module _ {Q QH P PH K : Type 0} (p : Parts Q QH P PH K) (sound : IsSound p empty
         connections = n;
         servers = map (λ d. d.id) (map server_of p.servers);
       }))) counted)
-      requests (same_responses after p responses) refl refl
+      requests refl refl refl

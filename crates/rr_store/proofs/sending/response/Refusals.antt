@@ -21,10 +21,10 @@ use Rattle.rr_store.specs.Delivering.{HasQueue, delivered, is_refused_in, reache
 use Rattle.rr_store.specs.Ending.{IsAskedPlace, IsLoanEnded, found_under}
 use Rattle.rr_store.specs.Loaning as part
 use Rattle.rr_store.specs.Parts.{Parts, ClientPart, ServerPart, Sender}
-use Rattle.rr_store.specs.Releasing.{given_back, without_response_loan}
+use Rattle.rr_store.specs.Releasing.{given_back, without_loan}
 use Rattle.rr_store.specs.Sound.{IsSound, IsShaped, empty_hand, is_response_loan, response_details, response_uses}
 use Rattle.rr_store.specs.Views.{no_sender, no_response, sender_of, state_of, server_of, response_in_slot, response_at}
-use Rattle.rr_store.proofs.base.lists.Adding.{some_responses, with_servers, same_servers}
+use Rattle.rr_store.proofs.base.lists.Adding.{some_responses, with_responders, same_responders}
 use Rattle.rr_store.proofs.releasing.response_loan.Fields.{ResponseLoanFound, loan_is, taken_sound}
 use Rattle.rr_store.proofs.releasing.response_loan.View.{response_loan_gone, its_server}
 use Rattle.rr_store.proofs.releasing.response_loan.Place.{asked_right}
@@ -210,21 +210,20 @@ module _ {Q QH P PH K : Type 0} (p : Parts Q QH P PH K) (sound : IsSound p empty
   -- the parts after the response was delivered, and its handle is gone
   pub sent_parts : (noted : ResponseDetails) → details ≡ noted → (reach_is : Option ℕ) → reach_is ≡ reached p.clients p.client_senders
       p.table noted
-      → (servers : List (ServerPart K)) (mid senders : List (Sender P ResponseDetails PH)) (table : TableView HandleEntry)
-      → servers ≡ slice_set p.servers index (without_response_loan c)
+      → (mid senders : List (Sender P ResponseDetails PH)) (table : TableView HandleEntry)
       → mid ≡ slice_set p.server_senders entry.sender (part.with_messages (sender_of entry.sender p.server_senders)
       (delivered m overflow noted.channel entry.slot reach_is))
       → senders ≡ slice_set mid entry.sender
-      (part.with_messages (sender_of entry.sender mid) (given_back (sender_of entry.sender mid).messages entry.slot))
+      (without_loan (part.with_messages (sender_of entry.sender mid) (given_back (sender_of entry.sender mid).messages entry.slot)))
       → (place : Option Place) → IfSome place (IsAskedPlace p.client_senders noted c.receiver)
       → IsLoanEnded noted.active_request (found_under (removed p.table k) noted.active_request place) (removed p.table k) table
-      → IsSound (with_servers p servers senders table p.next) empty_hand
-      × (state_of (with_servers p servers senders table p.next) ≡ after_release (record (state_of p) { responses = put_lists }) k)
-  sent_parts noted same_details reach_is same_reach servers mid senders table ss ms ls place asked ended_so =
+      → IsSound (with_responders p senders table p.next) empty_hand
+      × (state_of (with_responders p senders table p.next) ≡ after_release (record (state_of p) { responses = put_lists }) k)
+  sent_parts noted same_details reach_is same_reach mid senders table ms ls place asked ended_so =
       let R : ResponseDetails → Type 0 = λ n. IfSome place (IsAskedPlace p.client_senders n c.receiver)
       × IsLoanEnded n.active_request (found_under (removed p.table k) n.active_request place) (removed p.table k) table in
       let r = subst R (sym (details_is ∙ same_details)) (asked, ended_so) in
-      let e = ended_well q entry q_is.0 loan index c there sends_it place
+      let e = ended_well q entry q_is.0 loan place
       (λ server loans t here is. asked_right q entry q_is.0 loan index c there sends_it server loans t here is place r.0) table r.1 in
       let mid_is : mid ≡ q.server_senders =
       ms
@@ -234,10 +233,11 @@ module _ {Q QH P PH K : Type 0} (p : Parts Q QH P PH K) (sound : IsSound p empty
       ∙ ap (λ o. slice_set p.server_senders entry.sender (part.with_messages (sender_of entry.sender p.server_senders)
       (delivered m overflow details.channel entry.slot o)))
       (same_reach ∙ ap (reached p.clients p.client_senders p.table) (sym same_details)) in
-      let same : with_servers p servers senders table p.next ≡ ended q entry q_is.0 loan index c there sends_it table =
-      same_servers p (ended q entry q_is.0 loan index c there sends_it table) servers senders table p.next ss
+      let same : with_responders p senders table p.next ≡ ended q entry q_is.0 loan table =
+      same_responders p (ended q entry q_is.0 loan table) senders table p.next
       (ls ∙ ap (λ (xs : List (Sender P ResponseDetails PH)). slice_set xs entry.sender
-      (part.with_messages (sender_of entry.sender xs) (given_back (sender_of entry.sender xs).messages entry.slot))) mid_is) refl refl refl
+      (without_loan (part.with_messages (sender_of entry.sender xs) (given_back (sender_of entry.sender xs).messages entry.slot)))) mid_is)
+      refl refl refl
       in
       let gone = response_loan_gone p sound k f.table_entry f.at f.loan index c there
       (sends_it ∙ sym (ap (λ (h : HandleEntry). h.sender) f.is)) put_lists in (

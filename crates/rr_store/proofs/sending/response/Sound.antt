@@ -57,15 +57,15 @@ module _ {Q QH P PH K : Type 0} (p : Parts Q QH P PH K) (entry : HandleEntry)
   pub within : entry.slot < length m.held
   within = held_within m.held entry.slot some
 
-  frame : SameFrame p p.clients p.servers p.client_senders after.server_senders p.waiting p.next
+  frame : SameFrame p p.clients p.client_senders after.server_senders p.waiting p.next
   frame = record {
     clients_alike = refl;
-    servers_alike = refl;
     client_senders_alike = senders_same p.client_senders;
     server_senders_alike = senders_set p.server_senders entry.sender fresh
         (record {
           owner = refl;
           row = refl;
+          receiver = refl;
           slots = refl;
           room = refl;
           shaped = put_shaped m shaped capacity overflow c.receiver channel entry.slot placed inside within;
@@ -189,7 +189,8 @@ module _ {Q QH P PH K : Type 0} (p : Parts Q QH P PH K) (entry : HandleEntry)
       record {
         request_loans = n.request_loans;
         pendings = n.pendings;
-        response_loans = n.response_loans;
+        response_loans = λ k h. same_of (λ x. x.loans) refl k
+            ∙ n.response_loans k (omega (arith, h, length-set p.server_senders entry.sender fresh));
         active_loans = λ k server loans s e is. n.active_loans k server loans s e is
             ∙ sym (same_count (is_loan_from p k) (is_loan_from after k)
             (λ h. ap (λ (n : ResponseDetails). is_response_loan h.stage && n.active_request == k) (details_same h.sender h.slot)));
@@ -285,24 +286,24 @@ module _ {Q QH P PH K : Type 0} (p : Parts Q QH P PH K) (entry : HandleEntry)
   delivered_sound = record {
     counted = counted;
     held_once = held_once;
-    numbered = kept_numbered p (entry ∷ []) sound p.clients p.servers p.client_senders after.server_senders p.waiting p.next frame kept
+    numbered = kept_numbered p (entry ∷ []) sound p.clients p.client_senders after.server_senders p.waiting p.next frame kept
         (handle_uses_request p (entry ∷ []) sound.counted)
         (handle_uses_response after (entry ∷ []) counted);
-    addressed = kept_addressed p (entry ∷ []) sound p.clients p.servers p.client_senders after.server_senders p.waiting p.next frame kept
+    addressed = kept_addressed p (entry ∷ []) sound p.clients p.client_senders after.server_senders p.waiting p.next frame kept
         addressed;
-    inserted = framed_inserted p (entry ∷ []) sound p.clients p.servers p.client_senders after.server_senders p.waiting p.next frame;
+    inserted = framed_inserted p (entry ∷ []) sound p.clients p.client_senders after.server_senders p.waiting p.next frame;
     stored = stored;
-    sized = framed_sized p (entry ∷ []) sound p.clients p.servers p.client_senders after.server_senders p.waiting p.table.entries p.next
+    sized = framed_sized p (entry ∷ []) sound p.clients p.client_senders after.server_senders p.waiting p.table.entries p.next
         frame
         sound.sized.next_fits sound.sized.loans_made;
     vacated = vacated;
-    have_values = framed_by_value p (entry ∷ []) sound p.clients p.servers p.client_senders after.server_senders p.waiting p.table.entries
+    have_values = framed_by_value p (entry ∷ []) sound p.clients p.client_senders after.server_senders p.waiting p.table.entries
         p.next
         frame;
-    client_ports = framed_client_ports p (entry ∷ []) sound p.clients p.servers p.client_senders after.server_senders p.waiting
+    client_ports = framed_client_ports p (entry ∷ []) sound p.clients p.client_senders after.server_senders p.waiting
         p.table.entries
         p.next frame;
-    server_ports = framed_server_ports p (entry ∷ []) sound p.clients p.servers p.client_senders after.server_senders p.waiting
+    server_ports = framed_server_ports p (entry ∷ []) sound p.clients p.client_senders after.server_senders p.waiting
         p.table.entries
         p.next frame;
   }

@@ -10,7 +10,7 @@ replace-requires g c = c.requires.at
 pub returns-clause-core : goal.returns-clause-core
 returns-clause-core g c =
     core_then c.args.store.now c.requires.core c.args.number c.args.place _ c.at-entry.ensures c.requires.uninit _ c.initialised.ensures _
-    c.replace.ensures
+    c.replace.ensures c.requires.complete
 
 pub returns-clause-view : goal.returns-clause-view
 returns-clause-view g c =

@@ -9,15 +9,18 @@ use Rattle.rr_store.proofs.base.lists.Mapped.{position-map, some_mapped}
 use Rattle.rr_store.proofs.store.Store.client_index.Goals as goal
 
 -- where a port stands is told of the field
-told : {K : Type 0} (items slice : List (ClientPort K)) (n : ℕ) (o : Option ℕ) → slice ≡ items → o ≡ position (λ (x : ClientPort K). x.port.id == n) slice
+told : {K : Type 0} (items slice : List (ClientPort K)) (n : ℕ) (o : Option ℕ) → slice ≡ items
+    → o ≡ position (λ (x : ClientPort K). x.port.id == n) slice
     → position (λ (x : ClientPort K). x.port.id == n) items ≡ o
 told {K} items slice n o same is = ap (position (λ (x : ClientPort K). x.port.id == n)) (sym same) ∙ sym is
 
 pub unreachable-requires : goal.unreachable-requires
 unreachable-requires g c =
     false≢true (
-    subst IsSome (told c.self.inside.clients.items c.as_slice.result.now c.args.client _ c.as_slice.ensures.value c.index_of.ensures ∙ c.in-None.is)
-    (some_mapped client_part (λ (x : ClientPart _). x.port.id == c.args.client) c.self.inside.clients.items (rw (← c.self.view_is) at c.requires)))
+    subst IsSome (told c.self.inside.clients.items c.as_slice.result.now c.args.client _ c.as_slice.ensures.value c.index_of.ensures
+    ∙ c.in-None.is)
+    (some_mapped client_part (λ (x : ClientPart _). x.port.id == c.args.client) c.self.inside.clients.items (rw
+    (← c.self.view_is) at c.requires)))
 
 pub returns : goal.returns
 returns g c =

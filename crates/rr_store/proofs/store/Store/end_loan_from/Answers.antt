@@ -9,7 +9,8 @@ pub returns-clause-ended : goal.returns-clause-ended
 returns-clause-ended g c =
     rw (← c.self.view_is) (
       c.asked_place-at.result,
-      subst (λ (senders : List (OwnedSender _ _ _ _)). IfSome c.asked_place-at.result (IsAskedPlace (map sender_part senders) c.args.details c.args.receiver))
+      subst (λ (senders : List (OwnedSender _ _ _ _)). IfSome c.asked_place-at.result (IsAskedPlace
+          (map sender_part senders) c.args.details c.args.receiver))
           c.as_slice.ensures.value c.asked_place-at.ensures,
       c.end_loan_from.ensures,
     )

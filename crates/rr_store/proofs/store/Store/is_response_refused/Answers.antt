@@ -1,18 +1,61 @@
-use Rattle.std.proofs.Common.{◌≡◌, sym, ap, ◌∙◌, subst, arith}
-use Rattle.std.specs.Prelude.{◌==◌, ◌<◌, IsSomeAnd, length, map}
+use Rattle.std.proofs.Common.{◌≡◌, ℕ, Bool, true, false, Option, None, Some, sym, ap, ◌∙◌, subst, arith}
+use Rattle.std.specs.Prelude.{◌==◌, ◌<◌, ◌&&◌, IsSomeAnd, length, map, not}
 use Rattle.std.specs.List.{position}
 use Rattle.std.proofs.lemmas.Option.{slice_get_within}
+use Rattle.rr_sender.specs.Senders.{Messages}
+use Rattle.rr_protocol.specs.declared.settings.BackpressureAction.{BackpressureAction}
+use Rattle.rr_protocol.specs.Backpressure.{discards}
+use Rattle.rr_protocol.specs.Ports.{Port}
+use Rattle.rr_store.specs.declared.details.ResponseDetails.{ResponseDetails}
 use Rattle.rr_store.specs.declared.port.ServerPort.{ServerPort}
-use Rattle.rr_store.specs.Delivering.{HasQueue, is_refused_in}
+use Rattle.rr_store.specs.Delivering.{HasQueue, is_blocked_in, is_refused_in}
 use Rattle.rr_store.specs.Inside.{parts_of}
 use Rattle.rr_store.specs.Parts.{ServerPart, Sender}
 use Rattle.rr_store.specs.Ports.{server_part}
 use Rattle.rr_store.specs.Views.{sender_of}
 use Rattle.rr_store.proofs.base.lists.Mapped.{position-map, to_mapped}
 use Rattle.rr_store.proofs.base.lookups.Asking.{standing_at}
-use Rattle.rr_store.proofs.base.senders.Ports.{to_sender}
+use Rattle.rr_store.proofs.base.senders.Ports.{of_each, to_sender}
 use Rattle.rr_store.proofs.base.senders.Stored.{stored_is}
+use Rattle.rr_store.proofs.store.Store.is_response_refused.Goals.{After-is_blocked}
 use Rattle.rr_store.proofs.store.Store.is_response_refused.Goals as goal
+
+-- whether the queue that is reached can take no more decides, with the port
+refused_as : {K T N H : Type 0} (action : K → ℕ → ℕ → BackpressureAction) (port : Port K) (m : Messages T N H) (overflow : Bool)
+    (details : ResponseDetails) (reach : Option ℕ) (b : Bool) → is_blocked_in m overflow details.channel reach ≡ b
+    → is_refused_in action port m overflow details reach ≡ (b && not (discards action port details.client))
+refused_as action port m overflow details None b is = ap (λ b. b && not (discards action port details.client)) is
+refused_as action port m overflow details (Some receiver) b is = ap (λ b. b && not (discards action port details.client)) is
+
+pub is_blocked-requires : goal.is_blocked-requires
+is_blocked-requires g c =
+    let there = rw (← c.self.view_is) at c.requires.sender in
+    let queue = rw (← c.self.view_is) at c.requires.queue in
+    subst (λ (x : Sender _ _ _). HasQueue x.messages c.args.details.channel c.args.reach)
+    (stored_is c.self.inside.server_senders.items c.args.sender c.index.result.now there c.index.ensures) queue
+
+-- what was found of the queue is so in the parts
+blocked : (g : _) (c : After-is_blocked g) (b : Bool) → c.is_blocked.result ≡ b
+    → is_blocked_in (sender_of c.args.sender (parts_of c.self.inside).server_senders).messages
+    (parts_of c.self.inside).limits.enable_safe_overflow_for_responses c.args.details.channel c.args.reach ≡ b
+blocked g c b is =
+    let p = parts_of c.self.inside in
+    let there = rw (← c.self.view_is) at c.requires.sender in
+    let read = stored_is c.self.inside.server_senders.items c.args.sender c.index.result.now there c.index.ensures in
+    ap (λ (l : Sender _ _ _). is_blocked_in l.messages p.limits.enable_safe_overflow_for_responses c.args.details.channel c.args.reach) read
+    ∙ sym c.is_blocked.ensures ∙ is
+
+pub returns-then-not-is_blocked : goal.returns-then-not-is_blocked
+returns-then-not-is_blocked g c =
+    let at = goal.at.returns-then-not-is_blocked g c in
+    let p = parts_of c.self.inside in
+    let action = g.K.BackpressureFn.action in
+    let overflow = p.limits.enable_safe_overflow_for_responses in
+    let m = (sender_of c.args.sender p.server_senders).messages in
+    rw (← c.self.view_is) (of_each (λ (x : ServerPart _). x.sender == c.args.sender) p.servers
+    (λ x. false ≡ is_refused_in action x.port m overflow c.args.details c.args.reach) (rw (← c.self.view_is) at c.requires.server)
+    (λ x. sym (refused_as action x.port m overflow c.args.details c.args.reach false
+    (blocked g at.After-is_blocked false c.if-not-is_blocked.true))))
 
 pub unreachable-requires : goal.unreachable-requires
 unreachable-requires g c =
@@ -22,34 +65,29 @@ unreachable-requires g c =
     ∙ sym c.index_of_sender.ensures ∙ c.in-None.is in
     subst (λ o. IsSomeAnd o (λ i. i < length (map server_part items))) none (rw (← c.self.view_is) at c.requires.server)
 
-pub index-requires : goal.index-requires
-index-requires g c =
+pub index-requires-in-Some : goal.index-requires-in-Some
+index-requires-in-Some g c =
     let items = c.self.inside.servers.items in
     let it = standing_at (λ (x : ServerPort _). x.port.sender == c.args.sender) c.in-Some.index c.as_slice.result.now items
     c.index_of_sender.result c.index_of_sender.ensures c.as_slice.ensures.value c.in-Some.is in
     omega (arith, slice_get_within items c.in-Some.index it.it it.at, c.self.inside.servers.ok.0)
 
-pub is_refused-requires : goal.is_refused-requires
-is_refused-requires g c =
-    let there = rw (← c.self.view_is) at c.requires.sender in
-    let queue = rw (← c.self.view_is) at c.requires.queue in
-    subst (λ (x : Sender _ _ _). HasQueue x.messages c.args.details.channel c.args.reach)
-    (stored_is c.self.inside.server_senders.items c.args.sender c.index-2.result.now there c.index-2.ensures) queue
-
 pub returns : goal.returns
 returns g c =
+    let at = goal.at.returns g c in
     let p = parts_of c.self.inside in
     let items = c.self.inside.servers.items in
-    let there = rw (← c.self.view_is) at c.requires.sender in
     let action = g.K.BackpressureFn.action in
     let overflow = p.limits.enable_safe_overflow_for_responses in
     let m = (sender_of c.args.sender p.server_senders).messages in
-    let read = stored_is c.self.inside.server_senders.items c.args.sender c.index-2.result.now there c.index-2.ensures in
-    let told = c.is_refused.ensures ∙ ap (λ (l : Sender _ _ _). is_refused_in action (server_part c.index.result.now).port l.messages overflow
-    c.args.details c.args.reach) (sym read) in
+    let port = (server_part c.index-in-Some.result.now).port in
+    let told : not c.discards.result ≡ is_refused_in action port m overflow c.args.details c.args.reach =
+    ap not c.discards.ensures
+    ∙ sym (refused_as action port m overflow c.args.details c.args.reach true
+    (blocked g at.After-is_blocked true c.if-not-is_blocked.false)) in
     rw (← c.self.view_is) (to_mapped server_part (λ (x : ServerPart _). x.sender == c.args.sender) items
-    (λ _ x. c.is_refused.result ≡ is_refused_in action x.port m overflow c.args.details c.args.reach)
-    (λ _ x. c.is_refused.result ≡ is_refused_in action (server_part x).port m overflow c.args.details c.args.reach) (λ i x h. h)
+    (λ _ x. not c.discards.result ≡ is_refused_in action x.port m overflow c.args.details c.args.reach)
+    (λ _ x. not c.discards.result ≡ is_refused_in action (server_part x).port m overflow c.args.details c.args.reach) (λ i x h. h)
     (to_sender (λ (x : ServerPort _). x.port.sender == c.args.sender) c.in-Some.index c.as_slice.result.now items c.index_of_sender.result
-    c.index_of_sender.ensures c.as_slice.ensures.value c.in-Some.is c.index.result.now c.index.ensures
-    (λ _ x. c.is_refused.result ≡ is_refused_in action (server_part x).port m overflow c.args.details c.args.reach) told))
+    c.index_of_sender.ensures c.as_slice.ensures.value c.in-Some.is c.index-in-Some.result.now c.index-in-Some.ensures
+    (λ _ x. not c.discards.result ≡ is_refused_in action (server_part x).port m overflow c.args.details c.args.reach) told))

@@ -34,7 +34,8 @@ put_in-requires-clause-queues g c =
     let queues = rw (← c.self.view_is) at c.requires.queues in
     sender_asked c.self.inside.client_senders.items c.args.sender there (λ l. HasQueues l.messages slice) (λ l. HasQueues l.messages slice)
     (λ l h. h)
-    (has_queues c.self.inside.servers.items slice c.as_slice-servers.ensures.value (sender_of c.args.sender p.client_senders).messages queues)
+    (has_queues c.self.inside.servers.items slice c.as_slice-servers.ensures.value
+    (sender_of c.args.sender p.client_senders).messages queues)
 
 pub put_in-requires-clause-held : goal.put_in-requires-clause-held
 put_in-requires-clause-held g c =

@@ -10,7 +10,8 @@ use Rattle.rr_store.proofs.store.Store.server_receiver.Goals as goal
 pub receiver_of-requires : goal.receiver_of-requires
 receiver_of-requires g c =
     subst (λ (ports : List (ServerPort _)). IsSome (position (λ p. p.port.id == c.args.server) ports)) (sym c.as_slice.ensures.value)
-    (some_mapped server_part (λ (x : ServerPart _). x.port.id == c.args.server) c.self.inside.servers.items (rw (← c.self.view_is) at c.requires))
+    (some_mapped server_part (λ (x : ServerPart _). x.port.id == c.args.server) c.self.inside.servers.items (rw
+    (← c.self.view_is) at c.requires))
 
 pub returns : goal.returns
 returns g c =
@@ -18,5 +19,6 @@ returns g c =
     rw (← c.self.view_is) (to_mapped server_part (λ (x : ServerPart _). x.port.id == c.args.server) items
     (λ i x. c.receiver_of.result ≡ x.receiver) (λ i x. c.receiver_of.result ≡ x.port.receiver) (λ i x is. is)
     (subst (λ (ports : List (ServerPort _)).
-    IsSomeAnd (position (λ p. p.port.id == c.args.server) ports) (λ i. IsSomeAnd (slice_get ports i) (λ p. c.receiver_of.result ≡ p.port.receiver)))
+    IsSomeAnd (position (λ p. p.port.id == c.args.server) ports) (λ i. IsSomeAnd (slice_get ports i)
+    (λ p. c.receiver_of.result ≡ p.port.receiver)))
     c.as_slice.ensures.value c.receiver_of.ensures))

@@ -1,0 +1,96 @@
+-- What numbers name after writes.
+use Rattle.std.proofs.Common.{◌≡◌, ◌≢◌, ℕ, Bool, true, false, cond, not, Some, refl, ap, ◌∙◌}
+use Rattle.std.specs.Prelude.{IsSomeAnd, option_and_then}
+use Rattle.rr_protocol.specs.declared.kind.Kind.{Kind}
+use Rattle.rr_protocol.specs.declared.kind.Kind.TheVariants as kind
+use Rattle.rr_protocol.specs.Messages.{Content, Handle, RequestMutUninit, RequestMut, PendingResponse, ActiveRequest, ResponseMutUninit, ResponseMut, Response, request_in, response_in}
+use Rattle.rr_protocol.specs.State.{State, handle_at, with_changed, numbers_left}
+use Rattle.rr_protocol.specs.Queries.{kind_of, kind_at}
+use Rattle.rr_protocol.specs.Writing.{is_complete, with_element, with_request_content, with_response_content, after_init}
+use Rattle.rr_laws.proofs.Opening.{some_and}
+use Rattle.rr_bench.specs.Kinds.{Names, KeepsKinds, KeepsOtherKinds}
+use Rattle.rr_bench.proofs.Numbers.{handle_no_port, some_handle, keeps_others, changed_other, changed_own, changed_same}
+
+-- a kind once a message is complete
+abbrev pub init_kind : Kind → Kind
+init_kind kind.RequestMutUninit = Kind.RequestMut
+init_kind kind.ResponseMutUninit = Kind.ResponseMut
+init_kind k = k
+
+module _ {Q QH P PH : Type 0} where
+  -- the kinds of handles whose content became another
+  request_written : (change : Content Q QH → Content Q QH) (h : Handle Q QH P PH)
+      → kind_of (with_request_content change h) ≡ kind_of h
+  request_written change (RequestMutUninit m) = refl
+  request_written change (RequestMut m) = refl
+  request_written change (PendingResponse p) = refl
+  request_written change (ActiveRequest a) = refl
+  request_written change (ResponseMutUninit m) = refl
+  request_written change (ResponseMut m) = refl
+  request_written change (Response m) = refl
+
+  response_written : (change : Content P PH → Content P PH) (h : Handle Q QH P PH)
+      → kind_of (with_response_content change h) ≡ kind_of h
+  response_written change (RequestMutUninit m) = refl
+  response_written change (RequestMut m) = refl
+  response_written change (PendingResponse p) = refl
+  response_written change (ActiveRequest a) = refl
+  response_written change (ResponseMutUninit m) = refl
+  response_written change (ResponseMut m) = refl
+  response_written change (Response m) = refl
+
+  -- and of one that became complete
+  initialised : (h : Handle Q QH P PH) → kind_of (after_init h) ≡ init_kind (kind_of h)
+  initialised (RequestMutUninit m) = refl
+  initialised (RequestMut m) = refl
+  initialised (PendingResponse p) = refl
+  initialised (ActiveRequest a) = refl
+  initialised (ResponseMutUninit m) = refl
+  initialised (ResponseMut m) = refl
+  initialised (Response m) = refl
+
+module _ {Q QH P PH K : Type 0} (old new : State Q QH P PH K) where
+  -- a call changed a handle that kept its kind, or nothing
+  either : (wrote : Bool) (n : ℕ) (f : Handle Q QH P PH → Handle Q QH P PH) → ((h : Handle Q QH P PH) → kind_of (f h) ≡ kind_of h)
+      → new ≡ cond wrote (with_changed old n f) old → KeepsKinds old new × (numbers_left new ≡ numbers_left old)
+  unfolding KeepsKinds
+  either true n f same e =
+      (λ m k names. ap (λ s. kind_at s m) e ∙ changed_same old n f same m ∙ names, ap (λ s. numbers_left s) e)
+  either false n f same e = (λ m k names. ap (λ s. kind_at s m) e ∙ names, ap (λ s. numbers_left s) e)
+
+  pub request_pushed : (wrote : Bool) (n : ℕ) (item : Q)
+      → IsSomeAnd (option_and_then request_in (handle_at old n)) (λ m.
+      (wrote ≡ not (is_complete m.content)) × (new ≡ cond wrote (with_changed old n (with_request_content (with_element item))) old))
+      → KeepsKinds old new × (numbers_left new ≡ numbers_left old)
+  request_pushed wrote n item pushed =
+      either wrote n (with_request_content (with_element item)) (request_written (with_element item))
+      (some_and (option_and_then request_in (handle_at old n)) _ pushed).2.1
+
+  pub response_pushed : (wrote : Bool) (n : ℕ) (item : P)
+      → IsSomeAnd (option_and_then response_in (handle_at old n)) (λ m.
+      (wrote ≡ not (is_complete m.content)) × (new ≡ cond wrote (with_changed old n (with_response_content (with_element item))) old))
+      → KeepsKinds old new × (numbers_left new ≡ numbers_left old)
+  response_pushed wrote n item pushed =
+      either wrote n (with_response_content (with_element item)) (response_written (with_element item))
+      (some_and (option_and_then response_in (handle_at old n)) _ pushed).2.1
+
+  -- a message became complete
+  module _ (k : Kind) (client : Kind.Client ≢ k) (server : Kind.Server ≢ k) (n : ℕ) (is : kind_at old n ≡ Some k)
+      (finished : new ≡ with_changed old n after_init) where
+    pub finished_names : Names new n (init_kind k)
+    unfolding Names
+    finished_names =
+        let named = handle_no_port old n k client server is in
+        let h = some_handle old n k named.1 in
+        ap (λ s. kind_at s n) finished ∙ changed_own old n after_init h.0 h.1 named.0
+        ∙ ap Some (initialised h.0 ∙ ap init_kind h.2)
+
+    pub finished_others : KeepsOtherKinds k old new
+    finished_others =
+        let h = some_handle old n k (handle_no_port old n k client server is).1 in
+        keeps_others n k old new is (λ m other. ap (λ s. kind_at s m) finished ∙ changed_other old n after_init h.0 h.1 m other)
+
+  -- a message that was not complete stays
+  pub unfinished : (k : Kind) → new ≡ old → KeepsOtherKinds k old new
+  unfolding KeepsOtherKinds
+  unfinished k same n j other names = ap (λ s. kind_at s n) same ∙ names

@@ -1,0 +1,12 @@
+use Rattle.rr_protocol.specs.declared.kind.Kind.{Kind}
+use Rattle.rr_bench.specs.Kinds.{Names}
+use Rattle.rr_bench.proofs.Releases.{released_others, released_numbers}
+use Rattle.rr_bench.proofs.calls.release.release_response.Goals as goal
+
+pub returns-clause-others : goal.returns-clause-others
+unfolding Names
+returns-clause-others g c = released_others Kind.Response (λ e. cc) (λ e. cc) _ _ _ c.requires c.release_response.ensures
+
+pub returns-clause-numbers : goal.returns-clause-numbers
+unfolding Names
+returns-clause-numbers g c = released_numbers Kind.Response (λ e. cc) (λ e. cc) _ _ _ c.requires c.release_response.ensures

@@ -1,0 +1,104 @@
+//! Requests: loaned, written and sent by a client, received and read by a server.
+ghost use Rattle.std.specs.Prelude.{◌≡◌, ◌<◌, ◌≤◌, ◌+◌, ◌⊎◌, not, true, Some, IsTrue, IsSomeAnd, IfOk, IfSome, if◌then◌else◌, option_and_then};
+ghost use Rattle.rr_slots.specs.Families.{takes_len};
+ghost use Rattle.rr_protocol.specs.declared.kind.Kind.TheVariants as kind;
+ghost use Rattle.rr_protocol.specs.Loans.{LoansRequest};
+ghost use Rattle.rr_protocol.specs.Messages.{request_in};
+ghost use Rattle.rr_protocol.specs.Receives.{ReceivesRequest};
+ghost use Rattle.rr_protocol.specs.Sends.{SendsRequest};
+ghost use Rattle.rr_protocol.specs.State.{handle_at, numbers_left, with_changed};
+ghost use Rattle.rr_protocol.specs.Writing.{is_complete, with_element, with_request_content, after_init};
+ghost use Rattle.rr_bench.specs.Kinds.{Names, KeepsKinds, KeepsOtherKinds};
+
+use crate::hub::{Bodies, Refuses};
+use rr_hub::HandleId;
+use rr_protocol::{BackpressureFn, LoanError, ReceiveError, RequestSendError};
+use rr_slots::Body;
+
+/// Loans a request from a client.
+#[inline(always)]
+#[tactic(auto, unfolding(crate::specs::Kinds::Names))]
+pub fn loan_request<B: Body>(
+    core: &mut Bodies<B>,
+    client: u64,
+    len: usize,
+) -> Result<HandleId, LoanError>
+    requires kind { Names core.old client kind.Client }
+    requires number { 0 < numbers_left core.old }
+    requires len { IsTrue (takes_len B.family len) }
+    ensures loans { LoansRequest ⟦<u64 as Default>⟧.is_default core.old client len result core.new }
+    ensures kind { IfOk result (λ number. Names core.new number kind.RequestMutUninit) }
+    ensures kinds { KeepsKinds core.old core.new }
+    ensures numbers { numbers_left core.old ≤ numbers_left core.new + 1 }
+{
+    core.loan_request(client, len)
+}
+
+/// Appends an element to a request that is being written. Returns `false` if it is complete.
+#[inline(always)]
+#[tactic(auto, unfolding(crate::specs::Kinds::Names))]
+pub fn push_request<B: Body>(core: &mut Bodies<B>, id: &HandleId, item: B::Item) -> bool
+    requires { Names core.old id.now kind.RequestMutUninit }
+    ensures pushes { IsSomeAnd (option_and_then request_in (handle_at core.old id.now)) (λ m. (result ≡ not (is_complete m.content)) × (core.new ≡ (if result then with_changed core.old id.now (with_request_content (with_element item)) else core.old))) }
+    ensures kinds { KeepsKinds core.old core.new }
+    ensures numbers { numbers_left core.new ≡ numbers_left core.old }
+{
+    core.push_request(id, item)
+}
+
+/// Makes a request that is being written one that can be sent. Returns `false` if it is not complete.
+#[inline(always)]
+#[tactic(auto, unfolding(crate::specs::Kinds::Names))]
+pub fn finish_request<B: Body>(core: &mut Bodies<B>, id: &HandleId) -> bool
+    requires { Names core.old id.now kind.RequestMutUninit }
+    ensures finishes { core.new ≡ (if result then with_changed core.old id.now after_init else core.old) }
+    ensures kind { IsTrue result → Names core.new id.now kind.RequestMut }
+    ensures others { KeepsOtherKinds kind.RequestMutUninit core.old core.new }
+    ensures numbers { numbers_left core.new ≡ numbers_left core.old }
+{
+    let complete = core.request_body(id).is_complete();
+    if complete {
+        core.assume_init(id);
+    }
+    complete
+}
+
+/// Sends a request.
+#[inline(always)]
+#[tactic(auto, unfolding(crate::specs::Kinds::Names))]
+pub fn send_request<B: Body>(core: &mut Bodies<B>, id: &HandleId) -> Result<usize, RequestSendError>
+    requires { Names core.old id.now kind.RequestMut }
+    ensures sends { SendsRequest ⟦<Refuses as BackpressureFn>⟧.action core.old id.now result core.new }
+    ensures kind { IfOk result (λ _. Names core.new id.now kind.PendingResponse) }
+    ensures others { KeepsOtherKinds kind.RequestMut core.old core.new }
+    ensures numbers { numbers_left core.new ≡ numbers_left core.old }
+{
+    core.send_request(id)
+}
+
+/// Receives a request at a server.
+#[inline(always)]
+#[tactic(auto, unfolding(crate::specs::Kinds::Names))]
+pub fn receive_request<B: Body>(
+    core: &mut Bodies<B>,
+    server: u64,
+) -> Result<Option<HandleId>, ReceiveError>
+    requires kind { Names core.old server kind.Server }
+    requires number { 0 < numbers_left core.old }
+    ensures receives { ReceivesRequest core.old server result core.new }
+    ensures kind { IfOk result (λ handle. IfSome handle (λ number. Names core.new number kind.ActiveRequest)) }
+    ensures kinds { KeepsKinds core.old core.new }
+    ensures numbers { numbers_left core.old ≤ numbers_left core.new + 1 }
+{
+    core.receive_request(server)
+}
+
+/// Returns the body of a request that a server received.
+#[inline(always)]
+#[tactic(auto, unfolding(crate::specs::Kinds::Names))]
+pub fn request_body<'a, B: Body>(core: &'a Bodies<B>, id: &HandleId) -> &'a B
+    requires { Names core.now id.now kind.ActiveRequest }
+    ensures { IsSomeAnd (option_and_then request_in (handle_at core.now id.now)) (λ m. B.elements result.now ≡ m.content.elements) }
+{
+    core.request_body(id)
+}

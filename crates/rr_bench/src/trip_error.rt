@@ -1,0 +1,30 @@
+//! Why a round trip failed.
+
+use rr_protocol::{LoanError, ReceiveError, RequestSendError, SendError};
+use thiserror::Error;
+
+/// Why a round trip failed.
+#[derive(Debug, Drop, Error)]
+pub enum TripError {
+    /// A loan was refused.
+    #[error("{0}")]
+    Loan(#[from] LoanError),
+    /// A message was longer or shorter than its body.
+    #[error("a message has another length than its body")]
+    Length,
+    /// The send of the request was refused.
+    #[error("{0}")]
+    RequestSend(#[from] RequestSendError),
+    /// The send of the response was refused.
+    #[error("{0}")]
+    Send(#[from] SendError),
+    /// A receive was refused.
+    #[error("{0}")]
+    Receive(#[from] ReceiveError),
+    /// No message came.
+    #[error("no message came")]
+    NothingCame,
+    /// No number is left for a handle.
+    #[error("the hub has no numbers left")]
+    NoNumbersLeft,
+}
