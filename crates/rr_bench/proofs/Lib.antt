@@ -6,3 +6,4 @@ pub mod Writes
 pub mod Releases
 pub mod Sends
 pub mod Receives
+pub mod Copies

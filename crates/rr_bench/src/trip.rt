@@ -24,6 +24,46 @@ fn read<T: Payload, B: Body<Item = T>>(body: &B) -> Result<u64, TripError> {
     Ok(body.get(len - 1).last_word())
 }
 
+/// Loans a request of one element, and writes it. It is complete by proof, and is not asked about that.
+#[inline(always)]
+fn request_of_one<T: Payload, B: Body<Item = T>>(
+    core: &mut Bodies<B>,
+    client: u64,
+    word: u64,
+) -> Result<HandleId, TripError>
+    requires client { Names core.old client kind.Client }
+    requires numbers { 0 < numbers_left core.old }
+    requires len { IsTrue (takes_len B.family 1) }
+    ensures kind { IfOk result (λ request. Names core.new request kind.RequestMut) }
+    ensures others { KeepsOtherKinds kind.RequestMutUninit core.old core.new }
+    ensures numbers { numbers_left core.old ≤ numbers_left core.new + 1 }
+{
+    let request = calls::loan_request(core, client, 1)?;
+    calls::push_request(core, &request, T::filled(word));
+    calls::init_request(core, &request);
+    Ok(request)
+}
+
+/// Loans a response of one element, and writes it. It is complete by proof, and is not asked about that.
+#[inline(always)]
+fn response_of_one<T: Payload, B: Body<Item = T>>(
+    core: &mut Bodies<B>,
+    active: &HandleId,
+    word: u64,
+) -> Result<HandleId, TripError>
+    requires active { Names core.old active.now kind.ActiveRequest }
+    requires numbers { 0 < numbers_left core.old }
+    requires len { IsTrue (takes_len B.family 1) }
+    ensures kind { IfOk result (λ response. Names core.new response kind.ResponseMut) }
+    ensures others { KeepsOtherKinds kind.ResponseMutUninit core.old core.new }
+    ensures numbers { numbers_left core.old ≤ numbers_left core.new + 1 }
+{
+    let response = calls::loan_response(core, active, 1)?;
+    calls::push_response(core, &response, T::filled(word));
+    calls::init_response(core, &response);
+    Ok(response)
+}
+
 /// Fills a request with elements of one word.
 #[inline(always)]
 fn write_request<T: Payload, B: Body<Item = T>>(
@@ -72,6 +112,29 @@ fn write_response<T: Payload, B: Body<Item = T>>(
     Ok(())
 }
 
+/// Loans a request of `len` elements, and fills it with elements of one word.
+#[inline(always)]
+fn written_request<T: Payload, B: Body<Item = T>>(
+    core: &mut Bodies<B>,
+    client: u64,
+    len: usize,
+    word: u64,
+) -> Result<HandleId, TripError>
+    requires client { Names core.old client kind.Client }
+    requires numbers { 0 < numbers_left core.old }
+    requires len { IsTrue (takes_len B.family len) }
+    ensures kind { IfOk result (λ request. Names core.new request kind.RequestMut) }
+    ensures others { KeepsOtherKinds kind.RequestMutUninit core.old core.new }
+    ensures numbers { numbers_left core.old ≤ numbers_left core.new + 1 }
+{
+    if len == 1 {
+        return request_of_one(core, client, word);
+    }
+    let request = calls::loan_request(core, client, len)?;
+    write_request(core, &request, len, word)?;
+    Ok(request)
+}
+
 /// Sends a request of `len` elements, each filled with a word. Returns the pending response.
 #[inline(always)]
 fn ask<T: Payload, B: Body<Item = T>>(
@@ -87,10 +150,32 @@ fn ask<T: Payload, B: Body<Item = T>>(
     ensures ports { KeepsPorts core.old core.new }
     ensures numbers { numbers_left core.old ≤ numbers_left core.new + 1 }
 {
-    let request = calls::loan_request(core, client, len)?;
-    write_request(core, &request, len, word)?;
+    let request = written_request(core, client, len, word)?;
     calls::send_request(core, &request)?;
     Ok(request)
+}
+
+/// Loans a response of `len` elements, and fills it with elements of one word.
+#[inline(always)]
+fn written_response<T: Payload, B: Body<Item = T>>(
+    core: &mut Bodies<B>,
+    active: &HandleId,
+    len: usize,
+    word: u64,
+) -> Result<HandleId, TripError>
+    requires active { Names core.old active.now kind.ActiveRequest }
+    requires numbers { 0 < numbers_left core.old }
+    requires len { IsTrue (takes_len B.family len) }
+    ensures kind { IfOk result (λ response. Names core.new response kind.ResponseMut) }
+    ensures others { KeepsOtherKinds kind.ResponseMutUninit core.old core.new }
+    ensures numbers { numbers_left core.old ≤ numbers_left core.new + 1 }
+{
+    if len == 1 {
+        return response_of_one(core, active, word);
+    }
+    let response = calls::loan_response(core, active, len)?;
+    write_response(core, &response, len, word)?;
+    Ok(response)
 }
 
 /// Receives a request, and sends a response that is filled with one more than the word that came.
@@ -110,8 +195,7 @@ fn answer<T: Payload, B: Body<Item = T>>(
         return Err(TripError::NothingCame);
     };
     let word = read(calls::request_body(core, &active))?;
-    let response = calls::loan_response(core, &active, len)?;
-    write_response(core, &response, len, word.wrapping_add(1))?;
+    let response = written_response(core, &active, len, word.wrapping_add(1))?;
     calls::send_response(core, &response)?;
     calls::release_active(core, &active);
     Ok(())

@@ -84,6 +84,7 @@ impl Holders {
     }
 
     /// One less holds a slot that is held. The slot is free once nobody holds it.
+    #[inline(always)]
     pub(crate) fn give_back(&mut self, slot: usize)
         requires { 0 < slice_index self.old.holders slot }
         ensures holders { self.new.holders ≡ slice_set self.old.holders slot (slice_index self.old.holders slot - 1) }

@@ -66,6 +66,7 @@ impl<B: Body> Pool<B> {
     ///
     /// `Full` exactly if no slot is free. `NoRoom` if `len` is above the room and memory was refused. Nothing has changed
     /// on either.
+    #[inline(always)]
     pub fn acquire(&mut self, len: usize) -> Result<usize, AcquireError>
         requires { IsTrue (takes_len B.family len) }
         ensures free { IfOk result (λ slot. slice_get self.old.holders slot ≡ Some 0) }
@@ -96,6 +97,7 @@ impl<B: Body> Pool<B> {
     }
 
     /// One less holds a slot that is held. The slot is free once nobody holds it.
+    #[inline(always)]
     pub fn give_back(&mut self, slot: usize)
         requires { 0 < slice_index self.old.holders slot }
         ensures { self.new ≡ given_back self.old slot }

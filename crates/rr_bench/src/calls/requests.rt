@@ -1,5 +1,5 @@
 //! Requests: loaned, written and sent by a client, received and read by a server.
-ghost use Rattle.std.specs.Prelude.{◌≡◌, ◌<◌, ◌≤◌, ◌+◌, ◌⊎◌, not, true, Some, IsTrue, IsSomeAnd, IfOk, IfSome, if◌then◌else◌, option_and_then};
+ghost use Rattle.std.specs.Prelude.{◌≡◌, ◌<◌, ◌≤◌, ◌+◌, not, true, Some, IsTrue, IsSomeAnd, IfOk, IfSome, if◌then◌else◌, option_and_then};
 ghost use Rattle.rr_slots.specs.Families.{takes_len};
 ghost use Rattle.rr_protocol.specs.declared.kind.Kind.TheVariants as kind;
 ghost use Rattle.rr_protocol.specs.Loans.{LoansRequest};
@@ -7,7 +7,8 @@ ghost use Rattle.rr_protocol.specs.Messages.{request_in};
 ghost use Rattle.rr_protocol.specs.Receives.{ReceivesRequest};
 ghost use Rattle.rr_protocol.specs.Sends.{SendsRequest};
 ghost use Rattle.rr_protocol.specs.State.{handle_at, numbers_left, with_changed};
-ghost use Rattle.rr_protocol.specs.Writing.{is_complete, with_element, with_request_content, after_init};
+ghost use Rattle.rr_protocol.specs.Writing.{is_complete, with_element, with_request_content};
+ghost use Rattle.rr_hub.specs.Writing.{is_ready};
 ghost use Rattle.rr_bench.specs.Kinds.{Names, KeepsKinds, KeepsOtherKinds};
 
 use crate::hub::{Bodies, Refuses};
@@ -46,19 +47,31 @@ pub fn push_request<B: Body>(core: &mut Bodies<B>, id: &HandleId, item: B::Item)
     core.push_request(id, item)
 }
 
+/// Makes a request that is being written, and complete, one that can be sent.
+#[inline(always)]
+#[tactic(auto, unfolding(crate::specs::Kinds::Names))]
+pub fn init_request<B: Body>(core: &mut Bodies<B>, id: &HandleId)
+    requires kind { Names core.old id.now kind.RequestMutUninit }
+    requires complete { IsSomeAnd (handle_at core.old id.now) (λ handle. is_ready handle ≡ true) }
+    ensures kind { Names core.new id.now kind.RequestMut }
+    ensures others { KeepsOtherKinds kind.RequestMutUninit core.old core.new }
+    ensures numbers { numbers_left core.new ≡ numbers_left core.old }
+{
+    core.assume_init(id);
+}
+
 /// Makes a request that is being written one that can be sent. Returns `false` if it is not complete.
 #[inline(always)]
 #[tactic(auto, unfolding(crate::specs::Kinds::Names))]
 pub fn finish_request<B: Body>(core: &mut Bodies<B>, id: &HandleId) -> bool
     requires { Names core.old id.now kind.RequestMutUninit }
-    ensures finishes { core.new ≡ (if result then with_changed core.old id.now after_init else core.old) }
     ensures kind { IsTrue result → Names core.new id.now kind.RequestMut }
     ensures others { KeepsOtherKinds kind.RequestMutUninit core.old core.new }
     ensures numbers { numbers_left core.new ≡ numbers_left core.old }
 {
     let complete = core.request_body(id).is_complete();
     if complete {
-        core.assume_init(id);
+        init_request(core, id);
     }
     complete
 }

@@ -1,5 +1,5 @@
 //! Responses: loaned, written and sent by a server, received and read by a client.
-ghost use Rattle.std.specs.Prelude.{◌≡◌, ◌<◌, ◌≤◌, ◌+◌, not, Some, IsTrue, IsSomeAnd, IfOk, IfSome, if◌then◌else◌, option_and_then};
+ghost use Rattle.std.specs.Prelude.{◌≡◌, ◌<◌, ◌≤◌, ◌+◌, not, true, Some, IsTrue, IsSomeAnd, IfOk, IfSome, if◌then◌else◌, option_and_then};
 ghost use Rattle.rr_slots.specs.Families.{takes_len};
 ghost use Rattle.rr_protocol.specs.declared.kind.Kind.TheVariants as kind;
 ghost use Rattle.rr_protocol.specs.Loans.{LoansResponse};
@@ -7,7 +7,8 @@ ghost use Rattle.rr_protocol.specs.Messages.{response_in};
 ghost use Rattle.rr_protocol.specs.Receives.{ReceivesResponse};
 ghost use Rattle.rr_protocol.specs.Sends.{SendsResponse};
 ghost use Rattle.rr_protocol.specs.State.{handle_at, numbers_left, with_changed};
-ghost use Rattle.rr_protocol.specs.Writing.{is_complete, with_element, with_response_content, after_init};
+ghost use Rattle.rr_protocol.specs.Writing.{is_complete, with_element, with_response_content};
+ghost use Rattle.rr_hub.specs.Writing.{is_ready};
 ghost use Rattle.rr_bench.specs.Kinds.{Names, KeepsKinds, KeepsOtherKinds};
 
 use crate::hub::{Bodies, Refuses};
@@ -46,19 +47,31 @@ pub fn push_response<B: Body>(core: &mut Bodies<B>, id: &HandleId, item: B::Item
     core.push_response(id, item)
 }
 
+/// Makes a response that is being written, and complete, one that can be sent.
+#[inline(always)]
+#[tactic(auto, unfolding(crate::specs::Kinds::Names))]
+pub fn init_response<B: Body>(core: &mut Bodies<B>, id: &HandleId)
+    requires kind { Names core.old id.now kind.ResponseMutUninit }
+    requires complete { IsSomeAnd (handle_at core.old id.now) (λ handle. is_ready handle ≡ true) }
+    ensures kind { Names core.new id.now kind.ResponseMut }
+    ensures others { KeepsOtherKinds kind.ResponseMutUninit core.old core.new }
+    ensures numbers { numbers_left core.new ≡ numbers_left core.old }
+{
+    core.assume_init(id);
+}
+
 /// Makes a response that is being written one that can be sent. Returns `false` if it is not complete.
 #[inline(always)]
 #[tactic(auto, unfolding(crate::specs::Kinds::Names))]
 pub fn finish_response<B: Body>(core: &mut Bodies<B>, id: &HandleId) -> bool
     requires { Names core.old id.now kind.ResponseMutUninit }
-    ensures finishes { core.new ≡ (if result then with_changed core.old id.now after_init else core.old) }
     ensures kind { IsTrue result → Names core.new id.now kind.ResponseMut }
     ensures others { KeepsOtherKinds kind.ResponseMutUninit core.old core.new }
     ensures numbers { numbers_left core.new ≡ numbers_left core.old }
 {
     let complete = core.response_body(id).is_complete();
     if complete {
-        core.assume_init(id);
+        init_response(core, id);
     }
     complete
 }
