@@ -83,10 +83,6 @@ module _ {T H K : Type 0} where
 module _ {T H K : Type 0} {Begins : ℕ → ℕ → Type 0} {Ends : ℕ → Type 0} {GoesOn : ℕ → ℕ → List ℕ → List ℕ → Type 0}
     (history : List (Event T H K)) (event : Event T H K) (old new : State T H T H K) (fits : IsReached old)
     (completes : Completes history old) (settles : Settles Begins Ends GoesOn old new) (limits : new.limits ≡ old.limits) where
-  -- a number that was given has no server yet that is new
-  connected_below : (n : ℕ) (c : Server K) → server_at old n ≡ Some c → n < old.next
-  connected_below n c e = has_below (λ (d : Server K). d.id) old.servers n old.next fits.ports.server_numbers (ap is_some e)
-
   -- what was under way is
   pub way_later : (server p : ℕ) → IsUnderWay old server p → IsUnderWay new server p
   way_later server p way = record {

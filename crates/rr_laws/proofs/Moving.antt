@@ -119,18 +119,6 @@ module _ {Q QH P PH K : Type 0} where
         (then.entries server p);
   }
 
-  -- what moves from a state with the same roles and lists
-  pub from_same : {Gains : ℕ → Role → Type 0} {GoesOn : ℕ → ℕ → List ℕ → List ℕ → Type 0} (old mid new : State Q QH P PH K)
-      → old.next ≤ mid.next → roles_of mid.handles ≡ roles_of old.handles → mid.responses ≡ old.responses →
-      Moves Gains GoesOn mid new → Moves Gains GoesOn old new
-  from_same {Gains} {GoesOn} old mid new more same lists moves = record {
-    next = omega (arith, more, moves.next);
-    roles = λ n role servers e. subst (λ r. (get r n ≡ Some role) ⊎ Gains n role) same (moves.roles n role servers e);
-    entries = λ server p. subst (λ xs. (queued new server p ≡ []) ⊎ GoesOn server p xs (queued new server p))
-        (ap (λ r. entries_for r mid.responses server p) same ∙ ap (λ l. entries_for (roles_of old.handles) l server p) lists)
-        (moves.entries server p);
-  }
-
   -- one more role, over the same lists, where no entries stand for it
   pub moves_with_role : {Gains : ℕ → Role → Type 0} (old new : State Q QH P PH K) (n : ℕ) (role : Role) → old.next ≤ new.next
       → roles_of new.handles ≡ insert (roles_of old.handles) n role → new.responses ≡ old.responses →

@@ -47,10 +47,6 @@ module _ {Q QH P PH K : Type 0} (s : State Q QH P PH K) where
       go true server e d h = absurd (cc)
 
   module _ (fits : IsReached s) where
-    -- a handle's number names it
-    pub kind_of_handle : (n : ℕ) (h : Handle Q QH P PH) → handle_at s n ≡ Some h → kind_at s n ≡ Some (kind_of h)
-    kind_of_handle n h is = kind_of_no_port n (fits.handles n (role_of h) (role_at s.handles n h is)).no_port ∙ ap (option_map kind_of) is
-
     -- the number of a response that is received names nothing before, if no handle stands under it
     pub received_names_nothing : (n number : ℕ) (new : State Q QH P PH K) → ReceivesResponse s n (Ok (Some number)) new
         → handle_at s number ≡ None → kind_at s number ≡ None

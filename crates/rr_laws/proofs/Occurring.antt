@@ -69,10 +69,6 @@ pub subsequence_itself : (xs : List ℕ) → IsSubsequence xs xs
 subsequence_itself [] = tt
 subsequence_itself (x ∷ xs) = inl (refl, subsequence_itself xs)
 
--- the empty list is a part of each
-pub subsequence_empty : (ys : List ℕ) → IsSubsequence [] ys
-subsequence_empty ys = tt
-
 -- a part of a list is one of a longer list
 pub subsequence_longer : (xs ys zs : List ℕ) → IsSubsequence xs ys → IsSubsequence xs (ys ++ zs)
 subsequence_longer [] ys zs h = tt

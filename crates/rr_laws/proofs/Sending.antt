@@ -67,14 +67,6 @@ module _ {Q QH P PH K : Type 0} (s : State Q QH P PH K) (fits : IsReached s) (n 
       })
       (counts_with_sent_request s.limits s.servers roles fits.counts n q below))
 
-  -- a request that nothing refused, and that was put into its lists, is sent
-  pub sends_unrefused : (action : K → ℕ → ℕ → BackpressureAction) (connections : ℕ) (new : State Q QH P PH K)
-      → IsRequestMutAnd s n (λ client message. None ≡ request_send_refusal action s client message)
-      → IsRequestMutAnd s n (λ client message. (connections ≡ connections_of s message) × (new ≡ with_sent_request s n message))
-      → SendsRequest action s n (Ok connections) new
-  sends_unrefused action connections new due sent =
-      with_both (request_at s n) _ _ _ (λ m. with_both (client_at s m.client) _ _ _ (λ client d r. (sym d, r.0, r.1))) due sent
-
   -- after a request was sent, or refused
   pub sends_request_reached : (action : K → ℕ → ℕ → BackpressureAction) (result : Result ℕ RequestSendError) (new : State Q QH P PH K)
       → SendsRequest action s n result new → IsReached new

@@ -315,24 +315,3 @@ distinct_map g (u ∷ us) once apart = (
   distinct_map g us (λ j. omega (arith, once j, times-cons j u us))
       (λ i j h k. apart i j (omega (arith, times-cons i u us)) (omega (arith, times-cons j u us))),
 )
-
--- hs says how often each index is in us, and g tells the indexes in us apart: then the distinct numbers that us is mapped to,
--- and the indexes that are nowhere in us, are as many as hs has
-pub distinct_of_held : (g : ℕ → ℕ) (us hs : List ℕ) → ((j : ℕ) → get_or hs j 0 ≡ times j us)
-    → ((i j : ℕ) → 0 < get_or hs i 0 → 0 < get_or hs j 0 → g i ≡ g j → i ≡ j)
-    → distinct_count nat_eq (map g us) + count_by (λ h. eqb h 0) hs ≡ length hs
-distinct_of_held g us hs counted apart =
-    let ns = held_from 0 hs in
-    let once : (j : ℕ) → (times j ns ≤ 1) × (0 < get_or hs j 0 → 0 < times j ns) × (0 < times j ns → 0 < get_or hs j 0) =
-    λ j. let r = held_once 0 hs j in let e : times (0 + j) ns ≡ times j ns = ap (λ n. times n ns) (omega arith) in
-    (omega (arith, r.0), λ p. omega (arith, r.1 p), λ p. r.2 (omega arith)) in
-    let members : (q : ℕ) → is_member nat_eq (map g ns) q ≡ is_member nat_eq (map g us) q = λ q. bool_same _ _
-    (λ h. let r = any_at_slot g (nat_eq q) ns h in slot_any g (nat_eq q) us r.0 (omega (arith, (once r.0).2 r.1, counted r.0)) r.2)
-    (λ h. let r = any_at_slot g (nat_eq q) us h in slot_any g (nat_eq q) ns r.0 ((once r.0).1 (omega (arith, r.1, counted r.0))) r.2) in
-    omega (
-      arith,
-      length-from_keys nat_eq_equiv (map g ns) (map g us)
-          (distinct_map g ns (λ j. (once j).0) (λ i j h k. apart i j ((once i).2 h) ((once j).2 k))) members,
-      length-held 0 hs,
-      length-map ns g,
-    )

@@ -21,14 +21,6 @@ module _ (slots : List Slot) where
   next_at i d s e = get_or_from_slice_get (map next_of slots) i (next_of s) d
       (slice_get-map next_of slots i ∙ ap (λ o. option_map next_of o) e)
 
-  -- the holders of a slot that is held
-  pub is_within : (i : ℕ) → 0 < get_or (map holders_of slots) i 0 → i < length slots
-  is_within i held = ⊎_elim (λ h. h) (λ h. absurd (omega (
-    arith,
-    held,
-    get_or_past (map holders_of slots) i 0 (omega (arith, h, length-map slots holders_of)),
-  ))) (cases_lt i (length slots))
-
   module _ (first : ℕ) where
     -- where a slot is free, the first one is within, and free
     pub first_inside : (free : ℕ) → IsThreaded slots first free → (free ≡ 0 → ⊥) → first < length slots

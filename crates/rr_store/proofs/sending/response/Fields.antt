@@ -99,29 +99,6 @@ module _ {Q QH P PH K : Type 0} (p : Parts Q QH P PH K) (sound : IsSound p empty
         × (uses (sender_of entry.sender p.server_senders).messages entry.slot + 1 < 2 ^ 64)
     slot_asked = (f.slot, omega (arith, used_once p sound k entry f index c there sends))
 
-    -- the slot is held as it was
-    pub held_then : (overflow : Bool) (channel : ℕ) (reach : Option ℕ) (mid : List (Sender P ResponseDetails PH))
-        → mid ≡ slice_set p.server_senders entry.sender (part.with_messages (sender_of entry.sender p.server_senders)
-        (delivered (sender_of entry.sender p.server_senders).messages overflow channel entry.slot reach))
-        → (entry.sender < length mid) × (0 < slice_index (sender_of entry.sender mid).messages.held entry.slot)
-    held_then overflow channel reach mid is =
-        let m : Messages P ResponseDetails PH = (sender_of entry.sender p.server_senders).messages in
-        let fresh : Sender P ResponseDetails PH = part.with_messages (sender_of entry.sender p.server_senders)
-        (delivered m overflow channel entry.slot reach) in
-        let same : slice_index (sender_of entry.sender (slice_set p.server_senders entry.sender fresh)).messages.held entry.slot
-        ≡ slice_index m.held entry.slot =
-        set_alike p.server_senders entry.sender fresh no_sender (λ x. slice_index x.messages.held entry.slot)
-        (ap (λ hs. slice_index hs entry.slot) (held_as_were m overflow channel entry.slot reach)) entry.sender in (
-          omega (arith, f.sender, ap length is, length-set p.server_senders entry.sender fresh),
-          omega (
-            arith,
-            f.slot,
-            same,
-            ap (λ (ls : List (Sender P ResponseDetails PH)). slice_index
-                (sender_of entry.sender ls).messages.held entry.slot) is,
-          ),
-        )
-
     -- what holds of its server and of the response is told of the number
     pub of_sent : (R : State Q QH P PH K → ℕ → Server K → ResponseMessage P PH → Type 0) → value_at p.table k ≡ Some entry
         → stage_kind entry.stage ≡ Kind.ResponseMut → R (state_of p) k (server_of c) (response_at p entry.sender entry.slot)

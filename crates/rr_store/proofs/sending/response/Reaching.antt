@@ -56,13 +56,3 @@ module _ {K B N H T : Type 0} (clients : List (ClientPort K)) (senders : List (O
         entry
         → is_pending entry.stage ≡ false → None ≡ reached (map client_part clients) (map sender_part senders) table details
     reached_other entry told is = sym (reached_by (Some entry) told ∙ ap (λ b. cond b (Some c.port.receiver) None) is)
-
--- the senders as they are are the senders with the messages that one has
-pub as_they_are : {B N H T : Type 0} (senders : List (OwnedSender B N H T)) (l : ℕ) (R : OwnedSender B N H T → Type 0)
-    → IsSomeAnd (slice_get senders l) R → IsSomeAnd (slice_get senders l) (λ x. senders ≡ slice_set senders l (with_messages x x.messages))
-as_they_are {B} {N} {H} {T} senders l R told = go (slice_get senders l) refl told
-  where
-    go : (o : Option (OwnedSender B N H T)) → slice_get senders l ≡ o → IsSomeAnd o R
-        → IsSomeAnd o (λ x. senders ≡ slice_set senders l (with_messages x x.messages))
-    go None e t = t
-    go (Some x) e t = sym (ap (slice_set senders l) (sym (get_or_from_slice_get senders l x x e)) ∙ set-get_or senders l x)
