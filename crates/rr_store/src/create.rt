@@ -9,7 +9,7 @@ ghost use Rattle.rr_store.specs.Creating.{IsNew};
 ghost use Rattle.rr_store.specs.Ports.{connected_of};
 ghost use Rattle.rr_store.specs.Views.{no_request};
 
-use crate::{ClientPort, ConnectedPort, HandleEntry, OwnedSender, Port, RequestDetails};
+use crate::{ClientPort, ConnectedPort, HandleEntry, OwnedSender, Port, RequestDetails, Stage};
 use rr_protocol::{ClientSettings, Limits};
 use rr_sender::{Sender, SenderSize};
 use rr_slots::Body;
@@ -23,6 +23,13 @@ const NO_REQUEST: RequestDetails = RequestDetails {
     number: 0,
     client: 0,
     request_id: 0,
+};
+
+/// The entry of no handle: what a vacant place of the table holds.
+const NO_HANDLE: HandleEntry = HandleEntry {
+    stage: Stage::Response,
+    sender: 0,
+    slot: 0,
 };
 
 /// The most requests of a client that can live at one time, where the limits make a hub.
@@ -145,7 +152,7 @@ pub fn insert_port<P: ConnectedPort, B: Body, N: Copy, H: Drop>(
 {
     ports.reserve(1)?;
     senders.reserve(1)?;
-    let row = table.add_row(alloc, row_len)?;
+    let row = table.add_row(alloc, row_len, NO_HANDLE)?;
     senders.push_reserved(OwnedSender {
         owner: port.id(),
         row,

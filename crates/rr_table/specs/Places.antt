@@ -1,5 +1,5 @@
 -- How rows of places stand for a table.
-use Rattle.std.specs.Prelude.{◌≡◌, ◌≢◌, ℕ, ◌+◌, Option, None, Some, List, [], ◌∷◌, ◌++◌, map, length, slice_index_or, Vec}
+use Rattle.std.specs.Prelude.{◌≡◌, ◌≢◌, ℕ, ◌+◌, ◌==◌, if◌then◌else◌, Option, None, Some, List, [], ◌∷◌, ◌++◌, map, length, slice_index_or, Vec}
 use Rattle.std.specs.Global.{Global}
 use Rattle.std.specs.FinMap as map
 use Rattle.rr_table.specs.TableView.{TableEntry, table_entry, TableView}
@@ -10,14 +10,26 @@ use Rattle.rr_table.specs.declared.table.Entry.{Entry}
 abbrev pub place : ℕ → ℕ → Place
 place r i = record { row = r; index = i }
 
+-- the number that an entry of a vacant place has
+abbrev pub vacant_number : ℕ
+vacant_number = 18446744073709551615
+
 module _ {E : Type 0} where
   -- a value under a number
   abbrev pub entry : ℕ → E → Entry E
   entry n v = record { number = n; value = v }
 
+  -- an entry as what stands in its place, or None where the place is vacant
+  abbrev pub occupied : Entry E → Option (Entry E)
+  occupied e = if e.number == vacant_number then None else Some e
+
+  -- the places of a vector of entries
+  abbrev pub places_of : Vec (Entry E) Global → List (Option (Entry E))
+  places_of row = map occupied row.items
+
   -- the rows that a vector of vectors has
-  abbrev pub rows_of : Vec (Vec (Option (Entry E)) Global) Global → List (List (Option (Entry E)))
-  rows_of rows = map (λ row. row.items) rows.items
+  abbrev pub rows_of : Vec (Vec (Entry E) Global) Global → List (List (Option (Entry E)))
+  rows_of rows = map places_of rows.items
 
   -- what stands in row r, from place i on
   abbrev pub in_row : ℕ → ℕ → List (Option (Entry E)) → List (ℕ × TableEntry E)

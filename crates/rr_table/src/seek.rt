@@ -1,18 +1,22 @@
 //! How the place of a number is found.
 
 ghost use Rattle.std.specs.Prelude.{◌≡◌};
-ghost use Rattle.rr_table.specs.Places.{rows_of, standing, IsIndexOf, IsPlaceOf};
+ghost use Rattle.rr_table.specs.Places.{places_of, rows_of, standing, IsIndexOf, IsPlaceOf};
 
 use crate::place::Place;
-use crate::table::Entry;
+use crate::table::{Entry, VACANT};
 
 /// The entry in a place, or None where the place is vacant or outside the rows.
-pub(crate) fn entry_at<E: Copy>(rows: &Vec<Vec<Option<Entry<E>>>>, place: Place) -> Option<Entry<E>>
+#[inline(always)]
+pub(crate) fn entry_at<E: Copy>(rows: &Vec<Vec<Entry<E>>>, place: Place) -> Option<Entry<E>>
     ensures { result ≡ standing (rows_of rows.now) place }
 {
     if place.row < rows.len() {
         if place.index < rows[place.row].len() {
-            return rows[place.row][place.index];
+            let entry = rows[place.row][place.index];
+            if entry.number != VACANT {
+                return Some(entry);
+            }
         }
     }
     None
@@ -20,8 +24,9 @@ pub(crate) fn entry_at<E: Copy>(rows: &Vec<Vec<Option<Entry<E>>>>, place: Place)
 
 /// The place of a number: the hint where the number stands there, and else what a walk over the rows finds. None where
 /// the number stands nowhere.
+#[cold]
 pub(crate) fn seek<E: Copy>(
-    rows: &Vec<Vec<Option<Entry<E>>>>,
+    rows: &Vec<Vec<Entry<E>>>,
     number: u64,
     hint: Place,
 ) -> Option<Place>
@@ -41,14 +46,15 @@ pub(crate) fn seek<E: Copy>(
 }
 
 /// The index of a number in one row, or None where it does not stand there.
-fn seek_in_row<E: Copy>(row: &Vec<Option<Entry<E>>>, number: u64) -> Option<usize>
-    ensures { IsIndexOf row.now.items number result }
+fn seek_in_row<E: Copy>(row: &Vec<Entry<E>>, number: u64) -> Option<usize>
+    ensures { IsIndexOf (places_of row.now) number result }
 {
+    if number == VACANT {
+        return None;
+    }
     for index in 0..row.len() {
-        if let Some(entry) = row[index] {
-            if entry.number == number {
-                return Some(index);
-            }
+        if row[index].number == number {
+            return Some(index);
         }
     }
     None

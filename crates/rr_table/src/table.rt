@@ -1,7 +1,8 @@
 //! The table and its calls.
 
-ghost use Rattle.std.specs.Prelude.{◌≡◌, ◌≢◌, ◌<◌, length, replicate, IfOk, OnOk, OnErr, IfSome, Some, None, true, option_map};
+ghost use Rattle.std.specs.Prelude.{◌≡◌, ◌≢◌, ◌<◌, ◌+◌, ◌^◌, length, replicate, IfOk, OnOk, OnErr, IfSome, Some, None, true, option_map};
 ghost use Rattle.std.specs.FinMap as map;
+ghost use Rattle.rr_table.specs.Places.{entry, vacant_number};
 ghost use Rattle.rr_table.specs.TableView.{value_at, value_in, empty_table, table_entry, inserted, removed, IsAt, IsInside, IsVacant, with_row, IsRenewed};
 
 use crate::place::Place;
@@ -9,7 +10,10 @@ use crate::seek::{entry_at, seek};
 use std::alloc::{AllocError, Global};
 use std::marker::Model;
 
-/// A value under its number.
+/// The number of an entry in a vacant place. No value stands under it.
+pub(crate) const VACANT: u64 = u64::MAX;
+
+/// A value under its number, or a vacant place, where the number is `VACANT` and the value says nothing.
 #[derive(Clone, Copy)]
 pub(crate) struct Entry<E: Copy> {
     pub(crate) number: u64,
@@ -19,7 +23,7 @@ pub(crate) struct Entry<E: Copy> {
 /// Values under numbers, each in a fixed place of a row. No number stands in two places.
 #[derive(Drop)]
 pub struct Table<E: Copy> {
-    rows: Vec<Vec<Option<Entry<E>>>>,
+    rows: Vec<Vec<Entry<E>>>,
 }
 
 impl<E: Copy> Model for Table<E> {
@@ -47,26 +51,27 @@ impl<E: Copy> Table<E> {
     }
 
     /// Adds a last row of `len` vacant places and gives its number. Nothing else changes. `AllocError` where there is no
-    /// memory for the row; the table is then as it was.
-    pub fn add_row(&mut self, alloc: Global, len: usize) -> Result<usize, AllocError>
+    /// memory for the row; the table is then as it was. `filler` is what a place holds while it is vacant.
+    pub fn add_row(&mut self, alloc: Global, len: usize, filler: E) -> Result<usize, AllocError>
         ensures row { IfOk result (λ row. row ≡ length self.old.rows) }
         ensures ok { OnOk result (self.new ≡ with_row self.old len) }
         ensures err { OnErr result (self.new ≡ self.old) }
     {
         let row = self.rows.len();
-        let last = vacant(alloc, len)?;
+        let last = vacant(alloc, len, filler)?;
         self.rows.push(last)?;
         Ok(row)
     }
 
     /// Gives a row `len` vacant places. The numbers that stood in that row are gone, and nothing else changes.
-    /// `AllocError` where there is no memory for the places; the table is then as it was.
-    pub fn renew_row(&mut self, alloc: Global, row: usize, len: usize) -> Result<(), AllocError>
+    /// `AllocError` where there is no memory for the places; the table is then as it was. `filler` is what a place holds
+    /// while it is vacant.
+    pub fn renew_row(&mut self, alloc: Global, row: usize, len: usize, filler: E) -> Result<(), AllocError>
         requires { row < length self.old.rows }
         ensures ok { OnOk result (IsRenewed row len self.old self.new) }
         ensures err { OnErr result (self.new ≡ self.old) }
     {
-        let places = vacant(alloc, len)?;
+        let places = vacant(alloc, len, filler)?;
         self.rows[row] = places;
         Ok(())
     }
@@ -87,6 +92,7 @@ impl<E: Copy> Table<E> {
 
     /// The value under a number, if it stands in this very place. None else, whatever stands there. It looks at no other
     /// place.
+    #[inline(always)]
     pub fn get_at(&self, number: u64, place: Place) -> Option<E>
         ensures { result ≡ value_in self.now number place }
     {
@@ -103,6 +109,7 @@ impl<E: Copy> Table<E> {
     }
 
     /// Returns whether a number stands in a place. Looks at no other place.
+    #[inline(always)]
     pub fn is_at(&self, number: u64, place: Place) -> bool
         ensures there { result ≡ true → IsAt self.now number place }
         ensures elsewhere { IsAt self.now number place → result ≡ true }
@@ -114,26 +121,26 @@ impl<E: Copy> Table<E> {
     }
 
     /// Returns the value under a number from the place where it stands.
+    #[inline(always)]
     pub fn at(&self, number: u64, place: Place) -> E
         requires { IsAt self.now number place }
         ensures { map.get self.now.entries number ≡ Some (table_entry place result) }
     {
         let _ = number;
-        match self.rows[place.row][place.index] {
-            Some(entry) => entry.value,
-            None => unreachable!(),
-        }
+        self.rows[place.row][place.index].value
     }
 
     /// Replaces the value under a number in the place where it stands.
+    #[inline(always)]
     pub fn set_at(&mut self, number: u64, place: Place, value: E)
         requires { IsAt self.old number place }
         ensures { self.new ≡ inserted self.old number place value }
     {
-        self.rows[place.row][place.index] = Some(Entry { number, value });
+        self.rows[place.row][place.index] = Entry { number, value };
     }
 
     /// Takes a number and its value out of the place where they stand, which is vacant then.
+    #[inline(always)]
     pub fn take_at(&mut self, number: u64, place: Place) -> E
         requires { IsAt self.old number place }
         ensures taken { map.get self.old.entries number ≡ Some (table_entry place result) }
@@ -141,7 +148,7 @@ impl<E: Copy> Table<E> {
         ensures vacated { IsVacant self.new place }
     {
         let value = self.at(number, place);
-        self.rows[place.row][place.index] = None;
+        self.rows[place.row][place.index].number = VACANT;
         value
     }
 
@@ -154,14 +161,16 @@ impl<E: Copy> Table<E> {
     }
 
     /// Puts a value into a vacant place, under a new number.
+    #[inline(always)]
     pub fn insert(&mut self, place: Place, number: u64, value: E)
         requires place { IsInside self.old place }
         requires vacant { IsVacant self.old place }
         requires fresh { map.get self.old.entries number ≡ None }
+        requires number { number + 1 < 2 ^ 64 }
         ensures { self.new ≡ inserted self.old number place value }
     {
         let entry = Entry { number, value };
-        self.rows[place.row][place.index] = Some(entry);
+        self.rows[place.row][place.index] = entry;
     }
 
     /// Replaces the value under a number, which keeps its place. The hint is the place that is tried first.
@@ -170,7 +179,7 @@ impl<E: Copy> Table<E> {
         ensures { IfSome (map.get self.old.entries number) (λ s. self.new ≡ inserted self.old number s.place value) }
     {
         if let Some(place) = seek(&self.rows, number, hint) {
-            self.rows[place.row][place.index] = Some(Entry { number, value });
+            self.rows[place.row][place.index] = Entry { number, value };
         }
     }
 
@@ -181,19 +190,22 @@ impl<E: Copy> Table<E> {
         ensures vacated { IfSome (map.get self.old.entries number) (λ s. IsVacant self.new s.place) }
     {
         if let Some(place) = seek(&self.rows, number, hint) {
-            self.rows[place.row][place.index] = None;
+            self.rows[place.row][place.index].number = VACANT;
         }
     }
 }
 
 /// A row of vacant places. `AllocError` where there is no memory for it.
-fn vacant<E: Copy>(alloc: Global, len: usize) -> Result<Vec<Option<Entry<E>>>, AllocError>
-    ensures { IfOk result (λ places. places.items ≡ replicate len None) }
+fn vacant<E: Copy>(alloc: Global, len: usize, filler: E) -> Result<Vec<Entry<E>>, AllocError>
+    ensures { IfOk result (λ places. places.items ≡ replicate len (entry vacant_number filler)) }
 {
     let mut places = Vec::with_capacity(alloc, len)?;
     for i in 0..len {
         let _ = i;
-        places.push(None)?;
+        places.push(Entry {
+            number: VACANT,
+            value: filler,
+        })?;
     }
     Ok(places)
 }

@@ -72,7 +72,7 @@ impl<QB: Body, QH: Default + Drop, PB: Body, PH: Default + Drop, K: Backpressure
     /// Puts a handle into a vacant place, under a number that nothing has.
     #[inline(always)]
     pub fn insert(&mut self, number: u64, place: Place, entry: HandleEntry)
-        requires { CanInsert self.old.table number place }
+        requires { CanInsert self.old.table number place × (number + 1 < 2 ^ 64) }
         ensures { self.new ≡ with_handle self.old number place entry }
     {
         self.table.insert(place, number, entry);

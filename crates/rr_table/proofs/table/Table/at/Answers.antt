@@ -1,6 +1,7 @@
-use Rattle.std.proofs.Common.{◌∙◌, arith}
-use Rattle.rr_table.proofs.Here.{within_here, value_here, none_here}
+use Rattle.std.proofs.Common.{sym, ap, ◌∙◌, arith}
+use Rattle.rr_table.proofs.Here.{within_here, entry_here, value_here}
 use Rattle.rr_table.proofs.Vectors.{within_vectors, index_within, standing_read}
+use Rattle.rr_table.proofs.Entries.{occupied_is, occupied_some}
 use Rattle.rr_table.specs.Places.{rows_of}
 use Rattle.rr_table.proofs.table.Table.at.Goals as goal
 
@@ -18,16 +19,14 @@ index-requires-2 g c =
     index_within c.self.inside.rows.items c.args.place c.index.result.now
     (within_here (rows_of c.self.inside.rows) _ _ c.self.invariant (rw (← c.self.view_is) at c.requires)) c.index.ensures
 
-pub unreachable-requires : goal.unreachable-requires
-unreachable-requires g c =
-    let there = rw (← c.self.view_is) at c.requires in
-    none_here (rows_of c.self.inside.rows) _ _ there
-    (standing_read c.self.inside.rows.items c.args.place c.index.result.now _
-    (within_here (rows_of c.self.inside.rows) _ _ c.self.invariant there) c.index.ensures c.index-2.ensures ∙ c.in-None.is)
-
 pub returns : goal.returns
 returns g c =
+    let rows = rows_of c.self.inside.rows in
     let there = rw (← c.self.view_is) at c.requires in
-    rw (← c.self.view_is) (value_here (rows_of c.self.inside.rows) _ _ c.self.invariant there _
-    (standing_read c.self.inside.rows.items c.args.place c.index.result.now _
-    (within_here (rows_of c.self.inside.rows) _ _ c.self.invariant there) c.index.ensures c.index-2.ensures ∙ c.in-Some.is))
+    let within = within_here rows _ _ c.self.invariant there in
+    let at = standing_read c.self.inside.rows.items c.args.place c.index.result.now _
+    (within_vectors c.self.inside.rows.items c.args.place within)
+    (index_within c.self.inside.rows.items c.args.place c.index.result.now within c.index.ensures) c.index.ensures c.index-2.ensures in
+    let found = occupied_some _ _ (sym at ∙ entry_here rows _ _ there) in
+    rw (← c.self.view_is) (value_here rows _ _ c.self.invariant there _ (at
+    ∙ occupied_is _ (λ v. found.1 (ap (λ z. z.number) (sym found.0) ∙ v))))
