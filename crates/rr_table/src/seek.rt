@@ -25,11 +25,7 @@ pub(crate) fn entry_at<E: Copy>(rows: &Vec<Vec<Entry<E>>>, place: Place) -> Opti
 /// The place of a number: the hint where the number stands there, and else what a walk over the rows finds. None where
 /// the number stands nowhere.
 #[cold]
-pub(crate) fn seek<E: Copy>(
-    rows: &Vec<Vec<Entry<E>>>,
-    number: u64,
-    hint: Place,
-) -> Option<Place>
+pub(crate) fn seek<E: Copy>(rows: &Vec<Vec<Entry<E>>>, number: u64, hint: Place) -> Option<Place>
     ensures { IsPlaceOf (rows_of rows.now) number result }
 {
     if let Some(entry) = entry_at(rows, hint) {

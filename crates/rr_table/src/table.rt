@@ -66,7 +66,13 @@ impl<E: Copy> Table<E> {
     /// Gives a row `len` vacant places. The numbers that stood in that row are gone, and nothing else changes.
     /// `AllocError` where there is no memory for the places; the table is then as it was. `filler` is what a place holds
     /// while it is vacant.
-    pub fn renew_row(&mut self, alloc: Global, row: usize, len: usize, filler: E) -> Result<(), AllocError>
+    pub fn renew_row(
+        &mut self,
+        alloc: Global,
+        row: usize,
+        len: usize,
+        filler: E,
+    ) -> Result<(), AllocError>
         requires { row < length self.old.rows }
         ensures ok { OnOk result (IsRenewed row len self.old self.new) }
         ensures err { OnErr result (self.new ≡ self.old) }

@@ -208,8 +208,15 @@ module _ {Q QH P PH K : Type 0} (p : Parts Q QH P PH K) (core : IsCore p) (n : �
             unhandled k numbered = handle_at-state_of p k ∙ ap (option_map (handle_of p)) (ap (fin_map.get p.table.entries) numbered
                 ∙ unused)
 
-            pub insert_asked : CanInsert q.table details.number own
-            insert_asked = record { inside = place_asked; vacant = vacant_asked; fresh = fresh_asked }
+            -- its number is below the largest of 64 bits
+            number_fits : details.number + 1 < 2 ^ 64
+            number_fits =
+                let below = core.sound.numbered.responses_below sender slot (omega (arith, waits)) in
+                let is : details.number ≡ (response_details p sender slot).number = ap (λ (d : ResponseDetails). d.number) details_are in
+                omega (arith, is, below, core.sound.sized.next_fits)
+
+            pub insert_asked : CanInsert q.table details.number own × (details.number + 1 < 2 ^ 64)
+            insert_asked = (record { inside = place_asked; vacant = vacant_asked; fresh = fresh_asked }, number_fits)
 
             module _ (t : Parts Q QH P PH K) (put : t ≡ with_handle q details.number own (received_held p sender slot)) (k : ℕ)
                 (numbered : k ≡ details.number) where
