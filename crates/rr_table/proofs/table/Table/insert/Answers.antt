@@ -16,7 +16,8 @@ invariant_of-self g c =
     let rows = rows_of c.self.inside.rows in
     let r = rw (← c.self.view_is) at c.requires in
     let within = within_inside rows c.args.place r.place in
-    let is = occupied_at c.self.inside.rows.items c.args.place c.index_mut.result.now _ (not_vacant _ r.number) within c.index_mut.ensures.value in
+    let is = occupied_at c.self.inside.rows.items c.args.place c.index_mut.result.now _
+    (not_vacant _ r.number) within c.index_mut.ensures.value in
     subst IsDistinct (sym is) (inserted_distinct rows c.args.place _ _ within c.self.invariant (λ k s h _. r.vacant k s h)
     (inserted_its _ _ _ r.fresh))
 
@@ -25,6 +26,7 @@ returns g c =
     let rows = rows_of c.self.inside.rows in
     let r = rw (← c.self.view_is) at c.requires in
     let within = within_inside rows c.args.place r.place in
-    let is = occupied_at c.self.inside.rows.items c.args.place c.index_mut.result.now _ (not_vacant _ r.number) within c.index_mut.ensures.value in
+    let is = occupied_at c.self.inside.rows.items c.args.place c.index_mut.result.now _
+    (not_vacant _ r.number) within c.index_mut.ensures.value in
     rw (← c.self.view_is) (ap table_of is ∙ inserted_is rows c.args.place _ _ within c.self.invariant (λ k s h _. r.vacant k s h)
     (inserted_its _ _ _ r.fresh))

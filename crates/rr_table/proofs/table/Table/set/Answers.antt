@@ -11,14 +11,16 @@ use Rattle.rr_table.proofs.table.Table.set.Goals as goal
 pub invariant_of-self : goal.invariant_of-self
 invariant_of-self g c =
     let rows = rows_of c.self.inside.rows in
-    let is = occupied_at c.self.inside.rows.items c.in-Some.place c.index_mut.result.now _ (placed_number c.self.inside.rows _ _ c.in-Some.ensures)
+    let is = occupied_at c.self.inside.rows.items c.in-Some.place c.index_mut.result.now _
+    (placed_number c.self.inside.rows _ _ c.in-Some.ensures)
     (placed_within rows _ _ c.self.invariant c.in-Some.ensures) c.index_mut.ensures.value in
     subst IsDistinct (sym is) (set_distinct rows _ _ c.self.invariant c.in-Some.ensures _)
 
 pub returns-in-Some : goal.returns-in-Some
 returns-in-Some g c =
     let rows = rows_of c.self.inside.rows in
-    let is = occupied_at c.self.inside.rows.items c.in-Some.place c.index_mut.result.now _ (placed_number c.self.inside.rows _ _ c.in-Some.ensures)
+    let is = occupied_at c.self.inside.rows.items c.in-Some.place c.index_mut.result.now _
+    (placed_number c.self.inside.rows _ _ c.in-Some.ensures)
     (placed_within rows _ _ c.self.invariant c.in-Some.ensures) c.index_mut.ensures.value in
     rw (← c.self.view_is) (subst (λ l. IfSome (get (table_of rows).entries c.args.number)
     (λ s. table_of l ≡ inserted (table_of rows) c.args.number s.place c.args.value)) (sym is)
