@@ -11,8 +11,8 @@ fn two_rows(alloc: Global) -> Result<Table<u32>, AllocError>
     ensures { IfOk result (λ t. t ≡ inserted (inserted (with_row (with_row empty_table 2) 1) 7 (place 0 1) 70) 9 (place 1 0) 90) }
 {
     let mut table = Table::new(alloc);
-    table.add_row(alloc, 2)?;
-    table.add_row(alloc, 1)?;
+    table.add_row(alloc, 2, 0)?;
+    table.add_row(alloc, 1, 0)?;
     table.insert(Place { row: 0, index: 1 }, 7, 70);
     table.insert(Place { row: 1, index: 0 }, 9, 90);
     Ok(table)
@@ -88,9 +88,9 @@ fn takes_a_value_from_its_place(rt: HostRuntime) {
 /// Returns the numbers of three rows.
 fn row_numbers(alloc: Global) -> Result<[usize; 3], AllocError> {
     let mut table: Table<u32> = Table::new(alloc);
-    let first = table.add_row(alloc, 2)?;
-    let second = table.add_row(alloc, 0)?;
-    let third = table.add_row(alloc, 1)?;
+    let first = table.add_row(alloc, 2, 0)?;
+    let second = table.add_row(alloc, 0, 0)?;
+    let third = table.add_row(alloc, 1, 0)?;
     Ok([first, second, third])
 }
 
@@ -126,7 +126,7 @@ fn sets_and_removes_by_a_wrong_hint(rt: HostRuntime) {
 /// Returns whether what stands in the two rows stays, while eight rows are added, as far as memory goes.
 fn is_kept_as_rows_are_added(table: &mut Table<u32>, alloc: Global) -> bool {
     for _ in 0..8 {
-        let _ = table.add_row(alloc, 3);
+        let _ = table.add_row(alloc, 3, 0);
         if found(table, HINTS[3]) != [Some(70), Some(90), None] {
             return false;
         }
@@ -145,7 +145,7 @@ fn a_row_is_added_or_nothing_changes(rt: HostRuntime) {
 fn renewed(table: &mut Table<u32>, alloc: Global) -> Result<[Option<u32>; 3], [Option<u32>; 3]>
     requires { 0 < length table.old.rows }
 {
-    match table.renew_row(alloc, 0, 3) {
+    match table.renew_row(alloc, 0, 3, 0) {
         Ok(()) => Ok(found(table, HINTS[3])),
         Err(AllocError) => Err(found(table, HINTS[3])),
     }
@@ -165,7 +165,7 @@ fn a_row_is_renewed_or_nothing_changes(rt: HostRuntime) {
 fn inserted_anew(alloc: Global) -> Result<Option<u32>, AllocError> {
     let mut table = two_rows(alloc)?;
     let last = Place { row: 0, index: 2 };
-    table.renew_row(alloc, 0, 3)?;
+    table.renew_row(alloc, 0, 3, 0)?;
     if table.get(7, last).is_none() {
         table.insert(last, 7, 71);
     }
