@@ -1,7 +1,6 @@
 -- A response leaves the queue from some server, and has a handle under its number.
 use Rattle.std.proofs.Common.{◌≡◌, ◌<◌, ◌+◌, ◌^◌, ℕ, None, Some, Ok, Err, [], Option, option_map, length, refl, sym, ap, ◌∙◌, subst, arith}
-use Rattle.std.specs.Prelude.{◌==◌, IsSome, IsSomeAnd, Result, slice_get, slice_index_or}
-use Rattle.std.specs.List.{position}
+use Rattle.std.specs.Prelude.{◌==◌, Result, slice_get, slice_index_or}
 use Rattle.std.specs.FinMap as fin_map
 use Rattle.std.proofs.lemmas.List.{length-set}
 use Rattle.rr_table.specs.TableView.{IsInside, IsVacant, TableView, table_entry, value_at}
@@ -30,7 +29,6 @@ use Rattle.rr_store.proofs.base.lookups.Looking.{handle_at-state_of}
 use Rattle.rr_store.proofs.base.lookups.Placed.{value_there}
 use Rattle.rr_store.proofs.base.lookups.Shown.{request_spot}
 use Rattle.rr_store.proofs.base.senders.Owners.{First, client_of_sender, client_receiver}
-use Rattle.rr_store.proofs.base.senders.Ports.{of_found}
 use Rattle.rr_store.proofs.base.senders.Queues.{times_queue}
 use Rattle.rr_store.proofs.querying.Connected.{of_kind, pending_has_request}
 use Rattle.rr_store.proofs.receiving.response.Inserted.{entry_waits, no_handle, not_held, received_sound}
