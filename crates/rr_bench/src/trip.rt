@@ -12,7 +12,7 @@ use crate::hub::Bodies;
 use crate::payload::Payload;
 use crate::trip_error::TripError;
 use rr_hub::HandleId;
-use rr_slots::Body;
+use rr_slots::{Body, Family};
 
 /// Returns the last word of a body.
 #[inline(always)]
@@ -127,12 +127,14 @@ fn written_request<T: Payload, B: Body<Item = T>>(
     ensures others { KeepsOtherKinds kind.RequestMutUninit core.old core.new }
     ensures numbers { numbers_left core.old ≤ numbers_left core.new + 1 }
 {
-    if len == 1 {
-        return request_of_one(core, client, word);
+    match B::family() {
+        Family::Typed => request_of_one(core, client, word),
+        Family::Sliced => {
+            let request = calls::loan_request(core, client, len)?;
+            write_request(core, &request, len, word)?;
+            Ok(request)
+        }
     }
-    let request = calls::loan_request(core, client, len)?;
-    write_request(core, &request, len, word)?;
-    Ok(request)
 }
 
 /// Sends a request of `len` elements, each filled with a word. Returns the pending response.
@@ -170,12 +172,14 @@ fn written_response<T: Payload, B: Body<Item = T>>(
     ensures others { KeepsOtherKinds kind.ResponseMutUninit core.old core.new }
     ensures numbers { numbers_left core.old ≤ numbers_left core.new + 1 }
 {
-    if len == 1 {
-        return response_of_one(core, active, word);
+    match B::family() {
+        Family::Typed => response_of_one(core, active, word),
+        Family::Sliced => {
+            let response = calls::loan_response(core, active, len)?;
+            write_response(core, &response, len, word)?;
+            Ok(response)
+        }
     }
-    let response = calls::loan_response(core, active, len)?;
-    write_response(core, &response, len, word)?;
-    Ok(response)
 }
 
 /// Receives a request, and sends a response that is filled with one more than the word that came.

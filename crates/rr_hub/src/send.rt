@@ -53,8 +53,17 @@ impl<QB: Body, QH: Default + Drop, PB: Body, PH: Default + Drop, K: Backpressure
         if self.parts.is_at(id.number(), hint) {
             send_response_at(&mut self.parts, id.number(), hint)
         } else {
-            let place = self.parts.place_of(id.number());
-            send_response_at(&mut self.parts, id.number(), place)
+            self.send_response_far(id.number())
         }
+    }
+
+    /// Sends a response whose handle doesn't stand at its hint. Walks over the table.
+    #[cold]
+    fn send_response_far(&mut self, number: u64) -> Result<(), SendError>
+        requires { kind_at self.old number ≡ Some kind.ResponseMut }
+        ensures { SendsResponse K.action self.old number result self.new }
+    {
+        let place = self.parts.place_of(number);
+        send_response_at(&mut self.parts, number, place)
     }
 }
