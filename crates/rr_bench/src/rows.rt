@@ -24,7 +24,7 @@ const SAMPLES: usize = 7;
 const CHECKED: u64 = 10;
 
 /// Makes a round trip with a word. Returns the word that came back.
-#[inline(never)]
+#[inline(always)]
 fn trip<T: Payload, B: Body<Item = T>>(
     hub: &mut Hub<B>,
     len: usize,
@@ -41,6 +41,7 @@ fn trip<T: Payload, B: Body<Item = T>>(
 }
 
 /// Makes round trips, each with the sum so far, to which the word that comes back is added. Returns the sum.
+#[inline(never)]
 fn trips<T: Payload, B: Body<Item = T>>(
     hub: &mut Hub<B>,
     len: usize,
