@@ -1,6 +1,6 @@
 -- After one more event a request has still received all that does not stand in a list.
 use Rattle.std.proofs.Common.{◌≡◌, ℕ, ◌<◌, ◌≤◌, Bool, true, false, cond, List, [], ◌∷◌, ◌++◌, Some, None, refl, sym, ap, ◌∙◌, subst, ⊎_elim, inl, inr, arith, append_assoc}
-use Rattle.std.specs.Prelude.{◌⊎◌, ◌||◌, filter, filter_map, is_some}
+use Rattle.std.specs.Prelude.{◌⊎◌, ◌||◌, filter, filter_map}
 use Rattle.std.specs.List.{list_any, cons_option}
 use Rattle.std.proofs.lemmas.List.{append-nil}
 use Rattle.std.proofs.lemmas.List.Folds.{list_any-append}
@@ -11,7 +11,6 @@ use Rattle.rr_laws.specs.Reached.{IsReached}
 use Rattle.rr_laws.specs.Following.{queued, WasReceived, Follows}
 use Rattle.rr_laws.specs.Settling.{IsServing, IsNew, IsWaiting, Settles}
 use Rattle.rr_laws.specs.Completing.{IsUnderWay, Completes}
-use Rattle.rr_laws.proofs.Connected.{has_below}
 use Rattle.rr_laws.proofs.Occurring.{false_is_true}
 use Rattle.rr_laws.proofs.Growing.{EventFits, received_parts, sent_for-grown}
 use Rattle.rr_laws.proofs.Following.{received_same}

@@ -3,17 +3,16 @@ use Rattle.std.proofs.Common.{◌≡◌, ℕ, Bool, true, false, ◌&&◌, eqb, 
 use Rattle.std.specs.Prelude.{◌||◌}
 use Rattle.std.specs.List.{AllByRecursion}
 use Rattle.rr_protocol.specs.Ports.{Client, Server}
-use Rattle.rr_protocol.specs.Messages.{Handle, response_key}
+use Rattle.rr_protocol.specs.Messages.{response_key}
 use Rattle.rr_protocol.specs.Queries.{kind_of, kind_at}
 use Rattle.rr_protocol.specs.Receives.{ReceivesResponse}
 use Rattle.rr_protocol.specs.State.{State, handle_at, pending_at, is_client_value, is_server_value}
-use Rattle.rr_laws.specs.Roles.{role_of, roles_of}
+use Rattle.rr_laws.specs.Roles.{roles_of}
 use Rattle.rr_laws.specs.Reached.{has_client, has_server, is_port, ResponseFits, IsReached}
 use Rattle.rr_maps.proofs.ListFacts.{any_found, any_weaker}
 use Rattle.rr_laws.proofs.Connected.{not_both}
 use Rattle.rr_laws.proofs.Counts.{and_first}
 use Rattle.rr_laws.proofs.Opening.{some_and}
-use Rattle.rr_laws.proofs.RoleLaws.{role_at}
 
 module _ {Q QH P PH K : Type 0} (s : State Q QH P PH K) where
   -- a client whose value lives is connected

@@ -11,9 +11,9 @@ use Rattle.rr_protocol.specs.Lists.{at, with_at}
 use Rattle.rr_protocol.specs.Keys.{ResponseKey, request_key}
 use Rattle.rr_protocol.specs.Messages.{RequestMessage, ResponseMessage, Pending, RequestMut, PendingResponse, ResponseMut}
 use Rattle.rr_protocol.specs.Ports.{Client, Server}
-use Rattle.rr_protocol.specs.State.{State, IsRequestMutAnd, client_at, handle_at, pending_at, request_at}
+use Rattle.rr_protocol.specs.State.{State, client_at, handle_at, pending_at}
 use Rattle.rr_protocol.specs.Counts.{pending_responses, is_alive}
-use Rattle.rr_protocol.specs.Sends.{put, request_reach, with_request_put, with_response_put, connections_of, request_send_refusal, with_sent_request, SendsRequest, SendsResponse}
+use Rattle.rr_protocol.specs.Sends.{put, request_reach, with_request_put, with_response_put, with_sent_request, SendsRequest, SendsResponse}
 use Rattle.rr_laws.specs.Roles.{answered, LoanedRequest, SentRequest, LoanedResponse, roles_of, question_of, answer_of, asking, asking_at, waits}
 use Rattle.rr_laws.specs.Reached.{is_port, RequestFits, RequestsFit, ResponseFits, ResponsesFit, Fits, IsReached}
 use Rattle.rr_maps.proofs.ListFacts.{all_map, each_found, passes_found}
@@ -21,7 +21,7 @@ use Rattle.rr_laws.proofs.RoleLaws.{role_at, roles-insert, pending_responses-rol
 use Rattle.rr_laws.proofs.Staying.{asking_stays_with, known_stays}
 use Rattle.rr_laws.proofs.Counts.{counts_with_sent_request}
 use Rattle.rr_laws.proofs.Tests.{not_due, below_of_test, positive}
-use Rattle.rr_laws.proofs.Opening.{with_both, from_pending, open_request_mut, open_response_mut}
+use Rattle.rr_laws.proofs.Opening.{from_pending, open_request_mut, open_response_mut}
 use Rattle.rr_laws.proofs.Loaning.{fits_with_role}
 use Rattle.rr_laws.proofs.Putting.{requests_with_put, responses_with_put}
 use Rattle.rr_laws.proofs.Expiring.{fits_with_requests, fits_with_responses}

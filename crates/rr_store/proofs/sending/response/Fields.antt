@@ -1,7 +1,6 @@
 -- The fields of a core as a response is sent, as parts.
-use Rattle.std.proofs.Common.{◌≡◌, ◌<◌, ◌+◌, ◌^◌, ℕ, Bool, true, List, Option, None, Some, option_map, length, refl, sym, ap, ◌∙◌, subst, arith}
-use Rattle.std.specs.Prelude.{◌==◌, IsSomeAnd, option_and_then, slice_get, slice_index, slice_set}
-use Rattle.std.proofs.lemmas.List.{length-set}
+use Rattle.std.proofs.Common.{◌≡◌, ◌<◌, ◌+◌, ◌^◌, ℕ, Bool, true, Option, None, Some, option_map, refl, sym, ap, ◌∙◌, subst, arith}
+use Rattle.std.specs.Prelude.{◌==◌, IsSomeAnd, option_and_then, slice_get, slice_index}
 use Rattle.rr_table.specs.TableView.{value_at}
 use Rattle.rr_sender.specs.Senders.{Messages, uses}
 use Rattle.rr_protocol.specs.declared.kind.Kind.{Kind}
@@ -17,17 +16,16 @@ use Rattle.rr_store.specs.declared.handle_entry.Stage.TheVariants as stage
 use Rattle.rr_store.specs.declared.details.ResponseDetails.{ResponseDetails}
 use Rattle.rr_store.specs.Delivering.{HasQueue, delivered, is_refused_in, reached}
 use Rattle.rr_store.specs.Kinds.{stage_kind}
-use Rattle.rr_store.specs.Loaning as part
-use Rattle.rr_store.specs.Parts.{Parts, ServerPart, Sender}
+use Rattle.rr_store.specs.Parts.{Parts, ServerPart}
 use Rattle.rr_store.specs.Releasing.{is_loaned_response}
 use Rattle.rr_store.specs.Sound.{IsSound, empty_hand, response_details}
-use Rattle.rr_store.specs.Views.{sender_of, no_sender, state_of, server_of, handle_in, response_at}
+use Rattle.rr_store.specs.Views.{sender_of, state_of, server_of, handle_in, response_at}
 use Rattle.rr_store.proofs.releasing.response_loan.Fields.{ResponseLoanFound}
 use Rattle.rr_store.proofs.releasing.response_loan.Place.{server_alone}
 use Rattle.rr_store.proofs.sending.response.Refusals.{used_once, has_queue, refused_is, server_is}
 use Rattle.rr_store.proofs.querying.Connected.{handle_kind}
 use Rattle.rr_store.proofs.base.lookups.Looking.{shown}
-use Rattle.rr_store.proofs.base.lists.Replaced.{find_mapped, set_alike}
+use Rattle.rr_store.proofs.base.lists.Replaced.{find_mapped}
 
 -- a response that can be sent is one on loan
 sendable : {Q QH P PH : Type 0} (h : Handle Q QH P PH) → kind_of h ≡ Kind.ResponseMut → is_loaned_response h ≡ true

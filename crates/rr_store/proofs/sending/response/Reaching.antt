@@ -1,9 +1,7 @@
 -- Which queue a response reaches.
-use Rattle.std.proofs.Common.{◌≡◌, ◌<◌, ℕ, true, false, cond, List, Option, None, Some, map, option_map, length, get_or, refl, sym, ap, ◌∙◌}
-use Rattle.std.specs.Prelude.{◌==◌, IsSomeAnd, option_and_then, slice_get, slice_set, find}
+use Rattle.std.proofs.Common.{◌≡◌, ◌<◌, ℕ, true, false, cond, List, Option, None, Some, map, option_map, length, get_or, sym, ap, ◌∙◌}
+use Rattle.std.specs.Prelude.{◌==◌, option_and_then, find}
 use Rattle.std.specs.List.{position}
-use Rattle.std.proofs.lemmas.List.{set-get_or}
-use Rattle.std.proofs.lemmas.Option.{get_or_from_slice_get}
 use Rattle.rr_table.specs.TableView.{TableView, value_in}
 use Rattle.rr_store.specs.declared.handle_entry.HandleEntry.{HandleEntry}
 use Rattle.rr_store.specs.declared.details.ResponseDetails.{ResponseDetails}
@@ -14,7 +12,6 @@ use Rattle.rr_store.specs.Ports.{client_part, sender_part}
 use Rattle.rr_store.specs.Parts.{ClientPart}
 use Rattle.rr_store.specs.Sound.{is_pending}
 use Rattle.rr_store.specs.Views.{sender_of}
-use Rattle.rr_store.specs.Writing.{with_messages}
 use Rattle.rr_store.proofs.releasing.response_loan.Asked.{client_found}
 use Rattle.rr_store.proofs.base.lookups.Asking.{sender_is}
 use Rattle.rr_store.proofs.base.lists.Replaced.{standing_nowhere, find_mapped}
