@@ -42,8 +42,9 @@ impl<QB: Body, QH: Default + Drop, PB: Body, PH: Default + Drop, K: Backpressure
     /// Else the response is released alone.
     ///
     /// `UnableToDeliver` if the queue to the client's channel is full, may not overflow, and is not passed over. The response
-    /// is released then too, and the queue stays. It looks a few times at each connected port, once at each client that ever
-    /// was, and at one queue, and takes no memory. After iceoryx2's `ResponseMut::send`.
+    /// is released then too, and the queue stays. It looks at about ten of 1,000 clients, at the senders of clients up to the
+    /// right one, at one queue, and where that is full at the connected servers up to the right one, and takes no memory. After
+    /// iceoryx2's `ResponseMut::send`.
     #[inline(always)]
     pub fn send_response(&mut self, id: &HandleId) -> Result<(), SendError>
         requires { kind_at self.old id.now ≡ Some kind.ResponseMut }

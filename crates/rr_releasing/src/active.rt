@@ -30,6 +30,6 @@ pub fn release_active_at<
 {
     let entry = store.take(number, place);
     let receiver = store.server_receiver(entry.stage.server());
-    store.end_request_borrow(entry.sender, receiver, entry.slot);
     store.clear_mark(entry.sender, entry.slot, receiver);
+    store.end_request_borrow(entry.sender, receiver, entry.slot);
 }

@@ -1,5 +1,7 @@
 pub mod EntryLaws
+pub mod EmptiedLaws
 pub mod StateLaws
+mod LeavingLaws
 pub mod UseLaws
 mod LinkLaws
 mod HeldLaws

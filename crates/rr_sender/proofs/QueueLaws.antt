@@ -1,16 +1,17 @@
 -- What contracts see of a sender's parts after entries came or went.
-use Rattle.std.proofs.Common.{◌≡◌, ℕ, ◌+◌, ◌-◌, ◌<◌, List, [], ◌∷◌, ◌++◌, length, drop, get_or, refl, sym, ap, ◌∙◌, ⊎_elim, arith}
+use Rattle.std.proofs.Common.{◌≡◌, ℕ, ◌+◌, ◌-◌, ◌<◌, List, [], ◌∷◌, ◌++◌, length, drop, take, get_or, refl, sym, ap, ◌∙◌, ⊎_elim, arith}
 use Rattle.std.specs.Prelude.{slice_set, slice_get, Option, Some, None, IfSome}
 use Rattle.std.proofs.lemmas.Bool.{cases_eq}
 use Rattle.std.proofs.lemmas.List.{length-set, get_or-set_same, get_or-set_other}
 use Rattle.rr_slots.specs.Pools.{Slots, held_once_more, given_back}
 use Rattle.rr_sender.specs.declared.sender.Head.{Head}
-use Rattle.rr_sender.specs.Senders.{times, all_entries, at_two, set_two, with_held, with_queue, taken}
+use Rattle.rr_sender.specs.Senders.{Messages, times, all_entries, at_two, set_two, uses, with_held, with_queue, emptied_among, first_dropped, taken}
 use Rattle.rr_sender.specs.Links.{Sent, with_entries, with_count}
 use Rattle.rr_sender.specs.Parts.{held_of, messages, IsSound}
 use Rattle.rr_sender.proofs.EntryLaws.{mark, mark-same, mark-other, times-push, times-first, times-set_two, times-at_two}
+use Rattle.rr_sender.proofs.EmptiedLaws.{emptied_among-none}
 use Rattle.rr_sender.proofs.HeldLaws.{length-held_of, held_stays, held_becomes}
-use Rattle.rr_sender.proofs.SenderLaws.{held_is, within_holders}
+use Rattle.rr_sender.proofs.SenderLaws.{held_is, within_holders, contents-given_back, sound-given_back}
 
 -- a list of numbers after one of them became one more or one less
 at_more : (xs : List ℕ) (i k : ℕ) → i < length xs → get_or (slice_set xs i (get_or xs i 0 + 1)) k 0 ≡ get_or xs k 0 + mark i k
@@ -33,6 +34,10 @@ at_less xs i k inside some = ⊎_elim
 first-none : (xs : List ℕ) → slice_get xs 0 ≡ None → xs ≡ []
 first-none [] h = refl
 first-none (x ∷ xs) h = absurd (let g : Some x ≡ None = h in cc)
+
+take-first : (x : ℕ) (xs : List ℕ) → slice_get xs 0 ≡ Some x → take 1 xs ≡ x ∷ []
+take-first x [] h = absurd (let g : None ≡ Some x = h in cc)
+take-first x (y ∷ xs) h = let same : y ≡ x = cc in ap (λ z. z ∷ []) same
 
 in_some : {P : ℕ → Type 0} (o : Option ℕ) → ((x : ℕ) → o ≡ Some x → P x) → IfSome o P
 in_some None h = tt
@@ -100,16 +105,34 @@ module _ {T N H : Type 0} (pool : Slots T) (heads : List (Head N H)) (s : Sent) 
       times-first k slot (at_two [] s.queues receiver channel) first,
     )
 
+    abbrev shorter : Messages T N H
+    shorter = with_queue (messages pool heads s) receiver channel (drop 1 (at_two [] s.queues receiver channel))
+
+    used_less : uses shorter slot ≡ get_or pool.holders slot 0 - 1
+    used_less = omega (
+      arith,
+      held_is pool heads s sound slot,
+      times-set_two s.queues receiver channel at inside slot (drop 1 (at_two [] s.queues receiver channel)),
+      times-first slot slot (at_two [] s.queues receiver channel) first,
+      mark-same slot,
+    )
+
     pub state-drop_first : messages (given_back pool slot) heads
-        (with_entries s receiver channel (drop 1 (at_two [] s.queues receiver channel))) ≡ with_queue
-        (messages pool heads s) receiver channel (drop 1 (at_two [] s.queues receiver channel))
-    state-drop_first = state-moved (given_back pool slot).holders (pool.looks + 2) (drop 1 (at_two [] s.queues receiver channel))
-        (length-set pool.holders slot (get_or pool.holders slot 0 - 1)) went
+        (with_entries s receiver channel (drop 1 (at_two [] s.queues receiver channel)))
+        ≡ first_dropped (messages pool heads s) receiver channel
+    state-drop_first =
+        ap (λ (m : Messages T N H). record m { contents = (given_back pool slot).contents })
+        (state-moved (given_back pool slot).holders (pool.looks + 2) (drop 1 (at_two [] s.queues receiver channel))
+        (length-set pool.holders slot (get_or pool.holders slot 0 - 1)) went)
+        ∙ ap (λ contents. record shorter { contents = contents }) (contents-given_back pool slot shorter refl used_less)
+        ∙ ap (λ slots. emptied_among slots shorter) (sym (take-first slot (at_two [] s.queues receiver channel) first))
 
     pub sound-drop_first : IsSound (given_back pool slot) heads
         (with_entries s receiver channel (drop 1 (at_two [] s.queues receiver channel)))
-    sound-drop_first = sound-moved (given_back pool slot).holders (pool.looks + 2) (drop 1 (at_two [] s.queues receiver channel))
-        (length-set pool.holders slot (get_or pool.holders slot 0 - 1)) went
+    sound-drop_first =
+        sound-given_back pool heads (with_entries s receiver channel (drop 1 (at_two [] s.queues receiver channel))) slot
+        (sound-moved (given_back pool slot).holders (pool.looks + 2) (drop 1 (at_two [] s.queues receiver channel))
+        (length-set pool.holders slot (get_or pool.holders slot 0 - 1)) went)
 
     -- an entry became a handle
     module _ (n : ℕ) where
@@ -188,9 +211,14 @@ module _ {T N H : Type 0} (pool : Slots T) (heads : List (Head N H)) (s : Sent) 
         (first-none (at_two [] s.queues receiver channel) none) ∙ sym (first-none (at_two [] s.queues receiver channel) none) in
         ap (λ queue. get_or pool.holders k 0 + times k queue) (sym same)
 
-    pub state-drop_none : messages pool heads (with_entries s receiver channel (drop 1 (at_two [] s.queues receiver channel))) ≡ with_queue
-        (messages pool heads s) receiver channel (drop 1 (at_two [] s.queues receiver channel))
-    state-drop_none = state-moved pool.holders pool.looks (drop 1 (at_two [] s.queues receiver channel)) refl nothing_went
+    pub state-drop_none : messages pool heads (with_entries s receiver channel (drop 1 (at_two [] s.queues receiver channel)))
+        ≡ first_dropped (messages pool heads s) receiver channel
+    state-drop_none =
+        state-moved pool.holders pool.looks (drop 1 (at_two [] s.queues receiver channel)) refl nothing_went
+        ∙ sym (ap (λ slots. emptied_among (take 1 slots)
+        (with_queue (messages pool heads s) receiver channel (drop 1 (at_two [] s.queues receiver channel))))
+        (first-none (at_two [] s.queues receiver channel) none)
+        ∙ emptied_among-none (with_queue (messages pool heads s) receiver channel (drop 1 (at_two [] s.queues receiver channel))))
 
     pub sound-drop_none : IsSound pool heads (with_entries s receiver channel (drop 1 (at_two [] s.queues receiver channel)))
     sound-drop_none = sound-moved pool.holders pool.looks (drop 1 (at_two [] s.queues receiver channel)) refl nothing_went

@@ -1,18 +1,26 @@
 -- What contracts see of a sender's parts after a call on its pool.
-use Rattle.std.proofs.Common.{◌≡◌, ℕ, suc, zero, ◌+◌, ◌-◌, ◌<◌, ◌≤◌, true, false, List, cond, length, take, get_or, refl, sym, ap, ◌∙◌, ⊎_elim, arith}
+use Rattle.std.proofs.Common.{◌≡◌, ℕ, suc, zero, ◌+◌, ◌-◌, ◌<◌, ◌≤◌, true, false, List, [], ◌∷◌, cond, length, take, get_or, refl, sym, ap, ◌∙◌, ⊎_elim, arith}
 use Rattle.std.specs.Prelude.{slice_set, slice_get, count_by, ◌==◌, Some}
 use Rattle.std.proofs.Math.Seq.{take-length}
 use Rattle.std.proofs.lemmas.Bool.{cases_eq, cases_lt}
 use Rattle.std.proofs.lemmas.List.{map-set, length-set, length-replicate, get_or_past, get_or-set_same, get_or-set_other, take_more}
 use Rattle.std.proofs.lemmas.List.Sums.{sum_by_push}
 use Rattle.std.proofs.lemmas.Option.{get_or_from_slice_get, slice_get_within, slice_get-get_or}
-use Rattle.rr_slots.specs.Pools.{Slots, nothing_written, acquired, held_once_more, given_back, free_count, free_slots}
+use Rattle.rr_slots.specs.Pools.{Slots, emptied, nothing_written, acquired, held_once_more, given_back, free_count, free_slots}
 use Rattle.rr_sender.specs.declared.sender.Head.{Head}
-use Rattle.rr_sender.specs.Senders.{Messages, times, all_entries, uses, used_below, used_count, with_held, loaned}
+use Rattle.rr_sender.specs.Senders.{Messages, times, all_entries, uses, used_below, used_count, with_held, emptied_among, given_back as without_handle, loaned}
 use Rattle.rr_sender.specs.Links.{Sent, nothing_sent}
 use Rattle.rr_sender.specs.Parts.{held_of, messages, details_of, IsSound}
 use Rattle.rr_sender.proofs.EntryLaws.{times-empty}
+use Rattle.rr_sender.proofs.EmptiedLaws.{emptied_among-one}
 use Rattle.rr_sender.proofs.HeldLaws.{length-held_of, held_at, held_becomes}
+
+length-given_back : {T : Type 0} (pool : Slots T) (slot : ℕ) → length (given_back pool slot).contents ≡ length pool.contents
+length-given_back pool slot =
+    elim (get_or pool.holders slot 0 - 1 == 0) as
+    (λ b. length (cond b (slice_set pool.contents slot (emptied (get_or pool.contents slot (nothing_written 0)))) pool.contents)
+    ≡ length pool.contents)
+    [ true ↦ length-set pool.contents slot (emptied (get_or pool.contents slot (nothing_written 0))) | false ↦ refl ]
 
 module _ {T N H : Type 0} where
   -- of the first slots, each is used or free
@@ -32,6 +40,22 @@ module _ {T N H : Type 0} where
         ap (count_by (λ x. x == 0)) (take_more holders n 0 (omega arith)),
         sum_by_push (λ x. cond (x == 0) 1 0) (take n holders) (get_or holders n 0),
       )
+
+  -- what stands in slots after one was given back: its last use is gone where nothing uses it then
+  pub contents-given_back : (pool : Slots T) (slot : ℕ) (m : Messages T N H) → m.contents ≡ pool.contents
+      → uses m slot ≡ get_or pool.holders slot 0 - 1 → (given_back pool slot).contents ≡ (emptied_among (slot ∷ []) m).contents
+  contents-given_back pool slot m same left = sym (emptied_among-one m slot
+      ∙ ap (λ n. cond (n == 0) (slice_set m.contents slot (emptied (get_or m.contents slot (nothing_written 0)))) m.contents) left
+      ∙ ap (λ ws. cond (get_or pool.holders slot 0 - 1 == 0) (slice_set ws slot (emptied (get_or ws slot (nothing_written 0)))) ws) same)
+
+  -- whether a body is emptied or not, there is one in each slot
+  pub sound-given_back : (pool : Slots T) (heads : List (Head N H)) (s : Sent) (slot : ℕ)
+      → IsSound (record (given_back pool slot) { contents = pool.contents }) heads s → IsSound (given_back pool slot) heads s
+  sound-given_back pool heads s slot sound = record {
+    covered = sound.covered;
+    one_body_each = length-given_back pool slot ∙ sound.one_body_each;
+    one_head_each = sound.one_head_each;
+  }
 
   module _ (pool : Slots T) (heads : List (Head N H)) (s : Sent) (sound : IsSound pool heads s) where
     pub held_is : (k : ℕ) → get_or (held_of pool.holders s.queues) k 0 + times k (all_entries s.queues) ≡ get_or pool.holders k 0
@@ -72,13 +96,26 @@ module _ {T N H : Type 0} where
       pub has_holder : 0 < get_or pool.holders slot 0
       has_holder = omega (arith, held_is slot)
 
-      pub state-give_back : messages (given_back pool slot) heads s ≡ with_held (messages pool heads s) slot
-          (get_or (held_of pool.holders s.queues) slot 0 - 1)
-      state-give_back = held-changed slot (get_or pool.holders slot 0 - 1) (pool.looks + 2)
-          (get_or (held_of pool.holders s.queues) slot 0 - 1) has_holder (omega (arith, held_is slot))
+      abbrev held_less : Messages T N H
+      held_less = with_held (messages pool heads s) slot (get_or (held_of pool.holders s.queues) slot 0 - 1)
+
+      used_less : uses held_less slot ≡ get_or pool.holders slot 0 - 1
+      used_less = omega (
+        arith,
+        held_is slot,
+        get_or-set_same (held_of pool.holders s.queues) slot (get_or (held_of pool.holders s.queues) slot 0 - 1) 0
+            (omega (arith, within_holders slot has_holder, length-held_of pool.holders s.queues)),
+      )
+
+      pub state-give_back : messages (given_back pool slot) heads s ≡ without_handle (messages pool heads s) slot
+      state-give_back =
+          ap (λ (m : Messages T N H). record m { contents = (given_back pool slot).contents })
+          (held-changed slot (get_or pool.holders slot 0 - 1) (pool.looks + 2) (get_or (held_of pool.holders s.queues) slot 0 - 1) has_holder
+          (omega (arith, held_is slot)))
+          ∙ ap (λ contents. record held_less { contents = contents }) (contents-given_back pool slot held_less refl used_less)
 
       pub sound-give_back : IsSound (given_back pool slot) heads s
-      sound-give_back = record {
+      sound-give_back = sound-given_back pool heads s slot (record {
         covered = λ k. ⊎_elim
             (λ e. let here : get_or (slice_set pool.holders slot (get_or pool.holders slot 0 - 1)) slot 0
             ≡ get_or pool.holders slot 0 - 1 = get_or-set_same pool.holders slot (get_or pool.holders slot 0 - 1) 0
@@ -94,7 +131,7 @@ module _ {T N H : Type 0} where
             (cases_eq k slot);
         one_body_each = omega (arith, sound.one_body_each, length-set pool.holders slot (get_or pool.holders slot 0 - 1));
         one_head_each = omega (arith, sound.one_head_each, length-set pool.holders slot (get_or pool.holders slot 0 - 1));
-      }
+      })
 
     -- a slot that the pool hands out
     module _ (slot : ℕ) (free : slice_get pool.holders slot ≡ Some 0) where

@@ -1,8 +1,8 @@
 -- What contracts see after one queue changed twice.
-use Rattle.std.proofs.Common.{◌≡◌, ℕ, suc, zero, cond, ◌+◌, ◌<◌, ◌≤◌, true, List, [], ◌∷◌, ◌++◌, length, drop, get_or, refl, sym, ap, ◌∙◌, arith}
-use Rattle.std.specs.Prelude.{slice_set, not}
-use Rattle.std.proofs.lemmas.List.{length-set, get_or-set_same, set-set, drop_all}
-use Rattle.rr_sender.specs.Senders.{Messages, times, set_two, uses, queue_at, with_queue, is_full, put}
+use Rattle.std.proofs.Common.{◌≡◌, ℕ, suc, zero, ◌+◌, ◌<◌, ◌≤◌, List, [], ◌∷◌, length, drop, get_or, refl, sym, ap, ◌∙◌, arith}
+use Rattle.std.specs.Prelude.{slice_set}
+use Rattle.std.proofs.lemmas.List.{length-set, get_or-set_same, set-set}
+use Rattle.rr_sender.specs.Senders.{Messages, times, set_two, uses, queue_at, with_queue}
 use Rattle.rr_sender.proofs.EntryLaws.{times-set_two, at_two-set_two, set_two-itself, length-set_two}
 
 pub times-drop_le : (i n : ℕ) (xs : List ℕ) → times i (drop n xs) ≤ times i xs
@@ -56,18 +56,6 @@ module _ {T N H : Type 0} (m : Messages T N H) (receiver channel : ℕ) (at : re
     times-drop_le slot n (queue_at m receiver channel),
   )
 
-  -- a full queue gives up its oldest
-  pub put-full : (slot : ℕ) → is_full m.capacity (queue_at m receiver channel) ≡ true
-      → with_queue (with_queue m receiver channel (drop 1 (queue_at m receiver channel))) receiver channel
-      (queue_at (with_queue m receiver channel (drop 1 (queue_at m receiver channel))) receiver channel ++ slot ∷ [])
-      ≡ with_queue m receiver channel (put true m.capacity (queue_at m receiver channel) slot)
-  put-full slot full =
-      twice (drop 1 (queue_at m receiver channel)) (queue_at (with_queue m receiver channel (drop 1 (queue_at m receiver channel))) receiver
-      channel ++ slot ∷ [])
-      ∙ ap (λ queue. with_queue m receiver channel (queue ++ slot ∷ [])) (queue_now (drop 1 (queue_at m receiver channel)))
-      ∙ ap (λ b. with_queue m receiver channel (cond (not b)
-      (queue_at m receiver channel ++ slot ∷ []) (drop 1 (queue_at m receiver channel) ++ slot ∷ []))) (sym full)
-
   -- one more entry is dropped
   pub drop-more : (n : ℕ) → with_queue (with_queue m receiver channel (drop n (queue_at m receiver channel))) receiver channel
       (drop 1 (queue_at (with_queue m receiver channel (drop n (queue_at m receiver channel))) receiver channel))
@@ -77,7 +65,3 @@ module _ {T N H : Type 0} (m : Messages T N H) (receiver channel : ℕ) (at : re
       receiver channel))
       ∙ ap (λ queue. with_queue m receiver channel (drop 1 queue)) (queue_now (drop n (queue_at m receiver channel)))
       ∙ ap (with_queue m receiver channel) (drop_one n (queue_at m receiver channel))
-
-  pub dropped : (n : ℕ) → length (queue_at m receiver channel) ≤ n
-      → with_queue m receiver channel (drop n (queue_at m receiver channel)) ≡ with_queue m receiver channel []
-  dropped n all = ap (with_queue m receiver channel) (drop_all n (queue_at m receiver channel) all)

@@ -1,6 +1,6 @@
 -- What contracts see of a sender, from which one port sends.
-use Rattle.std.specs.Prelude.{zero, suc, ℕ, ◌+◌, Bool, not, ◌==◌, nat_le, cond, if◌then◌else◌, List, [], ◌∷◌, ◌++◌, length, drop, flat_map, slice_index, slice_index_or, slice_set}
-use Rattle.rr_slots.specs.Pools.{Written, nothing_written}
+use Rattle.std.specs.Prelude.{zero, suc, ℕ, ◌+◌, ◌-◌, Bool, not, ◌&&◌, ◌==◌, nat_le, cond, if◌then◌else◌, List, [], ◌∷◌, ◌++◌, length, drop, take, flat_map, slice_index, slice_index_or, slice_set}
+use Rattle.rr_slots.specs.Pools.{Written, emptied, nothing_written}
 
 -- for each slot what stands in it, the details of its message, its user header, and how many hold it beside the queues; and for each receiver, by channel, the slots that wait in its queue and how many it received and has not given back
 pub record Messages (T N H : Type 0) : Type 0 where
@@ -40,6 +40,15 @@ put overflow capacity entries slot =
     if not (is_full capacity entries) then entries ++ slot ∷ []
     else if overflow then drop 1 entries ++ slot ∷ []
     else entries
+
+-- which entry leaves a list as a slot comes: of a full one with overflow the oldest
+abbrev pub evicted : Bool → ℕ → List ℕ → List ℕ
+evicted overflow capacity entries = if overflow && is_full capacity entries then take 1 entries else []
+
+-- what stands in slots, where those that pass a test are emptied
+abbrev pub emptied_where : {T : Type 0} → (ℕ → Bool) → List (Written T) → List (Written T)
+emptied_where test [] = []
+emptied_where test (w ∷ ws) = cond (test 0) (emptied w) w ∷ emptied_where (λ i. test (suc i)) ws
 
 module _ {T N H : Type 0} where
   -- the entries to a receiver on a channel
@@ -84,6 +93,40 @@ module _ {T N H : Type 0} where
   -- a receiver has so many from a channel
   abbrev pub with_borrowed : Messages T N H → ℕ → ℕ → ℕ → Messages T N H
   with_borrowed m receiver channel n = record m { borrowed = set_two m.borrowed receiver channel n }
+
+  -- whether a slot is one of these, and no handle and no entry has it
+  abbrev pub is_left : List ℕ → Messages T N H → ℕ → Bool
+  is_left slots m slot = not (times slot slots == 0) && (uses m slot == 0)
+
+  -- each of these slots that no handle and no entry has is emptied
+  abbrev pub emptied_among : List ℕ → Messages T N H → Messages T N H
+  emptied_among slots m = record m { contents = emptied_where (is_left slots m) m.contents }
+
+  -- a handle less holds a slot, which is emptied if that was its last use
+  abbrev pub given_back : Messages T N H → ℕ → Messages T N H
+  given_back m slot = emptied_among (slot ∷ []) (with_held m slot (slice_index m.held slot - 1))
+
+  -- the oldest entry of a receiver's channel is gone, and its slot is emptied if that was its last use
+  abbrev pub first_dropped : Messages T N H → ℕ → ℕ → Messages T N H
+  first_dropped m receiver channel =
+      emptied_among (take 1 (queue_at m receiver channel)) (with_queue m receiver channel (drop 1 (queue_at m receiver channel)))
+
+  -- every entry of a receiver's channel is gone, and each slot is emptied of which that was the last use
+  abbrev pub queue_cleared : Messages T N H → ℕ → ℕ → Messages T N H
+  queue_cleared m receiver channel = emptied_among (queue_at m receiver channel) (with_queue m receiver channel [])
+
+  -- a slot came to a receiver's channel, and the slot of an entry that left for it is emptied if that was its last use
+  abbrev pub put_into : Bool → Messages T N H → ℕ → ℕ → ℕ → Messages T N H
+  put_into overflow m receiver channel slot =
+      emptied_among (evicted overflow m.capacity (queue_at m receiver channel))
+      (with_queue m receiver channel (put overflow m.capacity (queue_at m receiver channel) slot))
+
+  -- and a handle less holds that slot, which is emptied if it didn't come
+  abbrev pub handed_over : Bool → Messages T N H → ℕ → ℕ → ℕ → Messages T N H
+  handed_over overflow m receiver channel slot =
+      emptied_among (slot ∷ evicted overflow m.capacity (queue_at m receiver channel))
+      (with_held (with_queue m receiver channel (put overflow m.capacity (queue_at m receiver channel) slot)) slot
+      (slice_index m.held slot - 1))
 
   -- the oldest entry of a receiver's channel became one that the receiver has
   abbrev pub taken : Messages T N H → ℕ → ℕ → ℕ → List ℕ → Messages T N H

@@ -1,8 +1,8 @@
 //! What one port sends from: slots for its messages, and queues of them to each receiver.
-ghost use Rattle.std.specs.Prelude.{◌≡◌, ℕ, ◌+◌, ◌-◌, ◌<◌, ◌≤◌, ◌^◌, ◌↔◌, [], length, map, replicate, slice_get, slice_index, Some, IfOk, IsErrOf, IsTrue, OnErr};
+ghost use Rattle.std.specs.Prelude.{◌≡◌, ℕ, ◌+◌, ◌<◌, ◌≤◌, ◌^◌, ◌↔◌, [], length, map, replicate, slice_get, slice_index, Some, IfOk, IsErrOf, IsTrue, OnErr};
 ghost use Rattle.rr_slots.specs.Families.{takes_len};
 ghost use Rattle.rr_slots.specs.Pools.{nothing_written, written};
-ghost use Rattle.rr_sender.specs.Senders.{all_entries, loaned, times, used_count, uses, with_held};
+ghost use Rattle.rr_sender.specs.Senders.{all_entries, given_back, loaned, times, used_count, uses, with_held};
 
 use crate::links::Links;
 use rr_slots::{AcquireError, Body, Pool};
@@ -34,9 +34,10 @@ pub struct SenderSize {
 /// receiver a queue of slots for each channel.
 ///
 /// A slot is in use while a handle holds it or it stands in a queue. Contracts count the handles alone: an entry holds its
-/// slot without the caller's doing, and lets it go when it leaves the queue. Only `new`, and `loan` above the room, take
-/// memory. Beside `new` and `clear_queue`, each call takes a fixed time, and what it takes to drop elements or a user header.
-/// Our own: it stands for the data segment of an iceoryx2 port and its connections.
+/// slot without the caller's doing, and lets it go when it leaves the queue. What stands in a slot is dropped with the last use,
+/// so that a free slot doesn't keep what a payload owns; a user header stays until the slot is loaned again. Only `new`, and
+/// `loan` above the room, take memory. Beside `new` and `clear_queue`, each call takes a fixed time, and what it takes to drop
+/// elements or a user header. Our own: it stands for the data segment of an iceoryx2 port and its connections.
 #[derive(Drop)]
 pub struct Sender<B: Body, N: Copy, H: Drop> {
     pool: Pool<B>,
@@ -119,11 +120,11 @@ impl<B: Body, N: Copy, H: Drop> Sender<B, N, H> {
         self.pool.hold(slot);
     }
 
-    /// One handle less holds a slot. The slot is free once no handle and no entry holds it.
+    /// One handle less holds a slot. The slot is free once no handle and no entry holds it, and what stood in it is dropped.
     #[inline(always)]
     pub fn give_back(&mut self, slot: usize)
         requires { 0 < slice_index self.old.held slot }
-        ensures { self.new ≡ with_held self.old slot (slice_index self.old.held slot - 1) }
+        ensures { self.new ≡ given_back self.old slot }
     {
         self.pool.give_back(slot);
     }

@@ -65,3 +65,11 @@ module _ {B T : Type 0} (asked_len : B → ℕ) (elements : B → List T) (bodie
 pub within_bodies : {B : Type 0} (holders : List ℕ) (bodies : List B) (slot n : ℕ) → slice_get holders slot ≡ Some n
     → length bodies ≡ length holders → slot < length bodies
 within_bodies holders bodies slot n e same = omega (arith, slice_get_within holders slot n e, same)
+
+-- and so has a slot that somebody holds
+pub within_held : {B : Type 0} (holders : List ℕ) (bodies : List B) (slot : ℕ) → 0 < get_or holders slot 0
+    → length bodies ≡ length holders → slot < length bodies
+within_held holders bodies slot some same = ⊎_elim
+    (λ h. omega (arith, h, same))
+    (λ h. absurd (omega (arith, some, get_or_past holders slot 0 h)))
+    (cases_lt slot (length holders))

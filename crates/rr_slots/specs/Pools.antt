@@ -1,5 +1,5 @@
 -- What contracts see of a pool.
-use Rattle.std.specs.Prelude.{ℕ, ◌+◌, ◌-◌, ◌==◌, not, List, [], ◌∷◌, ◌++◌, count_by, replicate, slice_index, slice_index_or, slice_set, refl}
+use Rattle.std.specs.Prelude.{ℕ, ◌+◌, ◌-◌, ◌==◌, not, if◌then◌else◌, List, [], ◌∷◌, ◌++◌, count_by, replicate, slice_index, slice_index_or, slice_set, refl}
 use Rattle.std.specs.Coded.{Coded, code_by, coded×, coded_list, coded_ℕ}
 
 -- what stands in a slot: for how many elements it asks, and those written
@@ -55,13 +55,23 @@ module _ {T : Type 0} where
   abbrev pub held_once_more : Slots T → ℕ → Slots T
   held_once_more p slot = record p { holders = slice_set p.holders slot (slice_index p.holders slot + 1); looks = p.looks + 2 }
 
-  -- one less holds a slot
-  abbrev pub given_back : Slots T → ℕ → Slots T
-  given_back p slot = record p { holders = slice_set p.holders slot (slice_index p.holders slot - 1); looks = p.looks + 2 }
+  -- no elements, of which as many are asked for as before
+  abbrev pub emptied : Written T → Written T
+  emptied w = with_elements [] w
 
   -- what stands in a slot; nothing where there is no such slot
   abbrev pub content_at : Slots T → ℕ → Written T
   content_at p slot = slice_index_or p.contents slot (nothing_written 0)
+
+  -- one less holds a slot, in which nothing stands once nobody holds it
+  abbrev pub given_back : Slots T → ℕ → Slots T
+  given_back p slot =
+      let left = slice_index p.holders slot - 1 in
+      record p {
+        contents = if left == 0 then slice_set p.contents slot (emptied (content_at p slot)) else p.contents;
+        holders = slice_set p.holders slot left;
+        looks = p.looks + 2;
+      }
 
   -- what stands in one slot changed
   abbrev pub with_changed_at : Slots T → ℕ → (Written T → Written T) → Slots T

@@ -1,5 +1,5 @@
 //! How many hold each slot. Free slots stand in a list, which is threaded through the slots themselves.
-ghost use Rattle.std.specs.Prelude.{◌≡◌, ℕ, ◌+◌, ◌-◌, ◌<◌, ◌^◌, ◌↔◌, length, replicate, slice_get, slice_index, slice_set, Some, IfOk, IfSome, IsNone};
+ghost use Rattle.std.specs.Prelude.{◌≡◌, ℕ, ◌+◌, ◌-◌, ◌<◌, ◌^◌, ◌↔◌, ◌==◌, length, replicate, slice_get, slice_index, slice_set, Some, IfOk, IfSome, IsNone};
 ghost use Rattle.rr_slots.specs.Holding.{count_free, count_held};
 
 use crate::slot::{Slot, WatchedSlots};
@@ -83,10 +83,11 @@ impl Holders {
         }
     }
 
-    /// One less holds a slot that is held. The slot is free once nobody holds it.
+    /// One less holds a slot that is held. The slot is free once nobody holds it; returns whether it is.
     #[inline(always)]
-    pub(crate) fn give_back(&mut self, slot: usize)
+    pub(crate) fn give_back(&mut self, slot: usize) -> bool
         requires { 0 < slice_index self.old.holders slot }
+        ensures free { result ≡ (slice_index self.old.holders slot - 1 == 0) }
         ensures holders { self.new.holders ≡ slice_set self.old.holders slot (slice_index self.old.holders slot - 1) }
         ensures looks { self.new.looks ≡ self.old.looks + 2 }
     {
@@ -96,8 +97,12 @@ impl Holders {
                 self.slots.set(slot, Slot::Free(self.first_free));
                 self.first_free = slot;
                 self.free += 1;
+                true
             }
-            Slot::Held(more) => self.slots.set(slot, Slot::Held(more - 1)),
+            Slot::Held(more) => {
+                self.slots.set(slot, Slot::Held(more - 1));
+                false
+            }
         }
     }
 

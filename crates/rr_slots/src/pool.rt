@@ -96,13 +96,17 @@ impl<B: Body> Pool<B> {
         self.holders.hold(slot);
     }
 
-    /// One less holds a slot that is held. The slot is free once nobody holds it.
+    /// One less holds a slot that is held. The slot is free once nobody holds it, and what stood in it is dropped: as many
+    /// elements are asked for as before.
     #[inline(always)]
     pub fn give_back(&mut self, slot: usize)
         requires { 0 < slice_index self.old.holders slot }
         ensures { self.new ≡ given_back self.old slot }
     {
-        self.holders.give_back(slot);
+        if self.holders.give_back(slot) {
+            let body = &mut self.bodies[slot];
+            body.clear();
+        }
     }
 
     /// The body in a slot, whether it is held or not.

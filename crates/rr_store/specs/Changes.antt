@@ -1,9 +1,9 @@
 -- What each call of a store changes of its parts.
-use Rattle.std.specs.Prelude.{ℕ, ◌+◌, ◌&&◌, ◌||◌, Bool, List, [], ◌∷◌, ◌++◌, length, not, if◌then◌else◌, Option, Some, None, drop, false, nat_le, map, slice_index_or, slice_set}
+use Rattle.std.specs.Prelude.{ℕ, ◌+◌, ◌&&◌, ◌||◌, Bool, List, [], ◌∷◌, ◌++◌, length, not, if◌then◌else◌, Option, Some, None, drop, nat_le, map, slice_set}
 use Rattle.std.specs.List.{list_any}
 use Rattle.rr_table.specs.declared.place.Place.{Place}
 use Rattle.rr_table.specs.TableView.{inserted, removed, with_row}
-use Rattle.rr_sender.specs.Senders.{Messages, queue_at, set_two, taken}
+use Rattle.rr_sender.specs.Senders.{Messages, queue_at, taken}
 use Rattle.rr_protocol.specs.Backpressure.{discards}
 use Rattle.rr_protocol.specs.declared.settings.BackpressureAction.{BackpressureAction}
 use Rattle.rr_protocol.specs.declared.error.LoanError.{LoanError}
@@ -16,11 +16,11 @@ use Rattle.rr_protocol.specs.declared.settings.ServerSettings.{ServerSettings}
 use Rattle.rr_store.specs.declared.details.RequestDetails.{RequestDetails}
 use Rattle.rr_store.specs.declared.details.ResponseDetails.{ResponseDetails}
 use Rattle.rr_store.specs.declared.handle_entry.HandleEntry.{HandleEntry}
-use Rattle.rr_store.specs.Clearing.{channel_cleared}
+use Rattle.rr_store.specs.Clearing.{channel_dropped}
 use Rattle.rr_store.specs.Creating.{client_port, server_port}
 use Rattle.rr_store.specs.Loaning.{with_messages, with_sender_at}
 use Rattle.rr_store.specs.Parts.{Parts, ClientPart, ServerPart, Sender}
-use Rattle.rr_store.specs.Sending.{is_blocked_at, server_marks, server_places, with_marks, with_puts}
+use Rattle.rr_store.specs.Sending.{after_queued, is_blocked_at}
 use Rattle.rr_store.specs.Views.{sender_of}
 
 module _ {Q QH P PH K : Type 0} (p : Parts Q QH P PH K) where
@@ -59,11 +59,7 @@ module _ {Q QH P PH K : Type 0} (p : Parts Q QH P PH K) where
 
   -- with nothing in the queues from all servers to a client's channel
   abbrev pub with_channel_cleared : ℕ → ℕ → Parts Q QH P PH K
-  with_channel_cleared receiver channel = record p { server_senders = map (channel_cleared receiver channel) p.server_senders }
-
-  -- without the mark at an index of a sender's
-  abbrev pub without_mark : ℕ → ℕ → Parts Q QH P PH K
-  without_mark sender index = record p { waiting = set_two p.waiting sender index false }
+  with_channel_cleared receiver channel = record p { server_senders = map (channel_dropped receiver channel) p.server_senders }
 
   -- the first reason of its own by which a client doesn't loan a request of so many elements
   abbrev pub request_loan_limit : ClientPart K → ℕ → Option LoanError
@@ -76,7 +72,7 @@ module _ {Q QH P PH K : Type 0} (p : Parts Q QH P PH K) where
   abbrev pub response_loan_limit : ServerPart K → ℕ → ℕ → Option LoanError
   response_loan_limit s len loans =
       if is_too_long s.port len then Some LoanError.ExceedsMaxLoanSize
-      else if nat_le s.max_loaned_responses_per_request loans || nat_le (max_loaned_responses p.limits s.max_loaned_responses_per_request) (sender_of s.sender p.server_senders).loans then Some LoanError.ExceedsMaxLoans
+      else if nat_le s.max_loaned_responses_per_request loans || nat_le s.max_loaned_responses (sender_of s.sender p.server_senders).loans then Some LoanError.ExceedsMaxLoans
       else None
 
   -- whether the queue from a client's sender to a server can take no more, and drops nothing for it
@@ -97,11 +93,7 @@ module _ {Q QH P PH K : Type 0} (p : Parts Q QH P PH K) where
   -- with a request in the queues to all connected servers, which may answer it
   abbrev pub with_request_queued : ℕ → ℕ → Parts Q QH P PH K
   with_request_queued sender slot =
-      record p {
-        client_senders = slice_set p.client_senders sender
-            (with_messages (sender_of sender p.client_senders) (with_puts p.limits.enable_safe_overflow_for_requests slot (sender_of sender p.client_senders).messages (server_places p)));
-        waiting = slice_set p.waiting sender (with_marks (slice_index_or p.waiting sender []) (server_marks p slot));
-      }
+      with_client_sender_at sender (after_queued p.limits.enable_safe_overflow_for_requests p.limits.max_servers slot p.servers)
 
   -- with other senders of clients
   abbrev pub with_request_senders : List (Sender Q RequestDetails QH) → Parts Q QH P PH K
@@ -116,13 +108,12 @@ module _ {Q QH P PH K : Type 0} (p : Parts Q QH P PH K) where
       with_responses sender (λ m. taken m receiver channel slot (drop 1 (queue_at m receiver channel)))
 
   -- with a client under the next number, that has so many slots and is this receiver
-  abbrev pub with_new_client : ClientSettings K → ℕ → ℕ → Messages Q RequestDetails QH → List Bool → ℕ → Parts Q QH P PH K
+  abbrev pub with_new_client : ClientSettings K → ℕ → ℕ → Messages Q RequestDetails QH → List ℕ → ℕ → Parts Q QH P PH K
   with_new_client settings slots receiver messages marks row_len =
       record p {
         next = p.next + 1;
         clients = p.clients ++ record { connected = record { port = record (client_port p settings) { pool_size = slots }; sender = length p.client_senders; receiver = receiver }; loans_made = 0 } ∷ [];
-        client_senders = p.client_senders ++ record { owner = p.next; row = length p.table.rows; receiver = receiver; loans = 0; pendings = 0; messages = messages } ∷ [];
-        waiting = p.waiting ++ marks ∷ [];
+        client_senders = p.client_senders ++ record { owner = p.next; row = length p.table.rows; receiver = receiver; loans = 0; pendings = 0; may_answer = marks; messages = messages } ∷ [];
         table = with_row p.table row_len;
       }
 
@@ -131,7 +122,7 @@ module _ {Q QH P PH K : Type 0} (p : Parts Q QH P PH K) where
   with_new_server settings loans slots receiver messages =
       record p {
         next = p.next + 1;
-        servers = p.servers ++ record { connected = record { port = record (server_port p settings) { pool_size = slots }; sender = length p.server_senders; receiver = receiver }; max_loaned_responses_per_request = loans } ∷ [];
-        server_senders = p.server_senders ++ record { owner = p.next; row = length p.table.rows; receiver = receiver; loans = 0; pendings = 0; messages = messages } ∷ [];
+        servers = p.servers ++ record { connected = record { port = record (server_port p settings) { pool_size = slots }; sender = length p.server_senders; receiver = receiver }; max_loaned_responses_per_request = loans; max_loaned_responses = max_loaned_responses p.limits loans } ∷ [];
+        server_senders = p.server_senders ++ record { owner = p.next; row = length p.table.rows; receiver = receiver; loans = 0; pendings = 0; may_answer = []; messages = messages } ∷ [];
         table = with_row p.table slots;
       }

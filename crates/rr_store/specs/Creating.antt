@@ -1,15 +1,16 @@
 -- The parts of a core after a port was created.
-use Rattle.std.specs.Prelude.{◌≡◌, ℕ, ◌+◌, ◌*◌, true, false, [], ◌∷◌, ◌++◌, length, replicate}
+use Rattle.std.specs.Prelude.{◌≡◌, ℕ, ◌+◌, ◌*◌, true, [], ◌∷◌, ◌++◌, length, replicate}
 use Rattle.rr_table.specs.TableView.{with_row}
 use Rattle.rr_sender.specs.Senders.{Messages}
 use Rattle.rr_protocol.specs.declared.settings.ClientSettings.{ClientSettings}
 use Rattle.rr_protocol.specs.declared.settings.ServerSettings.{ServerSettings}
-use Rattle.rr_protocol.specs.Limits.{worst_case_requests, worst_case_responses}
+use Rattle.rr_protocol.specs.Limits.{worst_case_requests, max_loaned_responses, worst_case_responses}
 use Rattle.rr_protocol.specs.Ports.{Port}
 use Rattle.rr_protocol.specs.Creation.{pool_size_of, loans_of}
 use Rattle.rr_store.specs.declared.details.RequestDetails.{RequestDetails}
 use Rattle.rr_store.specs.declared.details.ResponseDetails.{ResponseDetails}
 use Rattle.rr_store.specs.Parts.{Parts}
+use Rattle.rr_store.specs.Views.{no_server}
 
 -- a sender from which nothing was sent
 pub record IsNew {T N H : Type 0} (slots room receivers channels capacity : ℕ) (detail : N) (m : Messages T N H) : Type 0 where
@@ -54,8 +55,7 @@ module _ {Q QH P PH K : Type 0} (p : Parts Q QH P PH K) where
       record p {
         next = p.next + 1;
         clients = p.clients ++ record { connected = record { port = client_port settings; sender = length p.client_senders; receiver = receiver }; loans_made = 0 } ∷ [];
-        client_senders = p.client_senders ++ record { owner = p.next; row = length p.table.rows; receiver = receiver; loans = 0; pendings = 0; messages = messages } ∷ [];
-        waiting = p.waiting ++ replicate ((client_port settings).pool_size * p.limits.max_servers) false ∷ [];
+        client_senders = p.client_senders ++ record { owner = p.next; row = length p.table.rows; receiver = receiver; loans = 0; pendings = 0; may_answer = replicate ((client_port settings).pool_size * p.limits.max_servers) no_server; messages = messages } ∷ [];
         table = with_row p.table ((p.limits.max_servers + 1) * (client_port settings).pool_size);
       }
 
@@ -64,7 +64,7 @@ module _ {Q QH P PH K : Type 0} (p : Parts Q QH P PH K) where
   with_server_part settings receiver messages =
       record p {
         next = p.next + 1;
-        servers = p.servers ++ record { connected = record { port = server_port settings; sender = length p.server_senders; receiver = receiver }; max_loaned_responses_per_request = loans_of settings } ∷ [];
-        server_senders = p.server_senders ++ record { owner = p.next; row = length p.table.rows; receiver = receiver; loans = 0; pendings = 0; messages = messages } ∷ [];
+        servers = p.servers ++ record { connected = record { port = server_port settings; sender = length p.server_senders; receiver = receiver }; max_loaned_responses_per_request = loans_of settings; max_loaned_responses = max_loaned_responses p.limits (loans_of settings) } ∷ [];
+        server_senders = p.server_senders ++ record { owner = p.next; row = length p.table.rows; receiver = receiver; loans = 0; pendings = 0; may_answer = []; messages = messages } ∷ [];
         table = with_row p.table (server_port settings).pool_size;
       }

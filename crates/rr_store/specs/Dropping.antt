@@ -1,5 +1,5 @@
 -- What changes besides as a handle in hand is dropped: its message is held once less, and what is stored of it is counted once less.
-use Rattle.std.specs.Prelude.{◌≡◌, ◌≤◌, ◌<◌, ℕ, ◌+◌, ◌*◌, Bool, false, List, [], length, Some, slice_get, slice_index, slice_index_or}
+use Rattle.std.specs.Prelude.{◌≡◌, ◌≤◌, ◌<◌, ℕ, ◌+◌, List, [], length, Some, slice_get, slice_index, false}
 use Rattle.std.specs.FinMap as fin_map
 use Rattle.rr_maps.specs.Maps.{mark}
 use Rattle.rr_table.specs.TableView.{TableEntry}
@@ -9,14 +9,14 @@ use Rattle.rr_store.specs.declared.handle_entry.Stage.TheVariants as stage
 use Rattle.rr_store.specs.declared.details.RequestDetails.{RequestDetails}
 use Rattle.rr_store.specs.declared.details.ResponseDetails.{ResponseDetails}
 use Rattle.rr_store.specs.Parts.{ClientPart, Sender, Parts}
-use Rattle.rr_store.specs.Views.{sender_of, is_awaited}
+use Rattle.rr_store.specs.Views.{sender_of}
 use Rattle.rr_store.specs.Sound.{is_request_loan, is_pending, is_active_of, is_response_loan, is_request_at, is_response_at, is_in_sender, is_loan_from, is_received_at, server_place}
 use Rattle.rr_store.specs.Frames.{SameFrame}
 
--- ports, senders and marks after a handle was dropped: no message comes, and each count has one less exactly if the handle was counted in it
+-- ports and senders after a handle was dropped: no message comes, and each count has one less exactly if the handle was counted in it
 pub record IsDropped {Q QH P PH K : Type 0} (p : Parts Q QH P PH K) (entry : HandleEntry) (client_senders : List (Sender Q RequestDetails QH))
-    (server_senders : List (Sender P ResponseDetails PH)) (waiting : List (List Bool)) : Type 0 where
-  pub frame : SameFrame p p.clients client_senders server_senders waiting p.next
+    (server_senders : List (Sender P ResponseDetails PH)) : Type 0 where
+  pub frame : SameFrame p p.clients client_senders server_senders p.next
   pub requests_held : (l i : ℕ) → slice_index (sender_of l client_senders).messages.held i + mark (is_request_at l i entry) ≡ slice_index (sender_of l p.client_senders).messages.held i
   pub responses_held : (l i : ℕ) → slice_index (sender_of l server_senders).messages.held i + mark (is_response_at l i entry) ≡ slice_index (sender_of l p.server_senders).messages.held i
   pub all_request_details : (l : ℕ) → (sender_of l client_senders).messages.details ≡ (sender_of l p.client_senders).messages.details
@@ -27,7 +27,7 @@ pub record IsDropped {Q QH P PH K : Type 0} (p : Parts Q QH P PH K) (entry : Han
   pub responses_none : (l receiver channel : ℕ) → queue_at (sender_of l p.server_senders).messages receiver channel ≡ [] → queue_at (sender_of l server_senders).messages receiver channel ≡ []
   pub requests_borrowed : (l receiver channel : ℕ) → borrowed_at (sender_of l client_senders).messages receiver channel ≤ borrowed_at (sender_of l p.client_senders).messages receiver channel
   pub responses_borrowed : (l receiver channel : ℕ) → borrowed_at (sender_of l server_senders).messages receiver channel ≤ borrowed_at (sender_of l p.server_senders).messages receiver channel
-  pub awaited : (l slot receiver : ℕ) → is_awaited p l slot receiver ≡ false → slice_index_or (slice_index_or waiting l []) (slot * p.limits.max_servers + receiver) false ≡ false
+  pub marks : (l : ℕ) → (sender_of l client_senders).may_answer ≡ (sender_of l p.client_senders).may_answer
   pub request_loans : (l : ℕ) → (sender_of l client_senders).loans + mark (is_in_sender is_request_loan l entry) ≡ (sender_of l p.client_senders).loans
   pub pendings : (l : ℕ) → (sender_of l client_senders).pendings + mark (is_in_sender is_pending l entry) ≡ (sender_of l p.client_senders).pendings
   pub response_loans : (l : ℕ) → (sender_of l server_senders).loans + mark (is_in_sender is_response_loan l entry) ≡ (sender_of l p.server_senders).loans

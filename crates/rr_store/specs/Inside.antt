@@ -2,7 +2,7 @@
 use Rattle.std.specs.Prelude.{map}
 use Rattle.rr_store.specs.declared.store.Store.TheInside.{Inside}
 use Rattle.rr_store.specs.Parts.{Parts}
-use Rattle.rr_store.specs.Ports.{client_part, server_part, sender_part, marks_of}
+use Rattle.rr_store.specs.Ports.{client_part, server_part, sender_part}
 
 -- the whole
 abbrev pub parts_of : {QB QH PB PH K Q P : Type 0} → Inside QB QH PB PH K Q P → Parts Q QH P PH K
@@ -15,7 +15,6 @@ parts_of c =
       servers = map server_part c.servers.items;
       client_senders = map sender_part c.client_senders.items;
       server_senders = map sender_part c.server_senders.items;
-      waiting = map marks_of c.waiting.items;
       table = c.table;
       spare_request_header = c.spare_request_header;
       spare_response_header = c.spare_response_header;

@@ -1,4 +1,5 @@
 pub mod Parts
+pub mod Order
 pub mod Views
 pub mod Kinds
 pub mod Writing
@@ -11,6 +12,7 @@ pub mod Hands
 pub mod Kept
 pub mod Loaning
 pub mod Rewrites
+pub mod Emptying
 pub mod Receiving
 pub mod Asked
 pub mod Answering

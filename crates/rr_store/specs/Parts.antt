@@ -1,5 +1,5 @@
 -- What a core keeps.
-use Rattle.std.specs.Prelude.{ℕ, Bool, List}
+use Rattle.std.specs.Prelude.{ℕ, List}
 use Rattle.rr_table.specs.TableView.{TableView}
 use Rattle.rr_sender.specs.Senders.{Messages}
 use Rattle.rr_protocol.specs.declared.limits.Limits.{Limits}
@@ -20,22 +20,24 @@ pub record ClientPart (K : Type 0) : Type 0 where
   pub open connected use *
   pub loans_made : ℕ
 
--- a connected server, with the responses that it may have on loan for each request
+-- a connected server, with the responses that it may have on loan for each request, and in all
 pub record ServerPart (K : Type 0) : Type 0 where
   pub connected : Connected K
   pub open connected use *
   pub max_loaned_responses_per_request : ℕ
+  pub max_loaned_responses : ℕ
 
--- what a port sends from: the port's number and its index among the receivers of the other side, the row in which the handles of its messages stand, and how many messages are on loan and how many responses are pending
+-- what a port sends from: the port's number and its index among the receivers of the other side, the row in which the handles of its messages stand, how many messages are on loan and how many responses are pending, and, by slot and receiver, which server may still answer a request
 pub record Sender (T N H : Type 0) : Type 0 where
   pub owner : ℕ
   pub row : ℕ
   pub receiver : ℕ
   pub loans : ℕ
   pub pendings : ℕ
+  pub may_answer : List ℕ
   pub messages : Messages T N H
 
--- the whole. `waiting` has for each client's sender, by slot and receiver, whether that server may still answer
+-- the whole
 pub record Parts (Q QH P PH K : Type 0) : Type 0 where
   pub limits : Limits
   pub node_id : ℕ
@@ -44,7 +46,6 @@ pub record Parts (Q QH P PH K : Type 0) : Type 0 where
   pub servers : List (ServerPart K)
   pub client_senders : List (Sender Q RequestDetails QH)
   pub server_senders : List (Sender P ResponseDetails PH)
-  pub waiting : List (List Bool)
   pub table : TableView HandleEntry
   pub spare_request_header : QH
   pub spare_response_header : PH

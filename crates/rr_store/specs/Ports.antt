@@ -1,6 +1,4 @@
 -- Ports and senders as parts.
-use Rattle.std.specs.Prelude.{Bool, List, Vec}
-use Rattle.std.specs.Global.{Global}
 use Rattle.rr_store.specs.declared.port.Port.{Port as PortField}
 use Rattle.rr_store.specs.declared.port.ClientPort.{ClientPort}
 use Rattle.rr_store.specs.declared.port.ServerPort.{ServerPort}
@@ -31,12 +29,8 @@ module _ {K : Type 0} where
 
   -- a connected server
   abbrev pub server_part : ServerPort K → ServerPart K
-  server_part s = record { connected = connected_of s.port; max_loaned_responses_per_request = s.max_loaned_responses_per_request }
+  server_part s = record { connected = connected_of s.port; max_loaned_responses_per_request = s.max_loaned_responses_per_request; max_loaned_responses = s.max_loaned_responses }
 
 -- a sender
 abbrev pub sender_part : {B N H T : Type 0} → OwnedSender B N H T → Sender T N H
-sender_part l = record { owner = l.owner; row = l.row; receiver = l.receiver; loans = l.loans; pendings = l.pendings; messages = l.messages }
-
--- a row of marks
-abbrev pub marks_of : Vec Bool Global → List Bool
-marks_of marks = marks.items
+sender_part l = record { owner = l.owner; row = l.row; receiver = l.receiver; loans = l.loans; pendings = l.pendings; may_answer = l.may_answer.items; messages = l.messages }

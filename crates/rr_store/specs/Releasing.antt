@@ -1,10 +1,11 @@
 -- What a release takes away, and from which part.
-use Rattle.std.specs.Prelude.{ℕ, ◌-◌, Bool, true, false, slice_index}
-use Rattle.rr_sender.specs.Senders.{Messages, borrowed_at, with_held, with_borrowed}
+use Rattle.std.specs.Prelude.{ℕ, ◌-◌, Bool, true, false, [], ◌∷◌, slice_index, slice_set}
+use Rattle.rr_sender.specs.Senders.{Messages, borrowed_at, emptied_among, with_held, with_borrowed}
 use Rattle.rr_protocol.specs.Messages.{Handle, RequestMutUninit, RequestMut, ActiveRequest, ResponseMutUninit, ResponseMut, Response}
 use Rattle.rr_store.specs.declared.handle_entry.Stage.{Stage}
 use Rattle.rr_store.specs.declared.handle_entry.Stage.TheVariants as stage
 use Rattle.rr_store.specs.Parts.{Sender}
+use Rattle.rr_store.specs.Views.{no_server}
 
 -- a request on loan
 abbrev pub is_loaned_request : {Q QH P PH : Type 0} → Handle Q QH P PH → Bool
@@ -40,6 +41,17 @@ given_back m slot = with_held m slot (slice_index m.held slot - 1)
 -- and a receiver has one less from a channel
 abbrev pub borrow_ended : {T N H : Type 0} → Messages T N H → ℕ → ℕ → ℕ → Messages T N H
 borrow_ended m receiver channel slot = given_back (with_borrowed m receiver channel (borrowed_at m receiver channel - 1)) slot
+
+-- and in both cases the slot is emptied if that was its last use
+abbrev pub let_go : {T N H : Type 0} → Messages T N H → ℕ → Messages T N H
+let_go m slot = emptied_among (slot ∷ []) (given_back m slot)
+
+abbrev pub borrow_let_go : {T N H : Type 0} → Messages T N H → ℕ → ℕ → ℕ → Messages T N H
+borrow_let_go m receiver channel slot = emptied_among (slot ∷ []) (borrow_ended m receiver channel slot)
+
+-- a sender by which no server may answer where a mark stands
+abbrev pub without_mark : {T N H : Type 0} → ℕ → Sender T N H → Sender T N H
+without_mark index l = record l { may_answer = slice_set l.may_answer index no_server }
 
 -- a sender with one message less on loan
 abbrev pub without_loan : {T N H : Type 0} → Sender T N H → Sender T N H

@@ -1,8 +1,8 @@
 -- Which queues a request is put into, and the parts of a core after it was sent.
-use Rattle.std.specs.Prelude.{◌≡◌, ◌<◌, ◌≤◌, ℕ, ◌+◌, ◌-◌, ◌*◌, Bool, true, false, not, ◌&&◌, List, [], length, drop, map, fold, Some, slice_get, slice_set, slice_index, slice_index_or}
+use Rattle.std.specs.Prelude.{◌≡◌, ◌<◌, ◌≤◌, ℕ, ◌+◌, ◌-◌, ◌*◌, Bool, false, not, ◌&&◌, List, [], length, drop, map, fold, Some, slice_get, slice_set, slice_index, slice_index_or}
 use Rattle.rr_table.specs.TableView.{inserted}
 use Rattle.rr_table.specs.declared.place.Place.{Place}
-use Rattle.rr_sender.specs.Senders.{Messages, at_two, set_two, queue_at, put, uses}
+use Rattle.rr_sender.specs.Senders.{Messages, at_two, set_two, queue_at, put, put_into, uses}
 use Rattle.rr_protocol.specs.declared.settings.BackpressureAction.{BackpressureAction}
 use Rattle.rr_protocol.specs.Backpressure.{discards}
 use Rattle.rr_protocol.specs.Ports.{Port}
@@ -10,8 +10,7 @@ use Rattle.rr_protocol.specs.Sends.{is_blocked}
 use Rattle.rr_store.specs.declared.handle_entry.HandleEntry.{HandleEntry}
 use Rattle.rr_store.specs.declared.handle_entry.Stage.TheVariants as stage
 use Rattle.rr_store.specs.declared.port.ServerPort.{ServerPort}
-use Rattle.rr_store.specs.Loaning.{with_messages}
-use Rattle.rr_store.specs.Parts.{Sender, Parts}
+use Rattle.rr_store.specs.Parts.{Sender, ServerPart, Parts}
 use Rattle.rr_store.specs.Views.{sender_of}
 
 module _ {T N H : Type 0} where
@@ -39,17 +38,35 @@ put_queues overflow capacity slot queues places = fold (λ qs receiver. set_two 
 abbrev pub with_puts : {T N H : Type 0} → Bool → ℕ → Messages T N H → List ℕ → Messages T N H
 with_puts overflow slot m places = record m { queues = put_queues overflow m.capacity slot m.queues places }
 
+-- and each slot is emptied that has its last use in an entry which leaves for it
+abbrev pub after_puts : {T N H : Type 0} → Bool → ℕ → Messages T N H → List ℕ → Messages T N H
+after_puts overflow slot m places = fold (λ n receiver. put_into overflow n receiver 0 slot) m places
+
 -- of some servers the first ones have the slot, and the others complete the queues
 pub record IsPutting {T N H K : Type 0} (overflow : Bool) (slot : ℕ) (before now : Messages T N H) (servers : List (ServerPort K)) (i : ℕ) : Type 0 where
-  pub rest : with_puts overflow slot now (receivers_of (drop i servers)) ≡ with_puts overflow slot before (receivers_of servers)
+  pub rest : after_puts overflow slot now (receivers_of (drop i servers)) ≡ after_puts overflow slot before (receivers_of servers)
   pub queues : HasQueues now servers
   pub capacity : now.capacity ≡ before.capacity
   pub held : slice_index now.held slot ≡ slice_index before.held slot
   pub used : uses now slot ≤ uses before slot + i
 
--- a row of marks after these were set
-abbrev pub with_marks : List Bool → List ℕ → List Bool
-with_marks marks indices = fold (λ ms index. slice_set ms index true) marks indices
+-- marks after these were set, each an index and what stands there from then on
+abbrev pub with_marks : List ℕ → List (ℕ × ℕ) → List ℕ
+with_marks marks set = fold (λ ms mark. slice_set ms mark.0 mark.1) marks set
+
+-- the marks of a slot for these servers
+abbrev pub marks_for : {K : Type 0} → ℕ → ℕ → List (ServerPart K) → List (ℕ × ℕ)
+marks_for receivers slot servers = map (λ s. (slot * receivers + s.receiver, s.port.id)) servers
+
+-- a sender after a request in this slot came to these servers, which may answer it
+abbrev pub queued_to : {T N H K : Type 0} → Bool → ℕ → ℕ → List (ServerPart K) → Sender T N H → Sender T N H
+queued_to overflow receivers slot servers l =
+    record l { messages = with_puts overflow slot l.messages (map (λ s. s.receiver) servers); may_answer = with_marks l.may_answer (marks_for receivers slot servers) }
+
+-- and each slot is emptied that has its last use in an entry which leaves for it
+abbrev pub after_queued : {T N H K : Type 0} → Bool → ℕ → ℕ → List (ServerPart K) → Sender T N H → Sender T N H
+after_queued overflow receivers slot servers l =
+    record l { messages = after_puts overflow slot l.messages (map (λ s. s.receiver) servers); may_answer = with_marks l.may_answer (marks_for receivers slot servers) }
 
 -- a sender with one request less on loan, which waits for responses
 abbrev pub with_one_sent : {T N H : Type 0} → Sender T N H → Sender T N H
@@ -67,18 +84,13 @@ module _ {Q QH P PH K : Type 0} (p : Parts Q QH P PH K) where
   abbrev pub server_places : List ℕ
   server_places = map (λ s. s.receiver) p.servers
 
-  -- the marks of a slot for connected servers
-  abbrev pub server_marks : ℕ → List ℕ
-  server_marks slot = map (λ s. slot * p.limits.max_servers + s.receiver) p.servers
+  -- a sender after a request in this slot came to all connected servers, which may answer it
+  abbrev pub queued : {T N H : Type 0} → ℕ → Sender T N H → Sender T N H
+  queued slot l = queued_to p.limits.enable_safe_overflow_for_requests p.limits.max_servers slot p.servers l
 
-  -- a request in this slot came to all connected servers; its sender counts it as sent, and it has no handle
+  -- its sender counts it as sent, and it has no handle
   abbrev pub with_request_in_queues : ℕ → ℕ → Parts Q QH P PH K
-  with_request_in_queues sender slot =
-      record p {
-        client_senders = slice_set p.client_senders sender
-            (with_one_sent (with_messages (sender_of sender p.client_senders) (with_puts p.limits.enable_safe_overflow_for_requests slot (sender_of sender p.client_senders).messages server_places)));
-        waiting = slice_set p.waiting sender (with_marks (slice_index_or p.waiting sender []) (server_marks slot));
-      }
+  with_request_in_queues sender slot = record p { client_senders = slice_set p.client_senders sender (with_one_sent (queued slot (sender_of sender p.client_senders))) }
 
   -- and its handle is a pending response
   abbrev pub with_request_sent : ℕ → ℕ → ℕ → ℕ → Place → Parts Q QH P PH K

@@ -2,7 +2,7 @@
 use Rattle.std.specs.Prelude.{zero, suc, ◌≡◌, ◌<◌, ℕ, ◌+◌, Bool, true, false, List, [], ◌∷◌, length, drop, Some, IfSome, slice_get, slice_index_or, slice_set}
 use Rattle.std.specs.Option.{option_map_or}
 use Rattle.rr_table.specs.TableView.{TableView, inserted, value_in}
-use Rattle.rr_sender.specs.Senders.{queue_at, taken, with_queue}
+use Rattle.rr_sender.specs.Senders.{first_dropped, queue_at, taken, with_queue}
 use Rattle.rr_store.specs.declared.handle_entry.HandleEntry.{HandleEntry}
 use Rattle.rr_store.specs.declared.details.RequestDetails.{RequestDetails}
 use Rattle.rr_store.specs.Answering.{active_entry}
@@ -22,11 +22,15 @@ module _ {T H : Type 0} where
   abbrev pub without_first : ℕ → Sender T RequestDetails H → Sender T RequestDetails H
   without_first receiver sender = with_messages sender (with_queue sender.messages receiver 0 (drop 1 (queue_at sender.messages receiver 0)))
 
+  -- and its slot is emptied if that was its last use
+  abbrev pub first_skimmed : ℕ → Sender T RequestDetails H → Sender T RequestDetails H
+  first_skimmed receiver sender = with_messages sender (first_dropped sender.messages receiver 0)
+
   -- so many requests that nobody waits for leave the front of a queue
   abbrev pub SkimsSender : TableView HandleEntry → ℕ → ℕ → Sender T RequestDetails H → Sender T RequestDetails H → Type 0
   SkimsSender table receiver zero old new = new ≡ old
   SkimsSender table receiver (suc n) old new =
-      (slot : ℕ) × (slice_get (queue_at old.messages receiver 0) 0 ≡ Some slot) × (is_waited table old slot ≡ false) × SkimsSender table receiver n (without_first receiver old) new
+      (slot : ℕ) × (slice_get (queue_at old.messages receiver 0) 0 ≡ Some slot) × (is_waited table old slot ≡ false) × SkimsSender table receiver n (first_skimmed receiver old) new
 
   -- somebody waits for the first request of a queue
   abbrev pub IsFrontAlive : TableView HandleEntry → ℕ → Sender T RequestDetails H → Type 0
@@ -37,7 +41,7 @@ module _ {T H : Type 0} where
   SkimsSenders table receiver most [] old new = new ≡ old
   SkimsSenders table receiver most (sender ∷ senders) old new =
       (slot : ℕ) × (sender < length old) × (borrowed_from old receiver 0 sender < most) × (slice_get (queue_from old receiver 0 sender) 0 ≡ Some slot) × (is_waited table (sender_of sender old) slot ≡ false)
-      × SkimsSenders table receiver most senders (slice_set old sender (without_first receiver (sender_of sender old))) new
+      × SkimsSenders table receiver most senders (slice_set old sender (first_skimmed receiver (sender_of sender old))) new
 
   -- the first senders were skimmed
   pub record IsSkimmedBelow (table : TableView HandleEntry) (receiver most n : ℕ) (old new : List (Sender T RequestDetails H)) : Type 0 where

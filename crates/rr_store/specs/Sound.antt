@@ -6,14 +6,15 @@ use Rattle.rr_maps.specs.Maps.{tally}
 use Rattle.rr_table.specs.TableView.{TableEntry}
 use Rattle.rr_table.specs.declared.place.Place.{Place}
 use Rattle.rr_sender.specs.Senders.{Messages, times, all_entries, queue_at, borrowed_at, uses}
-use Rattle.rr_protocol.specs.Limits.{worst_case_requests, hub_refusal}
+use Rattle.rr_protocol.specs.Limits.{worst_case_requests, max_loaned_responses, hub_refusal}
 use Rattle.rr_store.specs.declared.handle_entry.HandleEntry.{HandleEntry}
 use Rattle.rr_store.specs.declared.handle_entry.Stage.{Stage}
 use Rattle.rr_store.specs.declared.handle_entry.Stage.TheVariants as stage
 use Rattle.rr_store.specs.declared.details.RequestDetails.{RequestDetails}
 use Rattle.rr_store.specs.declared.details.ResponseDetails.{ResponseDetails}
+use Rattle.rr_store.specs.Order.{IsRising}
 use Rattle.rr_store.specs.Parts.{Connected, ClientPart, ServerPart, Sender, Parts}
-use Rattle.rr_store.specs.Views.{no_request, no_response, sender_of, is_awaited}
+use Rattle.rr_store.specs.Views.{no_request, no_response, no_server, sender_of, is_awaited}
 
 -- the handles that a call has for itself, without their numbers
 abbrev pub Hand : Type 0
@@ -99,7 +100,7 @@ pub record IsShaped {T N H : Type 0} (receivers channels capacity : ℕ) (m : Me
   pub within : (r c : ℕ) → length (queue_at m r c) ≤ capacity
   pub inside : (slot : ℕ) → 0 < times slot (all_entries m.queues) → slot < length m.held
 
--- each port has a sender of its own, of the size that it says, which knows the port's receiver; and each sender has a port
+-- each port has a sender of its own, of the size that it says, which knows the port's receiver; each sender has a port; and ports stand in the order in which they were created
 pub record HasSenders {T N H K : Type 0} (next ports : ℕ) (connected : List (Connected K)) (senders : List (Sender T N H)) : Type 0 where
   pub few : length connected ≤ ports
   pub own : (i : ℕ) (c : Connected K) → slice_get connected i ≡ Some c →
@@ -110,7 +111,7 @@ pub record HasSenders {T N H K : Type 0} (next ports : ℕ) (connected : List (C
   pub numbered : (i : ℕ) → i < length senders → (sender_of i senders).owner < next
   pub placed : (i : ℕ) (c : Connected K) → slice_get connected i ≡ Some c → c.receiver < ports
   pub receivers_once : (i j : ℕ) (c d : Connected K) → slice_get connected i ≡ Some c → slice_get connected j ≡ Some d → c.receiver ≡ d.receiver → i ≡ j
-  pub numbered_once : (i j : ℕ) (c d : Connected K) → slice_get connected i ≡ Some c → slice_get connected j ≡ Some d → c.port.id ≡ d.port.id → i ≡ j
+  pub rising : IsRising (λ (c : Connected K). c.port.id) connected
 
 module _ {Q QH P PH K : Type 0} (p : Parts Q QH P PH K) where
   -- the details of a request, and of a response
@@ -228,25 +229,26 @@ module _ {Q QH P PH K : Type 0} (p : Parts Q QH P PH K) where
     pub borrowed_responses : (sender i channel : ℕ) (c : ClientPart K) → sender < length p.server_senders → slice_get p.clients i ≡ Some c →
         borrowed_at (sender_of sender p.server_senders).messages c.receiver channel ≡ handles (is_received_at sender c.port.id channel) hand
 
-  -- every sender has its size
+  -- every sender has its size, and every server knows how many responses it may have on loan in all
   pub record IsSized : Type 0 where
     pub limits_fit : hub_refusal p.limits ≡ None
     pub client_senders : (sender : ℕ) → sender < length p.client_senders → IsShaped p.limits.max_servers 1 p.limits.max_active_requests_per_client (sender_of sender p.client_senders).messages
     pub server_senders : (sender : ℕ) → sender < length p.server_senders → IsShaped p.limits.max_clients (worst_case_requests p.limits) p.limits.max_response_buffer_size (sender_of sender p.server_senders).messages
-    pub waiting : length p.waiting ≡ length p.client_senders
-    pub waiting_slots : (sender : ℕ) → sender < length p.client_senders → length (slice_index_or p.waiting sender []) ≡ length (sender_of sender p.client_senders).messages.held * p.limits.max_servers
+    pub marks : (sender : ℕ) → sender < length p.client_senders → length (sender_of sender p.client_senders).may_answer ≡ length (sender_of sender p.client_senders).messages.held * p.limits.max_servers
     pub next_fits : p.next ≤ 2 ^ 62
     pub channels : (sender : ℕ) → sender < length p.client_senders → length (sender_of sender p.client_senders).messages.held ≤ worst_case_requests p.limits
     pub loans_made : (i : ℕ) (c : ClientPart K) → slice_get p.clients i ≡ Some c → c.loans_made ≤ p.next
+    pub most_loans : (i : ℕ) (s : ServerPart K) → slice_get p.servers i ≡ Some s →
+        s.max_loaned_responses ≡ max_loaned_responses p.limits s.max_loaned_responses_per_request
     pub rows_fit : (sender : ℕ) → sender < length p.client_senders → (p.limits.max_servers + 1) * length (sender_of sender p.client_senders).messages.held < 2 ^ 64
 
-  -- nothing waits, and nothing was received, at a receiver that no port has
+  -- nothing waits, and nothing was received, at a receiver that no port has; and no server that is still to come may answer
   pub record IsVacated : Type 0 where
     pub of_clients : (sender receiver channel : ℕ) → ((i : ℕ) (c : ClientPart K) → slice_get p.clients i ≡ Some c → c.receiver ≢ receiver) →
         (queue_at (sender_of sender p.server_senders).messages receiver channel ≡ []) × (borrowed_at (sender_of sender p.server_senders).messages receiver channel ≡ 0)
     pub of_servers : (sender receiver channel : ℕ) → ((i : ℕ) (s : ServerPart K) → slice_get p.servers i ≡ Some s → s.receiver ≢ receiver) →
         (queue_at (sender_of sender p.client_senders).messages receiver channel ≡ []) × (borrowed_at (sender_of sender p.client_senders).messages receiver channel ≡ 0)
-    pub awaits_none : (sender slot receiver : ℕ) → ((i : ℕ) (s : ServerPart K) → slice_get p.servers i ≡ Some s → s.receiver ≢ receiver) → receiver < p.limits.max_servers → is_awaited p sender slot receiver ≡ false
+    pub awaits_none : (sender slot receiver server : ℕ) → p.next ≤ server → server < no_server → is_awaited p sender slot receiver server ≡ false
 
   -- each port value lives
   pub record HaveValues : Type 0 where

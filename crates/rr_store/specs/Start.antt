@@ -14,7 +14,6 @@ start_parts limits node_id request_header response_header =
       servers = [];
       client_senders = [];
       server_senders = [];
-      waiting = [];
       table = empty_table;
       spare_request_header = request_header;
       spare_response_header = response_header;

@@ -1,5 +1,5 @@
 -- What the parts of a core stand for.
-use Rattle.std.specs.Prelude.{ℕ, ◌+◌, ◌*◌, Bool, false, ◌==◌, List, [], map, filter, flat_map, find, length, slice_index_or}
+use Rattle.std.specs.Prelude.{ℕ, ◌+◌, ◌*◌, Bool, ◌==◌, List, [], map, filter, flat_map, find, length, slice_index_or}
 use Rattle.std.specs.List.{range_with_len}
 use Rattle.std.specs.Option.{option_map_or}
 use Rattle.rr_maps.specs.Maps.{map_values}
@@ -24,9 +24,13 @@ no_request = record { number = 0; client = 0; request_id = 0 }
 abbrev pub no_response : ResponseDetails
 no_response = record { number = 0; server = 0; active_request = 0; request = 0; request_id = 0; client = 0; channel = 0 }
 
+-- what stands where no server may answer: the number of none
+abbrev pub no_server : ℕ
+no_server = 18446744073709551615
+
 -- a sender that isn't there
 abbrev pub no_sender : {T N H : Type 0} → Sender T N H
-no_sender = record { owner = 0; row = 0; receiver = 0; loans = 0; pendings = 0; messages = record { contents = []; details = []; user_headers = []; held = []; queues = []; borrowed = []; capacity = 0; room = 0 } }
+no_sender = record { owner = 0; row = 0; receiver = 0; loans = 0; pendings = 0; may_answer = []; messages = record { contents = []; details = []; user_headers = []; held = []; queues = []; borrowed = []; capacity = 0; room = 0 } }
 
 -- the content of a slot
 abbrev pub content_of : {T N H : Type 0} → H → Messages T N H → ℕ → Content T H
@@ -58,6 +62,14 @@ response_in_slot spare m slot =
 abbrev pub sender_of : {T N H : Type 0} → ℕ → List (Sender T N H) → Sender T N H
 sender_of sender senders = slice_index_or senders sender no_sender
 
+-- whether by these marks the server with a number, which is a receiver, may still answer the request in a slot
+abbrev pub is_marked : ℕ → List ℕ → ℕ → ℕ → ℕ → Bool
+is_marked receivers marks slot receiver server = slice_index_or marks (slot * receivers + receiver) no_server == server
+
+-- the servers that may by these marks
+abbrev pub marked : {K : Type 0} → ℕ → List (ServerPart K) → List ℕ → ℕ → List ℕ
+marked receivers servers marks slot = map (λ server. server.port.id) (filter (λ server. is_marked receivers marks slot server.receiver server.port.id) servers)
+
 -- a client, and a server, as they are seen
 abbrev pub client_of : {K : Type 0} → ClientPart K → Client K
 client_of c = record { port = c.port; loans_made = c.loans_made }
@@ -73,13 +85,13 @@ module _ {Q QH P PH K : Type 0} where
   abbrev pub response_at : Parts Q QH P PH K → ℕ → ℕ → ResponseMessage P PH
   response_at p sender slot = response_in_slot p.spare_response_header (sender_of sender p.server_senders).messages slot
 
-  -- whether the server that is a receiver may still answer the request in a slot
-  abbrev pub is_awaited : Parts Q QH P PH K → ℕ → ℕ → ℕ → Bool
-  is_awaited p sender slot receiver = slice_index_or (slice_index_or p.waiting sender []) (slot * p.limits.max_servers + receiver) false
+  -- whether the server with a number, which is a receiver, may still answer the request in a slot
+  abbrev pub is_awaited : Parts Q QH P PH K → ℕ → ℕ → ℕ → ℕ → Bool
+  is_awaited p sender slot receiver server = is_marked p.limits.max_servers (sender_of sender p.client_senders).may_answer slot receiver server
 
   -- the servers that may
   abbrev pub waiting_at : Parts Q QH P PH K → ℕ → ℕ → List ℕ
-  waiting_at p sender slot = map (λ server. server.port.id) (filter (λ server. is_awaited p sender slot server.receiver) p.servers)
+  waiting_at p sender slot = marked p.limits.max_servers p.servers (sender_of sender p.client_senders).may_answer slot
 
   -- what is under a number, by its stage
   abbrev pub handle_in : Parts Q QH P PH K → Stage → ℕ → ℕ → Handle Q QH P PH

@@ -1,5 +1,5 @@
 //! Creating ports.
-ghost use Rattle.std.specs.Prelude.{◌≡◌, ◌≢◌, ℕ, ◌+◌, ◌*◌, ◌^◌, ◌<◌, ◌++◌, ◌∷◌, [], None, Some, length, replicate, true, false, if◌then◌else◌, is_ok, IsTrue, IfOk, slice_get, ◌==◌};
+ghost use Rattle.std.specs.Prelude.{◌≡◌, ◌≢◌, ℕ, ◌+◌, ◌*◌, ◌^◌, ◌<◌, ◌++◌, ◌∷◌, [], None, Some, length, replicate, true, if◌then◌else◌, is_ok, IsTrue, IfOk, slice_get, ◌==◌};
 ghost use Rattle.rr_slots.specs.Families.{takes_len};
 ghost use Rattle.rr_table.specs.TableView.{with_row};
 ghost use Rattle.rr_protocol.specs.Creation.{pool_size_of};
@@ -7,9 +7,11 @@ ghost use Rattle.rr_protocol.specs.Limits.{hub_refusal, worst_case_requests};
 ghost use Rattle.std.specs.List.{list_any};
 ghost use Rattle.rr_store.specs.Creating.{IsNew};
 ghost use Rattle.rr_store.specs.Ports.{connected_of};
-ghost use Rattle.rr_store.specs.Views.{no_request};
+ghost use Rattle.rr_store.specs.Views.{no_request, no_server};
 
-use crate::{ClientPort, ConnectedPort, HandleEntry, OwnedSender, Port, RequestDetails, Stage};
+use crate::{
+    ClientPort, ConnectedPort, HandleEntry, NO_SERVER, OwnedSender, Port, RequestDetails, Stage,
+};
 use rr_protocol::{ClientSettings, Limits};
 use rr_sender::{Sender, SenderSize};
 use rr_slots::Body;
@@ -72,7 +74,7 @@ pub fn row_len(slots: usize, servers: usize) -> Result<usize, AllocError>
 #[derive(Drop)]
 pub struct ClientStore<B: Body, H: Default + Drop> {
     pub messages: Sender<B, RequestDetails, H>,
-    pub marks: Vec<bool>,
+    pub marks: Vec<u64>,
     pub row_len: usize,
 }
 
@@ -86,7 +88,7 @@ pub fn client_store<B: Body, H: Default + Drop>(
 ) -> Result<ClientStore<B, H>, AllocError>
     requires { IsTrue (takes_len B.family room) }
     ensures messages { IfOk result (λ store. IsNew slots room limits.now.max_servers 1 limits.now.max_active_requests_per_client no_request store.messages) }
-    ensures marks { IfOk result (λ store. store.marks.items ≡ replicate (slots * limits.now.max_servers) false) }
+    ensures marks { IfOk result (λ store. store.marks.items ≡ replicate (slots * limits.now.max_servers) no_server) }
     ensures row { IfOk result (λ store. store.row_len ≡ (limits.now.max_servers + 1) * slots) }
     ensures fits { IfOk result (λ store. store.row_len < 2 ^ 64) }
 {
@@ -100,7 +102,7 @@ pub fn client_store<B: Body, H: Default + Drop>(
     };
     Ok(ClientStore {
         messages: Sender::new(alloc, size, NO_REQUEST)?,
-        marks: vec![in alloc; false; row_len - slots]?,
+        marks: vec![in alloc; NO_SERVER; row_len - slots]?,
         row_len,
     })
 }
@@ -110,14 +112,12 @@ pub fn insert_client<B: Body, H: Default + Drop, K: Drop>(
     alloc: Global,
     clients: &mut Vec<ClientPort<K>>,
     senders: &mut Vec<OwnedSender<B, RequestDetails, H>>,
-    waiting: &mut Vec<Vec<bool>>,
     table: &mut Table<HandleEntry>,
     port: Port<K>,
     store: ClientStore<B, H>,
 ) -> Result<(), AllocError>
     ensures clients { clients.new.items ≡ (if is_ok result then clients.old.items ++ record { port = port; loans_made = 0 } ∷ [] else clients.old.items) }
-    ensures senders { senders.new.items ≡ (if is_ok result then senders.old.items ++ record { owner = port.id; row = length table.old.rows; receiver = port.receiver; loans = 0; pendings = 0; messages = store.messages } ∷ [] else senders.old.items) }
-    ensures waiting { waiting.new.items ≡ (if is_ok result then waiting.old.items ++ store.marks ∷ [] else waiting.old.items) }
+    ensures senders { senders.new.items ≡ (if is_ok result then senders.old.items ++ record { owner = port.id; row = length table.old.rows; receiver = port.receiver; loans = 0; pendings = 0; may_answer = store.marks; messages = store.messages } ∷ [] else senders.old.items) }
     ensures table { table.new ≡ (if is_ok result then with_row table.old store.row_len else table.old) }
 {
     let ClientStore {
@@ -125,14 +125,13 @@ pub fn insert_client<B: Body, H: Default + Drop, K: Drop>(
         marks,
         row_len,
     } = store;
-    waiting.reserve(1)?;
     let client = ClientPort {
         port,
         loans_made: 0,
     };
-    insert_port(alloc, clients, senders, table, client, messages, row_len)?;
-    waiting.push_reserved(marks);
-    Ok(())
+    insert_port(
+        alloc, clients, senders, table, client, messages, marks, row_len,
+    )
 }
 
 /// Adds a port, the sender from which it sends, and a row of the table for its messages. Returns `AllocError` if memory was
@@ -144,10 +143,11 @@ pub fn insert_port<P: ConnectedPort, B: Body, N: Copy, H: Drop>(
     table: &mut Table<HandleEntry>,
     port: P,
     messages: Sender<B, N, H>,
+    may_answer: Vec<u64>,
     row_len: usize,
 ) -> Result<(), AllocError>
     ensures ports { ports.new.items ≡ (if is_ok result then ports.old.items ++ port ∷ [] else ports.old.items) }
-    ensures senders { senders.new.items ≡ (if is_ok result then senders.old.items ++ record { owner = P.id port; row = length table.old.rows; receiver = P.receiver port; loans = 0; pendings = 0; messages = messages } ∷ [] else senders.old.items) }
+    ensures senders { senders.new.items ≡ (if is_ok result then senders.old.items ++ record { owner = P.id port; row = length table.old.rows; receiver = P.receiver port; loans = 0; pendings = 0; may_answer = may_answer; messages = messages } ∷ [] else senders.old.items) }
     ensures table { table.new ≡ (if is_ok result then with_row table.old row_len else table.old) }
 {
     ports.reserve(1)?;
@@ -159,6 +159,7 @@ pub fn insert_port<P: ConnectedPort, B: Body, N: Copy, H: Drop>(
         receiver: port.receiver(),
         loans: 0,
         pendings: 0,
+        may_answer,
         messages,
     });
     ports.push_reserved(port);

@@ -1,14 +1,13 @@
 //! What a core keeps of its connected ports, and the senders from which ports send.
-ghost use Rattle.std.specs.Prelude.{◌≡◌, ◌<◌, ◌*◌, ◌==◌, ◌&&◌, ◌||◌, nat_le};
+ghost use Rattle.std.specs.Prelude.{◌≡◌, ◌==◌, ◌&&◌, ◌||◌, nat_le};
 ghost use Rattle.std.specs.List.{position};
 ghost use Rattle.rr_protocol.specs.Backpressure.{discards};
-ghost use Rattle.rr_protocol.specs.Limits.{max_loaned_responses};
 ghost use Rattle.rr_protocol.specs.Loans.{is_too_long};
+ghost use Rattle.rr_store.specs.Order.{IsRising};
 ghost use Rattle.rr_store.specs.Ports.{connected_of};
 
 use rr_protocol::{
     AllocationStrategy, BackpressureAction, BackpressureFn, BackpressureInfo, BackpressureStrategy,
-    Limits,
 };
 use rr_sender::Sender;
 use rr_slots::Body;
@@ -35,16 +34,24 @@ pub struct ClientPort<K: Drop> {
     pub loans_made: u64,
 }
 
-/// A connected server, with the number of responses that it may have on loan for each request.
+/// A connected server, with the numbers of responses that it may have on loan for each request, and in all.
 #[derive(Drop)]
 pub struct ServerPort<K: Drop> {
     pub port: Port<K>,
     pub max_loaned_responses_per_request: usize,
+    pub max_loaned_responses: usize,
 }
 
+/// The mark where no server may answer: a number that no port gets.
+pub const NO_SERVER: u64 = u64::MAX;
+
 /// What a port sends from: the port's number and its index among the receivers of the other side, the row of the table in
-/// which the handles of its messages stand, and how many messages are on loan and how many responses are pending. A server's
-/// sender has no pending responses.
+/// which the handles of its messages stand, how many messages are on loan and how many responses are pending, and for each
+/// slot, and then for each receiver, the number of the server that may still answer the slot's request. A server's sender has
+/// neither pending responses nor such marks.
+///
+/// A mark names the server and not the receiver alone, so that one that was left over doesn't stand for a later server that is
+/// the same receiver.
 #[derive(Drop)]
 pub struct OwnedSender<B: Body, N: Copy, H: Drop> {
     pub owner: u64,
@@ -52,6 +59,7 @@ pub struct OwnedSender<B: Body, N: Copy, H: Drop> {
     pub receiver: usize,
     pub loans: usize,
     pub pendings: usize,
+    pub may_answer: Vec<u64>,
     pub messages: Sender<B, N, H>,
 }
 
@@ -98,32 +106,11 @@ impl<K: BackpressureFn> Port<K> {
 }
 
 impl<K: Drop> ServerPort<K> {
-    /// Whether an active request with so many responses on loan has as many as it may, or the server with `all` has.
-    pub fn is_at_loan_limit(&self, limits: &Limits, loans: usize, all: usize) -> bool
-        requires { 0 < limits.now.max_clients }
-        ensures { result ≡ (nat_le self.now.max_loaned_responses_per_request loans || nat_le (max_loaned_responses limits.now self.now.max_loaned_responses_per_request) all) }
+    /// Returns whether an active request with so many responses on loan has as many as it may, or the server with `all` has.
+    pub fn is_at_loan_limit(&self, loans: usize, all: usize) -> bool
+        ensures { result ≡ (nat_le self.now.max_loaned_responses_per_request loans || nat_le self.now.max_loaned_responses all) }
     {
-        self.max_loaned_responses_per_request <= loans
-            || is_product_within(
-                self.max_loaned_responses_per_request,
-                limits.max_active_requests_per_client,
-                limits.max_clients,
-                all,
-            )
-    }
-}
-
-/// Whether the product of three numbers, the last of them not 0, is at most a count. One that no `usize` counts is not.
-fn is_product_within(first: usize, second: usize, third: usize, count: usize) -> bool
-    requires { 0 < third }
-    ensures { result ≡ nat_le (first * second * third) count }
-{
-    match first.checked_mul(second) {
-        Some(two) => match two.checked_mul(third) {
-            Some(all) => all <= count,
-            None => false,
-        },
-        None => false,
+        self.max_loaned_responses_per_request <= loans || self.max_loaned_responses <= all
     }
 }
 
@@ -193,11 +180,28 @@ impl<K: Drop> ConnectedPort for ServerPort<K> {
     }
 }
 
-/// Where among the ports the one with a number stands.
+/// Returns where among the ports, whose numbers rise, the one with this number stands. Looks at about as many ports as their
+/// count can be halved: at 10 of 1,000.
+#[inline(always)]
 pub fn index_of<P: ConnectedPort>(ports: &[P], id: u64) -> Option<usize>
+    requires { IsRising P.id ports.now }
     ensures { result ≡ position (λ p. P.id p == id) ports.now }
 {
-    ports.iter().position(|port| port.id() == id)
+    let mut low = 0;
+    let mut high = ports.len();
+    while low < high {
+        let middle = low + (high - low) / 2;
+        let found = ports[middle].id();
+        if found == id {
+            return Some(middle);
+        }
+        if found < id {
+            low = middle + 1;
+        } else {
+            high = middle;
+        }
+    }
+    None
 }
 
 /// Returns where among the ports the one with this sender stands.

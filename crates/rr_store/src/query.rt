@@ -1,6 +1,7 @@
 //! What a core tells of its ports and handles. No query changes it.
-ghost use Rattle.std.specs.Prelude.{◌≡◌, ℕ, ◌+◌, ◌<◌, ◌==◌, ◌&&◌, false, length, Some, slice_get, slice_index_or};
+ghost use Rattle.std.specs.Prelude.{◌≡◌, ℕ, ◌+◌, ◌<◌, ◌==◌, ◌&&◌, length, Some, slice_get, slice_index_or};
 ghost use Rattle.std.specs.List.{list_any};
+ghost use Rattle.rr_store.specs.Views.{no_server};
 
 use crate::{ClientPort, ServerPort};
 
@@ -24,14 +25,14 @@ pub fn is_server_value<K: Drop>(servers: &[ServerPort<K>], number: u64) -> bool
         .any(|server| server.port.has_value_under(number))
 }
 
-/// Whether one of the servers has a mark, where the marks by receiver begin at an index.
+/// Whether one of the servers is marked, where the marks by receiver begin at an index.
 #[inline(always)]
-pub fn is_any_marked<K: Drop>(servers: &[ServerPort<K>], marks: &[bool], start: usize) -> bool
+pub fn is_any_marked<K: Drop>(servers: &[ServerPort<K>], marks: &[u64], start: usize) -> bool
     requires { (i : ℕ) (s : ServerPort K) → slice_get servers.now i ≡ Some s → start + s.port.receiver < length marks.now }
-    ensures { result ≡ list_any (λ s. slice_index_or marks.now (start + s.port.receiver) false) servers.now }
+    ensures { result ≡ list_any (λ s. slice_index_or marks.now (start + s.port.receiver) no_server == s.port.id) servers.now }
 {
     for server in servers {
-        if marks[start + server.port.receiver] {
+        if marks[start + server.port.receiver] == server.port.id {
             return true;
         }
     }

@@ -1,39 +1,42 @@
 //! Releases of handles.
-ghost use Rattle.std.specs.Prelude.{◌≡◌, ◌==◌, ◌<◌, ◌+◌, ◌*◌, false, map, Some, IsSome, IsSomeAnd, [], length, slice_get, slice_index, slice_index_or, slice_set};
+ghost use Rattle.std.specs.Prelude.{◌≡◌, ◌==◌, ◌<◌, ◌+◌, ◌*◌, map, Some, IsSome, IsSomeAnd, [], length, slice_get, slice_index, slice_index_or, slice_set};
 ghost use Rattle.std.specs.List.{position};
-ghost use Rattle.rr_sender.specs.Senders.{borrowed_at, set_two};
+ghost use Rattle.rr_sender.specs.Senders.{borrowed_at};
 ghost use Rattle.rr_store.specs.Loaning.{with_sender_at};
-ghost use Rattle.rr_store.specs.Ports.{marks_of, sender_part};
-ghost use Rattle.rr_store.specs.Releasing.{given_back, borrow_ended, without_loan};
+ghost use Rattle.rr_store.specs.Order.{IsRising};
+ghost use Rattle.rr_store.specs.Ports.{sender_part};
+ghost use Rattle.rr_store.specs.Releasing.{borrow_let_go, without_loan, without_mark};
 ghost use Rattle.rr_store.specs.Views.{sender_of};
 ghost use Rattle.rr_store.specs.Writing.{with_messages};
 
-use crate::{ConnectedPort, OwnedSender, index_of};
+use crate::{ConnectedPort, NO_SERVER, OwnedSender, index_of};
 use rr_slots::Body;
 
 pub mod pending;
 pub mod response_loan;
 
-/// Takes the mark of a slot and of a receiver from the marks of a sender.
+/// Takes the mark of a slot and of a receiver from a sender.
 #[inline(always)]
-pub fn clear_mark(
-    waiting: &mut Vec<Vec<bool>>,
+pub fn clear_mark<B: Body, N: Copy, H: Drop>(
+    senders: &mut Vec<OwnedSender<B, N, H>>,
     sender: usize,
     slot: usize,
     receivers: usize,
     receiver: usize,
 )
-    requires { IsSomeAnd (slice_get waiting.old.items sender) (λ marks. slot * receivers + receiver < length marks.items) }
-    ensures { map marks_of waiting.new.items ≡ set_two (map marks_of waiting.old.items) sender (slot * receivers + receiver) false }
+    requires sender { sender < length senders.old.items }
+    requires mark { slot * receivers + receiver < length (sender_of sender (map sender_part senders.old.items)).may_answer }
+    ensures { map sender_part senders.new.items ≡ with_sender_at (map sender_part senders.old.items) sender (without_mark (slot * receivers + receiver)) }
 {
-    let marks = &mut waiting[sender];
-    marks[slot * receivers + receiver] = false;
+    let marks = &mut senders[sender].may_answer;
+    marks[slot * receivers + receiver] = NO_SERVER;
 }
 
-/// Where others send to the port with a number.
+/// Returns where others send to the port with a number.
 #[inline(always)]
 pub fn receiver_of<P: ConnectedPort>(ports: &[P], id: u64) -> usize
-    requires { IsSome (position (λ p. P.id p == id) ports.now) }
+    requires rising { IsRising P.id ports.now }
+    requires found { IsSome (position (λ p. P.id p == id) ports.now) }
     ensures { IsSomeAnd (position (λ p. P.id p == id) ports.now) (λ i. IsSomeAnd (slice_get ports.now i) (λ p. result ≡ P.receiver p)) }
 {
     match index_of(ports, id) {
@@ -53,7 +56,7 @@ pub fn end_borrow_in<B: Body, N: Copy, H: Drop>(
 )
     requires receiver { IsSomeAnd (slice_get senders.old.items sender) (λ l. (receiver < length l.messages.queues) × (channel < length (slice_index_or l.messages.queues receiver []))) }
     requires counted { IsSomeAnd (slice_get senders.old.items sender) (λ l. (0 < borrowed_at l.messages receiver channel) × (0 < slice_index l.messages.held slot)) }
-    ensures { IsSomeAnd (slice_get senders.old.items sender) (λ l. senders.new.items ≡ slice_set senders.old.items sender (with_messages l (borrow_ended l.messages receiver channel slot))) }
+    ensures { IsSomeAnd (slice_get senders.old.items sender) (λ l. senders.new.items ≡ slice_set senders.old.items sender (with_messages l (borrow_let_go l.messages receiver channel slot))) }
 {
     let sender = &mut senders[sender];
     sender.messages.end_borrow(receiver, channel);

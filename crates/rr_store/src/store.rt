@@ -28,8 +28,6 @@ pub struct Store<QB: Body, QH: Default + Drop, PB: Body, PH: Default + Drop, K: 
     pub(crate) servers: Vec<ServerPort<K>>,
     pub(crate) client_senders: Vec<OwnedSender<QB, RequestDetails, QH>>,
     pub(crate) server_senders: Vec<OwnedSender<PB, ResponseDetails, PH>>,
-    // For each client's sender, by slot and then by receiver, whether that server may still answer.
-    pub(crate) waiting: Vec<Vec<bool>>,
     pub(crate) table: Table<HandleEntry>,
     // What a slot that isn't there would show.
     pub(crate) spare_request_header: QH,

@@ -1,5 +1,5 @@
 -- A client is added with a new sender.
-use Rattle.std.proofs.Common.{◌≡◌, ◌≢◌, ◌<◌, ◌+◌, ◌*◌, ◌^◌, ℕ, Bool, false, List, None, Some, Result, Ok, Err, length, replicate, sym, ap, ◌∙◌, subst, arith}
+use Rattle.std.proofs.Common.{◌≡◌, ◌≢◌, ◌<◌, ◌+◌, ◌*◌, ◌^◌, ℕ, List, None, Some, Result, Ok, Err, length, replicate, sym, ap, ◌∙◌, subst, arith}
 use Rattle.std.specs.Prelude.{OnErr, OnOk, slice_get}
 use Rattle.rr_sender.specs.Senders.{Messages}
 use Rattle.rr_protocol.specs.declared.limits.Limits.{Limits}
@@ -15,7 +15,7 @@ use Rattle.rr_store.specs.Creating.{IsNew, client_port, with_client_part}
 use Rattle.rr_store.specs.Parts.{ClientPart, Parts}
 use Rattle.rr_store.specs.Reaching.{IsCore}
 use Rattle.rr_store.specs.Sound.{IsSound, empty_hand}
-use Rattle.rr_store.specs.Views.{no_request, state_of}
+use Rattle.rr_store.specs.Views.{no_request, state_of, no_server}
 use Rattle.rr_store.proofs.base.lists.Adding.{fewer, not_refused}
 use Rattle.rr_store.proofs.creating.client.Sound.{client_sound}
 use Rattle.rr_store.proofs.creating.client.View.{client_view}
@@ -40,7 +40,7 @@ module _ {Q QH P PH K : Type 0} (p : Parts Q QH P PH K) (core : IsCore p) (setti
         (vacant : (i : ℕ) (c : ClientPart K) → slice_get p.clients i ≡ Some c → c.receiver ≢ receiver)
         (messages : Messages Q RequestDetails QH)
         (new : IsNew slots settings.initial_max_slice_len limits.max_servers 1 limits.max_active_requests_per_client no_request messages)
-        (marks : List Bool) (none : marks ≡ replicate (slots * limits.max_servers) false)
+        (marks : List ℕ) (none : marks ≡ replicate (slots * limits.max_servers) no_server)
         (row_len : ℕ) (row : row_len ≡ (limits.max_servers + 1) * slots) (fits : row_len < 2 ^ 64) where
       abbrev pool : ℕ
       pool = (client_port p settings).pool_size
@@ -50,9 +50,9 @@ module _ {Q QH P PH K : Type 0} (p : Parts Q QH P PH K) (core : IsCore p) (setti
       slots_are = many ∙ ap (λ w. pool_size_of w settings.pool) (most ∙ ap worst_case_requests are)
 
       -- as many marks as slots and servers
-      marks_are : marks ≡ replicate (pool * p.limits.max_servers) false
-      marks_are = none ∙ ap (λ (l : Limits). replicate (slots * l.max_servers) false) are
-          ∙ ap (λ n. replicate (n * p.limits.max_servers) false) slots_are
+      marks_are : marks ≡ replicate (pool * p.limits.max_servers) no_server
+      marks_are = none ∙ ap (λ (l : Limits). replicate (slots * l.max_servers) no_server) are
+          ∙ ap (λ n. replicate (n * p.limits.max_servers) no_server) slots_are
 
       -- the length of the row
       row_is : row_len ≡ (p.limits.max_servers + 1) * pool
@@ -72,7 +72,7 @@ module _ {Q QH P PH K : Type 0} (p : Parts Q QH P PH K) (core : IsCore p) (setti
         after =
             added ∙ ap (λ n. with_new_client p settings n receiver messages marks row_len) slots_are
             ∙ ap (λ ms. with_new_client p settings pool receiver messages ms row_len) marks_are
-            ∙ ap (λ n. with_new_client p settings pool receiver messages (replicate (pool * p.limits.max_servers) false) n) row_is
+            ∙ ap (λ n. with_new_client p settings pool receiver messages (replicate (pool * p.limits.max_servers) no_server) n) row_is
 
         -- what contracts see of a client that was added
         added_view : state_of q ≡ with_client (state_of p) settings

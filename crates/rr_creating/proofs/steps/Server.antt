@@ -2,11 +2,12 @@
 use Rattle.std.proofs.Common.{◌≡◌, ◌≢◌, ◌<◌, ◌+◌, ◌^◌, ℕ, false, None, Some, Result, Ok, Err, length, sym, ap, ◌∙◌, subst, arith}
 use Rattle.std.specs.Prelude.{OnErr, OnOk, max, slice_get}
 use Rattle.std.proofs.Math.Nat.{max_comm}
+use Rattle.std.proofs.lemmas.Bool.{leb-false}
 use Rattle.rr_sender.specs.Senders.{Messages}
 use Rattle.rr_protocol.specs.declared.limits.Limits.{Limits}
 use Rattle.rr_protocol.specs.declared.settings.ServerSettings.{ServerSettings}
 use Rattle.rr_protocol.specs.Creation.{loans_of, pool_size_of, server_refusal, with_server}
-use Rattle.rr_protocol.specs.Limits.{hub_refusal, is_too_large, worst_case_requests, worst_case_responses}
+use Rattle.rr_protocol.specs.Limits.{hub_refusal, is_too_large, max_loaned_responses, worst_case_requests, worst_case_responses}
 use Rattle.rr_laws.specs.Complete.{MessagesComplete}
 use Rattle.rr_laws.specs.Reached.{IsReached}
 use Rattle.rr_laws.proofs.Creating.{with_server_reached}
@@ -17,7 +18,7 @@ use Rattle.rr_store.specs.Parts.{Parts, ServerPart}
 use Rattle.rr_store.specs.Reaching.{IsCore}
 use Rattle.rr_store.specs.Sound.{IsSound, empty_hand}
 use Rattle.rr_store.specs.Views.{no_response, state_of}
-use Rattle.rr_store.proofs.base.lists.Adding.{fewer_servers, server_not_refused}
+use Rattle.rr_store.proofs.base.lists.Adding.{fewer_servers, server_not_refused, some_clients}
 use Rattle.rr_store.proofs.creating.server.Sound.{server_sound}
 use Rattle.rr_store.proofs.creating.server.View.{server_view}
 
@@ -30,6 +31,10 @@ module _ {Q QH P PH K : Type 0} (p : Parts Q QH P PH K) (core : IsCore p) (setti
   -- a number is left
   pub next_asked : p.next + 1 < 2 ^ 64
   next_asked = omega (arith, (server_not_refused (state_of p) settings due).0)
+
+  -- and some client may be
+  pub clients_asked : 0 < p.limits.max_clients
+  clients_asked = some_clients p.limits core.sound.sized.limits_fit
 
   module _ (limits : Limits) (are : limits ≡ p.limits) where
     -- the limits make a hub
@@ -47,6 +52,14 @@ module _ {Q QH P PH K : Type 0} (p : Parts Q QH P PH K) (core : IsCore p) (setti
           ap (λ l. is_too_large (worst_case_responses l loans)) are
           ∙ ap (λ n. is_too_large (worst_case_responses p.limits n)) loans_are
           ∙ (server_not_refused (state_of p) settings due).2
+
+      -- and the responses that the server may have on loan
+      pub loans_asked : max_loaned_responses p.limits loans < 2 ^ 64
+      loans_asked = omega (
+        arith,
+        leb-false (2 ^ 64) (worst_case_responses limits loans) counts_asked,
+        ap (λ l. worst_case_responses l loans) are,
+      )
 
       module _ (worst : ℕ) (most : worst ≡ worst_case_responses limits loans) (slots : ℕ)
           (many : slots ≡ pool_size_of worst settings.pool)

@@ -22,6 +22,7 @@ use Rattle.rr_store.specs.declared.handle_entry.Stage.TheVariants as stage
 use Rattle.rr_store.specs.Asked.{CanInsert}
 use Rattle.rr_store.specs.Changes.{request_loan_limit, with_client_at, with_client_sender_at, with_new_handle, with_requests}
 use Rattle.rr_store.specs.Loaning.{loan_details, with_loan_made, with_messages, with_one_loan, with_request_loan}
+use Rattle.rr_store.specs.Order.{IsRising}
 use Rattle.rr_store.specs.Parts.{ClientPart, Parts, Sender}
 use Rattle.rr_store.specs.Reaching.{IsCore}
 use Rattle.rr_store.specs.Sound.{IsSound, empty_hand}
@@ -31,6 +32,7 @@ use Rattle.rr_store.proofs.base.lists.Replaced.{Standing, find_mapped, set_alike
 use Rattle.rr_store.proofs.base.lookups.Asking.{due_refusal, in_row, loans_fit, no_error, not_full}
 use Rattle.rr_store.proofs.base.lookups.Numbers.{client_there}
 use Rattle.rr_store.proofs.base.senders.Entries.{used_le}
+use Rattle.rr_store.proofs.base.senders.Owners.{clients_rise}
 use Rattle.rr_store.proofs.base.senders.Stored.{stored_twice}
 use Rattle.rr_store.proofs.base.views.Counts.{listed}
 use Rattle.rr_store.proofs.loaning.request.Refusals.{first_due, second_due, none_due, pool_refusal, refusal_stored, refuses, lends, stored_refusal}
@@ -53,6 +55,10 @@ module _ {Q QH P PH K : Type 0} (p : Parts Q QH P PH K) (core : IsCore p) (n : �
       go (Some i) e = refl
       go None e = absurd (client_there (state_of p) n kind (find_mapped client_of (λ c. c.id == n) p.clients
           ∙ ap (option_map client_of) (standing_nowhere (λ (c : ClientPart K). c.port.id == n) p.clients e)))
+
+  -- and clients stand in the order of their numbers
+  pub order_asked : IsRising (λ (c : ClientPart K). c.port.id) p.clients
+  order_asked = clients_rise p empty_hand core.sound
 
   module _ (index : ℕ) (told : position (λ (c : ClientPart K). c.port.id == n) p.clients ≡ Some index) where
     stands : Standing (λ (c : ClientPart K). c.port.id == n) p.clients index

@@ -26,18 +26,18 @@ use Rattle.rr_store.specs.declared.handle_entry.Stage.TheVariants as stage
 use Rattle.rr_store.specs.Asked.{CanInsert}
 use Rattle.rr_store.specs.Changes.{response_loan_limit, with_handle, with_new_handle, with_responses, with_server_sender_at}
 use Rattle.rr_store.specs.Loaning.{with_messages, with_one_loan}
+use Rattle.rr_store.specs.Order.{IsRising}
 use Rattle.rr_store.specs.Parts.{ServerPart, Parts, Sender}
 use Rattle.rr_store.specs.Reaching.{IsCore}
 use Rattle.rr_store.specs.Sound.{IsSound, empty_hand, is_active_of, is_of_request, request_details, server_place}
 use Rattle.rr_store.specs.Views.{no_sender, sender_of, state_of}
 use Rattle.rr_store.proofs.base.hands.Vacant.{response_vacant}
-use Rattle.rr_store.proofs.base.lists.Adding.{some_clients}
 use Rattle.rr_store.proofs.base.lists.Replaced.{Standing, set_alike, standing}
 use Rattle.rr_store.proofs.base.lookups.Asking.{due_refusal, no_error, not_full}
 use Rattle.rr_store.proofs.base.lookups.Placed.{value_there}
 use Rattle.rr_store.proofs.base.lookups.Shown.{request_spot}
 use Rattle.rr_store.proofs.base.senders.Entries.{used_le}
-use Rattle.rr_store.proofs.base.senders.Owners.{First, first_by}
+use Rattle.rr_store.proofs.base.senders.Owners.{First, first_by, servers_rise}
 use Rattle.rr_store.proofs.base.senders.Stored.{stored_twice}
 use Rattle.rr_store.proofs.base.views.Counts.{listed}
 use Rattle.rr_store.proofs.loaning.response.Active.{answers_fit, loans_from_fit}
@@ -92,6 +92,10 @@ module _ {Q QH P PH K : Type 0} (p : Parts Q QH P PH K) (core : IsCore p) (n : �
         first_by (λ (s : ServerPart K). s.port.id) p.servers server it.0 it.1 it.2 it.3 in
         subst IsSome (sym first.found) refl
 
+    -- and servers stand in the order of their numbers
+    pub order_asked : IsRising (λ (s : ServerPart K). s.port.id) p.servers
+    order_asked = servers_rise p empty_hand core.sound
+
     -- one more response on loan from it can be counted
     pub loans_fit : loans + 1 < 2 ^ 64
     loans_fit = loans_from_fit p core.sound n server loans (table_entry place entry) at stage_is
@@ -113,9 +117,6 @@ module _ {Q QH P PH K : Type 0} (p : Parts Q QH P PH K) (core : IsCore p) (n : �
 
       pub index_asked : index < length p.servers
       index_asked = slice_get_within p.servers index stands.it stands.at
-
-      pub clients_asked : 0 < p.limits.max_clients
-      clients_asked = some_clients p.limits core.sound.sized.limits_fit
 
       named : stands.it.port.id ≡ server
       named = eqb-true stands.it.port.id server stands.passes
@@ -150,8 +151,13 @@ module _ {Q QH P PH K : Type 0} (p : Parts Q QH P PH K) (core : IsCore p) (n : �
         is_reached = nat_le stands.it.max_loaned_responses_per_request loans
             || nat_le (max_loaned_responses p.limits stands.it.max_loaned_responses_per_request) on_loan
 
-        limit_is : limit ≡ response_loan_limit p stands.it len loans
-        limit_is = of_index (λ s. limit ≡ response_loan_limit p s len loans) limited
+        limit_is : limit ≡ cond (is_too_long stands.it.port len) (Some LoanError.ExceedsMaxLoanSize)
+            (cond is_reached (Some LoanError.ExceedsMaxLoans) None)
+        limit_is =
+            of_index (λ s. limit ≡ response_loan_limit p s len loans) limited
+            ∙ ap (λ most. cond (is_too_long stands.it.port len) (Some LoanError.ExceedsMaxLoanSize)
+            (cond (nat_le stands.it.max_loaned_responses_per_request loans || nat_le most on_loan) (Some LoanError.ExceedsMaxLoans) None))
+            (core.sound.sized.most_loans index stands.it stands.at)
 
         -- the reason that was found is the first that is due
         limit_due : (a b : Bool) (e : LoanError) → is_too_long stands.it.port len ≡ a → is_reached ≡ b

@@ -1,6 +1,6 @@
 -- The marks of a pending response's request are read.
-use Rattle.std.proofs.Common.{◌≡◌, ◌≤◌, ◌<◌, ◌+◌, ◌*◌, ℕ, Bool, [], Some, length, refl, arith}
-use Rattle.std.specs.Prelude.{IsSomeAnd, nat_lt, slice_get, slice_index_or}
+use Rattle.std.proofs.Common.{◌≡◌, ◌≤◌, ◌<◌, ◌+◌, ◌*◌, ℕ, Bool, Some, length, refl}
+use Rattle.std.specs.Prelude.{IsSomeAnd, nat_lt, slice_get}
 use Rattle.std.specs.FinMap as fin_map
 use Rattle.rr_table.specs.TableView.{table_entry, value_at}
 use Rattle.rr_table.specs.declared.place.Place.{Place}
@@ -34,26 +34,26 @@ module _ {Q QH P PH K : Type 0} (p : Parts Q QH P PH K) (core : IsCore p) (n : �
   spot = request_spot p empty_hand core.sound.counted n entry here (pending_has_request entry.stage is)
 
   -- as many marks as the slots of the sender have receivers
-  many : length (slice_index_or p.waiting entry.sender [])
+  many : length (sender_of entry.sender p.client_senders).may_answer
       ≡ length (sender_of entry.sender p.client_senders).messages.held * p.limits.max_servers
-  many = core.sound.sized.waiting_slots entry.sender spot.0
+  many = core.sound.sized.marks entry.sender spot.0
 
   -- the sender whose marks are asked for
-  pub sender_asked : entry.sender < length p.waiting
-  sender_asked = omega (arith, spot.0, core.sound.sized.waiting)
+  pub sender_asked : entry.sender < length p.client_senders
+  sender_asked = spot.0
 
   -- where the marks of the slot begin
-  pub start_asked : entry.slot * p.limits.max_servers ≤ length (slice_index_or p.waiting entry.sender [])
+  pub start_asked : entry.slot * p.limits.max_servers ≤ length (sender_of entry.sender p.client_senders).may_answer
   start_asked =
       marks_before entry.slot (length (sender_of entry.sender p.client_senders).messages.held) p.limits.max_servers
-      (length (slice_index_or p.waiting entry.sender [])) spot.1 many
+      (length (sender_of entry.sender p.client_senders).may_answer) spot.1 many
 
   -- the mark of each server
   pub marks_asked : (i : ℕ) (s : ServerPart K) → slice_get p.servers i ≡ Some s
-      → entry.slot * p.limits.max_servers + s.receiver < length (slice_index_or p.waiting entry.sender [])
+      → entry.slot * p.limits.max_servers + s.receiver < length (sender_of entry.sender p.client_senders).may_answer
   marks_asked i s there =
       mark_within entry.slot (length (sender_of entry.sender p.client_senders).messages.held) p.limits.max_servers s.receiver
-      (length (slice_index_or p.waiting entry.sender [])) spot.1
+      (length (sender_of entry.sender p.client_senders).may_answer) spot.1
       (core.sound.server_ports.placed i s.connected (listed (λ (s : ServerPart K). s.connected) p.servers i s there)) many
 
   -- what the marks tell

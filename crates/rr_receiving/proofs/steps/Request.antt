@@ -19,6 +19,7 @@ use Rattle.rr_laws.proofs.Receiving.{receives_request_reached, skims_reached}
 use Rattle.rr_store.specs.Answering.{active_entry}
 use Rattle.rr_store.specs.Asked.{CanInsert, CanTake}
 use Rattle.rr_store.specs.Changes.{with_first_request_taken, with_new_handle, with_request_senders}
+use Rattle.rr_store.specs.Order.{IsRising}
 use Rattle.rr_store.specs.Parts.{Parts, ServerPart}
 use Rattle.rr_store.specs.Reaching.{IsCore}
 use Rattle.rr_store.specs.Receiving.{IsNextSender, Reaches, borrowed_from, queue_from}
@@ -28,7 +29,7 @@ use Rattle.rr_store.specs.Views.{sender_of, server_of, state_of}
 use Rattle.rr_store.proofs.base.lists.Replaced.{find_mapped, standing, standing_nowhere}
 use Rattle.rr_store.proofs.base.lookups.Asking.{requests_fit}
 use Rattle.rr_store.proofs.base.lookups.Numbers.{server_there}
-use Rattle.rr_store.proofs.base.senders.Owners.{First}
+use Rattle.rr_store.proofs.base.senders.Owners.{First, servers_rise}
 use Rattle.rr_store.proofs.base.senders.Ports.{of_found}
 use Rattle.rr_store.proofs.receiving.request.Inserted.{received_request_sound}
 use Rattle.rr_store.proofs.receiving.request.Ready.{IsReady, answered, its_limits, its_next, its_place, its_self, its_server, own_place}
@@ -55,6 +56,10 @@ module _ {Q QH P PH K : Type 0} (p : Parts Q QH P PH K) (core : IsCore p) (n : �
   -- there is one
   pub server_asked : IsSome (position (λ (s : ServerPart K). s.port.id == n) p.servers)
   server_asked = subst IsSome (sym server.found) refl
+
+  -- and servers stand in the order of their numbers
+  pub order_asked : IsRising (λ (s : ServerPart K). s.port.id) p.servers
+  order_asked = servers_rise p empty_hand core.sound
 
   module _ (receiver : ℕ) (its : IsSomeAnd (position (λ (s : ServerPart K). s.port.id == n) p.servers)
       (λ i. IsSomeAnd (slice_get p.servers i) (λ s. receiver ≡ s.receiver))) where

@@ -1,5 +1,5 @@
 -- An active request leaves its place, its server's count, its slot and its mark.
-use Rattle.std.proofs.Common.{◌≡◌, ◌<◌, ◌+◌, ◌*◌, ℕ, true, [], Some, length, refl, sym, ap, ◌∙◌, subst, arith}
+use Rattle.std.proofs.Common.{◌≡◌, ◌<◌, ◌+◌, ◌*◌, ℕ, true, [], ◌∷◌, Some, length, refl, sym, ap, ◌∙◌, subst, arith}
 use Rattle.std.specs.Prelude.{◌==◌, IsSome, IsSomeAnd, slice_get, slice_index, slice_index_or}
 use Rattle.std.specs.List.{position}
 use Rattle.std.specs.FinMap as fin_map
@@ -14,15 +14,23 @@ use Rattle.rr_laws.specs.Reached.{IsReached}
 use Rattle.rr_laws.proofs.CompleteReleases.{after_release_complete}
 use Rattle.rr_laws.proofs.Leaving.{after_release_reached}
 use Rattle.rr_store.specs.declared.handle_entry.HandleEntry.{HandleEntry}
-use Rattle.rr_store.specs.Changes.{with_requests, without_handle, without_mark}
-use Rattle.rr_store.specs.Parts.{ServerPart, Parts}
+use Rattle.rr_store.specs.Changes.{with_client_sender_at, with_requests, without_handle}
+use Rattle.rr_store.specs.Emptying.{PartsEmptied}
+use Rattle.rr_store.specs.Loaning.{with_messages}
+use Rattle.rr_store.specs.Order.{IsRising}
+use Rattle.rr_store.specs.Parts.{ServerPart, Sender, Parts}
 use Rattle.rr_store.specs.Reaching.{IsCore}
-use Rattle.rr_store.specs.Releasing.{borrow_ended, is_active_request, server_of_stage}
+use Rattle.rr_store.specs.Releasing.{borrow_ended, borrow_let_go, is_active_request, server_of_stage, without_mark}
 use Rattle.rr_store.specs.Sound.{IsSound, empty_hand, server_place}
-use Rattle.rr_store.specs.Views.{sender_of, state_of}
+use Rattle.rr_store.specs.Views.{no_sender, sender_of, state_of}
+use Rattle.rr_store.proofs.base.frames.Emptied.{emptied_sound, emptied_view}
+use Rattle.rr_store.proofs.base.senders.Emptied.{among_emptied, requests_emptied}
+use Rattle.std.proofs.lemmas.List.{length-set}
+use Rattle.rr_store.specs.declared.details.RequestDetails.{RequestDetails}
+use Rattle.rr_store.proofs.base.lists.Replaced.{set_alike}
 use Rattle.rr_store.proofs.base.lookups.Placed.{value_there}
 use Rattle.rr_store.proofs.base.lookups.Shown.{held_within}
-use Rattle.rr_store.proofs.base.senders.Owners.{First, first_by}
+use Rattle.rr_store.proofs.base.senders.Owners.{First, first_by, servers_rise}
 use Rattle.rr_store.proofs.base.senders.Ports.{of_found}
 use Rattle.rr_store.proofs.releasing.active.Fields.{ActiveFound, active_found}
 use Rattle.rr_store.proofs.querying.Connected.{mark_within}
@@ -50,6 +58,11 @@ module _ {Q QH P PH K : Type 0} (p : Parts Q QH P PH K) (core : IsCore p) (n : �
         subst (λ (q : Parts Q QH P PH K). IsSome (position (λ (s : ServerPart K). s.port.id == number) q.servers)) (sym gone)
         (subst IsSome (sym server.found) refl)
 
+    pub order_asked : IsRising (λ (s : ServerPart K). s.port.id) q.servers
+    order_asked =
+        subst (λ (q : Parts Q QH P PH K). IsRising (λ (s : ServerPart K). s.port.id) q.servers) (sym gone)
+        (servers_rise p empty_hand core.sound)
+
     module _ (receiver : ℕ) (told : IsSomeAnd (position (λ (s : ServerPart K). s.port.id == number) q.servers)
         (λ i. IsSomeAnd (slice_get q.servers i) (λ s. receiver ≡ s.receiver))) where
       receiver_is : receiver ≡ its
@@ -68,54 +81,99 @@ module _ {Q QH P PH K : Type 0} (p : Parts Q QH P PH K) (core : IsCore p) (n : �
       pub sender_asked : entry.sender < length q.client_senders
       sender_asked = subst (λ (q : Parts Q QH P PH K). entry.sender < length q.client_senders) (sym gone) found.sender
 
-      pub queue_asked : (receiver < length (sender_of entry.sender q.client_senders).messages.queues)
-          × (0 < length (slice_index_or (sender_of entry.sender q.client_senders).messages.queues receiver []))
-      queue_asked =
-          subst (λ (q : Parts Q QH P PH K). (receiver < length (sender_of entry.sender q.client_senders).messages.queues)
-          × (0 < length (slice_index_or (sender_of entry.sender q.client_senders).messages.queues receiver []))) (sym gone)
-          (queue_there (sender_of entry.sender p.client_senders).messages
-          (core.sound.sized.client_senders entry.sender found.sender) receiver 0
-          here)
+      pub mark_asked : entry.slot * q.limits.max_servers + receiver < length (sender_of entry.sender q.client_senders).may_answer
+      mark_asked =
+          subst (λ (q : Parts Q QH P PH K). entry.slot * q.limits.max_servers + receiver < length
+          (sender_of entry.sender q.client_senders).may_answer) (sym gone)
+          (mark_within entry.slot (length (sender_of entry.sender p.client_senders).messages.held) p.limits.max_servers receiver
+          (length (sender_of entry.sender p.client_senders).may_answer)
+          (held_within (sender_of entry.sender p.client_senders).messages.held entry.slot found.slot)
+          (omega (arith, receiver_is, found.receiver)) (core.sound.sized.marks entry.sender found.sender))
 
-      pub counted_asked : (0 < borrowed_at (sender_of entry.sender q.client_senders).messages receiver 0)
-          × (0 < slice_index (sender_of entry.sender q.client_senders).messages.held entry.slot)
-      counted_asked =
-          subst (λ (q : Parts Q QH P PH K). (0 < borrowed_at (sender_of entry.sender q.client_senders).messages receiver 0)
-          × (0 < slice_index (sender_of entry.sender q.client_senders).messages.held entry.slot)) (sym gone) (here, found.slot)
+      -- the core without a handle and without its server's mark
+      abbrev unmarked : HandleEntry → Parts Q QH P PH K
+      unmarked h = with_client_sender_at (without_handle p n) h.sender (without_mark (h.slot * p.limits.max_servers + its))
 
-      module _ (r : Parts Q QH P PH K) (ended : r ≡ with_requests q entry.sender (λ m. borrow_ended m receiver 0 entry.slot)) where
-        steps : r ≡ with_requests (without_handle p n) entry.sender (λ m. borrow_ended m its 0 entry.slot)
-        steps = ended ∙ ap (λ q. with_requests q entry.sender (λ m. borrow_ended m receiver 0 entry.slot)) gone
-            ∙ ap (λ x. with_requests (without_handle p n) entry.sender (λ m. borrow_ended m x 0 entry.slot)) receiver_is
+      abbrev clean : Sender Q RequestDetails QH
+      clean = without_mark (entry.slot * p.limits.max_servers + its) (sender_of entry.sender p.client_senders)
 
-        pub mark_asked : entry.slot * r.limits.max_servers + receiver < length (slice_index_or r.waiting entry.sender [])
-        mark_asked =
-            subst (λ (r : Parts Q QH P PH K). entry.slot * r.limits.max_servers + receiver < length
-            (slice_index_or r.waiting entry.sender []))
-            (sym steps)
-            (mark_within entry.slot (length (sender_of entry.sender p.client_senders).messages.held) p.limits.max_servers receiver
-            (length (slice_index_or p.waiting entry.sender []))
-            (held_within (sender_of entry.sender p.client_senders).messages.held entry.slot found.slot)
-            (omega (arith, receiver_is, found.receiver)) (core.sound.sized.waiting_slots entry.sender found.sender))
+      -- what a mark doesn't change is the same of the sender
+      same : {Y : Type 0} (f : Sender Q RequestDetails QH → Y) → f clean ≡ f (sender_of entry.sender p.client_senders)
+          → f (sender_of entry.sender (unmarked entry).client_senders) ≡ f (sender_of entry.sender p.client_senders)
+      same f alike = set_alike p.client_senders entry.sender clean no_sender f alike entry.sender
 
-        module _ (t : Parts Q QH P PH K) (cleared : t ≡ without_mark r entry.sender (entry.slot * r.limits.max_servers + receiver)) where
-          after : t ≡ after_active p core.sound n found.table_entry found.at found.server found.loans found.active
-          after =
-              cleared ∙ ap (λ (r : Parts Q QH P PH K). without_mark r entry.sender (entry.slot * r.limits.max_servers + receiver)) steps
-              ∙ ap (λ x. without_mark (with_requests (without_handle p n) entry.sender (λ m. borrow_ended m its 0 entry.slot)) entry.sender
-              (entry.slot * p.limits.max_servers + x)) receiver_is
-              ∙ ap (λ (h : HandleEntry). without_mark (with_requests (without_handle p n) h.sender
-              (λ m. borrow_ended m its 0 h.slot)) h.sender
-              (h.slot * p.limits.max_servers + its)) (sym found.is)
+      module _ (r : Parts Q QH P PH K)
+          (cleared : r ≡ with_client_sender_at q entry.sender (without_mark (entry.slot * q.limits.max_servers + receiver))) where
+        steps : r ≡ unmarked entry
+        steps = cleared
+            ∙ ap (λ (q : Parts Q QH P PH K). with_client_sender_at q entry.sender
+            (without_mark (entry.slot * q.limits.max_servers + receiver))) gone
+            ∙ ap (λ x. with_client_sender_at (without_handle p n) entry.sender (without_mark (entry.slot * p.limits.max_servers + x)))
+            receiver_is
+
+        pub sender_still : entry.sender < length r.client_senders
+        sender_still = subst (λ (r : Parts Q QH P PH K). entry.sender < length r.client_senders) (sym steps)
+            (omega (arith, found.sender, length-set p.client_senders entry.sender clean))
+
+        pub queue_asked : (receiver < length (sender_of entry.sender r.client_senders).messages.queues)
+            × (0 < length (slice_index_or (sender_of entry.sender r.client_senders).messages.queues receiver []))
+        queue_asked =
+            let there = queue_there (sender_of entry.sender p.client_senders).messages
+            (core.sound.sized.client_senders entry.sender found.sender) receiver 0 here in
+            subst (λ (r : Parts Q QH P PH K). (receiver < length (sender_of entry.sender r.client_senders).messages.queues)
+            × (0 < length (slice_index_or (sender_of entry.sender r.client_senders).messages.queues receiver []))) (sym steps) (
+              omega (arith, there.0, same (λ l. length l.messages.queues) refl),
+              omega (arith, there.1, same (λ l. length (slice_index_or l.messages.queues receiver [])) refl),
+            )
+
+        pub counted_asked : (0 < borrowed_at (sender_of entry.sender r.client_senders).messages receiver 0)
+            × (0 < slice_index (sender_of entry.sender r.client_senders).messages.held entry.slot)
+        counted_asked =
+            subst (λ (r : Parts Q QH P PH K). (0 < borrowed_at (sender_of entry.sender r.client_senders).messages receiver 0)
+            × (0 < slice_index (sender_of entry.sender r.client_senders).messages.held entry.slot)) (sym steps) (
+              omega (arith, here, same (λ l. borrowed_at l.messages receiver 0) refl),
+              omega (arith, found.slot, same (λ l. slice_index l.messages.held entry.slot) refl),
+            )
+
+        module _ (t : Parts Q QH P PH K) (ended : t ≡ with_requests r entry.sender (λ m. borrow_let_go m receiver 0 entry.slot)) where
+          -- where the slot is not emptied
+          abbrev held_less : HandleEntry → Parts Q QH P PH K
+          held_less h = with_requests (unmarked h) h.sender (λ m. borrow_ended m its 0 h.slot)
+
+          abbrev before : Parts Q QH P PH K
+          before = held_less entry
+
+          before_is : before ≡ after_active p core.sound n found.table_entry found.at found.server found.loans found.active
+          before_is = ap held_less (sym found.is)
+
+          before_sound : IsSound before empty_hand
+          before_sound = subst (λ q. IsSound q empty_hand) (sym before_is)
+              (active_sound p core.sound n found.table_entry found.at found.server found.loans found.active)
+
+          -- and where it may be
+          abbrev after : Parts Q QH P PH K
+          after = with_requests (unmarked entry) entry.sender (λ m. borrow_let_go m its 0 entry.slot)
+
+          after_is : t ≡ after
+          after_is =
+              ended ∙ ap (λ r. with_requests r entry.sender (λ m. borrow_let_go m receiver 0 entry.slot)) steps
+              ∙ ap (λ x. with_requests (unmarked entry) entry.sender (λ m. borrow_let_go m x 0 entry.slot)) receiver_is
+
+          emptied : PartsEmptied before after
+          emptied =
+              let l = sender_of entry.sender (unmarked entry).client_senders in
+              requests_emptied (unmarked entry) (unmarked entry).client_senders entry.sender
+              (with_messages l (borrow_ended l.messages its 0 entry.slot))
+              (with_messages l (borrow_let_go l.messages its 0 entry.slot))
+              (record { rest = refl; messages = among_emptied (entry.slot ∷ []) (borrow_ended l.messages its 0 entry.slot) })
 
           pub view_then : state_of t ≡ after_release (state_of p) n
-          view_then = ap state_of after
+          view_then = ap state_of after_is ∙ emptied_view before after emptied empty_hand before_sound ∙ ap state_of before_is
               ∙ active_view p core.sound n found.table_entry found.at found.server found.loans found.active
 
           pub core_then : IsCore t
           core_then = record {
-            sound = subst (λ q. IsSound q empty_hand) (sym after)
-                (active_sound p core.sound n found.table_entry found.at found.server found.loans found.active);
+            sound = subst (λ q. IsSound q empty_hand) (sym after_is) (emptied_sound before after emptied empty_hand before_sound);
             reached = subst (λ s. IsReached s) (sym view_then) (after_release_reached (state_of p) n core.reached);
             complete = subst (λ s. MessagesComplete s) (sym view_then) (after_release_complete (state_of p) n core.complete);
           }

@@ -1,5 +1,5 @@
 -- A received response leaves its place, its client's count and its slot.
-use Rattle.std.proofs.Common.{◌≡◌, ◌<◌, ℕ, true, [], Some, length, refl, sym, ap, ◌∙◌, subst}
+use Rattle.std.proofs.Common.{◌≡◌, ◌<◌, ℕ, true, [], ◌∷◌, Some, length, refl, sym, ap, ◌∙◌, subst}
 use Rattle.std.specs.Prelude.{◌==◌, IsSome, IsSomeAnd, slice_get, slice_index, slice_index_or}
 use Rattle.std.specs.List.{position}
 use Rattle.std.specs.FinMap as fin_map
@@ -15,14 +15,19 @@ use Rattle.rr_laws.proofs.Leaving.{after_release_reached}
 use Rattle.rr_store.specs.declared.details.ResponseDetails.{ResponseDetails}
 use Rattle.rr_store.specs.declared.handle_entry.HandleEntry.{HandleEntry}
 use Rattle.rr_store.specs.Changes.{with_responses, without_handle}
+use Rattle.rr_store.specs.Emptying.{PartsEmptied}
+use Rattle.rr_store.specs.Loaning.{with_messages}
+use Rattle.rr_store.specs.Order.{IsRising}
 use Rattle.rr_store.specs.Parts.{ClientPart, Parts}
 use Rattle.rr_store.specs.Reaching.{IsCore}
-use Rattle.rr_store.specs.Releasing.{borrow_ended, is_received_response}
+use Rattle.rr_store.specs.Releasing.{borrow_ended, borrow_let_go, is_received_response}
 use Rattle.rr_store.specs.Sound.{IsSound, empty_hand, response_details}
 use Rattle.rr_store.specs.Views.{sender_of, state_of}
+use Rattle.rr_store.proofs.base.frames.Emptied.{emptied_sound, emptied_view}
+use Rattle.rr_store.proofs.base.senders.Emptied.{among_emptied, responses_emptied}
 use Rattle.rr_store.proofs.base.lookups.Placed.{value_there}
 use Rattle.rr_store.proofs.base.lookups.Shown.{held_within}
-use Rattle.rr_store.proofs.base.senders.Owners.{First, first_by}
+use Rattle.rr_store.proofs.base.senders.Owners.{First, clients_rise, first_by}
 use Rattle.rr_store.proofs.base.senders.Ports.{of_found}
 use Rattle.rr_store.proofs.releasing.response.Fields.{ReceivedFound, received_found, queue_there}
 use Rattle.rr_store.proofs.releasing.response.Sound.{after_received, has_received, received_sound, received_view}
@@ -63,6 +68,11 @@ module _ {Q QH P PH K : Type 0} (p : Parts Q QH P PH K) (core : IsCore p) (n : �
           subst (λ (q : Parts Q QH P PH K). IsSome (position (λ (c : ClientPart K). c.port.id == details.client) q.clients)) (sym gone)
           (subst IsSome (sym client.found) refl)
 
+      pub order_asked : IsRising (λ (c : ClientPart K). c.port.id) q.clients
+      order_asked =
+          subst (λ (q : Parts Q QH P PH K). IsRising (λ (c : ClientPart K). c.port.id) q.clients) (sym gone)
+          (clients_rise p empty_hand core.sound)
+
       module _ (receiver : ℕ) (told : IsSomeAnd (position (λ (c : ClientPart K). c.port.id == details.client) q.clients)
           (λ i. IsSomeAnd (slice_get q.clients i) (λ c. receiver ≡ c.receiver))) where
         receiver_is : receiver ≡ client.it.receiver
@@ -97,24 +107,54 @@ module _ {Q QH P PH K : Type 0} (p : Parts Q QH P PH K) (core : IsCore p) (n : �
             × (0 < slice_index (sender_of entry.sender q.server_senders).messages.held entry.slot)) (sym gone) (here, found.slot)
 
         module _ (t : Parts Q QH P PH K)
-            (ended : t ≡ with_responses q entry.sender (λ m. borrow_ended m receiver details.channel entry.slot)) where
-          after : t ≡ after_received p core.sound n found.table_entry found.at found.got client.index client.it client.at its_client
-          after =
-              ended ∙ ap (λ q. with_responses q entry.sender (λ m. borrow_ended m receiver details.channel entry.slot)) gone
-              ∙ ap (λ x. with_responses (without_handle p n) entry.sender (λ m. borrow_ended m x details.channel entry.slot)) receiver_is
+            (ended : t ≡ with_responses q entry.sender (λ m. borrow_let_go m receiver details.channel entry.slot)) where
+          -- where the slot is not emptied
+          abbrev held_less : HandleEntry → Parts Q QH P PH K
+          held_less h = with_responses (without_handle p n) h.sender
+              (λ m. borrow_ended m client.it.receiver (response_details p h.sender h.slot).channel h.slot)
+
+          abbrev before : Parts Q QH P PH K
+          before = held_less entry
+
+          before_is : before ≡ after_received p core.sound n found.table_entry found.at found.got client.index client.it client.at its_client
+          before_is = ap held_less (sym found.is)
+
+          before_sound : IsSound before empty_hand
+          before_sound = subst (λ q. IsSound q empty_hand) (sym before_is)
+              (received_sound p core.sound n found.table_entry found.at found.got client.index client.it client.at its_client)
+
+          -- and where it may be
+          abbrev its_channel : ℕ
+          its_channel = (response_details p entry.sender entry.slot).channel
+
+          abbrev after : Parts Q QH P PH K
+          after = with_responses (without_handle p n) entry.sender (λ m. borrow_let_go m client.it.receiver its_channel entry.slot)
+
+          after_is : t ≡ after
+          after_is =
+              ended ∙ ap (λ q. with_responses q entry.sender (λ m. borrow_let_go m receiver details.channel entry.slot)) gone
+              ∙ ap (λ x. with_responses (without_handle p n) entry.sender (λ m. borrow_let_go m x details.channel entry.slot)) receiver_is
               ∙ ap (λ (d : ResponseDetails). with_responses (without_handle p n) entry.sender
-              (λ m. borrow_ended m client.it.receiver d.channel entry.slot)) (sym details_are)
-              ∙ ap (λ (h : HandleEntry). with_responses (without_handle p n) h.sender
-              (λ m. borrow_ended m client.it.receiver (response_details p h.sender h.slot).channel h.slot)) (sym found.is)
+              (λ m. borrow_let_go m client.it.receiver d.channel entry.slot)) (sym details_are)
+
+          emptied : PartsEmptied before after
+          emptied =
+              let l = sender_of entry.sender p.server_senders in
+              responses_emptied (without_handle p n) p.server_senders entry.sender
+              (with_messages l (borrow_ended l.messages client.it.receiver its_channel entry.slot))
+              (with_messages l (borrow_let_go l.messages client.it.receiver its_channel entry.slot))
+              (record {
+                rest = refl;
+                messages = among_emptied (entry.slot ∷ []) (borrow_ended l.messages client.it.receiver its_channel entry.slot);
+              })
 
           pub view_then : state_of t ≡ after_release (state_of p) n
-          view_then = ap state_of after
+          view_then = ap state_of after_is ∙ emptied_view before after emptied empty_hand before_sound ∙ ap state_of before_is
               ∙ received_view p core.sound n found.table_entry found.at found.got client.index client.it client.at its_client
 
           pub core_then : IsCore t
           core_then = record {
-            sound = subst (λ q. IsSound q empty_hand) (sym after)
-                (received_sound p core.sound n found.table_entry found.at found.got client.index client.it client.at its_client);
+            sound = subst (λ q. IsSound q empty_hand) (sym after_is) (emptied_sound before after emptied empty_hand before_sound);
             reached = subst (λ s. IsReached s) (sym view_then) (after_release_reached (state_of p) n core.reached);
             complete = subst (λ s. MessagesComplete s) (sym view_then) (after_release_complete (state_of p) n core.complete);
           }

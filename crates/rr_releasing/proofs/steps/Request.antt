@@ -1,5 +1,5 @@
 -- A request on loan leaves its place, its slot and its client's count.
-use Rattle.std.proofs.Common.{◌≡◌, ◌<◌, ℕ, true, Some, length, refl, sym, ap, ◌∙◌, subst, arith}
+use Rattle.std.proofs.Common.{[], ◌∷◌, ◌≡◌, ◌<◌, ℕ, true, Some, length, refl, sym, ap, ◌∙◌, subst, arith}
 use Rattle.std.specs.Prelude.{◌==◌, IsSomeAnd, slice_index, slice_set}
 use Rattle.std.specs.FinMap as fin_map
 use Rattle.std.proofs.lemmas.List.{length-set}
@@ -15,11 +15,14 @@ use Rattle.rr_store.specs.declared.details.RequestDetails.{RequestDetails}
 use Rattle.rr_store.specs.declared.handle_entry.HandleEntry.{HandleEntry}
 use Rattle.rr_store.specs.Changes.{with_client_sender_at, with_requests, without_handle}
 use Rattle.rr_store.specs.Loaning.{with_messages}
+use Rattle.rr_store.specs.Emptying.{PartsEmptied}
 use Rattle.rr_store.specs.Parts.{ClientPart, Parts, Sender}
 use Rattle.rr_store.specs.Reaching.{IsCore}
-use Rattle.rr_store.specs.Releasing.{given_back, is_loaned_request, without_loan}
+use Rattle.rr_store.specs.Releasing.{given_back, is_loaned_request, let_go, without_loan}
 use Rattle.rr_store.specs.Sound.{IsSound, empty_hand}
 use Rattle.rr_store.specs.Views.{no_sender, sender_of, state_of}
+use Rattle.rr_store.proofs.base.frames.Emptied.{emptied_sound, emptied_view}
+use Rattle.rr_store.proofs.base.senders.Emptied.{among_emptied, requests_emptied}
 use Rattle.rr_store.proofs.base.lists.Replaced.{set_alike}
 use Rattle.rr_store.proofs.base.lookups.Placed.{value_there}
 use Rattle.rr_store.proofs.base.senders.Owners.{First, client_of_sender}
@@ -43,6 +46,10 @@ module _ {Q QH P PH K : Type 0} (p : Parts Q QH P PH K) (core : IsCore p) (n : �
   abbrev given : HandleEntry → Sender Q RequestDetails QH
   given h = with_messages (sender_of h.sender p.client_senders) (given_back (sender_of h.sender p.client_senders).messages h.slot)
 
+  -- and of which the slot is emptied if that was its last use
+  abbrev left : Sender Q RequestDetails QH
+  left = with_messages (sender_of entry.sender p.client_senders) (let_go (sender_of entry.sender p.client_senders).messages entry.slot)
+
   -- the sender has the request on loan
   on_loan : 0 < (sender_of entry.sender p.client_senders).loans
   on_loan = subst (λ (h : HandleEntry). 0 < (sender_of h.sender p.client_senders).loans) found.is
@@ -56,36 +63,54 @@ module _ {Q QH P PH K : Type 0} (p : Parts Q QH P PH K) (core : IsCore p) (n : �
     slot_asked = subst (λ (q : Parts Q QH P PH K). 0 < slice_index (sender_of entry.sender q.client_senders).messages.held entry.slot)
         (sym gone) found.slot
 
-    module _ (r : Parts Q QH P PH K) (freed : r ≡ with_requests q entry.sender (λ m. given_back m entry.slot)) where
-      steps : r ≡ with_requests (without_handle p n) entry.sender (λ m. given_back m entry.slot)
-      steps = freed ∙ ap (λ q. with_requests q entry.sender (λ m. given_back m entry.slot)) gone
+    module _ (r : Parts Q QH P PH K) (freed : r ≡ with_requests q entry.sender (λ m. let_go m entry.slot)) where
+      steps : r ≡ with_requests (without_handle p n) entry.sender (λ m. let_go m entry.slot)
+      steps = freed ∙ ap (λ q. with_requests q entry.sender (λ m. let_go m entry.slot)) gone
 
       pub sender_still : entry.sender < length r.client_senders
       sender_still = subst (λ (r : Parts Q QH P PH K). entry.sender < length r.client_senders) (sym steps)
-          (omega (arith, found.sender, length-set p.client_senders entry.sender (given entry)))
+          (omega (arith, found.sender, length-set p.client_senders entry.sender left))
 
       pub loan_asked : 0 < (sender_of entry.sender r.client_senders).loans
       loan_asked = subst (λ (r : Parts Q QH P PH K). 0 < (sender_of entry.sender r.client_senders).loans) (sym steps)
-          (omega (arith, on_loan, set_alike p.client_senders entry.sender (given entry) no_sender (λ l. l.loans) refl entry.sender))
+          (omega (arith, on_loan, set_alike p.client_senders entry.sender left no_sender (λ l. l.loans) refl entry.sender))
 
       module _ (t : Parts Q QH P PH K) (ended : t ≡ with_client_sender_at r entry.sender without_loan) where
-        after : t ≡ after_loan p core.sound n found.table_entry found.at found.loan client.index client.it client.at sends
-        after =
-            ended ∙ ap (λ r. with_client_sender_at r entry.sender without_loan) steps
+        -- where the slot is not emptied
+        abbrev before : Parts Q QH P PH K
+        before = record (without_handle p n) {
+          client_senders = slice_set p.client_senders entry.sender (without_loan (given entry));
+        }
+
+        before_is : before ≡ after_loan p core.sound n found.table_entry found.at found.loan client.index client.it client.at sends
+        before_is = ap (λ (h : HandleEntry). record (without_handle p n) {
+          client_senders = slice_set p.client_senders h.sender (without_loan (given h));
+        }) (sym found.is)
+
+        before_sound : IsSound before empty_hand
+        before_sound = subst (λ q. IsSound q empty_hand) (sym before_is)
+            (released_sound p core.sound n found.table_entry found.at found.loan client.index client.it client.at sends)
+
+        -- and where it may be
+        abbrev after : Parts Q QH P PH K
+        after = record (without_handle p n) { client_senders = slice_set p.client_senders entry.sender (without_loan left) }
+
+        after_is : t ≡ after
+        after_is = ended ∙ ap (λ r. with_client_sender_at r entry.sender without_loan) steps
             ∙ ap (λ ls. record (without_handle p n) { client_senders = ls })
-            (stored_twice p.client_senders entry.sender (given entry) without_loan found.sender)
-            ∙ ap (λ (h : HandleEntry). record (without_handle p n) {
-              client_senders = slice_set p.client_senders h.sender (without_loan (given h));
-            }) (sym found.is)
+            (stored_twice p.client_senders entry.sender left without_loan found.sender)
+
+        emptied : PartsEmptied before after
+        emptied = requests_emptied (without_handle p n) p.client_senders entry.sender (without_loan (given entry)) (without_loan left)
+            (record { rest = refl; messages = among_emptied (entry.slot ∷ []) (given entry).messages })
 
         pub view_then : state_of t ≡ after_release (state_of p) n
-        view_then = ap state_of after
+        view_then = ap state_of after_is ∙ emptied_view before after emptied empty_hand before_sound ∙ ap state_of before_is
             ∙ released_view p core.sound n found.table_entry found.at found.loan client.index client.it client.at sends
 
         pub core_then : IsCore t
         core_then = record {
-          sound = subst (λ q. IsSound q empty_hand) (sym after)
-              (released_sound p core.sound n found.table_entry found.at found.loan client.index client.it client.at sends);
+          sound = subst (λ q. IsSound q empty_hand) (sym after_is) (emptied_sound before after emptied empty_hand before_sound);
           reached = subst (λ s. IsReached s) (sym view_then) (after_release_reached (state_of p) n core.reached);
           complete = subst (λ s. MessagesComplete s) (sym view_then) (after_release_complete (state_of p) n core.complete);
         }

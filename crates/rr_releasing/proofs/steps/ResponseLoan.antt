@@ -1,5 +1,5 @@
 -- A response on loan leaves its place, its slot, and the counts of its server and of its active request.
-use Rattle.std.proofs.Common.{◌≡◌, ◌<◌, ℕ, true, Option, Some, length, refl, sym, ap, ◌∙◌, subst, arith}
+use Rattle.std.proofs.Common.{[], ◌∷◌, ◌≡◌, ◌<◌, ℕ, true, Option, Some, length, refl, sym, ap, ◌∙◌, subst, arith}
 use Rattle.std.specs.Prelude.{◌==◌, IfSome, IsSomeAnd, slice_index, slice_set}
 use Rattle.std.specs.FinMap as fin_map
 use Rattle.std.proofs.lemmas.List.{length-set}
@@ -15,12 +15,15 @@ use Rattle.rr_store.specs.declared.details.ResponseDetails.{ResponseDetails}
 use Rattle.rr_store.specs.declared.handle_entry.HandleEntry.{HandleEntry}
 use Rattle.rr_store.specs.Changes.{with_responses, with_server_sender_at, without_handle}
 use Rattle.rr_store.specs.Loaning.{with_messages}
+use Rattle.rr_store.specs.Emptying.{PartsEmptied}
 use Rattle.rr_store.specs.Ending.{IsAskedPlace, IsLoanEnded, found_under}
 use Rattle.rr_store.specs.Parts.{ServerPart, Parts, Sender}
 use Rattle.rr_store.specs.Reaching.{IsCore}
-use Rattle.rr_store.specs.Releasing.{given_back, is_loaned_response, without_loan}
+use Rattle.rr_store.specs.Releasing.{given_back, is_loaned_response, let_go, without_loan}
 use Rattle.rr_store.specs.Sound.{IsSound, empty_hand, response_details}
 use Rattle.rr_store.specs.Views.{no_sender, sender_of, state_of}
+use Rattle.rr_store.proofs.base.frames.Emptied.{emptied_sound, emptied_view}
+use Rattle.rr_store.proofs.base.senders.Emptied.{among_emptied, responses_emptied}
 use Rattle.rr_store.proofs.base.lists.Replaced.{set_alike}
 use Rattle.rr_store.proofs.base.lookups.Placed.{value_there}
 use Rattle.rr_store.proofs.base.lookups.Shown.{held_within}
@@ -41,6 +44,10 @@ module _ {Q QH P PH K : Type 0} (p : Parts Q QH P PH K) (core : IsCore p) (n : �
   abbrev given : Sender P ResponseDetails PH
   given = with_messages (sender_of entry.sender p.server_senders) (given_back (sender_of entry.sender p.server_senders).messages entry.slot)
 
+  -- and of which the slot is emptied if that was its last use
+  abbrev left : Sender P ResponseDetails PH
+  left = with_messages (sender_of entry.sender p.server_senders) (let_go (sender_of entry.sender p.server_senders).messages entry.slot)
+
   module _ (q : Parts Q QH P PH K) (gone : q ≡ without_handle p n) where
     pub sender_asked : entry.sender < length q.server_senders
     sender_asked = subst (λ (q : Parts Q QH P PH K). entry.sender < length q.server_senders) (sym gone) found.sender
@@ -55,41 +62,41 @@ module _ {Q QH P PH K : Type 0} (p : Parts Q QH P PH K) (core : IsCore p) (n : �
         (sym gone) found.slot
 
     module _ (details : ResponseDetails) (are : details ≡ response_details q entry.sender entry.slot)
-        (r : Parts Q QH P PH K) (free : r ≡ with_responses q entry.sender (λ m. given_back m entry.slot)) where
+        (r : Parts Q QH P PH K) (free : r ≡ with_responses q entry.sender (λ m. let_go m entry.slot)) where
       details_are : response_details p entry.sender entry.slot ≡ details
       details_are = sym (are ∙ ap (λ q. response_details q entry.sender entry.slot) gone)
 
       abbrev freed : Parts Q QH P PH K
-      freed = with_responses (without_handle p n) entry.sender (λ m. given_back m entry.slot)
+      freed = with_responses (without_handle p n) entry.sender (λ m. let_go m entry.slot)
 
       r_is : r ≡ freed
-      r_is = free ∙ ap (λ q. with_responses q entry.sender (λ m. given_back m entry.slot)) gone
+      r_is = free ∙ ap (λ q. with_responses q entry.sender (λ m. let_go m entry.slot)) gone
 
       pub sender_still : entry.sender < length r.server_senders
       sender_still = subst (λ (r : Parts Q QH P PH K). entry.sender < length r.server_senders) (sym r_is)
-          (omega (arith, found.sender, length-set p.server_senders entry.sender given))
+          (omega (arith, found.sender, length-set p.server_senders entry.sender left))
 
       pub loan_asked : 0 < (sender_of entry.sender r.server_senders).loans
       loan_asked = subst (λ (r : Parts Q QH P PH K). 0 < (sender_of entry.sender r.server_senders).loans) (sym r_is) (omega (
         arith,
         has_loan p core.sound n entry found server.index server.it server.at server.is,
-        set_alike p.server_senders entry.sender given no_sender (λ l. l.loans) refl entry.sender,
+        set_alike p.server_senders entry.sender left no_sender (λ l. l.loans) refl entry.sender,
       ))
 
       module _ (receiver : ℕ) (s : Parts Q QH P PH K) (its : receiver ≡ (sender_of entry.sender r.server_senders).receiver)
           (counted : s ≡ with_server_sender_at r entry.sender without_loan) where
         abbrev loan_ended : Parts Q QH P PH K
-        loan_ended = record (without_handle p n) { server_senders = slice_set p.server_senders entry.sender (without_loan given) }
+        loan_ended = record (without_handle p n) { server_senders = slice_set p.server_senders entry.sender (without_loan left) }
 
         receiver_is : receiver ≡ server.it.receiver
         receiver_is = its ∙ ap (λ (r : Parts Q QH P PH K). (sender_of entry.sender r.server_senders).receiver) r_is
-            ∙ set_alike p.server_senders entry.sender given no_sender (λ l. l.receiver) refl entry.sender
+            ∙ set_alike p.server_senders entry.sender left no_sender (λ l. l.receiver) refl entry.sender
             ∙ server_receiver p empty_hand core.sound entry.sender server
 
         s_is : s ≡ loan_ended
         s_is = counted ∙ ap (λ r. with_server_sender_at r entry.sender without_loan) r_is
             ∙ ap (λ ls. record (without_handle p n) { server_senders = ls })
-            (stored_twice p.server_senders entry.sender given without_loan found.sender)
+            (stored_twice p.server_senders entry.sender left without_loan found.sender)
 
         module _ (t : Parts Q QH P PH K) (rest : t ≡ record s { table = t.table })
             (ended : (at : Option Place) × IfSome at (IsAskedPlace s.client_senders details receiver)
@@ -97,23 +104,35 @@ module _ {Q QH P PH K : Type 0} (p : Parts Q QH P PH K) (core : IsCore p) (n : �
           t_is : t ≡ record loan_ended { table = t.table }
           t_is = rest ∙ ap (λ (s : Parts Q QH P PH K). record s { table = t.table }) s_is
 
-          both : IsSound (record loan_ended { table = t.table }) empty_hand
-              × (state_of (record loan_ended { table = t.table }) ≡ after_release (state_of p) n)
+          -- where the slot is not emptied
+          abbrev before : Parts Q QH P PH K
+          before = record (without_handle p n) {
+            table = t.table;
+            server_senders = slice_set p.server_senders entry.sender (without_loan given);
+          }
+
+          both : IsSound before empty_hand × (state_of before ≡ after_release (state_of p) n)
           both =
               response_loan_parts p core.sound n entry found server.index server.it server.at server.is details details_are
-              loan_ended.server_senders t.table refl ended.0
+              before.server_senders t.table refl ended.0
               (subst (λ x. IfSome ended.0 (IsAskedPlace p.client_senders details x)) receiver_is
               (subst (λ (s : Parts Q QH P PH K). IfSome ended.0 (IsAskedPlace s.client_senders details receiver)) s_is ended.1))
               (subst (λ (s : Parts Q QH P PH K). IsLoanEnded details.active_request
               (found_under s.table details.active_request ended.0) s.table
               t.table) s_is ended.2)
 
+          emptied : PartsEmptied before (record loan_ended { table = t.table })
+          emptied = responses_emptied (record (without_handle p n) { table = t.table }) p.server_senders entry.sender (without_loan given)
+              (without_loan left) (record { rest = refl; messages = among_emptied (entry.slot ∷ []) given.messages })
+
           pub view_then : state_of t ≡ after_release (state_of p) n
-          view_then = ap state_of t_is ∙ both.1
+          view_then = ap state_of t_is
+              ∙ emptied_view before (record loan_ended { table = t.table }) emptied empty_hand both.0 ∙ both.1
 
           pub core_then : IsCore t
           core_then = record {
-            sound = subst (λ q. IsSound q empty_hand) (sym t_is) both.0;
+            sound = subst (λ q. IsSound q empty_hand) (sym t_is)
+                (emptied_sound before (record loan_ended { table = t.table }) emptied empty_hand both.0);
             reached = subst (λ s. IsReached s) (sym view_then) (after_release_reached (state_of p) n core.reached);
             complete = subst (λ s. MessagesComplete s) (sym view_then) (after_release_complete (state_of p) n core.complete);
           }

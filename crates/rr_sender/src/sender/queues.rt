@@ -1,6 +1,6 @@
 //! The queues to each receiver.
 ghost use Rattle.std.specs.Prelude.{◌≡◌, ◌+◌, ◌-◌, ◌<◌, ◌≤◌, ◌^◌, ◌↔◌, ◌++◌, ◌∷◌, [], All, IfSome, IsTrue, Some, drop, length, slice_get, slice_index, slice_index_or};
-ghost use Rattle.rr_sender.specs.Senders.{borrowed_at, is_full, put, queue_at, taken, uses, with_borrowed, with_held, with_queue};
+ghost use Rattle.rr_sender.specs.Senders.{borrowed_at, first_dropped, handed_over, is_full, put_into, queue_at, queue_cleared, taken, uses, with_borrowed, with_held, with_queue};
 
 use crate::sender::Sender;
 use rr_slots::Body;
@@ -9,7 +9,8 @@ impl<B: Body, N: Copy, H: Drop> Sender<B, N, H> {
     /// Enters a slot that a handle holds at the end of a queue, of which the capacity is not zero. A full queue gives up its
     /// oldest entry with `overflow`, and stays as it is without.
     ///
-    /// The new entry holds the slot, and an entry that is given up holds its own no more. After iceoryx2's safe overflow.
+    /// The new entry holds the slot, and an entry that is given up holds its own no more: with the last use of a slot, what
+    /// stood in it is dropped. After iceoryx2's safe overflow.
     #[inline(always)]
     pub fn put(&mut self, receiver: usize, channel: usize, slot: usize, overflow: bool)
         requires receiver { receiver < length self.old.queues }
@@ -17,7 +18,7 @@ impl<B: Body, N: Copy, H: Drop> Sender<B, N, H> {
         requires capacity { 0 < self.old.capacity }
         requires held { 0 < slice_index self.old.held slot }
         requires fits { uses self.old slot + 1 < 2 ^ 64 }
-        ensures { self.new ≡ with_queue self.old receiver channel (put overflow self.old.capacity (queue_at self.old receiver channel) slot) }
+        ensures { self.new ≡ put_into overflow self.old receiver channel slot }
     {
         if !self.is_full(receiver, channel) {
             self.enter(receiver, channel, slot);
@@ -42,7 +43,8 @@ impl<B: Body, N: Copy, H: Drop> Sender<B, N, H> {
     }
 
     /// Makes a handle's hold of a slot the hold of an entry at the end of a queue, of which the capacity is not zero. A full queue
-    /// gives up its oldest entry with `overflow`; without, it stays as it is, and the hold is given back.
+    /// gives up its oldest entry with `overflow`; without, it stays as it is, and the hold is given back. With the last use of a
+    /// slot, what stood in it is dropped.
     ///
     /// One step less than `put` and `give_back`: the slot is held as often as before.
     #[inline(always)]
@@ -51,7 +53,7 @@ impl<B: Body, N: Copy, H: Drop> Sender<B, N, H> {
         requires channel { channel < length (slice_index_or self.old.queues receiver []) }
         requires capacity { 0 < self.old.capacity }
         requires held { 0 < slice_index self.old.held slot }
-        ensures { self.new ≡ with_held (with_queue self.old receiver channel (put overflow self.old.capacity (queue_at self.old receiver channel) slot)) slot (slice_index self.old.held slot - 1) }
+        ensures { self.new ≡ handed_over overflow self.old receiver channel slot }
     {
         if self.is_full(receiver, channel) {
             if overflow {
@@ -111,12 +113,13 @@ impl<B: Body, N: Copy, H: Drop> Sender<B, N, H> {
         }
     }
 
-    /// Drops the oldest entry of a queue, which holds its slot no more. Nothing changes where there is none.
+    /// Drops the oldest entry of a queue, which holds its slot no more; if that was the last use, what stood in the slot is
+    /// dropped. Nothing changes where there is none.
     #[inline(always)]
     pub fn drop_first(&mut self, receiver: usize, channel: usize)
         requires receiver { receiver < length self.old.queues }
         requires channel { channel < length (slice_index_or self.old.queues receiver []) }
-        ensures { self.new ≡ with_queue self.old receiver channel (drop 1 (queue_at self.old receiver channel)) }
+        ensures { self.new ≡ first_dropped self.old receiver channel }
     {
         match self.links.pop(receiver, channel) {
             Some(slot) => self.pool.give_back(slot),
@@ -124,12 +127,13 @@ impl<B: Body, N: Copy, H: Drop> Sender<B, N, H> {
         }
     }
 
-    /// Drops each entry of a queue, one step an entry. None of them holds its slot any more.
+    /// Drops each entry of a queue, one step an entry. None of them holds its slot any more, and what stands in a slot is dropped
+    /// with the last use.
     #[inline(always)]
     pub fn clear_queue(&mut self, receiver: usize, channel: usize)
         requires receiver { receiver < length self.old.queues }
         requires channel { channel < length (slice_index_or self.old.queues receiver []) }
-        ensures { self.new ≡ with_queue self.old receiver channel [] }
+        ensures { self.new ≡ queue_cleared self.old receiver channel }
     {
         let count = self.len(receiver, channel);
         for _ in 0..count {

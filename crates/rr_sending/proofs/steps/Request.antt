@@ -22,13 +22,15 @@ use Rattle.rr_store.specs.declared.details.RequestDetails.{RequestDetails}
 use Rattle.rr_store.specs.declared.handle_entry.HandleEntry.{HandleEntry}
 use Rattle.rr_store.specs.declared.handle_entry.Stage.TheVariants as stage
 use Rattle.rr_store.specs.Changes.{is_open_to, request_send_limit, with_client_sender_at, with_handle, with_request_queued}
-use Rattle.rr_store.specs.Loaning.{with_messages}
+use Rattle.rr_store.specs.Emptying.{PartsEmptied}
 use Rattle.rr_store.specs.Parts.{ClientPart, ServerPart, Parts, Sender}
 use Rattle.rr_store.specs.Reaching.{IsCore}
 use Rattle.rr_store.specs.Releasing.{is_loaned_request}
-use Rattle.rr_store.specs.Sending.{pending_held, request_held, server_places, with_one_sent, with_puts, with_request_sent}
+use Rattle.rr_store.specs.Sending.{after_queued, pending_held, queued, request_held, server_places, with_one_sent, with_request_sent}
 use Rattle.rr_store.specs.Sound.{IsSound, empty_hand, is_in_sender, is_of_request, is_pending}
 use Rattle.rr_store.specs.Views.{handle_in, no_sender, request_at, sender_of, state_of}
+use Rattle.rr_store.proofs.base.frames.Emptied.{emptied_sound, emptied_view}
+use Rattle.rr_store.proofs.base.senders.Emptied.{requests_emptied}
 use Rattle.rr_store.proofs.base.lists.Adding.{makes_requests, some_loans}
 use Rattle.rr_store.proofs.base.lists.Replaced.{set_alike}
 use Rattle.rr_store.proofs.base.lists.Tallies.{tally_below}
@@ -40,6 +42,7 @@ use Rattle.rr_store.proofs.base.senders.Owners.{First, client_of_sender}
 use Rattle.rr_store.proofs.base.senders.Ports.{of_found}
 use Rattle.rr_store.proofs.base.senders.Stored.{stored_twice}
 use Rattle.rr_store.proofs.querying.Connected.{mark_within, of_kind}
+use Rattle.rr_store.proofs.sending.put.Emptied.{puts_emptied}
 use Rattle.rr_store.proofs.sending.request.Fields.{request_stage}
 use Rattle.rr_store.proofs.sending.request.Inserted.{sent_sound, taken, taken_sound, used_once}
 use Rattle.rr_store.proofs.sending.request.MayAnswer.{servers_placed}
@@ -139,29 +142,29 @@ module _ {Q QH P PH K : Type 0} (p : Parts Q QH P PH K) (core : IsCore p) (n : �
       )
 
       pub marks_asked : (i : ℕ) (s : ServerPart K) → slice_get p.servers i ≡ Some s
-          → entry.slot * p.limits.max_servers + s.receiver < length (slice_index_or p.waiting entry.sender [])
+          → entry.slot * p.limits.max_servers + s.receiver < length (sender_of entry.sender p.client_senders).may_answer
       marks_asked i s here =
           mark_within entry.slot (length (sender_of entry.sender p.client_senders).messages.held) p.limits.max_servers s.receiver
-          (length (slice_index_or p.waiting entry.sender [])) spot.1 (servers_placed p empty_hand core.sound i s here)
-          (core.sound.sized.waiting_slots entry.sender spot.0)
-
-      pub rows_asked : entry.sender < length p.waiting
-      rows_asked = omega (arith, spot.0, core.sound.sized.waiting)
+          (length (sender_of entry.sender p.client_senders).may_answer) spot.1 (servers_placed p empty_hand core.sound i s here)
+          (core.sound.sized.marks entry.sender spot.0)
 
       module _ (connections : ℕ) (count : connections ≡ count_by (is_open_to p entry.sender) p.servers) (q : Parts Q QH P PH K)
-          (queued : q ≡ with_request_queued p entry.sender entry.slot) where
+          (sent_out : q ≡ with_request_queued p entry.sender entry.slot) where
         -- the sender after it
         abbrev put : Sender Q RequestDetails QH
-        put = with_messages (sender_of entry.sender p.client_senders)
-            (with_puts p.limits.enable_safe_overflow_for_requests entry.slot (sender_of entry.sender p.client_senders).messages
-            (server_places p))
+        put = after_queued p.limits.enable_safe_overflow_for_requests p.limits.max_servers entry.slot p.servers
+            (sender_of entry.sender p.client_senders)
+
+        -- and where no slot is emptied
+        abbrev held : Sender Q RequestDetails QH
+        held = queued p entry.slot (sender_of entry.sender p.client_senders)
 
         pub sender_still : entry.sender < length q.client_senders
-        sender_still = subst (λ (q : Parts Q QH P PH K). entry.sender < length q.client_senders) (sym queued)
+        sender_still = subst (λ (q : Parts Q QH P PH K). entry.sender < length q.client_senders) (sym sent_out)
             (omega (arith, spot.0, length-set p.client_senders entry.sender put))
 
         pub loan_counted : 0 < (sender_of entry.sender q.client_senders).loans
-        loan_counted = subst (λ (q : Parts Q QH P PH K). 0 < (sender_of entry.sender q.client_senders).loans) (sym queued) (omega (
+        loan_counted = subst (λ (q : Parts Q QH P PH K). 0 < (sender_of entry.sender q.client_senders).loans) (sym sent_out) (omega (
           arith,
           sent.has_loan (taken p core.sound n entry.sender entry.slot 0 (table_entry place entry) at is) entry.sender entry.slot 0
               (taken_sound p core.sound n entry.sender entry.slot 0 (table_entry place entry) at is)
@@ -170,7 +173,7 @@ module _ {Q QH P PH K : Type 0} (p : Parts Q QH P PH K) (core : IsCore p) (n : �
         ))
 
         pub pendings_fit : (sender_of entry.sender q.client_senders).pendings + 1 < 2 ^ 64
-        pendings_fit = subst (λ (q : Parts Q QH P PH K). (sender_of entry.sender q.client_senders).pendings + 1 < 2 ^ 64) (sym queued)
+        pendings_fit = subst (λ (q : Parts Q QH P PH K). (sender_of entry.sender q.client_senders).pendings + 1 < 2 ^ 64) (sym sent_out)
             (omega (
               arith,
               core.sound.stored.pendings entry.sender spot.0,
@@ -187,7 +190,7 @@ module _ {Q QH P PH K : Type 0} (p : Parts Q QH P PH K) (core : IsCore p) (n : �
           }
 
           r_is : r ≡ counts
-          r_is = counted ∙ ap (λ q. with_client_sender_at q entry.sender with_one_sent) queued
+          r_is = counted ∙ ap (λ q. with_client_sender_at q entry.sender with_one_sent) sent_out
               ∙ ap (λ ls. record (with_request_queued p entry.sender entry.slot) { client_senders = ls })
               (stored_twice p.client_senders entry.sender put with_one_sent spot.0)
 
@@ -195,8 +198,24 @@ module _ {Q QH P PH K : Type 0} (p : Parts Q QH P PH K) (core : IsCore p) (n : �
           still_there = subst (λ (r : Parts Q QH P PH K). IsAt r.table n place) (sym r_is) (entry, at)
 
           module _ (t : Parts Q QH P PH K) (replaced : t ≡ with_handle r n place (pending_held entry.sender entry.slot connections)) where
-            after : t ≡ with_request_sent p n entry.sender entry.slot connections place
-            after = replaced ∙ ap (λ r. with_handle r n place (pending_held entry.sender entry.slot connections)) r_is
+            abbrev before : Parts Q QH P PH K
+            before = with_request_sent p n entry.sender entry.slot connections place
+
+            before_sound : IsSound before empty_hand
+            before_sound = sent_sound p core.sound n entry.sender entry.slot connections (table_entry place entry) at is
+
+            abbrev after : Parts Q QH P PH K
+            after = with_handle counts n place (pending_held entry.sender entry.slot connections)
+
+            after_is : t ≡ after
+            after_is = replaced ∙ ap (λ r. with_handle r n place (pending_held entry.sender entry.slot connections)) r_is
+
+            emptied : PartsEmptied before after
+            emptied = requests_emptied after p.client_senders entry.sender (with_one_sent held) (with_one_sent put) (record {
+              rest = refl;
+              messages = puts_emptied p.limits.enable_safe_overflow_for_requests entry.slot
+                  (sender_of entry.sender p.client_senders).messages (server_places p) takes_asked.1;
+            })
 
             count_is : connections ≡ connections_of (state_of p) (request_at p entry.sender entry.slot)
             count_is = count ∙ sym (refusals.connections_parts p core.sound n entry.sender entry.slot (table_entry place entry) at is
@@ -212,13 +231,13 @@ module _ {Q QH P PH K : Type 0} (p : Parts Q QH P PH K) (core : IsCore p) (n : �
                       (table_entry place entry) at is client.index client.it client.at
                       client.is action ∙ sym limit_is ∙ none,
                   count_is,
-                  ap state_of after ∙ sent_view p core.sound n entry.sender entry.slot connections (table_entry place entry) at is count_is,
+                  ap state_of after_is ∙ emptied_view before after emptied empty_hand before_sound
+                      ∙ sent_view p core.sound n entry.sender entry.slot connections (table_entry place entry) at is count_is,
                 )
 
             pub core_then : IsCore t
             core_then = record {
-              sound = subst (λ q. IsSound q empty_hand) (sym after)
-                  (sent_sound p core.sound n entry.sender entry.slot connections (table_entry place entry) at is);
+              sound = subst (λ q. IsSound q empty_hand) (sym after_is) (emptied_sound before after emptied empty_hand before_sound);
               reached = sends_request_reached (state_of p) core.reached n action (Ok connections) (state_of t) sends;
               complete = sends_request_complete (state_of p) core.complete n action (Ok connections) (state_of t) sends;
             }

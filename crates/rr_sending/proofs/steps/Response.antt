@@ -1,5 +1,5 @@
 -- A response that can be sent comes to the queue that it reaches, and its handle, its hold and its loans end.
-use Rattle.std.proofs.Common.{◌≡◌, ◌<◌, ℕ, Bool, true, false, Option, Some, Ok, List, length, refl, sym, ap, ◌∙◌, subst, arith}
+use Rattle.std.proofs.Common.{◌≡◌, ◌<◌, ℕ, Bool, true, false, Option, None, Some, Ok, List, [], ◌∷◌, length, refl, sym, ap, ◌∙◌, subst, arith}
 use Rattle.std.specs.Prelude.{◌==◌, IfSome, IsSomeAnd, slice_get, slice_index, slice_set}
 use Rattle.std.specs.List.{position}
 use Rattle.std.specs.FinMap as fin_map
@@ -7,7 +7,7 @@ use Rattle.std.proofs.lemmas.List.{length-set}
 use Rattle.std.proofs.lemmas.Option.{slice_get_within}
 use Rattle.rr_table.specs.TableView.{table_entry, value_at}
 use Rattle.rr_table.specs.declared.place.Place.{Place}
-use Rattle.rr_sender.specs.Senders.{Messages}
+use Rattle.rr_sender.specs.Senders.{Messages, evicted, queue_at}
 use Rattle.rr_protocol.specs.declared.error.SendError.{SendError}
 use Rattle.rr_protocol.specs.declared.kind.Kind.{Kind}
 use Rattle.rr_protocol.specs.declared.settings.BackpressureAction.{BackpressureAction}
@@ -20,19 +20,23 @@ use Rattle.rr_laws.proofs.Sending.{sends_response_reached}
 use Rattle.rr_store.specs.declared.details.ResponseDetails.{ResponseDetails}
 use Rattle.rr_store.specs.declared.handle_entry.HandleEntry.{HandleEntry}
 use Rattle.rr_store.specs.Changes.{with_responses, with_server_sender_at, without_handle}
-use Rattle.rr_store.specs.Delivering.{HasQueue, delivered as in_queue, is_refused_in, reached, with_delivered}
+use Rattle.rr_store.specs.Delivering.{HasQueue, delivered as in_queue, handed_on, is_refused_in, reached}
+use Rattle.rr_store.specs.Emptying.{MessagesEmptied, PartsEmptied}
 use Rattle.rr_store.specs.Ending.{IsAskedPlace, IsLoanEnded, found_under}
 use Rattle.rr_store.specs.Kinds.{stage_kind}
 use Rattle.rr_store.specs.Loaning.{with_messages}
+use Rattle.rr_store.specs.Order.{IsRising}
 use Rattle.rr_store.specs.Parts.{ClientPart, ServerPart, Parts, Sender}
 use Rattle.rr_store.specs.Reaching.{IsCore}
 use Rattle.rr_store.specs.Releasing.{given_back, is_loaned_response, without_loan}
 use Rattle.rr_store.specs.Sound.{IsSound, empty_hand, response_details}
 use Rattle.rr_store.specs.Views.{no_sender, response_at, sender_of, server_of, state_of}
+use Rattle.rr_store.proofs.base.frames.Emptied.{emptied_sound, emptied_view}
+use Rattle.rr_store.proofs.base.senders.Emptied.{among_emptied, responses_emptied}
 use Rattle.rr_store.proofs.base.lists.Replaced.{set_alike}
 use Rattle.rr_store.proofs.base.lookups.Placed.{value_there}
 use Rattle.rr_store.proofs.base.lookups.Shown.{held_within}
-use Rattle.rr_store.proofs.base.senders.Owners.{First, server_of_sender, server_receiver}
+use Rattle.rr_store.proofs.base.senders.Owners.{First, clients_rise, server_of_sender, server_receiver}
 use Rattle.rr_store.proofs.base.senders.Ports.{of_found}
 use Rattle.rr_store.proofs.base.senders.Stored.{stored_twice}
 use Rattle.rr_store.proofs.base.views.Counts.{listed}
@@ -79,6 +83,9 @@ module _ {Q QH P PH K : Type 0} (p : Parts Q QH P PH K) (core : IsCore p) (n : �
   pub clients_asked : (i : ℕ) (c : ClientPart K) → slice_get p.clients i ≡ Some c → c.sender < length p.client_senders
   clients_asked i c here = (core.sound.client_ports.own i c.connected (listed (λ (c : ClientPart K). c.connected) p.clients i c here)).0
 
+  pub order_asked : IsRising (λ (c : ClientPart K). c.port.id) p.clients
+  order_asked = clients_rise p empty_hand core.sound
+
   pub server_asked : IsSomeAnd (position (λ (s : ServerPart K). s.sender == entry.sender) p.servers) (λ i. i < length p.servers)
   server_asked =
       subst (λ o. IsSomeAnd o (λ i. i < length p.servers)) (sym server.found) (slice_get_within p.servers server.index server.it server.at)
@@ -107,9 +114,6 @@ module _ {Q QH P PH K : Type 0} (p : Parts Q QH P PH K) (core : IsCore p) (n : �
           (sym refused_is ∙ is, refl, gone) (state_of p) n refl refl
 
       module _ (v : Parts Q QH P PH K) (gone : v ≡ without_handle p n) where
-        abbrev delivered : Parts Q QH P PH K
-        delivered = with_delivered p entry.sender details.channel entry.slot reach
-
         pub sender_still : entry.sender < length v.server_senders
         sender_still = subst (λ (v : Parts Q QH P PH K). entry.sender < length v.server_senders) (sym gone) found.sender
 
@@ -126,56 +130,61 @@ module _ {Q QH P PH K : Type 0} (p : Parts Q QH P PH K) (core : IsCore p) (n : �
             (has_capacity p core.sound n entry found server.index server.it server.at server.is, found.slot)
 
         module _ (s : Parts Q QH P PH K)
-            (given : s ≡ with_responses (with_delivered v entry.sender details.channel entry.slot reach) entry.sender
-            (λ m. given_back m entry.slot)) where
+            (given : s ≡ with_responses v entry.sender
+            (λ m. handed_on m v.limits.enable_safe_overflow_for_responses details.channel entry.slot reach)) where
           abbrev freed : Parts Q QH P PH K
-          freed = with_responses (without_handle delivered n) entry.sender (λ m. given_back m entry.slot)
+          freed = with_responses (without_handle p n) entry.sender (λ m. handed_on m overflow details.channel entry.slot reach)
 
           s_is : s ≡ freed
-          s_is = given ∙ ap (λ v. with_responses (with_delivered v entry.sender details.channel entry.slot reach) entry.sender
-              (λ m. given_back m entry.slot)) gone
+          s_is = given ∙ ap (λ (v : Parts Q QH P PH K). with_responses v entry.sender
+              (λ m. handed_on m v.limits.enable_safe_overflow_for_responses details.channel entry.slot reach)) gone
 
-          -- the senders with the response in its queue, and its sender without the hold of its handle
-          abbrev mid : List (Sender P ResponseDetails PH)
-          mid = delivered.server_senders
+          -- the sender without the hold of the response's handle, with the response in its queue
+          abbrev fresh : Sender P ResponseDetails PH
+          fresh = with_messages (sender_of entry.sender p.server_senders) (handed_on m overflow details.channel entry.slot reach)
 
+          -- the same in two steps, where no slot is emptied
           abbrev put : Sender P ResponseDetails PH
           put = with_messages (sender_of entry.sender p.server_senders) (in_queue m overflow details.channel entry.slot reach)
 
-          abbrev fresh : Sender P ResponseDetails PH
-          fresh = with_messages (sender_of entry.sender mid) (given_back (sender_of entry.sender mid).messages entry.slot)
+          abbrev mid : List (Sender P ResponseDetails PH)
+          mid = slice_set p.server_senders entry.sender put
 
-          there : entry.sender < length mid
-          there = omega (arith, found.sender, length-set p.server_senders entry.sender put)
+          abbrev held_less : Sender P ResponseDetails PH → Sender P ResponseDetails PH
+          held_less l = without_loan (with_messages l (given_back l.messages entry.slot))
+
+          handed_emptied : (o : Option ℕ) → MessagesEmptied (given_back (in_queue m overflow details.channel entry.slot o) entry.slot)
+              (handed_on m overflow details.channel entry.slot o)
+          handed_emptied None = among_emptied (entry.slot ∷ []) (given_back m entry.slot)
+          handed_emptied (Some r) = among_emptied (entry.slot ∷ evicted overflow m.capacity (queue_at m r details.channel))
+              (given_back (in_queue m overflow details.channel entry.slot (Some r)) entry.slot)
 
           pub loan_sender : entry.sender < length s.server_senders
           loan_sender = subst (λ (s : Parts Q QH P PH K). entry.sender < length s.server_senders) (sym s_is)
-              (omega (arith, there, length-set mid entry.sender fresh))
+              (omega (arith, found.sender, length-set p.server_senders entry.sender fresh))
 
           pub loan_counted : 0 < (sender_of entry.sender s.server_senders).loans
           loan_counted = subst (λ (s : Parts Q QH P PH K). 0 < (sender_of entry.sender s.server_senders).loans) (sym s_is) (omega (
             arith,
             has_loan p core.sound n entry found server.index server.it server.at server.is,
-            set_alike mid entry.sender fresh no_sender (λ l. l.loans) refl entry.sender,
-            set_alike p.server_senders entry.sender put no_sender (λ l. l.loans) refl entry.sender,
+            set_alike p.server_senders entry.sender fresh no_sender (λ l. l.loans) refl entry.sender,
           ))
 
           module _ (receiver : ℕ) (u : Parts Q QH P PH K) (its : receiver ≡ (sender_of entry.sender s.server_senders).receiver)
               (counted : u ≡ with_server_sender_at s entry.sender without_loan) where
             abbrev loan_ended : Parts Q QH P PH K
-            loan_ended = record (without_handle delivered n) { server_senders = slice_set mid entry.sender (without_loan fresh) }
+            loan_ended = record (without_handle p n) { server_senders = slice_set p.server_senders entry.sender (without_loan fresh) }
 
             receiver_is : receiver ≡ server.it.receiver
             receiver_is =
                 its ∙ ap (λ (s : Parts Q QH P PH K). (sender_of entry.sender s.server_senders).receiver) s_is
-                ∙ set_alike mid entry.sender fresh no_sender (λ l. l.receiver) refl entry.sender
-                ∙ set_alike p.server_senders entry.sender put no_sender (λ l. l.receiver) refl entry.sender
+                ∙ set_alike p.server_senders entry.sender fresh no_sender (λ l. l.receiver) refl entry.sender
                 ∙ server_receiver p empty_hand core.sound entry.sender server
 
             u_is : u ≡ loan_ended
             u_is = counted ∙ ap (λ s. with_server_sender_at s entry.sender without_loan) s_is
-                ∙ ap (λ ls. record (without_handle delivered n) { server_senders = ls })
-                (stored_twice mid entry.sender fresh without_loan there)
+                ∙ ap (λ ls. record (without_handle p n) { server_senders = ls })
+                (stored_twice p.server_senders entry.sender fresh without_loan found.sender)
 
             module _ (t : Parts Q QH P PH K) (rest : t ≡ record u { table = t.table })
                 (ended : (at : Option Place) × IfSome at (IsAskedPlace u.client_senders details receiver)
@@ -183,19 +192,36 @@ module _ {Q QH P PH K : Type 0} (p : Parts Q QH P PH K) (core : IsCore p) (n : �
               t_is : t ≡ record loan_ended { table = t.table }
               t_is = rest ∙ ap (λ (u : Parts Q QH P PH K). record u { table = t.table }) u_is
 
-              both : IsSound (record loan_ended { table = t.table }) empty_hand
-                  × (state_of (record loan_ended { table = t.table })
+              -- where no slot is emptied
+              abbrev before : Parts Q QH P PH K
+              before = record (without_handle p n) {
+                table = t.table;
+                server_senders = slice_set mid entry.sender (held_less (sender_of entry.sender mid));
+              }
+
+              both : IsSound before empty_hand
+                  × (state_of before
                   ≡ after_release (record (state_of p) {
                     responses = with_response_put (state_of p)
                         (response_at p entry.sender entry.slot);
                   }) n)
               both =
                   sent_parts p core.sound n entry found server.index server.it server.at server.is details (sym are) reach told
-                  delivered.server_senders loan_ended.server_senders t.table refl refl ended.0
+                  mid before.server_senders t.table refl refl ended.0
                   (subst (λ x. IfSome ended.0 (IsAskedPlace p.client_senders details x)) receiver_is
                   (subst (λ (u : Parts Q QH P PH K). IfSome ended.0 (IsAskedPlace u.client_senders details receiver)) u_is ended.1))
                   (subst (λ (u : Parts Q QH P PH K). IsLoanEnded details.active_request
                   (found_under u.table details.active_request ended.0) u.table t.table) u_is ended.2)
+
+              -- and where some may be
+              abbrev after : Parts Q QH P PH K
+              after = record loan_ended { table = t.table }
+
+              emptied : PartsEmptied before after
+              emptied = subst (λ ls. PartsEmptied (record (without_handle p n) { table = t.table; server_senders = ls }) after)
+                  (sym (stored_twice p.server_senders entry.sender put held_less found.sender))
+                  (responses_emptied after p.server_senders entry.sender (held_less put) (without_loan fresh)
+                  (record { rest = refl; messages = handed_emptied reach }))
 
               pub sends : r ≡ false → IsResponseMutAnd (state_of p) n (λ server message.
                   (is_response_refused action (state_of p) server message ≡ false)
@@ -204,11 +230,11 @@ module _ {Q QH P PH K : Type 0} (p : Parts Q QH P PH K) (core : IsCore p) (n : �
                   fields.of_sent p core.sound n entry found server.index server.it server.at server.is
                   (λ s j server message. (is_response_refused action s server message ≡ false)
                   × (state_of t ≡ after_release (record s { responses = with_response_put s message }) j)) value kind_is
-                  (sym refused_is ∙ is, ap state_of t_is ∙ both.1) (state_of p) n refl refl
+                  (sym refused_is ∙ is, ap state_of t_is ∙ emptied_view before after emptied empty_hand both.0 ∙ both.1) (state_of p) n refl refl
 
               pub core_then : r ≡ false → IsCore t
               core_then is = record {
-                sound = subst (λ q. IsSound q empty_hand) (sym t_is) both.0;
+                sound = subst (λ q. IsSound q empty_hand) (sym t_is) (emptied_sound before after emptied empty_hand both.0);
                 reached = sends_response_reached (state_of p) core.reached n {U = ℕ} action (Ok 0) (state_of t) (sends is);
                 complete = sends_response_complete (state_of p) core.complete {U = ℕ} n action (Ok 0) (state_of t) (sends is);
               }

@@ -1,3 +1,4 @@
 pub mod Frames
 pub mod Kept
 pub mod Rewrites
+pub mod Emptied

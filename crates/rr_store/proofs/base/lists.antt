@@ -8,3 +8,5 @@ pub mod SetTwo
 pub mod ReadAt
 pub mod EachOnce
 pub mod Mapped
+pub mod Rising
+pub mod Bisected

@@ -8,3 +8,5 @@ pub mod Stored
 pub mod Marks
 pub mod Owners
 pub mod Written
+pub mod Emptied
+pub mod Numbered

@@ -53,7 +53,7 @@ later_next n = record {
   numbered = λ i h. omega (arith, n.numbered i h);
   placed = n.placed;
   receivers_once = n.receivers_once;
-  numbered_once = n.numbered_once;
+  rising = n.rising;
 }
 
 module _ {T N H K C : Type 0} (connected : C → Connected K) (next ports : ℕ) (cs : List C) (senders : List (Sender T N H))
@@ -171,23 +171,16 @@ module _ {T N H K C : Type 0} (connected : C → Connected K) (next ports : ℕ)
               (λ end is. connected_cases j d there
               (λ also g. absurd (another j d also (sym same ∙ sym (ap (λ (c : Connected K). c.receiver) is))))
               (λ too also. end ∙ sym too));
-          numbered_once = λ i j c d at there same. connected_cases i c at
+          rising = λ i j c d at there less. connected_cases i c at
               (λ before h. connected_cases j d there
-              (λ also g. n.numbered_once i j c d before also same)
-              (λ end is. absurd (omega (
+              (λ also g. n.rising i j c d before also less)
+              (λ end is. omega (
                 arith,
                 given_before next ports _ senders n i c before,
-                same,
-                its_id,
-                ap (λ (c : Connected K). c.port.id) is,
-              ))))
-              (λ end is. connected_cases j d there
-              (λ also g. absurd (omega (
-                arith,
-                given_before next ports _ senders n j d also,
-                same,
                 its_id,
                 ap (λ (c : Connected K). c.port.id) is,
               )))
-              (λ too also. end ∙ sym too));
+              (λ end is. connected_cases j d there
+              (λ also g. absurd (omega (arith, less, end, g)))
+              (λ too also. absurd (omega (arith, less, end, too))));
         }

@@ -133,19 +133,3 @@ module _ {T N H : Type 0} (senders : List (Sender T N H)) (new : Sender T N H) {
         (λ h e g. absurd (omega (arith, some, ap (λ (x : Sender T N H). uses x.messages i) g)))
         (λ h e g. absurd (omega (arith, some, ap (λ (x : Sender T N H). uses x.messages i) g)));
   }
-
--- a row of marks of a list with a row of the same is one of the list's rows, or has that mark everywhere
-pub mark_of_more : {X : Type 0} (rows : List (List X)) (n l i : ℕ) (x : X) → at_two x (rows ++ replicate n x ∷ []) l i ≡ at_two x rows l i
-mark_of_more {X} rows n l i x =
-    ⊎_elim
-    (λ h. ap (λ (r : List X). get_or r i x) (get_or-append rows (replicate n x ∷ []) [] l h))
-    (λ h. ⊎_elim
-    (λ e. ap (λ k. get_or (get_or (rows ++ replicate n x ∷ []) k []) i x) e
-    ∙ ap (λ (r : List X). get_or r i x) (get_or-append_seam rows (replicate n x) [] []) ∙ same_everywhere n i x
-    ∙ sym (ap (λ (r : List X). get_or r i x) (get_or_past rows l [] h)))
-    (λ m. let far : length rows < l = omega arith in
-    ap (λ (r : List X). get_or r i x) (get_or_past (rows ++ replicate n x ∷ []) l
-    [] (omega (arith, far, length-append rows (replicate n x ∷ []))))
-    ∙ sym (ap (λ (r : List X). get_or r i x) (get_or_past rows l [] h)))
-    (cases_eq l (length rows)))
-    (cases_lt l (length rows))

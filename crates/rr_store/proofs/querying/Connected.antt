@@ -1,10 +1,9 @@
 -- Whether the other side of a request may still answer, or still waits.
-use Rattle.std.proofs.Common.{◌≡◌, ◌≢◌, ◌<◌, ◌≤◌, ◌+◌, ◌*◌, ℕ, Bool, true, false, cond, List, [], ◌∷◌, Option, Some, map, length, get_or, refl, sym, ap, ◌∙◌, subst, option_map, arith, Vec, Global}
+use Rattle.std.proofs.Common.{◌≡◌, ◌≢◌, ◌<◌, ◌≤◌, ◌+◌, ◌*◌, ℕ, Bool, true, false, cond, List, [], ◌∷◌, Option, Some, map, length, refl, sym, ap, ◌∙◌, subst, option_map, arith}
 use Rattle.std.specs.Prelude.{IsSome, IsSomeAnd, is_some, nat_lt, option_and_then, slice_get, suc}
 use Rattle.std.specs.List.{list_any}
 use Rattle.std.proofs.Math.Nat.{mul-le-mul_right}
 use Rattle.std.proofs.lemmas.Bool.{false≢true}
-use Rattle.std.proofs.lemmas.List.{get_or-map}
 use Rattle.rr_table.specs.TableView.{value_at}
 use Rattle.rr_protocol.specs.declared.kind.Kind.{Kind}
 use Rattle.rr_protocol.specs.Messages.{as_pending, as_active}
@@ -14,10 +13,10 @@ use Rattle.rr_store.specs.declared.handle_entry.HandleEntry.{HandleEntry}
 use Rattle.rr_store.specs.declared.handle_entry.Stage.{Stage}
 use Rattle.rr_store.specs.declared.handle_entry.Stage.TheVariants as stage
 use Rattle.rr_store.specs.declared.port.ServerPort.{ServerPort}
-use Rattle.rr_store.specs.Ports.{server_part, marks_of}
+use Rattle.rr_store.specs.Ports.{server_part}
 use Rattle.rr_store.specs.Kinds.{stage_kind}
 use Rattle.rr_store.specs.Parts.{Parts}
-use Rattle.rr_store.specs.Views.{handle_in, state_of, is_awaited, waiting_at, request_at}
+use Rattle.rr_store.specs.Views.{handle_in, state_of, is_awaited, is_marked, sender_of, waiting_at, request_at}
 use Rattle.rr_store.specs.Sound.{is_of_request}
 use Rattle.rr_store.proofs.base.lookups.Looking.{list_any-map, some_pass, kind_shown}
 use Rattle.rr_store.proofs.base.lookups.Shown.{shown_there}
@@ -59,11 +58,6 @@ active_stage stage.ResponseMutUninit h = absurd (let f : Kind.ResponseMutUninit 
 active_stage stage.ResponseMut h = absurd (let f : Kind.ResponseMut ≡ Kind.ActiveRequest = h in cc)
 active_stage stage.Response h = absurd (let f : Kind.Response ≡ Kind.ActiveRequest = h in cc)
 
--- a row of marks that was read
-pub marks_read : (rows : List (Vec Bool Global)) (i : ℕ) (row : Vec Bool Global) (marks : List Bool) → i < length rows
-    → row ≡ get_or rows i row → marks ≡ row.items → get_or (map marks_of rows) i [] ≡ marks
-marks_read rows i row marks within is same = get_or-map marks_of rows i row [] within ∙ ap marks_of (sym is) ∙ sym same
-
 -- the marks of a slot are some of its sender's
 pub mark_within : (slot slots receivers receiver marks : ℕ) → slot < slots → receiver < receivers → marks ≡ slots * receivers
     → slot * receivers + receiver < marks
@@ -76,16 +70,16 @@ marks_before slot slots receivers marks here is = omega (arith, mul-le-mul_right
 
 module _ {Q QH P PH K : Type 0} (p : Parts Q QH P PH K) where
   -- some server has a mark where some may answer
-  pub waiting_seen : (sender slot : ℕ) (servers stored : List (ServerPort K)) (marks : List Bool) → p.servers ≡ map server_part servers
-      → stored ≡ servers → get_or p.waiting sender [] ≡ marks
-      → list_any (λ s. get_or marks (slot * p.limits.max_servers + s.port.receiver) false) stored ≡ nat_lt 0
+  pub waiting_seen : (sender slot : ℕ) (servers stored : List (ServerPort K)) (marks : List ℕ) → p.servers ≡ map server_part servers
+      → stored ≡ servers → (sender_of sender p.client_senders).may_answer ≡ marks
+      → list_any (λ s. is_marked p.limits.max_servers marks slot s.port.receiver s.port.id) stored ≡ nat_lt 0
       (length (waiting_at p sender slot))
   waiting_seen sender slot servers stored marks are is here =
-      ap (λ ms. list_any (λ s. get_or ms (slot * p.limits.max_servers + s.port.receiver) false) stored) (sym here)
-      ∙ ap (list_any (λ s. is_awaited p sender slot s.port.receiver)) is
-      ∙ sym (list_any-map server_part (λ s. is_awaited p sender slot s.receiver) servers)
-      ∙ ap (list_any (λ s. is_awaited p sender slot s.receiver)) (sym are)
-      ∙ some_pass (λ s. is_awaited p sender slot s.receiver) (λ s. s.port.id) p.servers
+      ap (λ ms. list_any (λ s. is_marked p.limits.max_servers ms slot s.port.receiver s.port.id) stored) (sym here)
+      ∙ ap (list_any (λ s. is_awaited p sender slot s.port.receiver s.port.id)) is
+      ∙ sym (list_any-map server_part (λ s. is_awaited p sender slot s.receiver s.port.id) servers)
+      ∙ ap (list_any (λ s. is_awaited p sender slot s.receiver s.port.id)) (sym are)
+      ∙ some_pass (λ s. is_awaited p sender slot s.receiver s.port.id) (λ s. s.port.id) p.servers
 
   -- a state that the parts stand for, and a number of it
   module _ (s : State Q QH P PH K) (n m : ℕ) (view : state_of p ≡ s) (same : n ≡ m) (k : Kind) (client : Kind.Client ≢ k)

@@ -21,7 +21,7 @@ use Rattle.rr_store.specs.declared.details.ResponseDetails.{ResponseDetails}
 use Rattle.rr_store.specs.declared.port.OwnedSender.{OwnedSender}
 use Rattle.rr_store.specs.Ports.{sender_part}
 use Rattle.rr_store.specs.Parts.{Parts, Sender}
-use Rattle.rr_store.specs.Views.{no_sender, no_request, no_response, sender_of, handle_in, handle_of, requests_at, responses_at, state_of}
+use Rattle.rr_store.specs.Views.{no_sender, no_request, no_response, sender_of, handle_in, handle_of, requests_at, responses_at, state_of, marked}
 use Rattle.rr_store.specs.Sound.{IsSound, Hand, is_of_request, is_of_response, request_uses, response_uses}
 use Rattle.rr_store.specs.Frames.{moved}
 use Rattle.rr_store.specs.Writing.{with_messages}
@@ -30,7 +30,7 @@ use Rattle.rr_store.proofs.base.views.Agreeing.{same_handle, same_requests, same
 use Rattle.rr_store.proofs.base.lookups.Looking.{table_entry_under, shown}
 use Rattle.rr_store.proofs.base.lookups.Shown.{request_held, response_held, request_spot, response_spot}
 use Rattle.rr_store.proofs.base.frames.Rewrites.{senders_unwritten, rewritten_sound}
-use Rattle.rr_store.proofs.base.views.Unseen.{with_slot, slot_rewritten, shown_other, waiting_same}
+use Rattle.rr_store.proofs.base.views.Unseen.{with_slot, slot_rewritten, marks_same, shown_other, waiting_same}
 
 -- a request by what stands in its slot
 abbrev pub request_with : {T H : Type 0} → H → Messages T RequestDetails H → ℕ → Written T → RequestMessage T H
@@ -86,14 +86,14 @@ module _ {B T N H : Type 0} (senders : List (OwnedSender B N H T)) (sender : ℕ
 module _ {Q QH P PH K : Type 0} (p : Parts Q QH P PH K) (n : ℕ) (entry : HandleEntry) (h : value_at p.table n ≡ Some entry) where
   -- where one handle alone shows another message, its state is the changed one
   pub viewed : (client_senders : List (Sender Q RequestDetails QH)) (server_senders : List (Sender P ResponseDetails PH))
-      → let q = moved p p.clients client_senders server_senders p.waiting p.table.entries p.next in
+      → let q = moved p p.clients client_senders server_senders p.table.entries p.next in
       ((key : RequestKey) → requests_at q key ≡ requests_at p key) → ((key : ResponseKey) → responses_at q key ≡ responses_at p key)
       → ((k : ℕ) (x : TableEntry HandleEntry) → fin_map.get p.table.entries k ≡ Some x → k ≢ n → handle_of p x ≡ handle_of q x)
       → (change : Handle Q QH P PH → Handle Q QH P PH) → handle_in q entry.stage entry.sender entry.slot ≡ change
       (handle_in p entry.stage entry.sender entry.slot)
       → state_of q ≡ with_changed (state_of p) n change
   viewed client_senders server_senders requests responses others change its =
-      let q = moved p p.clients client_senders server_senders p.waiting p.table.entries p.next in
+      let q = moved p p.clients client_senders server_senders p.table.entries p.next in
       let f = table_entry_under p.table n entry h in
       same_state (state_of q) (with_changed (state_of p) n change) refl refl refl refl
       (map_values-but (handle_of p) (handle_of q) p.table.entries n f.0 f.1 others
@@ -155,7 +155,8 @@ module _ {Q QH P PH K : Type 0} (p : Parts Q QH P PH K) (n : ℕ) (entry : Handl
           (λ of. (
             sym (shown_other p.client_senders entry.sender entry.slot change within (request_with p.spare_request_header)
                 (λ j w. refl) x.value.sender x.value.slot (λ e f. other (request_alone k x at of e f))),
-            refl,
+            ap (λ ms. marked p.limits.max_servers p.servers ms x.value.slot)
+                (sym (marks_same p.client_senders entry.sender entry.slot change within x.value.sender)),
           ))
           (λ of. refl))
           seen its

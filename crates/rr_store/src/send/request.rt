@@ -3,8 +3,8 @@ ghost use Rattle.std.specs.Prelude.{◌≡◌, ◌<◌, ◌+◌, ◌*◌, ◌^�
 ghost use Rattle.std.specs.List.{list_any};
 ghost use Rattle.rr_sender.specs.Senders.{uses};
 ghost use Rattle.rr_store.specs.Loaning.{with_sender_at};
-ghost use Rattle.rr_store.specs.Ports.{connected_of, marks_of, sender_part};
-ghost use Rattle.rr_store.specs.Sending.{HasQueues, is_blocked_at, is_refused_at, receivers_of, with_marks, with_one_sent, with_puts};
+ghost use Rattle.rr_store.specs.Ports.{connected_of, sender_part, server_part};
+ghost use Rattle.rr_store.specs.Sending.{HasQueues, after_puts, after_queued, is_blocked_at, is_refused_at, receivers_of, with_marks, with_one_sent};
 ghost use Rattle.rr_store.specs.Views.{sender_of};
 ghost use Rattle.rr_store.specs.Writing.{with_messages};
 
@@ -82,20 +82,24 @@ pub fn open_count<B: Body, N: Copy, H: Drop, K: Drop>(
     count
 }
 
-/// Puts a slot of a sender into the queue to each server.
+/// Puts a slot of a sender into the queue to each server, and notes that these may answer.
 #[inline(always)]
-pub fn put_in<B: Body, N: Copy, H: Drop, K: Drop>(
+pub fn queue_in<B: Body, N: Copy, H: Drop, K: Drop>(
     senders: &mut Vec<OwnedSender<B, N, H>>,
     sender: usize,
     slot: usize,
+    receivers: usize,
     servers: &[ServerPort<K>],
     overflow: bool,
 )
     requires queues { IsSomeAnd (slice_get senders.old.items sender) (λ l. HasQueues l.messages servers.now) }
     requires held { IsSomeAnd (slice_get senders.old.items sender) (λ l. (0 < l.messages.capacity) × (0 < slice_index l.messages.held slot) × (uses l.messages slot + length servers.now < 2 ^ 64)) }
-    ensures { IsSomeAnd (slice_get senders.old.items sender) (λ l. senders.new.items ≡ slice_set senders.old.items sender (with_messages l (with_puts overflow slot l.messages (receivers_of servers.now)))) }
+    requires marks { IsSomeAnd (slice_get senders.old.items sender) (λ l. (i : ℕ) (s : ServerPort K) → slice_get servers.now i ≡ Some s → slot * receivers + s.port.receiver < length l.may_answer.items) }
+    ensures { map sender_part senders.new.items ≡ with_sender_at (map sender_part senders.old.items) sender (after_queued overflow receivers slot (map server_part servers.now)) }
 {
-    put_all(&mut senders[sender].messages, slot, servers, overflow);
+    let sender = &mut senders[sender];
+    put_all(&mut sender.messages, slot, servers, overflow);
+    set_marks(&mut sender.may_answer, slot, receivers, servers);
 }
 
 /// Puts a slot into the queue to each server.
@@ -110,41 +114,26 @@ pub fn put_all<B: Body, N: Copy, H: Drop, K: Drop>(
     requires capacity { 0 < messages.old.capacity }
     requires held { 0 < slice_index messages.old.held slot }
     requires fits { uses messages.old slot + length servers.now < 2 ^ 64 }
-    ensures { messages.new ≡ with_puts overflow slot messages.old (receivers_of servers.now) }
+    ensures { messages.new ≡ after_puts overflow slot messages.old (receivers_of servers.now) }
 {
     for server in servers {
         messages.put(server.port.receiver, 0, slot, overflow);
     }
 }
 
-/// Sets the marks of a slot for each server in the marks of a sender.
-#[inline(always)]
-pub fn set_marks_in<K: Drop>(
-    waiting: &mut Vec<Vec<bool>>,
-    sender: usize,
-    slot: usize,
-    receivers: usize,
-    servers: &[ServerPort<K>],
-)
-    requires { IsSomeAnd (slice_get waiting.old.items sender) (λ marks. (i : ℕ) (s : ServerPort K) → slice_get servers.now i ≡ Some s → slot * receivers + s.port.receiver < length marks.items) }
-    ensures { map marks_of waiting.new.items ≡ slice_set (map marks_of waiting.old.items) sender (with_marks (slice_index_or (map marks_of waiting.old.items) sender []) (map (λ s. slot * receivers + s.port.receiver) servers.now)) }
-{
-    set_marks(&mut waiting[sender], slot, receivers, servers);
-}
-
-/// Sets the marks of a slot for each server.
+/// Sets the marks of a slot to the numbers of these servers.
 #[inline(always)]
 pub fn set_marks<K: Drop>(
-    marks: &mut Vec<bool>,
+    marks: &mut Vec<u64>,
     slot: usize,
     receivers: usize,
     servers: &[ServerPort<K>],
 )
     requires { (i : ℕ) (s : ServerPort K) → slice_get servers.now i ≡ Some s → slot * receivers + s.port.receiver < length marks.old.items }
-    ensures { marks.new.items ≡ with_marks marks.old.items (map (λ s. slot * receivers + s.port.receiver) servers.now) }
+    ensures { marks.new.items ≡ with_marks marks.old.items (map (λ s. (slot * receivers + s.port.receiver, s.port.id)) servers.now) }
 {
     for server in servers {
-        marks[slot * receivers + server.port.receiver] = true;
+        marks[slot * receivers + server.port.receiver] = server.port.id;
     }
 }
 

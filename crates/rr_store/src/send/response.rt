@@ -1,6 +1,7 @@
 //! Sends of responses.
 ghost use Rattle.std.specs.Prelude.{◌≡◌, ◌<◌, ℕ, Some, map, length, slice_get};
 ghost use Rattle.rr_store.specs.Delivering.{HasQueue, is_blocked_in, reached};
+ghost use Rattle.rr_store.specs.Order.{IsRising};
 ghost use Rattle.rr_store.specs.Ports.{client_part, sender_part};
 
 use crate::{ClientPort, HandleEntry, OwnedSender, ResponseDetails, index_of};
@@ -17,7 +18,8 @@ pub fn reached_receiver<K: Drop, B: Body, N: Copy, H: Drop>(
     table: &Table<HandleEntry>,
     details: ResponseDetails,
 ) -> Option<usize>
-    requires { (i : ℕ) (c : ClientPort K) → slice_get clients.now.items i ≡ Some c → c.port.sender < length senders.now.items }
+    requires rising { IsRising (λ c. c.port.id) clients.now.items }
+    requires senders { (i : ℕ) (c : ClientPort K) → slice_get clients.now.items i ≡ Some c → c.port.sender < length senders.now.items }
     ensures { result ≡ reached (map client_part clients.now.items) (map sender_part senders.now.items) table.now details }
 {
     let client = &clients[index_of(clients.as_slice(), details.client)?];

@@ -1,7 +1,7 @@
 //! What the creation of a store and of ports changes.
 ghost use Rattle.std.specs.Prelude.{◌≡◌, ◌≢◌, ◌<◌, ◌+◌, ◌^◌, ℕ, None, Some, IfOk, OnErr, OnOk, length, slice_get};
 ghost use Rattle.rr_protocol.specs.Creation.{client_refusal, server_refusal};
-ghost use Rattle.rr_protocol.specs.Limits.{hub_refusal};
+ghost use Rattle.rr_protocol.specs.Limits.{hub_refusal, max_loaned_responses};
 ghost use Rattle.rr_store.specs.Changes.{with_new_client, with_new_server};
 ghost use Rattle.rr_store.specs.Parts.{ClientPart, ServerPart};
 ghost use Rattle.rr_store.specs.Start.{start_parts};
@@ -41,7 +41,6 @@ impl<QB: Body, QH: Default + Drop, PB: Body, PH: Default + Drop, K: Backpressure
             servers: Vec::new(alloc),
             client_senders: Vec::new(alloc),
             server_senders: Vec::new(alloc),
-            waiting: Vec::new(alloc),
             table: Table::new(alloc),
             spare_request_header: QH::default(),
             spare_response_header: PH::default(),
@@ -125,7 +124,6 @@ impl<QB: Body, QH: Default + Drop, PB: Body, PH: Default + Drop, K: Backpressure
             alloc,
             &mut self.clients,
             &mut self.client_senders,
-            &mut self.waiting,
             &mut self.table,
             port,
             client,
@@ -145,16 +143,22 @@ impl<QB: Body, QH: Default + Drop, PB: Body, PH: Default + Drop, K: Backpressure
         receiver: usize,
         messages: Sender<PB, ResponseDetails, PH>,
     ) -> Result<u64, AllocError>
-        requires { self.old.next + 1 < 2 ^ 64 }
+        requires next { self.old.next + 1 < 2 ^ 64 }
+        requires clients { 0 < self.old.limits.max_clients }
+        requires loans { max_loaned_responses self.old.limits loans < 2 ^ 64 }
         ensures number { IfOk result (λ number. number ≡ self.old.next) }
         ensures ok { OnOk result (self.new ≡ with_new_server self.old settings loans slots receiver messages) }
         ensures err { OnErr result (self.new ≡ self.old) }
     {
         let number = self.next;
         let sender = self.server_senders.len();
+        let max_loaned_responses = loans
+            * self.limits.max_active_requests_per_client
+            * self.limits.max_clients;
         let server = ServerPort {
             port: of_server::server_port(number, settings, slots, sender, receiver),
             max_loaned_responses_per_request: loans,
+            max_loaned_responses,
         };
         create::insert_port(
             alloc,
@@ -163,6 +167,7 @@ impl<QB: Body, QH: Default + Drop, PB: Body, PH: Default + Drop, K: Backpressure
             &mut self.table,
             server,
             messages,
+            Vec::new(alloc),
             slots,
         )?;
         self.next = number + 1;

@@ -6,6 +6,7 @@ ghost use Rattle.rr_sender.specs.Senders.{all_entries, loaned, times, used_count
 ghost use Rattle.rr_store.specs.Answering.{response_loan_details_of};
 ghost use Rattle.rr_store.specs.Changes.{request_loan_limit, response_loan_limit, with_client_at, with_client_sender_at, with_requests, with_responses, with_server_sender_at};
 ghost use Rattle.rr_store.specs.Loaning.{loan_details, with_loan_made, with_one_loan};
+ghost use Rattle.rr_store.specs.Order.{IsRising};
 ghost use Rattle.rr_store.specs.Sound.{request_details};
 ghost use Rattle.rr_store.specs.Views.{sender_of};
 
@@ -26,7 +27,8 @@ impl<QB: Body, QH: Default + Drop, PB: Body, PH: Default + Drop, K: Backpressure
     /// Returns where among the clients the one with this number stands.
     #[inline(always)]
     pub fn client_index(&self, client: u64) -> usize
-        requires { IsSome (position (λ c. c.port.id == client) self.now.clients) }
+        requires rising { IsRising (λ c. c.port.id) self.now.clients }
+        requires found { IsSome (position (λ c. c.port.id == client) self.now.clients) }
         ensures { position (λ c. c.port.id == client) self.now.clients ≡ Some result }
     {
         match index_of(self.clients.as_slice(), client) {
@@ -38,7 +40,8 @@ impl<QB: Body, QH: Default + Drop, PB: Body, PH: Default + Drop, K: Backpressure
     /// Returns where among the servers the one with this number stands.
     #[inline(always)]
     pub fn server_index(&self, server: u64) -> usize
-        requires { IsSome (position (λ s. s.port.id == server) self.now.servers) }
+        requires rising { IsRising (λ s. s.port.id) self.now.servers }
+        requires found { IsSome (position (λ s. s.port.id == server) self.now.servers) }
         ensures { position (λ s. s.port.id == server) self.now.servers ≡ Some result }
     {
         match index_of(self.servers.as_slice(), server) {
@@ -85,8 +88,7 @@ impl<QB: Body, QH: Default + Drop, PB: Body, PH: Default + Drop, K: Backpressure
     /// an active request that has `loans`.
     #[inline(always)]
     pub fn response_loan_limit(&self, index: usize, len: usize, loans: usize) -> Option<LoanError>
-        requires sender { IsSomeAnd (slice_get self.now.servers index) (λ s. s.sender < length self.now.server_senders) }
-        requires clients { 0 < self.now.limits.max_clients }
+        requires { IsSomeAnd (slice_get self.now.servers index) (λ s. s.sender < length self.now.server_senders) }
         ensures { IsSomeAnd (slice_get self.now.servers index) (λ s. result ≡ response_loan_limit self.now s len loans) }
     {
         let server = &self.servers[index];
@@ -94,7 +96,7 @@ impl<QB: Body, QH: Default + Drop, PB: Body, PH: Default + Drop, K: Backpressure
             return Some(LoanError::ExceedsMaxLoanSize);
         }
         let all = self.server_senders[server.port.sender].loans;
-        if server.is_at_loan_limit(&self.limits, loans, all) {
+        if server.is_at_loan_limit(loans, all) {
             return Some(LoanError::ExceedsMaxLoans);
         }
         None

@@ -89,14 +89,14 @@ impl<QB: Body, QH: Default + Drop, PB: Body, PH: Default + Drop, K: Backpressure
     /// Returns whether a connected server may still answer the request in a slot. Looks once at each connected server.
     #[inline(always)]
     pub fn is_answerable(&self, sender: usize, slot: usize) -> bool
-        requires sender { sender < length self.now.waiting }
-        requires start { slot * self.now.limits.max_servers ≤ length (slice_index_or self.now.waiting sender []) }
-        requires marks { (i : ℕ) (s : ServerPart K) → slice_get self.now.servers i ≡ Some s → slot * self.now.limits.max_servers + s.receiver < length (slice_index_or self.now.waiting sender []) }
+        requires sender { sender < length self.now.client_senders }
+        requires start { slot * self.now.limits.max_servers ≤ length (sender_of sender self.now.client_senders).may_answer }
+        requires marks { (i : ℕ) (s : ServerPart K) → slice_get self.now.servers i ≡ Some s → slot * self.now.limits.max_servers + s.receiver < length (sender_of sender self.now.client_senders).may_answer }
         ensures { result ≡ nat_lt 0 (length (waiting_at self.now sender slot)) }
     {
         query::is_any_marked(
             self.servers.as_slice(),
-            self.waiting[sender].as_slice(),
+            self.client_senders[sender].may_answer.as_slice(),
             slot * self.limits.max_servers,
         )
     }

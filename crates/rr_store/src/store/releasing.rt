@@ -3,11 +3,12 @@ ghost use Rattle.std.specs.Prelude.{◌≡◌, ◌==◌, ◌+◌, ◌*◌, ◌<�
 ghost use Rattle.std.specs.List.{position};
 ghost use Rattle.rr_sender.specs.Senders.{borrowed_at};
 ghost use Rattle.rr_table.specs.declared.place.Place as place;
-ghost use Rattle.rr_store.specs.Changes.{with_client_sender_at, with_server_sender_at, with_requests, with_responses, with_channel_cleared, without_mark};
+ghost use Rattle.rr_store.specs.Changes.{with_client_sender_at, with_server_sender_at, with_requests, with_responses, with_channel_cleared};
 ghost use Rattle.rr_store.specs.Clearing.{without_pending};
 ghost use Rattle.rr_store.specs.Ending.{IsAskedPlace, IsLoanEnded, found_under};
+ghost use Rattle.rr_store.specs.Order.{IsRising};
 ghost use Rattle.rr_store.specs.Receiving.{Reaches};
-ghost use Rattle.rr_store.specs.Releasing.{borrow_ended, given_back, without_loan};
+ghost use Rattle.rr_store.specs.Releasing.{borrow_let_go, let_go, without_loan, without_mark};
 ghost use Rattle.rr_store.specs.Sound.{request_details, response_details};
 ghost use Rattle.rr_store.specs.Views.{sender_of};
 
@@ -44,38 +45,38 @@ impl<QB: Body, QH: Default + Drop, PB: Body, PH: Default + Drop, K: Backpressure
         self.server_senders[sender].messages.details(slot)
     }
 
-    /// Gives back a hold on a request.
+    /// Gives back a hold on a request. What stands in the slot is dropped with the last use.
     #[inline(always)]
     pub fn give_back_request(&mut self, sender: usize, slot: usize)
         requires sender { sender < length self.old.client_senders }
         requires held { 0 < slice_index (sender_of sender self.old.client_senders).messages.held slot }
-        ensures { self.new ≡ with_requests self.old sender (λ m. given_back m slot) }
+        ensures { self.new ≡ with_requests self.old sender (λ m. let_go m slot) }
     {
         self.client_senders[sender].messages.give_back(slot);
     }
 
-    /// Gives back a hold on a response.
+    /// Gives back a hold on a response. What stands in the slot is dropped with the last use.
     #[inline(always)]
     pub fn give_back_response(&mut self, sender: usize, slot: usize)
         requires sender { sender < length self.old.server_senders }
         requires held { 0 < slice_index (sender_of sender self.old.server_senders).messages.held slot }
-        ensures { self.new ≡ with_responses self.old sender (λ m. given_back m slot) }
+        ensures { self.new ≡ with_responses self.old sender (λ m. let_go m slot) }
     {
         self.server_senders[sender].messages.give_back(slot);
     }
 
-    /// Gives back a hold on a request that a server received.
+    /// Gives back a hold on a request that a server received. What stands in the slot is dropped with the last use.
     #[inline(always)]
     pub fn end_request_borrow(&mut self, sender: usize, receiver: usize, slot: usize)
         requires sender { sender < length self.old.client_senders }
         requires queue { (receiver < length (sender_of sender self.old.client_senders).messages.queues) × (0 < length (slice_index_or (sender_of sender self.old.client_senders).messages.queues receiver [])) }
         requires counted { (0 < borrowed_at (sender_of sender self.old.client_senders).messages receiver 0) × (0 < slice_index (sender_of sender self.old.client_senders).messages.held slot) }
-        ensures { self.new ≡ with_requests self.old sender (λ m. borrow_ended m receiver 0 slot) }
+        ensures { self.new ≡ with_requests self.old sender (λ m. borrow_let_go m receiver 0 slot) }
     {
         release::end_borrow_in(&mut self.client_senders, sender, receiver, 0, slot);
     }
 
-    /// Gives back a hold on a response that a client received.
+    /// Gives back a hold on a response that a client received. What stands in the slot is dropped with the last use.
     #[inline(always)]
     pub fn end_response_borrow(
         &mut self,
@@ -87,7 +88,7 @@ impl<QB: Body, QH: Default + Drop, PB: Body, PH: Default + Drop, K: Backpressure
         requires sender { sender < length self.old.server_senders }
         requires queue { (receiver < length (sender_of sender self.old.server_senders).messages.queues) × (channel < length (slice_index_or (sender_of sender self.old.server_senders).messages.queues receiver [])) }
         requires counted { (0 < borrowed_at (sender_of sender self.old.server_senders).messages receiver channel) × (0 < slice_index (sender_of sender self.old.server_senders).messages.held slot) }
-        ensures { self.new ≡ with_responses self.old sender (λ m. borrow_ended m receiver channel slot) }
+        ensures { self.new ≡ with_responses self.old sender (λ m. borrow_let_go m receiver channel slot) }
     {
         release::end_borrow_in(&mut self.server_senders, sender, receiver, channel, slot);
     }
@@ -136,17 +137,19 @@ impl<QB: Body, QH: Default + Drop, PB: Body, PH: Default + Drop, K: Backpressure
     /// Notes that a server may not answer the request in a slot any more.
     #[inline(always)]
     pub fn clear_mark(&mut self, sender: usize, slot: usize, receiver: usize)
-        requires { slot * self.old.limits.max_servers + receiver < length (slice_index_or self.old.waiting sender []) }
-        ensures { self.new ≡ without_mark self.old sender (slot * self.old.limits.max_servers + receiver) }
+        requires sender { sender < length self.old.client_senders }
+        requires mark { slot * self.old.limits.max_servers + receiver < length (sender_of sender self.old.client_senders).may_answer }
+        ensures { self.new ≡ with_client_sender_at self.old sender (without_mark (slot * self.old.limits.max_servers + receiver)) }
     {
         let receivers = self.limits.max_servers;
-        release::clear_mark(&mut self.waiting, sender, slot, receivers, receiver);
+        release::clear_mark(&mut self.client_senders, sender, slot, receivers, receiver);
     }
 
     /// Returns which receiver a client is.
     #[inline(always)]
     pub fn client_receiver(&self, client: u64) -> usize
-        requires { IsSome (position (λ c. c.port.id == client) self.now.clients) }
+        requires rising { IsRising (λ c. c.port.id) self.now.clients }
+        requires found { IsSome (position (λ c. c.port.id == client) self.now.clients) }
         ensures { IsSomeAnd (position (λ c. c.port.id == client) self.now.clients) (λ i. IsSomeAnd (slice_get self.now.clients i) (λ c. result ≡ c.receiver)) }
     {
         release::receiver_of(self.clients.as_slice(), client)
@@ -155,7 +158,8 @@ impl<QB: Body, QH: Default + Drop, PB: Body, PH: Default + Drop, K: Backpressure
     /// Returns which receiver a server is.
     #[inline(always)]
     pub fn server_receiver(&self, server: u64) -> usize
-        requires { IsSome (position (λ s. s.port.id == server) self.now.servers) }
+        requires rising { IsRising (λ s. s.port.id) self.now.servers }
+        requires found { IsSome (position (λ s. s.port.id == server) self.now.servers) }
         ensures { IsSomeAnd (position (λ s. s.port.id == server) self.now.servers) (λ i. IsSomeAnd (slice_get self.now.servers i) (λ s. result ≡ s.receiver)) }
     {
         release::receiver_of(self.servers.as_slice(), server)

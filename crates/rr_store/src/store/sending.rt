@@ -3,9 +3,9 @@ ghost use Rattle.std.specs.Prelude.{◌≡◌, ◌==◌, ◌+◌, ◌*◌, ◌<�
 ghost use Rattle.std.specs.List.{position};
 ghost use Rattle.rr_sender.specs.Senders.{uses};
 ghost use Rattle.rr_store.specs.Changes.{is_open_to, request_send_limit, with_client_sender_at, with_request_queued, with_responses};
-ghost use Rattle.rr_store.specs.Delivering.{HasQueue, is_refused_in, reached, with_delivered};
+ghost use Rattle.rr_store.specs.Delivering.{HasQueue, handed_on, is_refused_in, reached};
+ghost use Rattle.rr_store.specs.Order.{IsRising};
 ghost use Rattle.rr_store.specs.Parts.{ClientPart, ServerPart};
-ghost use Rattle.rr_store.specs.Releasing.{given_back};
 ghost use Rattle.rr_store.specs.Sending.{with_one_sent};
 ghost use Rattle.rr_store.specs.Views.{sender_of};
 
@@ -57,8 +57,7 @@ impl<QB: Body, QH: Default + Drop, PB: Body, PH: Default + Drop, K: Backpressure
         requires sender { sender < length self.old.client_senders }
         requires queues { (i : ℕ) (s : ServerPart K) → slice_get self.old.servers i ≡ Some s → (s.receiver < length (sender_of sender self.old.client_senders).messages.queues) × (0 < length (slice_index_or (sender_of sender self.old.client_senders).messages.queues s.receiver [])) }
         requires takes { (0 < (sender_of sender self.old.client_senders).messages.capacity) × (0 < slice_index (sender_of sender self.old.client_senders).messages.held slot) × (uses (sender_of sender self.old.client_senders).messages slot + length self.old.servers < 2 ^ 64) }
-        requires marks { (i : ℕ) (s : ServerPart K) → slice_get self.old.servers i ≡ Some s → slot * self.old.limits.max_servers + s.receiver < length (slice_index_or self.old.waiting sender []) }
-        requires rows { sender < length self.old.waiting }
+        requires marks { (i : ℕ) (s : ServerPart K) → slice_get self.old.servers i ≡ Some s → slot * self.old.limits.max_servers + s.receiver < length (sender_of sender self.old.client_senders).may_answer }
         ensures count { result ≡ count_by (is_open_to self.old sender) self.old.servers }
         ensures queued { self.new ≡ with_request_queued self.old sender slot }
     {
@@ -67,8 +66,14 @@ impl<QB: Body, QH: Default + Drop, PB: Body, PH: Default + Drop, K: Backpressure
         let servers = self.servers.as_slice();
         let messages = &self.client_senders[sender].messages;
         let count = of_request::open_count(messages, servers, overflow);
-        of_request::put_in(&mut self.client_senders, sender, slot, servers, overflow);
-        of_request::set_marks_in(&mut self.waiting, sender, slot, receivers, servers);
+        of_request::queue_in(
+            &mut self.client_senders,
+            sender,
+            slot,
+            receivers,
+            servers,
+            overflow,
+        );
         count
     }
 
@@ -87,7 +92,8 @@ impl<QB: Body, QH: Default + Drop, PB: Body, PH: Default + Drop, K: Backpressure
     /// response any more.
     #[inline(always)]
     pub fn reached_receiver(&self, details: ResponseDetails) -> Option<usize>
-        requires { (i : ℕ) (c : ClientPart K) → slice_get self.now.clients i ≡ Some c → c.sender < length self.now.client_senders }
+        requires rising { IsRising (λ c. c.port.id) self.now.clients }
+        requires senders { (i : ℕ) (c : ClientPart K) → slice_get self.now.clients i ≡ Some c → c.sender < length self.now.client_senders }
         ensures { result ≡ reached self.now.clients self.now.client_senders self.now.table details }
     {
         of_response::reached_receiver(&self.clients, &self.client_senders, &self.table, details)
@@ -119,13 +125,13 @@ impl<QB: Body, QH: Default + Drop, PB: Body, PH: Default + Drop, K: Backpressure
     }
 
     /// Makes the hold of a response's handle the hold of an entry in the queue that it reaches, or gives it back if the response
-    /// reaches none.
+    /// reaches none. What stands in a slot is dropped with the last use.
     #[inline(always)]
     pub fn hand_over_response(&mut self, entry: HandleEntry, channel: usize, reach: Option<usize>)
         requires sender { entry.sender < length self.old.server_senders }
         requires queue { HasQueue (sender_of entry.sender self.old.server_senders).messages channel reach }
         requires takes { (0 < (sender_of entry.sender self.old.server_senders).messages.capacity) × (0 < slice_index (sender_of entry.sender self.old.server_senders).messages.held entry.slot) }
-        ensures { self.new ≡ with_responses (with_delivered self.old entry.sender channel entry.slot reach) entry.sender (λ m. given_back m entry.slot) }
+        ensures { self.new ≡ with_responses self.old entry.sender (λ m. handed_on m self.old.limits.enable_safe_overflow_for_responses channel entry.slot reach) }
     {
         let overflow = self.limits.enable_safe_overflow_for_responses;
         match reach {

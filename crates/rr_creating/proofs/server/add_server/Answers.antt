@@ -1,4 +1,4 @@
-use Rattle.rr_creating.proofs.steps.Server.{room_asked, next_asked, hub_asked, counts_asked, core_then, ok_then}
+use Rattle.rr_creating.proofs.steps.Server.{room_asked, next_asked, clients_asked, hub_asked, counts_asked, loans_asked, core_then, ok_then}
 use Rattle.rr_creating.proofs.server.add_server.Goals as goal
 
 pub worst_case_responses-requires-clause-hub : goal.worst_case_responses-requires-clause-hub
@@ -16,8 +16,15 @@ pub server_messages-requires-clause-hub : goal.server_messages-requires-clause-h
 server_messages-requires-clause-hub g c =
     hub_asked c.args.store.now c.requires.core c.args.settings c.requires.due _ c.limits-limits.ensures
 
-pub add_server-requires : goal.add_server-requires
-add_server-requires g c = next_asked c.args.store.now c.requires.core c.args.settings c.requires.due
+pub add_server-requires-clause-clients : goal.add_server-requires-clause-clients
+add_server-requires-clause-clients g c = clients_asked c.args.store.now c.requires.core c.args.settings c.requires.due
+
+pub add_server-requires-clause-loans : goal.add_server-requires-clause-loans
+add_server-requires-clause-loans g c =
+    loans_asked c.args.store.now c.requires.core c.args.settings c.requires.due _ c.limits-limits.ensures _ c.max-loans.ensures
+
+pub add_server-requires-clause-next : goal.add_server-requires-clause-next
+add_server-requires-clause-next g c = next_asked c.args.store.now c.requires.core c.args.settings c.requires.due
 
 pub returns-clause-core : goal.returns-clause-core
 returns-clause-core g c =

@@ -1,10 +1,13 @@
 use Rattle.std.proofs.Common.{◌≡◌, ◌∙◌}
 use Rattle.rr_laws.proofs.Memory.{request_finds_memory}
-use Rattle.rr_loaning.proofs.steps.Request.{client_asked, refused, not_memory, sender_asked, out_of_memory, limit_asked, client_counts, sender_still, loans_still_fit, add_asked, loans, core_then}
+use Rattle.rr_loaning.proofs.steps.Request.{client_asked, order_asked, refused, not_memory, sender_asked, out_of_memory, limit_asked, client_counts, sender_still, loans_still_fit, add_asked, loans, core_then}
 use Rattle.rr_loaning.proofs.request.loan_request.Goals as goal
 
-pub client_index-index-requires : goal.client_index-index-requires
-client_index-index-requires g c = client_asked c.args.store.now c.requires.core c.args.client c.requires.kind
+pub client_index-index-requires-clause-rising : goal.client_index-index-requires-clause-rising
+client_index-index-requires-clause-rising g c = order_asked c.args.store.now c.requires.core c.args.client c.requires.kind
+
+pub client_index-index-requires-clause-found : goal.client_index-index-requires-clause-found
+client_index-index-requires-clause-found g c = client_asked c.args.store.now c.requires.core c.args.client c.requires.kind
 
 pub request_loan_limit-requires : goal.request_loan_limit-requires
 request_loan_limit-requires g c = limit_asked c.args.store.now c.requires.core c.args.client c.requires.kind _ c.client_index-index.ensures

@@ -1,6 +1,6 @@
 use Rattle.std.proofs.Common.{◌≡◌, sym, ◌∙◌, arith}
 use Rattle.rr_laws.proofs.Memory.{response_finds_memory}
-use Rattle.rr_loaning.proofs.steps.Response.{is_active, server_asked, loans_fit, sender_asked, slot_asked, index_asked, clients_asked, refused, not_memory, own_asked, out_of_memory, limit_asked, sender_still, loans_still_fit, still_there, add_asked, loans_told, core_then}
+use Rattle.rr_loaning.proofs.steps.Response.{is_active, server_asked, order_asked, loans_fit, sender_asked, slot_asked, index_asked, refused, not_memory, own_asked, out_of_memory, limit_asked, sender_still, loans_still_fit, still_there, add_asked, loans_told, core_then}
 use Rattle.rr_loaning.proofs.response.loan_response_at.Goals as goal
 
 pub unreachable-requires : goal.unreachable-requires
@@ -8,19 +8,19 @@ unreachable-requires g c =
     is_active c.args.store.now c.requires.core c.args.number c.args.place c.at-active.result c.at-active.ensures c.requires.kind (sym
     c.active.ensures ∙ c.in-None.is)
 
-pub server_index-index-requires : goal.server_index-index-requires
-server_index-index-requires g c =
+pub server_index-index-requires-clause-rising : goal.server_index-index-requires-clause-rising
+server_index-index-requires-clause-rising g c =
+    order_asked c.args.store.now c.requires.core c.args.number c.args.place c.at-active.result c.at-active.ensures c.requires.kind _ _
+    (sym c.active.ensures ∙ c.in-Some.is)
+
+pub server_index-index-requires-clause-found : goal.server_index-index-requires-clause-found
+server_index-index-requires-clause-found g c =
     server_asked c.args.store.now c.requires.core c.args.number c.args.place c.at-active.result c.at-active.ensures c.requires.kind _ _
     (sym c.active.ensures ∙ c.in-Some.is)
 
-pub response_loan_limit-requires-clause-sender : goal.response_loan_limit-requires-clause-sender
-response_loan_limit-requires-clause-sender g c =
+pub response_loan_limit-requires : goal.response_loan_limit-requires
+response_loan_limit-requires g c =
     limit_asked c.args.store.now c.requires.core c.args.number c.args.place c.at-active.result c.at-active.ensures c.requires.kind _ _
-    (sym c.active.ensures ∙ c.in-Some.is) _ c.server_index-index.ensures
-
-pub response_loan_limit-requires-clause-clients : goal.response_loan_limit-requires-clause-clients
-response_loan_limit-requires-clause-clients g c =
-    clients_asked c.args.store.now c.requires.core c.args.number c.args.place c.at-active.result c.at-active.ensures c.requires.kind _ _
     (sym c.active.ensures ∙ c.in-Some.is) _ c.server_index-index.ensures
 
 pub returns-in-Some-response_loan_limit-clause-loans : goal.returns-in-Some-response_loan_limit-clause-loans

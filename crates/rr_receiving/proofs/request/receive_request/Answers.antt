@@ -1,10 +1,14 @@
 use Rattle.std.proofs.Common.{Ok, ap, ◌∙◌}
-use Rattle.rr_receiving.proofs.steps.Request.{server_asked, queues_asked, skimmed_queues_asked, skimmed_core, none_then, error_then}
+use Rattle.rr_receiving.proofs.steps.Request.{server_asked, order_asked, queues_asked, skimmed_queues_asked, skimmed_core, none_then, error_then}
 use Rattle.rr_receiving.proofs.steps.Request.{take_asked, active_place_asked, add_asked, core_then, receives_then}
 use Rattle.rr_receiving.proofs.request.receive_request.Goals as goal
 
-pub server_receiver-receiver-requires : goal.server_receiver-receiver-requires
-server_receiver-receiver-requires g c =
+pub server_receiver-receiver-requires-clause-rising : goal.server_receiver-receiver-requires-clause-rising
+server_receiver-receiver-requires-clause-rising g c =
+    order_asked c.args.store.now c.requires.core c.args.server c.requires.kind
+
+pub server_receiver-receiver-requires-clause-found : goal.server_receiver-receiver-requires-clause-found
+server_receiver-receiver-requires-clause-found g c =
     server_asked c.args.store.now c.requires.core c.args.server c.requires.kind
 
 pub skim_requests-requires : goal.skim_requests-requires

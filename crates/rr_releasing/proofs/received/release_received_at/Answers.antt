@@ -1,4 +1,4 @@
-use Rattle.rr_releasing.proofs.steps.Received.{sender_asked, slot_asked, client_asked, queue_asked, counted_asked, core_then, view_then}
+use Rattle.rr_releasing.proofs.steps.Received.{sender_asked, slot_asked, client_asked, order_asked, queue_asked, counted_asked, core_then, view_then}
 use Rattle.rr_releasing.proofs.received.release_received_at.Goals as goal
 
 pub take-entry-requires : goal.take-entry-requires
@@ -14,8 +14,13 @@ response_details-details-requires-clause-slot g c =
     slot_asked c.args.store.now c.requires.core c.args.number c.args.place _ c.take-entry.ensures.taken c.requires.kind _
     c.take-entry.ensures.gone
 
-pub client_receiver-receiver-requires : goal.client_receiver-receiver-requires
-client_receiver-receiver-requires g c =
+pub client_receiver-receiver-requires-clause-rising : goal.client_receiver-receiver-requires-clause-rising
+client_receiver-receiver-requires-clause-rising g c =
+    order_asked c.args.store.now c.requires.core c.args.number c.args.place _ c.take-entry.ensures.taken c.requires.kind _
+    c.take-entry.ensures.gone _ c.response_details-details.ensures
+
+pub client_receiver-receiver-requires-clause-found : goal.client_receiver-receiver-requires-clause-found
+client_receiver-receiver-requires-clause-found g c =
     client_asked c.args.store.now c.requires.core c.args.number c.args.place _ c.take-entry.ensures.taken c.requires.kind _
     c.take-entry.ensures.gone _ c.response_details-details.ensures
 

@@ -1,4 +1,4 @@
-use Rattle.rr_sending.proofs.steps.Request.{sender_asked, client_asked, queues_asked, loan_asked, refused, takes_asked, marks_asked, rows_asked, sender_still, loan_counted, pendings_fit, still_there, sends, core_then}
+use Rattle.rr_sending.proofs.steps.Request.{sender_asked, client_asked, queues_asked, loan_asked, refused, takes_asked, marks_asked, sender_still, loan_counted, pendings_fit, still_there, sends, core_then}
 use Rattle.rr_sending.proofs.request.send_request_at.Goals as goal
 
 pub request_send_limit-requires-clause-sender : goal.request_send_limit-requires-clause-sender
@@ -49,11 +49,6 @@ queue_request-connections-requires-clause-takes g c =
 pub queue_request-connections-requires-clause-marks : goal.queue_request-connections-requires-clause-marks
 queue_request-connections-requires-clause-marks g c =
     marks_asked c.args.store.now c.requires.core c.args.number c.args.place c.at-entry.result c.at-entry.ensures c.requires.kind
-    g.K.BackpressureFn.action _ c.request_send_limit.ensures c.in_default.is
-
-pub queue_request-connections-requires-clause-rows : goal.queue_request-connections-requires-clause-rows
-queue_request-connections-requires-clause-rows g c =
-    rows_asked c.args.store.now c.requires.core c.args.number c.args.place c.at-entry.result c.at-entry.ensures c.requires.kind
     g.K.BackpressureFn.action _ c.request_send_limit.ensures c.in_default.is
 
 pub count_as_sent-requires-clause-sender : goal.count_as_sent-requires-clause-sender

@@ -1,5 +1,5 @@
 -- What is true of ports, senders and rows stays true while messages and handles change.
-use Rattle.std.proofs.Common.{◌≡◌, ◌≢◌, ◌<◌, ◌≤◌, ◌+◌, ◌*◌, ◌^◌, ℕ, Bool, List, Some, option_map, length, map, refl, sym, ap, ◌∙◌, subst, ⊎_elim, arith}
+use Rattle.std.proofs.Common.{◌≡◌, ◌≢◌, ◌<◌, ◌≤◌, ◌+◌, ◌*◌, ◌^◌, ℕ, List, Some, option_map, length, map, refl, sym, ap, ◌∙◌, subst, ⊎_elim, arith}
 use Rattle.std.specs.Prelude.{slice_get, slice_set}
 use Rattle.std.specs.Ordering.{nat_cmp}
 use Rattle.std.specs.FinMap as fin_map
@@ -41,7 +41,7 @@ module _ {T N H K : Type 0} (ports : List (Connected K)) (senders others : List 
     numbered = λ i h. omega (arith, has.numbered i (omega (arith, h, same.many)), (same.each i).owner, le);
     placed = has.placed;
     receivers_once = has.receivers_once;
-    numbered_once = has.numbered_once;
+    rising = has.rising;
   }
 
 module _ {T N H : Type 0} (senders : List (Sender T N H)) (l : ℕ) (sender : Sender T N H) where
@@ -55,7 +55,7 @@ module _ {T N H : Type 0} (senders : List (Sender T N H)) (l : ℕ) (sender : Se
       same : (k : ℕ) → sender_of k (slice_set senders l sender) ≡ sender_of k senders
           → SenderAlike (sender_of k senders) (sender_of k (slice_set senders l sender))
       same k e = let R : Sender T N H → Type 0 = SenderAlike (sender_of k senders) in
-          subst R (sym e) (record { owner = refl; row = refl; receiver = refl; slots = refl; room = refl; shaped = λ r c n h. h })
+          subst R (sym e) (record { owner = refl; row = refl; receiver = refl; slots = refl; room = refl; marks = refl; shaped = λ r c n h. h })
 
       at_it : (k : ℕ) → k ≡ l → l < length senders → SenderAlike (sender_of k senders) (sender_of k (slice_set senders l sender))
       at_it k e h =
@@ -77,12 +77,12 @@ ports_set read items i c d at same = map-set_alike read items i d c (same ∙ sy
 -- where a change leaves the frame, what is true of ports, senders and rows stays true
 module _ {Q QH P PH K : Type 0} (p : Parts Q QH P PH K) (hand : Hand) (sound : IsSound p hand)
     (clients : List (ClientPart K)) (client_senders : List (Sender Q RequestDetails QH))
-    (server_senders : List (Sender P ResponseDetails PH)) (waiting : List (List Bool))
+    (server_senders : List (Sender P ResponseDetails PH))
     (entries : fin_map.FinMap nat_cmp (TableEntry HandleEntry)) (next : ℕ)
-    (frame : SameFrame p clients client_senders server_senders waiting next)
+    (frame : SameFrame p clients client_senders server_senders next)
   where
     abbrev after : Parts Q QH P PH K
-    after = moved p clients client_senders server_senders waiting entries next
+    after = moved p clients client_senders server_senders entries next
 
     pub client_before : (i : ℕ) (c : ClientPart K) → slice_get clients i ≡ Some c → (d : ClientPart K) × (slice_get p.clients i ≡ Some d)
         × (d.connected ≡ c.connected)
@@ -116,8 +116,7 @@ module _ {Q QH P PH K : Type 0} (p : Parts Q QH P PH K) (hand : Hand) (sound : I
               (n.client_senders l (omega (arith, h, frame.client_senders_alike.many)));
           server_senders = λ l h. (frame.server_senders_alike.each l).shaped _ _ _
               (n.server_senders l (omega (arith, h, frame.server_senders_alike.many)));
-          waiting = frame.marks ∙ n.waiting ∙ sym frame.client_senders_alike.many;
-          waiting_slots = λ l h. frame.marks_each l ∙ n.waiting_slots l (omega (arith, h, frame.client_senders_alike.many))
+          marks = λ l h. (frame.client_senders_alike.each l).marks ∙ n.marks l (omega (arith, h, frame.client_senders_alike.many))
               ∙ sym (ap (λ k. k * p.limits.max_servers) (frame.client_senders_alike.each l).slots);
           next_fits = fits;
           channels = λ l h. omega (
@@ -126,6 +125,7 @@ module _ {Q QH P PH K : Type 0} (p : Parts Q QH P PH K) (hand : Hand) (sound : I
             (frame.client_senders_alike.each l).slots,
           );
           loans_made = made;
+          most_loans = n.most_loans;
           rows_fit = λ l h. omega (
             arith,
             n.rows_fit l (omega (arith, h, frame.client_senders_alike.many)),

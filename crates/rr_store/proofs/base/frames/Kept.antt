@@ -1,5 +1,5 @@
 -- What is true of numbers, addresses and places stays true while no message comes that was not used.
-use Rattle.std.proofs.Common.{◌≡◌, ◌<◌, ◌+◌, ◌*◌, ℕ, Bool, true, List, Some, length, sym, ap, ◌∙◌, arith}
+use Rattle.std.proofs.Common.{◌≡◌, ◌<◌, ◌+◌, ◌*◌, ℕ, true, List, Some, length, sym, ap, ◌∙◌, arith}
 use Rattle.std.specs.Prelude.{slice_index, slice_get}
 use Rattle.std.specs.FinMap as fin_map
 use Rattle.rr_table.specs.TableView.{TableEntry}
@@ -19,10 +19,10 @@ use Rattle.rr_store.proofs.base.hands.Stages.{loan_is_request, pending_is_reques
 
 module _ {Q QH P PH K : Type 0} (p : Parts Q QH P PH K) (hand : Hand) (sound : IsSound p hand)
     (clients : List (ClientPart K)) (client_senders : List (Sender Q RequestDetails QH))
-    (server_senders : List (Sender P ResponseDetails PH)) (waiting : List (List Bool))
-    (next : ℕ) (frame : SameFrame p clients client_senders server_senders waiting next) where
+    (server_senders : List (Sender P ResponseDetails PH))
+    (next : ℕ) (frame : SameFrame p clients client_senders server_senders next) where
   abbrev after : Parts Q QH P PH K
-  after = moved p clients client_senders server_senders waiting p.table.entries next
+  after = moved p clients client_senders server_senders p.table.entries next
 
   -- the place of each handle is as it was
   pub same_placing : (g : Stage) (sender slot : ℕ) → place_at after g sender slot ≡ place_at p g sender slot
@@ -102,7 +102,7 @@ module _ {Q QH P PH K : Type 0} (p : Parts Q QH P PH K) (hand : Hand) (sound : I
           );
           received = λ k s at is.
               let r = n.received k s at is in
-              let c = client_after p hand sound clients client_senders server_senders waiting p.table.entries next frame r.0 r.1 r.2 in
+              let c = client_after p hand sound clients client_senders server_senders p.table.entries next frame r.0 r.1 r.2 in
               let details = kept.responses_noted s.value.sender s.value.slot (responses k s at (received_is_response s.value.stage is)) in
               (r.0, c.0, c.1, ap (λ (f : Connected K). f.port.id) c.2 ∙ r.3 ∙ sym (ap (λ (n : ResponseDetails). n.client) details));
           answering = λ l i k server loans s u at is f.

@@ -1,5 +1,5 @@
 -- A core stays sound while what stands in slots is written.
-use Rattle.std.proofs.Common.{◌≡◌, ◌<◌, ◌≤◌, ◌+◌, ℕ, List, [], length, refl, sym, ap, ◌∙◌, subst, arith}
+use Rattle.std.proofs.Common.{◌≡◌, ◌<◌, ◌≤◌, ◌+◌, ℕ, List, [], length, refl, sym, ap, ◌∙◌, subst, arith, ◌*◌}
 use Rattle.std.specs.Prelude.{◌&&◌, ◌==◌, slice_index, slice_index_or}
 use Rattle.rr_sender.specs.Senders.{at_two, all_entries, times}
 use Rattle.rr_store.specs.declared.details.RequestDetails.{RequestDetails}
@@ -23,6 +23,7 @@ module _ {T N H : Type 0} where
     receiver = ap (λ (o : Outline N). o.receiver) r.outline;
     slots = ap (λ (o : Outline N). length o.held) r.outline;
     room = ap (λ (o : Outline N). o.room) r.outline;
+    marks = r.marks;
     shaped = λ receivers channels capacity s.
         let entry = ap (λ (o : Outline N). length o.held) r.outline in
         record {
@@ -46,22 +47,24 @@ module _ {T N H : Type 0} where
 
   -- senders that stay
   pub senders_unwritten : (senders : List (Sender T N H)) → SendersRewritten senders senders
-  senders_unwritten senders = record { many = refl; each = λ l. record { outline = refl; contents = refl; user_headers = refl } }
+  senders_unwritten senders = record {
+    many = refl;
+    each = λ l. record
+        { outline = refl; contents = refl; user_headers = refl; marks = refl; none_more = λ i server fits none. none };
+  }
 
 module _ {Q QH P PH K : Type 0} (p : Parts Q QH P PH K) (hand : Hand) (sound : IsSound p hand)
     (client_senders : List (Sender Q RequestDetails QH)) (server_senders : List (Sender P ResponseDetails PH))
     (c : SendersRewritten p.client_senders client_senders) (s : SendersRewritten p.server_senders server_senders) where
   -- the core with those senders
   abbrev pub rewritten : Parts Q QH P PH K
-  rewritten = moved p p.clients client_senders server_senders p.waiting p.table.entries p.next
+  rewritten = moved p p.clients client_senders server_senders p.table.entries p.next
 
-  frame : SameFrame p p.clients client_senders server_senders p.waiting p.next
+  frame : SameFrame p p.clients client_senders server_senders p.next
   frame = record {
     clients_alike = refl;
     client_senders_alike = senders_alike p.client_senders client_senders c;
     server_senders_alike = senders_alike p.server_senders server_senders s;
-    marks = refl;
-    marks_each = λ l. refl;
     numbers = omega arith;
   }
 
@@ -131,7 +134,8 @@ module _ {Q QH P PH K : Type 0} (p : Parts Q QH P PH K) (hand : Hand) (sound : I
       ap (λ (o : Outline RequestDetails). at_two [] o.queues receiver channel) (c.each l).outline ∙ v.0,
       ap (λ (o : Outline RequestDetails). at_two 0 o.borrowed receiver channel) (c.each l).outline ∙ v.1,
     );
-    awaits_none = n.awaits_none;
+    awaits_none = λ l slot receiver server new fits.
+        (c.each l).none_more (slot * p.limits.max_servers + receiver) server fits (n.awaits_none l slot receiver server new fits);
   }
 
   -- it is sound
@@ -139,10 +143,10 @@ module _ {Q QH P PH K : Type 0} (p : Parts Q QH P PH K) (hand : Hand) (sound : I
   rewritten_sound = record {
     counted = rewritten_counted;
     held_once = rewritten_once;
-    numbered = kept_numbered p hand sound p.clients client_senders server_senders p.waiting p.next frame details_kept
+    numbered = kept_numbered p hand sound p.clients client_senders server_senders p.next frame details_kept
         (λ k t at is. omega (arith, handle_uses_request p hand sound.counted k t at is, request_uses_same t.value.sender t.value.slot))
         (λ k t at is. omega (arith, handle_uses_response p hand sound.counted k t at is, response_uses_same t.value.sender t.value.slot));
-    addressed = kept_addressed p hand sound p.clients client_senders server_senders p.waiting p.next frame details_kept
+    addressed = kept_addressed p hand sound p.clients client_senders server_senders p.next frame details_kept
         (λ l i channel j client at waits.
         let a = sound.addressed.entries l i channel j client at
         (subst (λ (o : Outline ResponseDetails). 0 < times i (at_two [] o.queues client.receiver channel)) (s.each l).outline waits) in (
@@ -150,14 +154,14 @@ module _ {Q QH P PH K : Type 0} (p : Parts Q QH P PH K) (hand : Hand) (sound : I
           ap (λ (n : ResponseDetails). n.channel) (response_details_same l i)
               ∙ a.1,
         ));
-    inserted = framed_inserted p hand sound p.clients client_senders server_senders p.waiting p.next frame;
+    inserted = framed_inserted p hand sound p.clients client_senders server_senders p.next frame;
     stored = rewritten_stored;
-    sized = framed_sized p hand sound p.clients client_senders server_senders p.waiting p.table.entries p.next frame
+    sized = framed_sized p hand sound p.clients client_senders server_senders p.table.entries p.next frame
         sound.sized.next_fits sound.sized.loans_made;
     vacated = rewritten_vacated;
-    have_values = framed_by_value p hand sound p.clients client_senders server_senders p.waiting p.table.entries p.next frame;
-    client_ports = framed_client_ports p hand sound p.clients client_senders server_senders p.waiting p.table.entries p.next
+    have_values = framed_by_value p hand sound p.clients client_senders server_senders p.table.entries p.next frame;
+    client_ports = framed_client_ports p hand sound p.clients client_senders server_senders p.table.entries p.next
         frame;
-    server_ports = framed_server_ports p hand sound p.clients client_senders server_senders p.waiting p.table.entries p.next
+    server_ports = framed_server_ports p hand sound p.clients client_senders server_senders p.table.entries p.next
         frame;
   }

@@ -1,5 +1,5 @@
 -- What is true of a core stays true as a handle in hand is dropped.
-use Rattle.std.proofs.Common.{◌≡◌, ◌<◌, ◌≤◌, ◌+◌, ℕ, Bool, List, [], ◌∷◌, length, sym, ap, ◌∙◌, arith}
+use Rattle.std.proofs.Common.{◌≡◌, ◌<◌, ◌≤◌, ◌+◌, ◌*◌, ℕ, List, [], ◌∷◌, length, sym, ap, ◌∙◌, arith, Bool}
 use Rattle.std.specs.Prelude.{◌==◌, ◌&&◌, slice_index_or}
 use Rattle.rr_maps.specs.Maps.{mark}
 use Rattle.rr_sender.specs.Senders.{times, all_entries}
@@ -7,7 +7,7 @@ use Rattle.rr_store.specs.declared.handle_entry.HandleEntry.{HandleEntry}
 use Rattle.rr_store.specs.declared.details.RequestDetails.{RequestDetails}
 use Rattle.rr_store.specs.declared.details.ResponseDetails.{ResponseDetails}
 use Rattle.rr_store.specs.Parts.{Parts, Sender}
-use Rattle.rr_store.specs.Views.{no_request, no_response}
+use Rattle.rr_store.specs.Views.{no_request, no_response, no_server}
 use Rattle.rr_store.specs.Sound.{IsSound, IsCounted, IsHeldOnce, IsStored, IsVacated, Hand, handles, is_request_at, is_response_at, is_active_at, is_request_loan, is_response_loan, is_received, is_in_sender, is_pending, is_active_of, is_loan_from, is_received_at, request_details, response_details, request_uses, response_uses, server_place}
 use Rattle.rr_store.specs.Frames.{moved, SameFrame}
 use Rattle.rr_store.specs.Kept.{DetailsKept}
@@ -19,13 +19,13 @@ use Rattle.rr_store.proofs.base.hands.Hands.{count-cons}
 
 module _ {Q QH P PH K : Type 0} (p : Parts Q QH P PH K) (entry : HandleEntry) (hand : Hand) (sound : IsSound p (entry ∷ hand))
     (client_senders : List (Sender Q RequestDetails QH))
-    (server_senders : List (Sender P ResponseDetails PH)) (waiting : List (List Bool))
-    (d : IsDropped p entry client_senders server_senders waiting) where
+    (server_senders : List (Sender P ResponseDetails PH))
+    (d : IsDropped p entry client_senders server_senders) where
   -- the core without the handle
   abbrev pub dropped : Parts Q QH P PH K
-  dropped = moved p p.clients client_senders server_senders waiting p.table.entries p.next
+  dropped = moved p p.clients client_senders server_senders p.table.entries p.next
 
-  frame : SameFrame p p.clients client_senders server_senders waiting p.next
+  frame : SameFrame p p.clients client_senders server_senders p.next
   frame = d.frame
 
   -- what is counted with the handle is one more than without, if it passes
@@ -144,7 +144,9 @@ module _ {Q QH P PH K : Type 0} (p : Parts Q QH P PH K) (entry : HandleEntry) (h
               ∙ v.0,
           omega (arith, v.1, d.requests_borrowed l receiver channel),
         );
-    awaits_none = λ l slot receiver none inside. d.awaited l slot receiver (sound.vacated.awaits_none l slot receiver none inside);
+    awaits_none = λ l slot receiver server new fits.
+        ap (λ (ms : List ℕ). slice_index_or ms (slot * p.limits.max_servers + receiver) no_server == server) (d.marks l)
+        ∙ sound.vacated.awaits_none l slot receiver server new fits;
   }
 
   -- the core without the handle is sound
@@ -152,22 +154,22 @@ module _ {Q QH P PH K : Type 0} (p : Parts Q QH P PH K) (entry : HandleEntry) (h
   dropped_sound = record {
     counted = counted;
     held_once = held_once;
-    numbered = kept_numbered p (entry ∷ hand) sound p.clients client_senders server_senders waiting p.next frame details_kept
+    numbered = kept_numbered p (entry ∷ hand) sound p.clients client_senders server_senders p.next frame details_kept
         (handle_uses_request dropped hand counted) (handle_uses_response dropped hand counted);
-    addressed = kept_addressed p (entry ∷ hand) sound p.clients client_senders server_senders waiting p.next frame details_kept
+    addressed = kept_addressed p (entry ∷ hand) sound p.clients client_senders server_senders p.next frame details_kept
         (λ l i channel j c at waits.
         let a = sound.addressed.entries l i channel j c at (omega (arith, waits, d.responses_wait l c.receiver channel i)) in (
           ap (λ (n : ResponseDetails). n.client) (response_details_same l i) ∙ a.0,
           ap (λ (n : ResponseDetails). n.channel) (response_details_same l i) ∙ a.1,
         ));
-    inserted = framed_inserted p (entry ∷ hand) sound p.clients client_senders server_senders waiting p.next frame;
+    inserted = framed_inserted p (entry ∷ hand) sound p.clients client_senders server_senders p.next frame;
     stored = stored;
-    sized = framed_sized p (entry ∷ hand) sound p.clients client_senders server_senders waiting p.table.entries p.next frame
+    sized = framed_sized p (entry ∷ hand) sound p.clients client_senders server_senders p.table.entries p.next frame
         sound.sized.next_fits sound.sized.loans_made;
     vacated = vacated;
-    have_values = framed_by_value p (entry ∷ hand) sound p.clients client_senders server_senders waiting p.table.entries p.next frame;
-    client_ports = framed_client_ports p (entry ∷ hand) sound p.clients client_senders server_senders waiting p.table.entries p.next
+    have_values = framed_by_value p (entry ∷ hand) sound p.clients client_senders server_senders p.table.entries p.next frame;
+    client_ports = framed_client_ports p (entry ∷ hand) sound p.clients client_senders server_senders p.table.entries p.next
         frame;
-    server_ports = framed_server_ports p (entry ∷ hand) sound p.clients client_senders server_senders waiting p.table.entries p.next
+    server_ports = framed_server_ports p (entry ∷ hand) sound p.clients client_senders server_senders p.table.entries p.next
         frame;
   }

@@ -35,7 +35,7 @@ never false = refl
 -- senders are alike to themselves
 pub senders_same : {T N H : Type 0} (senders : List (Sender T N H)) → SendersAlike senders senders
 senders_same senders = record
-    { many = refl; each = λ l. record { owner = refl; row = refl; receiver = refl; slots = refl; room = refl; shaped = λ r c k h. h } }
+    { many = refl; each = λ l. record { owner = refl; row = refl; receiver = refl; slots = refl; room = refl; marks = refl; shaped = λ r c k h. h } }
 
 module _ {Q QH P PH K : Type 0} (p : Parts Q QH P PH K) where
   -- what is true whatever handles stand in the table
@@ -59,11 +59,11 @@ module _ {Q QH P PH K : Type 0} (p : Parts Q QH P PH K) where
       limits_fit = n.limits_fit;
       client_senders = n.client_senders;
       server_senders = n.server_senders;
-      waiting = n.waiting;
-      waiting_slots = n.waiting_slots;
+      marks = n.marks;
       next_fits = n.next_fits;
       channels = n.channels;
       loans_made = n.loans_made;
+      most_loans = n.most_loans;
       rows_fit = n.rows_fit;
     }
 

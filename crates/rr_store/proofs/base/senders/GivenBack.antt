@@ -57,6 +57,7 @@ module _ {T N H : Type 0} (senders : List (Sender T N H)) (sender slot : ℕ) (b
       receiver = refl;
       slots = as_many;
       room = refl;
+      marks = refl;
       shaped = λ r n k h. record {
         contents = h.contents ∙ sym as_many;
         details = h.details ∙ sym as_many;

@@ -3,10 +3,12 @@ use Rattle.std.proofs.Common.{◌≡◌, ◌<◌, ℕ, Bool, List, Some, length,
 use Rattle.std.specs.Prelude.{◌==◌, slice_get}
 use Rattle.std.specs.List.{position}
 use Rattle.std.proofs.lemmas.Bool.{eq-eqb, eqb-true}
+use Rattle.rr_store.specs.Order.{IsRising}
 use Rattle.rr_store.specs.Parts.{Connected, ClientPart, ServerPart, Parts}
 use Rattle.rr_store.specs.Sound.{IsSound, Hand}
 use Rattle.rr_store.specs.Views.{sender_of}
 use Rattle.rr_store.proofs.base.lists.Adding.{mapped}
+use Rattle.rr_store.proofs.base.lists.Rising.{rising_unmapped}
 use Rattle.rr_store.proofs.base.senders.Ports.{sender_found}
 use Rattle.rr_store.proofs.base.views.Counts.{listed}
 
@@ -53,3 +55,10 @@ module _ {Q QH P PH K : Type 0} (p : Parts Q QH P PH K) (hand : Hand) (sound : I
   server_receiver l f =
       ap (λ l. (sender_of l p.server_senders).receiver) (sym f.is)
       ∙ sound.server_ports.received f.index f.it.connected (listed (λ (s : ServerPart K). s.connected) p.servers f.index f.it f.at)
+
+  -- ports stand in the order of their numbers
+  pub clients_rise : IsRising (λ (c : ClientPart K). c.port.id) p.clients
+  clients_rise = rising_unmapped (λ (c : ClientPart K). c.connected) (λ (c : Connected K). c.port.id) p.clients sound.client_ports.rising
+
+  pub servers_rise : IsRising (λ (s : ServerPart K). s.port.id) p.servers
+  servers_rise = rising_unmapped (λ (s : ServerPart K). s.connected) (λ (c : Connected K). c.port.id) p.servers sound.server_ports.rising

@@ -21,6 +21,7 @@ use Rattle.rr_store.specs.Sound.{IsSound, HasSenders, empty_hand, is_of_request,
 use Rattle.rr_store.proofs.base.views.Agreeing.{request_sender, response_sender}
 use Rattle.rr_store.proofs.base.hands.Stages.{handle_uses_request, handle_uses_response}
 use Rattle.rr_store.proofs.base.lists.Tallies.{and_none, tally-same}
+use Rattle.rr_store.proofs.base.senders.Numbered.{numbered_once}
 
 -- a sender has a port's number exactly if it is the port's
 pub its_sender : {T N H K : Type 0} (next ports : ℕ) (connected : List (Connected K)) (senders : List (Sender T N H))
@@ -45,7 +46,7 @@ pub ids_apart : {T N H K C : Type 0} (f : C → Connected K) (next ports : ℕ) 
     → HasSenders next ports (map f cs) senders →
     (i j : ℕ) (c d : C) → slice_get cs i ≡ Some c → slice_get cs j ≡ Some d → i ≢ j → (f c).port.id ≢ (f d).port.id
 ids_apart f next ports cs senders has i j c d at there n same = n
-    (has.numbered_once i j (f c) (f d) (listed f cs i c at) (listed f cs j d there) same)
+    (numbered_once has i j (f c) (f d) (listed f cs i c at) (listed f cs j d there) same)
 
 module _ {Q QH P PH K : Type 0} (p : Parts Q QH P PH K) where
   -- a count over the handles is one over the entries

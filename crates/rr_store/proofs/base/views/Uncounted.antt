@@ -12,7 +12,7 @@ use Rattle.rr_store.specs.declared.handle_entry.HandleEntry.{HandleEntry}
 use Rattle.rr_store.specs.declared.details.RequestDetails.{RequestDetails}
 use Rattle.rr_store.specs.declared.details.ResponseDetails.{ResponseDetails}
 use Rattle.rr_store.specs.Parts.{Parts, ClientPart, ServerPart, Sender}
-use Rattle.rr_store.specs.Views.{sender_of, state_of, request_in_slot, response_in_slot, handle_of, requests_at, responses_at}
+use Rattle.rr_store.specs.Views.{sender_of, state_of, request_in_slot, response_in_slot, marked, handle_of, requests_at, responses_at}
 use Rattle.rr_store.specs.Frames.{moved}
 use Rattle.rr_store.proofs.base.views.Agreeing.{same_handle, same_requests, same_responses, same_state}
 use Rattle.rr_store.proofs.base.lists.Replaced.{find_mapped}
@@ -55,14 +55,14 @@ module _ {Q QH P PH K : Type 0} (p : Parts Q QH P PH K) (client_senders : List (
     (sl : map bare_sender server_senders ≡ map bare_sender p.server_senders) where
   -- the core with those counts
   abbrev pub recounted : Parts Q QH P PH K
-  recounted = moved p p.clients client_senders server_senders p.waiting p.table.entries p.next
+  recounted = moved p p.clients client_senders server_senders p.table.entries p.next
 
   handles : (k : ℕ) (s : TableEntry HandleEntry) → fin_map.get p.table.entries k ≡ Some s → handle_of recounted s ≡ handle_of p s
   handles k s e =
       same_handle recounted p s.value.stage s.value.sender s.value.slot
       (λ is. (
         read_same (λ x. request_in_slot p.spare_request_header x.messages s.value.slot) p.client_senders client_senders cl s.value.sender,
-        refl,
+        read_same (λ x. marked p.limits.max_servers p.servers x.may_answer s.value.slot) p.client_senders client_senders cl s.value.sender,
       ))
       (λ is. read_same (λ x. response_in_slot p.spare_response_header x.messages s.value.slot) p.server_senders server_senders sl
       s.value.sender)

@@ -49,9 +49,19 @@ module _ {T N H : Type 0} (senders : List (Sender T N H)) (sender slot : ℕ) (c
     slot_rewritten = record {
       many = length-set senders sender after_change;
       each = each_sender SenderRewritten
-          (record { outline = refl; contents = length-set before.contents slot (change (content_at before slot)); user_headers = refl })
-          (λ l. record { outline = refl; contents = refl; user_headers = refl });
+          (record {
+            outline = refl;
+            contents = length-set before.contents slot (change (content_at before slot));
+            user_headers = refl;
+            marks = refl;
+            none_more = λ i server fits none. none;
+          })
+          (λ l. record { outline = refl; contents = refl; user_headers = refl; marks = refl; none_more = λ i server fits none. none });
     }
+
+    -- and who may answer
+    pub marks_same : (l : ℕ) → (sender_of l with_slot).may_answer ≡ (sender_of l senders).may_answer
+    marks_same = each_sender (λ a b. b.may_answer ≡ a.may_answer) refl (λ l. refl)
 
     -- what a slot shows by its content
     module _ {M : Type 0} (show : Messages T N H → ℕ → Written T → M)

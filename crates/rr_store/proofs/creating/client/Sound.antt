@@ -1,8 +1,8 @@
 -- What is true of a core stays true as a client is created.
-use Rattle.std.proofs.Common.{◌≡◌, ◌≢◌, ◌<◌, ◌+◌, ◌*◌, ◌^◌, ℕ, Bool, true, false, List, [], ◌∷◌, Some, length, get_or, refl, sym, ap, ◌∙◌, subst, arith}
+use Rattle.std.proofs.Common.{◌≡◌, ◌≢◌, ◌<◌, ◌+◌, ◌*◌, ◌^◌, ℕ, Bool, true, false, [], ◌∷◌, Some, length, get_or, refl, sym, ap, ◌∙◌, subst, arith, replicate}
 use Rattle.std.specs.Prelude.{◌==◌, ◌&&◌, slice_get, slice_index}
 use Rattle.std.specs.FinMap as fin_map
-use Rattle.std.proofs.lemmas.Bool.{false_from_ne_true, eqb-true, and_parts}
+use Rattle.std.proofs.lemmas.Bool.{false_from_ne_true, eqb-true, and_parts, ne_eqb}
 use Rattle.std.proofs.lemmas.List.{length-append, length-replicate}
 use Rattle.std.proofs.Math.ListN.{get_or-append}
 use Rattle.std.proofs.Math.Seq.{get_or-append_seam}
@@ -15,10 +15,10 @@ use Rattle.rr_store.specs.declared.handle_entry.Stage.{Stage}
 use Rattle.rr_store.specs.declared.handle_entry.Stage.TheVariants as stage
 use Rattle.rr_store.specs.declared.details.RequestDetails.{RequestDetails}
 use Rattle.rr_store.specs.Parts.{Parts, ClientPart, Sender}
-use Rattle.rr_store.specs.Views.{no_request, sender_of}
+use Rattle.rr_store.specs.Views.{no_request, sender_of, no_server}
 use Rattle.rr_store.specs.Sound.{IsSound, IsCounted, IsNumbered, IsAddressed, IsPlaced, IsStored, IsSized, IsVacated, IsShaped, empty_hand, handles, is_in_sender, is_of_request, is_request_loan, is_pending, is_active_of, is_received, is_received_at, request_details, response_details, request_uses, server_place, place_at}
 use Rattle.rr_store.specs.Creating.{IsNew, client_port, with_client_part}
-use Rattle.rr_store.proofs.creating.NewSenders.{LooksLike, count_added, looks_like, sender_before, sender_cases, mark_of_more}
+use Rattle.rr_store.proofs.creating.NewSenders.{LooksLike, count_added, looks_like, sender_before, sender_cases, same_everywhere}
 use Rattle.rr_store.proofs.base.lists.Adding.{pool_fits, makes_channels}
 use Rattle.rr_store.proofs.creating.NewPort.{port_added, later_next, new_shaped}
 use Rattle.rr_protocol.specs.Limits.{worst_case_requests}
@@ -45,7 +45,15 @@ module _ {Q QH P PH K : Type 0} (p : Parts Q QH P PH K) (settings : ClientSettin
   }
 
   abbrev last : Sender Q RequestDetails QH
-  last = record { owner = p.next; row = length p.table.rows; receiver = receiver; loans = 0; pendings = 0; messages = m }
+  last = record {
+    owner = p.next;
+    row = length p.table.rows;
+    receiver = receiver;
+    loans = 0;
+    pendings = 0;
+    may_answer = replicate ((client_port p settings).pool_size * p.limits.max_servers) no_server;
+    messages = m;
+  }
 
   like : LooksLike p.client_senders after.client_senders
   like = looks_like p.client_senders last new
@@ -253,13 +261,11 @@ module _ {Q QH P PH K : Type 0} (p : Parts Q QH P PH K) (settings : ClientSettin
             p.limits.max_active_requests_per_client x.messages in subst P (sym e) shaped)
             (λ far e gone. absurd (omega (arith, h, far, length-append p.client_senders (last ∷ []))));
         server_senders = n.server_senders;
-        waiting = length-append p.waiting _ ∙ omega (arith, n.waiting, length-append p.client_senders (last ∷ []));
-        waiting_slots = λ l h. sender_cases p.client_senders last new l
-            (λ before e. ap (λ (w : List Bool). length w) (get_or-append p.waiting _ [] l (omega (arith, before, n.waiting)))
-            ∙ n.waiting_slots l before ∙ sym (ap (λ (x : Sender Q RequestDetails QH). length x.messages.held * p.limits.max_servers) e))
-            (λ is e gone. ap (λ k. length (get_or after.waiting k [])) (is ∙ sym n.waiting)
-            ∙ ap length (get_or-append_seam p.waiting _ [] [])
-            ∙ length-replicate ((client_port p settings).pool_size * p.limits.max_servers) false
+        marks = λ l h. sender_cases p.client_senders last new l
+            (λ before e. ap (λ (x : Sender Q RequestDetails QH). length x.may_answer) e
+            ∙ n.marks l before ∙ sym (ap (λ (x : Sender Q RequestDetails QH). length x.messages.held * p.limits.max_servers) e))
+            (λ is e gone. ap (λ (x : Sender Q RequestDetails QH). length x.may_answer) e
+            ∙ length-replicate ((client_port p settings).pool_size * p.limits.max_servers) no_server
             ∙ ap (λ n. n * p.limits.max_servers) (sym slots_are)
             ∙ sym (ap (λ (x : Sender Q RequestDetails QH). length x.messages.held * p.limits.max_servers) e))
             (λ far e gone. absurd (omega (arith, h, far, length-append p.client_senders (last ∷ []))));
@@ -275,6 +281,7 @@ module _ {Q QH P PH K : Type 0} (p : Parts Q QH P PH K) (settings : ClientSettin
             (λ far e gone. absurd (omega (arith, h, far, length-append p.client_senders (last ∷ []))));
         loans_made = λ i c at. snoc_cases p.clients last_client i c at (λ before h. omega (arith, n.loans_made i c before))
             (λ e is. omega (arith, ap (λ (c : ClientPart K). c.loans_made) is));
+        most_loans = n.most_loans;
         rows_fit = λ l h. sender_cases p.client_senders last new l
             (λ before e. omega (
               arith,
@@ -296,8 +303,15 @@ module _ {Q QH P PH K : Type 0} (p : Parts Q QH P PH K) (settings : ClientSettin
     of_clients = λ l there channel none. sound.vacated.of_clients l there channel (λ i c e. none i c (snoc_keeps p.clients _ i c e));
     of_servers = λ l there channel none.
         let n = sound.vacated.of_servers l there channel none in (like.queues l there channel ∙ n.0, like.borrowed l there channel ∙ n.1);
-    awaits_none = λ l i there none inside. mark_of_more p.waiting ((client_port p settings).pool_size * p.limits.max_servers) l
-        (i * p.limits.max_servers + there) false ∙ sound.vacated.awaits_none l i there none inside;
+    awaits_none = λ l i there server new_one fits.
+        let index = i * p.limits.max_servers + there in
+        let by : Sender Q RequestDetails QH → Type 0 = λ x. (get_or x.may_answer index no_server == server) ≡ false in
+        let none : (no_server == server) ≡ false = ne_eqb no_server server (λ e. absurd (omega (arith, e, fits))) in
+        sender_cases p.client_senders last new l
+        (λ before e. subst by (sym e) (sound.vacated.awaits_none l i there server (omega (arith, new_one)) fits))
+        (λ is e gone. subst by (sym e) (ap (λ m. m == server)
+        (same_everywhere ((client_port p settings).pool_size * p.limits.max_servers) index no_server) ∙ none))
+        (λ far e gone. subst by (sym e) none);
   }
 
   -- a client was created

@@ -1,11 +1,10 @@
 -- What contracts see of a core after a client was created.
-use Rattle.std.proofs.Common.{◌≡◌, ◌≢◌, ◌+◌, ◌*◌, ℕ, Bool, true, false, cond, List, [], Option, None, Some, find, filter, length, get_or, map, refl, sym, ap, ◌∙◌, arith}
+use Rattle.std.proofs.Common.{◌≡◌, ◌≢◌, ◌*◌, ℕ, Bool, true, false, cond, List, [], Option, None, Some, find, length, map, refl, sym, ap, ◌∙◌, replicate}
 use Rattle.std.specs.Prelude.{◌==◌, slice_get}
 use Rattle.std.specs.Option.{option_map_or, option_or}
 use Rattle.std.specs.FinMap as fin_map
 use Rattle.std.proofs.lemmas.Option.{get_or_from_slice_get}
 use Rattle.std.proofs.lemmas.List.{map-append}
-use Rattle.std.proofs.Math.ListN.{get_or-append}
 use Rattle.rr_table.specs.TableView.{TableEntry}
 use Rattle.rr_maps.proofs.MapLaws.{map_values-same}
 use Rattle.rr_sender.specs.Senders.{Messages, queue_at}
@@ -17,7 +16,7 @@ use Rattle.rr_store.specs.declared.handle_entry.HandleEntry.{HandleEntry}
 use Rattle.rr_store.specs.declared.details.RequestDetails.{RequestDetails}
 use Rattle.rr_store.specs.declared.details.ResponseDetails.{ResponseDetails}
 use Rattle.rr_store.specs.Parts.{Parts, ClientPart, ServerPart, Sender}
-use Rattle.rr_store.specs.Views.{no_sender, no_request, sender_of, client_of, handle_of, request_in_slot, response_in_slot, requests_at, responses_at, state_of}
+use Rattle.rr_store.specs.Views.{no_sender, no_request, sender_of, client_of, handle_of, request_in_slot, response_in_slot, requests_at, responses_at, state_of, marked, no_server}
 use Rattle.rr_store.specs.Sound.{IsSound, empty_hand}
 use Rattle.rr_store.specs.Creating.{IsNew, client_port, with_client_part}
 use Rattle.rr_store.proofs.base.lists.Found.{found_somewhere, find_last}
@@ -39,9 +38,8 @@ module _ {Q QH P PH K : Type 0} (p : Parts Q QH P PH K) (settings : ClientSettin
       let within = request_sender p empty_hand sound.counted k s at is in (
         ap (λ (l : Sender Q RequestDetails QH). request_in_slot p.spare_request_header l.messages s.value.slot)
             (sender_before p.client_senders _ s.value.sender within),
-        ap (λ (w : List Bool). map (λ (x : ServerPart K). x.port.id)
-            (filter (λ (x : ServerPart K). get_or w (s.value.slot * p.limits.max_servers + x.receiver) false) p.servers))
-            (get_or-append p.waiting _ [] s.value.sender (omega (arith, within, sound.sized.waiting))),
+        ap (λ (l : Sender Q RequestDetails QH). marked p.limits.max_servers p.servers l.may_answer s.value.slot)
+            (sender_before p.client_senders _ s.value.sender within),
       ))
       (λ is. refl)
 
@@ -64,8 +62,8 @@ module _ {Q QH P PH K : Type 0} (p : Parts Q QH P PH K) (settings : ClientSettin
             row = length p.table.rows;
             receiver = receiver;
             loans = 0;
-            pendings =
-                0;
+            pendings = 0;
+            may_answer = replicate ((client_port p settings).pool_size * p.limits.max_servers) no_server;
             messages = m;
           })) None)) []) server []
           ≡ option_map_or (λ s. option_map_or

@@ -1,4 +1,5 @@
 -- A core in which nothing was made is an empty hub.
+use Rattle.std.proofs.lemmas.Bool.{ne_eqb}
 use Rattle.std.proofs.Common.{◌≡◌, ℕ, [], None, Some, refl, sym, ◌∙◌, arith}
 use Rattle.std.specs.Prelude.{slice_get, ◌&&◌}
 use Rattle.std.specs.Ordering.{nat_cmp}
@@ -11,7 +12,7 @@ use Rattle.rr_protocol.specs.Limits.{hub_refusal}
 use Rattle.rr_protocol.specs.State.{empty_hub}
 use Rattle.rr_store.specs.declared.handle_entry.HandleEntry.{HandleEntry}
 use Rattle.rr_store.specs.Parts.{Parts}
-use Rattle.rr_store.specs.Views.{state_of, handle_of}
+use Rattle.rr_store.specs.Views.{state_of, handle_of, no_server}
 use Rattle.rr_store.specs.Start.{start_parts}
 use Rattle.rr_store.specs.Sound.{IsSound, HasSenders, empty_hand, has_request_at, has_response_at, is_active_of}
 
@@ -34,7 +35,7 @@ no_ports = record {
   numbered = λ i h. absurd (omega arith);
   placed = λ i c e. no_element i c e;
   receivers_once = λ i j c d e. no_element i c e;
-  numbered_once = λ i j c d e. no_element i c e;
+  rising = λ i j c d e. no_element i c e;
 }
 
 module _ (Q QH P PH K : Type 0) (limits : Limits) (node_id : ℕ) (h : QH) (g : PH) where
@@ -100,17 +101,17 @@ module _ (Q QH P PH K : Type 0) (limits : Limits) (node_id : ℕ) (h : QH) (g : 
       limits_fit = fits;
       client_senders = λ l h. absurd (omega arith);
       server_senders = λ l h. absurd (omega arith);
-      waiting = refl;
-      waiting_slots = λ l h. absurd (omega arith);
+      marks = λ l h. absurd (omega arith);
       next_fits = omega arith;
       channels = λ l h. absurd (omega (arith, h));
       loans_made = λ i c e. no_element i c e;
+      most_loans = λ i s e. no_element i s e;
       rows_fit = λ l h. absurd (omega (arith, h));
     };
     vacated = record {
       of_clients = λ l receiver channel h. (refl, refl);
       of_servers = λ l receiver channel h. (refl, refl);
-      awaits_none = λ l i receiver h g. refl;
+      awaits_none = λ l i receiver server new fits. ne_eqb no_server server (λ e. absurd (omega (arith, e, fits)));
     };
     have_values = record { clients = λ i c e. no_element i c e; servers = λ i c e. no_element i c e };
     client_ports = no_ports;

@@ -12,7 +12,7 @@ use Rattle.rr_table.specs.TableView.{TableEntry}
 use Rattle.rr_table.specs.declared.place.Place.{Place}
 use Rattle.rr_sender.specs.Senders.{Messages, times, queue_at, borrowed_at}
 use Rattle.rr_protocol.specs.declared.settings.ServerSettings.{ServerSettings}
-use Rattle.rr_protocol.specs.Limits.{worst_case_requests}
+use Rattle.rr_protocol.specs.Limits.{worst_case_requests, max_loaned_responses}
 use Rattle.rr_protocol.specs.Creation.{loans_of}
 use Rattle.rr_store.specs.declared.handle_entry.HandleEntry.{HandleEntry}
 use Rattle.rr_store.specs.declared.handle_entry.Stage.{Stage}
@@ -44,10 +44,11 @@ module _ {Q QH P PH K : Type 0} (p : Parts Q QH P PH K) (settings : ServerSettin
   last_server = record {
     connected = record { port = server_port p settings; sender = length p.server_senders; receiver = receiver };
     max_loaned_responses_per_request = loans_of settings;
+    max_loaned_responses = max_loaned_responses p.limits (loans_of settings);
   }
 
   abbrev last : Sender P ResponseDetails PH
-  last = record { owner = p.next; row = length p.table.rows; receiver = receiver; loans = 0; pendings = 0; messages = m }
+  last = record { owner = p.next; row = length p.table.rows; receiver = receiver; loans = 0; pendings = 0; may_answer = []; messages = m }
 
   like : LooksLike p.server_senders after.server_senders
   like = looks_like p.server_senders last new
@@ -352,11 +353,15 @@ module _ {Q QH P PH K : Type 0} (p : Parts Q QH P PH K) (settings : ServerSettin
             (λ is e gone. let P : Sender P ResponseDetails PH → Type 0 = λ x. IsShaped p.limits.max_clients
             (worst_case_requests p.limits) p.limits.max_response_buffer_size x.messages in subst P (sym e) shaped)
             (λ far e gone. absurd (omega (arith, h, far, length-append p.server_senders (last ∷ []))));
-        waiting = n.waiting;
-        waiting_slots = n.waiting_slots;
+        marks = n.marks;
         next_fits = omega (arith, left);
         channels = n.channels;
         loans_made = λ i c at. omega (arith, n.loans_made i c at);
+        most_loans = λ i s at. snoc_cases p.servers last_server i s at (λ before h. n.most_loans i s before)
+            (λ e is.
+            let HasMost : ServerPart K → Type 0 = λ s. s.max_loaned_responses
+            ≡ max_loaned_responses p.limits s.max_loaned_responses_per_request in
+            subst HasMost is refl);
         rows_fit = n.rows_fit;
       }
 
@@ -365,7 +370,7 @@ module _ {Q QH P PH K : Type 0} (p : Parts Q QH P PH K) (settings : ServerSettin
     of_clients = λ l there channel none.
         let n = sound.vacated.of_clients l there channel none in (like.queues l there channel ∙ n.0, like.borrowed l there channel ∙ n.1);
     of_servers = λ l there channel none. sound.vacated.of_servers l there channel (λ i s e. none i s (snoc_keeps p.servers _ i s e));
-    awaits_none = λ l i there none. sound.vacated.awaits_none l i there (λ j s e. none j s (snoc_keeps p.servers _ j s e));
+    awaits_none = λ l i there server new fits. sound.vacated.awaits_none l i there server (omega (arith, new)) fits;
   }
 
   -- a server was created

@@ -1,5 +1,5 @@
 -- What contracts see of a core after a server was created.
-use Rattle.std.proofs.Common.{◌≡◌, ◌≢◌, ◌<◌, ℕ, Bool, true, false, cond, List, [], ◌∷◌, ◌++◌, Option, None, Some, find, filter, length, map, refl, sym, ap, ◌∙◌}
+use Rattle.std.proofs.Common.{◌≡◌, ◌≢◌, ◌<◌, ℕ, Bool, true, false, cond, List, [], ◌∷◌, ◌++◌, Option, None, Some, find, filter, length, map, refl, sym, ap, ◌∙◌, arith}
 use Rattle.std.specs.Prelude.{◌==◌, slice_get}
 use Rattle.std.specs.Option.{option_map_or, option_or}
 use Rattle.std.specs.FinMap as fin_map
@@ -12,6 +12,7 @@ use Rattle.rr_protocol.specs.declared.settings.ServerSettings.{ServerSettings}
 use Rattle.rr_protocol.specs.Keys.{RequestKey, ResponseKey}
 use Rattle.rr_protocol.specs.Messages.{RequestMessage, ResponseMessage}
 use Rattle.rr_protocol.specs.Creation.{with_server, loans_of}
+use Rattle.rr_protocol.specs.Limits.{max_loaned_responses}
 use Rattle.rr_store.specs.declared.handle_entry.HandleEntry.{HandleEntry}
 use Rattle.rr_store.specs.declared.details.RequestDetails.{RequestDetails}
 use Rattle.rr_store.specs.declared.details.ResponseDetails.{ResponseDetails}
@@ -45,13 +46,14 @@ module _ {Q QH P PH K : Type 0} (p : Parts Q QH P PH K) (settings : ServerSettin
   last = record {
     connected = record { port = server_port p settings; sender = length p.server_senders; receiver = receiver };
     max_loaned_responses_per_request = loans_of settings;
+    max_loaned_responses = max_loaned_responses p.limits (loans_of settings);
   }
 
   -- no request awaits the new server
   waiting : (sender slot : ℕ) → waiting_at after sender slot ≡ waiting_at p sender slot
   waiting sender slot = ap (map (λ (s : ServerPart K). s.port.id))
-      (filter_more (λ (s : ServerPart K). is_awaited p sender slot s.receiver) p.servers last
-      (sound.vacated.awaits_none sender slot receiver vacant inside))
+      (filter_more (λ (s : ServerPart K). is_awaited p sender slot s.receiver s.port.id) p.servers last
+      (sound.vacated.awaits_none sender slot receiver p.next (omega arith) (omega (arith, sound.sized.next_fits))))
 
   -- the handles show what they did
   handles : (k : ℕ) (s : TableEntry HandleEntry) → fin_map.get p.table.entries k ≡ Some s → handle_of after s ≡ handle_of p s
@@ -81,6 +83,7 @@ module _ {Q QH P PH K : Type 0} (p : Parts Q QH P PH K) (settings : ServerSettin
             receiver = receiver;
             loans = 0;
             pendings = 0;
+            may_answer = [];
             messages = m;
           })) None)) []) client []
           ≡ option_map_or (λ c. option_map_or (λ l. map (response_in_slot p.spare_response_header l.messages)
@@ -109,6 +112,7 @@ module _ {Q QH P PH K : Type 0} (p : Parts Q QH P PH K) (settings : ServerSettin
             connected =
                 record { port = server_port p settings; sender = length p.server_senders; receiver = receiver };
             max_loaned_responses_per_request = loans_of settings;
+            max_loaned_responses = max_loaned_responses p.limits (loans_of settings);
           })) None)) []
           ≡ option_map_or (λ s. option_map_or
           (λ l. map (request_in_slot p.spare_request_header l.messages) (queue_at l.messages s.receiver 0))

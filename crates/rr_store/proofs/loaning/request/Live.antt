@@ -35,6 +35,7 @@ use Rattle.rr_store.proofs.base.views.Keyed.{at_requests}
 use Rattle.rr_store.proofs.base.lists.Found.{found_somewhere}
 use Rattle.rr_store.proofs.base.senders.Queues.{times_queue}
 use Rattle.rr_store.proofs.base.hands.Stages.{handle_uses_request}
+use Rattle.rr_store.proofs.base.senders.Numbered.{numbered_once}
 
 module _ {Q QH P PH K : Type 0} (p : Parts Q QH P PH K) where
   -- a test of the request in a handle
@@ -192,7 +193,7 @@ module _ {Q QH P PH K : Type 0} (p : Parts Q QH P PH K) where
             let first : channel ≡ 0 = only_channel channel s.receiver waits in
             let server : find (λ s. s.port.id == key.server) p.servers ≡ Some s =
             found_alone (λ (s : ServerPart K). s.port.id == key.server) p.servers j s there (eq-eqb s.port.id s.port.id refl)
-            (λ k t e same. sound.server_ports.numbered_once k j t.connected s.connected (listed (λ s. s.connected) p.servers k t e)
+            (λ k t e same. numbered_once sound.server_ports k j t.connected s.connected (listed (λ s. s.connected) p.servers k t e)
             (listed (λ s. s.connected) p.servers j s there) (eqb-true t.port.id s.port.id same)) in
             let sender : find (λ l. l.owner == key.client) p.client_senders ≡ Some (sender_of c.sender p.client_senders) =
             found_alone (λ (l : Sender Q RequestDetails QH). l.owner == key.client) p.client_senders c.sender

@@ -12,7 +12,7 @@ use Rattle.rr_store.specs.declared.handle_entry.HandleEntry.{HandleEntry}
 use Rattle.rr_store.specs.declared.handle_entry.Stage.TheVariants as stage
 use Rattle.rr_store.specs.declared.details.RequestDetails.{RequestDetails}
 use Rattle.rr_store.specs.Parts.{Parts, Connected, ClientPart, Sender}
-use Rattle.rr_store.specs.Views.{no_sender, no_request, sender_of}
+use Rattle.rr_store.specs.Views.{no_sender, no_request, sender_of, is_marked}
 use Rattle.rr_store.specs.Sound.{IsSound, IsCounted, IsHeldOnce, IsNumbered, IsAddressed, IsStored, IsVacated, IsShaped, empty_hand, handles, is_of_request, is_request_at, is_response_at, is_active_at, is_request_loan, is_in_sender, is_pending, is_active_of, is_response_loan, is_loan_from, is_received_at, request_details, request_uses, server_place}
 use Rattle.rr_store.specs.Frames.{SameFrame}
 use Rattle.rr_store.specs.Loaning.{with_loan_made, with_one_loan, with_messages, loan_details, loan_held, loan_place, with_loan_in_hand, with_request_loan}
@@ -63,7 +63,7 @@ module _ {Q QH P PH K : Type 0} (p : Parts Q QH P PH K) (sound : IsSound p empty
   pub not_here : (k j : ℕ) → 0 < request_uses p k j → (c.sender ≡ k) → (slot ≡ j) → ⊥
   not_here k j used e f = omega (arith, used, not_used, ap (λ a. request_uses p a j) e, ap (λ b. request_uses p c.sender b) f)
 
-  frame : SameFrame p after.clients after.client_senders p.server_senders p.waiting (p.next + 1)
+  frame : SameFrame p after.clients after.client_senders p.server_senders (p.next + 1)
   frame = record {
     clients_alike = ports_set (λ (c : ClientPart K). c.connected) p.clients index c (with_loan_made c) at refl;
     client_senders_alike = senders_set p.client_senders c.sender fresh (record {
@@ -72,6 +72,7 @@ module _ {Q QH P PH K : Type 0} (p : Parts Q QH P PH K) (sound : IsSound p empty
       receiver = refl;
       slots = length-set m.held slot 1;
       room = refl;
+      marks = refl;
       shaped = λ r n k h. record {
         contents = length-set m.contents slot _ ∙ h.contents ∙ sym (length-set m.held slot 1);
         details = length-set m.details slot _ ∙ h.details ∙ sym (length-set m.held slot 1);
@@ -86,8 +87,6 @@ module _ {Q QH P PH K : Type 0} (p : Parts Q QH P PH K) (sound : IsSound p empty
       };
     });
     server_senders_alike = senders_same p.server_senders;
-    marks = refl;
-    marks_each = λ l. refl;
     numbers = omega arith;
   }
 
@@ -192,7 +191,7 @@ module _ {Q QH P PH K : Type 0} (p : Parts Q QH P PH K) (sound : IsSound p empty
         );
         received = λ k s e is.
             let r = n.received k s e is in
-            let d = client_after p empty_hand sound after.clients after.client_senders p.server_senders p.waiting p.table.entries
+            let d = client_after p empty_hand sound after.clients after.client_senders p.server_senders p.table.entries
             (p.next + 1) frame r.0 r.1 r.2 in
             (r.0, d.0, d.1, ap (λ (f : Connected K). f.port.id) d.2 ∙ r.3);
         answering = λ l i k server loans s u e is f.
@@ -209,7 +208,7 @@ module _ {Q QH P PH K : Type 0} (p : Parts Q QH P PH K) (sound : IsSound p empty
 
   before : (i : ℕ) (d : ClientPart K) → slice_get after.clients i ≡ Some d → (b : ClientPart K) × (slice_get p.clients i ≡ Some b)
       × (b.connected ≡ d.connected)
-  before = client_before p empty_hand sound after.clients after.client_senders p.server_senders p.waiting p.table.entries
+  before = client_before p empty_hand sound after.clients after.client_senders p.server_senders p.table.entries
       (p.next + 1) frame
 
   addressed : IsAddressed after
@@ -276,7 +275,7 @@ module _ {Q QH P PH K : Type 0} (p : Parts Q QH P PH K) (sound : IsSound p empty
   vacated : IsVacated after
   vacated = record {
     of_clients = λ k receiver channel none. sound.vacated.of_clients k receiver channel (λ i b e.
-        let d = client_after p empty_hand sound after.clients after.client_senders p.server_senders p.waiting p.table.entries
+        let d = client_after p empty_hand sound after.clients after.client_senders p.server_senders p.table.entries
         (p.next + 1) frame i b e in
         λ is. none i d.0 d.1 (ap (λ (f : Connected K). f.receiver) d.2 ∙ is));
     of_servers = λ k receiver channel none.
@@ -285,7 +284,9 @@ module _ {Q QH P PH K : Type 0} (p : Parts Q QH P PH K) (sound : IsSound p empty
           same_of (λ x. borrowed_at x.messages receiver channel) refl k
               ∙ r.1,
         );
-    awaits_none = sound.vacated.awaits_none;
+    awaits_none = λ l i r server new fits.
+        ap (λ ms. is_marked p.limits.max_servers ms i r server) (same_of (λ x. x.may_answer) refl l)
+        ∙ sound.vacated.awaits_none l i r server (omega (arith, new)) fits;
   }
 
   -- the loan in hand
@@ -295,21 +296,21 @@ module _ {Q QH P PH K : Type 0} (p : Parts Q QH P PH K) (sound : IsSound p empty
     held_once = held_once;
     numbered = numbered;
     addressed = addressed;
-    inserted = framed_inserted p empty_hand sound after.clients after.client_senders p.server_senders p.waiting (p.next + 1)
+    inserted = framed_inserted p empty_hand sound after.clients after.client_senders p.server_senders (p.next + 1)
         frame;
     stored = stored;
-    sized = framed_sized p empty_hand sound after.clients after.client_senders p.server_senders p.waiting p.table.entries
+    sized = framed_sized p empty_hand sound after.clients after.client_senders p.server_senders p.table.entries
         (p.next + 1) frame (omega (arith, left))
         (λ i d e. set_cases p.clients index (with_loan_made c) i d e
         (λ _ is. omega (arith, ap (λ (d : ClientPart K). d.loans_made) is, sound.sized.loans_made index c at))
         (λ _ b. omega (arith, sound.sized.loans_made i d b)));
     vacated = vacated;
-    have_values = framed_by_value p empty_hand sound after.clients after.client_senders p.server_senders p.waiting p.table.entries
+    have_values = framed_by_value p empty_hand sound after.clients after.client_senders p.server_senders p.table.entries
         (p.next + 1) frame;
-    client_ports = framed_client_ports p empty_hand sound after.clients after.client_senders p.server_senders p.waiting
+    client_ports = framed_client_ports p empty_hand sound after.clients after.client_senders p.server_senders
         p.table.entries
         (p.next + 1) frame;
-    server_ports = framed_server_ports p empty_hand sound after.clients after.client_senders p.server_senders p.waiting
+    server_ports = framed_server_ports p empty_hand sound after.clients after.client_senders p.server_senders
         p.table.entries
         (p.next + 1) frame;
   }

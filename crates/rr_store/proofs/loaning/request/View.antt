@@ -18,11 +18,11 @@ use Rattle.rr_store.specs.declared.handle_entry.HandleEntry.{HandleEntry}
 use Rattle.rr_store.specs.declared.details.RequestDetails.{RequestDetails}
 use Rattle.rr_store.specs.declared.details.ResponseDetails.{ResponseDetails}
 use Rattle.rr_store.specs.Parts.{Parts, ClientPart, ServerPart, Sender}
-use Rattle.rr_store.specs.Views.{no_sender, no_request, sender_of, state_of, client_of, request_in_slot, response_in_slot, request_at, handle_of, requests_at, responses_at}
+use Rattle.rr_store.specs.Views.{no_sender, no_request, sender_of, state_of, client_of, request_in_slot, response_in_slot, request_at, handle_of, requests_at, responses_at, marked}
 use Rattle.rr_store.specs.Sound.{IsSound, empty_hand, request_uses}
 use Rattle.rr_store.specs.Loaning.{with_loan_made, with_one_loan, with_messages, loan_details, loan_held, loan_place, with_request_loan}
 use Rattle.rr_store.proofs.base.views.Agreeing.{same_handle, same_requests, same_responses, same_state}
-use Rattle.rr_store.proofs.base.lists.Replaced.{map-set_one, map_but, find_read, map_without}
+use Rattle.rr_store.proofs.base.lists.Replaced.{map-set_one, map_but, find_read, map_without, set_alike}
 use Rattle.rr_store.proofs.base.hands.Stages.{handle_uses_request}
 use Rattle.rr_store.proofs.base.lists.Adding.{mapped}
 use Rattle.rr_store.proofs.base.views.Counts.{listed, ids_apart}
@@ -107,7 +107,12 @@ module _ {Q QH P PH K : Type 0} (p : Parts Q QH P PH K) (sound : IsSound p empty
   handles : (k : ℕ) (s : TableEntry HandleEntry) → fin_map.get p.table.entries k ≡ Some s → handle_of after s ≡ handle_of p s
   handles k s e =
       same_handle after p s.value.stage s.value.sender s.value.slot
-      (λ is. (used_says s.value.sender s.value.slot (handle_uses_request p empty_hand sound.counted k s e is), refl))
+      (λ is. (
+        used_says s.value.sender s.value.slot (handle_uses_request p empty_hand sound.counted k s e is),
+        ap (λ ms. marked p.limits.max_servers p.servers ms s.value.slot)
+            (set_alike p.client_senders c.sender (with_one_loan (with_messages (sender_of c.sender p.client_senders) new)) no_sender
+            (λ x. x.may_answer) refl s.value.sender),
+      ))
       (λ is. refl)
 
   all_handles : (state_of after).handles ≡ fin_map.insert (state_of p).handles p.next (RequestMutUninit message)

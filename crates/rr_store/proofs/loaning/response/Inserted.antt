@@ -76,7 +76,7 @@ module _ {Q QH P PH K : Type 0} (p : Parts Q QH P PH K) (sound : IsSound p empty
     fresh = gone;
     below = omega (arith, given);
     placed = sound.inserted.placed n s here ∙ ap (place_of p) is
-        ∙ sym (same_placing taken (more ∷ []) in_hand p.clients p.client_senders answered.server_senders p.waiting
+        ∙ sym (same_placing taken (more ∷ []) in_hand p.clients p.client_senders answered.server_senders
         (p.next + 1)
         (loan_sound.frame taken index c at n rl rs (loans + 1) in_hand gone given slot len header free unused) more.stage rl rs);
     loan = λ h. absurd (false≢true h);

@@ -35,6 +35,7 @@ use Rattle.rr_store.proofs.base.views.Keyed.{at_responses}
 use Rattle.rr_store.proofs.base.lists.Found.{found_somewhere}
 use Rattle.rr_store.proofs.base.senders.Queues.{times_queue}
 use Rattle.rr_store.proofs.base.hands.Stages.{handle_uses_response}
+use Rattle.rr_store.proofs.base.senders.Numbered.{numbered_once}
 
 module _ {Q QH P PH K : Type 0} (p : Parts Q QH P PH K) where
   -- a test of the response in a handle
@@ -192,7 +193,7 @@ module _ {Q QH P PH K : Type 0} (p : Parts Q QH P PH K) where
             let key : ResponseKey = record { server = c.port.id; client = s.port.id; channel = channel } in
             let client : find (λ s. s.port.id == key.client) p.clients ≡ Some s =
             found_alone (λ (s : ClientPart K). s.port.id == key.client) p.clients j s there (eq-eqb s.port.id s.port.id refl)
-            (λ k t e same. sound.client_ports.numbered_once k j t.connected s.connected (listed (λ s. s.connected) p.clients k t e)
+            (λ k t e same. numbered_once sound.client_ports k j t.connected s.connected (listed (λ s. s.connected) p.clients k t e)
             (listed (λ s. s.connected) p.clients j s there) (eqb-true t.port.id s.port.id same)) in
             let sender : find (λ l. l.owner == key.server) p.server_senders ≡ Some (sender_of c.sender p.server_senders) =
             found_alone (λ (l : Sender P ResponseDetails PH). l.owner == key.server) p.server_senders c.sender

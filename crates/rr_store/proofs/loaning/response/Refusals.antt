@@ -26,6 +26,7 @@ use Rattle.rr_store.proofs.base.views.Counts.{listed, loans_from_counted, respon
 use Rattle.rr_store.proofs.loaning.response.Live.{live_responses_used}
 use Rattle.rr_store.proofs.loaning.response.View.{response_loan_view}
 use Rattle.rr_store.proofs.base.lists.Replaced.{find_mapped}
+use Rattle.rr_store.proofs.base.senders.Numbered.{numbered_once}
 
 -- one of two limits was reached, or neither
 one_reached : (a b : Bool) (x y : Option LoanError) → (a || b) ≡ true → cond a x (cond b x y) ≡ x
@@ -88,7 +89,7 @@ module _ {Q QH P PH K : Type 0} (p : Parts Q QH P PH K) (sound : IsSound p empty
       find_mapped server_of (λ d. d.id == c.port.id) p.servers
       ∙ ap (option_map server_of) (found_alone (λ (d : ServerPart K). d.port.id == c.port.id) p.servers index c at
       (eq-eqb c.port.id c.port.id refl)
-      (λ k t e same. sound.server_ports.numbered_once k index t.connected c.connected (listed (λ d. d.connected) p.servers k t e)
+      (λ k t e same. numbered_once sound.server_ports k index t.connected c.connected (listed (λ d. d.connected) p.servers k t e)
       (listed (λ d. d.connected) p.servers index c at) (eqb-true t.port.id c.port.id same)))
 
   -- what holds of both holds of what is seen

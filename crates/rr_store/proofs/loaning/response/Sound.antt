@@ -91,7 +91,7 @@ module _ {Q QH P PH K : Type 0} (p : Parts Q QH P PH K) (index : ℕ) (c : Serve
       omega (arith, sound.counted.requests rl rs, one_in_hand (is_request_at rl rs) active here)
 
   -- ports and senders are as many, and of the same sizes
-  pub frame : SameFrame p p.clients p.client_senders after.server_senders p.waiting (p.next + 1)
+  pub frame : SameFrame p p.clients p.client_senders after.server_senders (p.next + 1)
   frame = record {
     clients_alike = refl;
     client_senders_alike = senders_same p.client_senders;
@@ -101,6 +101,7 @@ module _ {Q QH P PH K : Type 0} (p : Parts Q QH P PH K) (index : ℕ) (c : Serve
       receiver = refl;
       slots = length-set m.held slot 1;
       room = refl;
+      marks = refl;
       shaped = λ r n k h. record {
         contents = length-set m.contents slot _ ∙ h.contents ∙ sym (length-set m.held slot 1);
         details = length-set m.details slot _ ∙ h.details ∙ sym (length-set m.held slot 1);
@@ -114,8 +115,6 @@ module _ {Q QH P PH K : Type 0} (p : Parts Q QH P PH K) (index : ℕ) (c : Serve
         inside = λ j some. omega (arith, h.inside j some, length-set m.held slot 1);
       };
     });
-    marks = refl;
-    marks_each = λ l. refl;
     numbers = omega arith;
   }
 
@@ -353,7 +352,7 @@ module _ {Q QH P PH K : Type 0} (p : Parts Q QH P PH K) (index : ℕ) (c : Serve
               ∙ r.1,
         );
     of_servers = sound.vacated.of_servers;
-    awaits_none = sound.vacated.awaits_none;
+    awaits_none = λ l i r server new fits. sound.vacated.awaits_none l i r server (omega (arith, new)) fits;
   }
 
   -- the loan in hand beside the active request
@@ -363,17 +362,17 @@ module _ {Q QH P PH K : Type 0} (p : Parts Q QH P PH K) (index : ℕ) (c : Serve
     held_once = held_once;
     numbered = numbered;
     addressed = addressed;
-    inserted = framed_inserted p hand sound p.clients p.client_senders after.server_senders p.waiting (p.next + 1) frame;
+    inserted = framed_inserted p hand sound p.clients p.client_senders after.server_senders (p.next + 1) frame;
     stored = stored;
-    sized = framed_sized p hand sound p.clients p.client_senders after.server_senders p.waiting p.table.entries (p.next + 1)
+    sized = framed_sized p hand sound p.clients p.client_senders after.server_senders p.table.entries (p.next + 1)
         frame
         (omega (arith, left))
         (λ i d e. omega (arith, sound.sized.loans_made i d e));
     vacated = vacated;
-    have_values = framed_by_value p hand sound p.clients p.client_senders after.server_senders p.waiting p.table.entries
+    have_values = framed_by_value p hand sound p.clients p.client_senders after.server_senders p.table.entries
         (p.next + 1) frame;
-    client_ports = framed_client_ports p hand sound p.clients p.client_senders after.server_senders p.waiting p.table.entries
+    client_ports = framed_client_ports p hand sound p.clients p.client_senders after.server_senders p.table.entries
         (p.next + 1) frame;
-    server_ports = framed_server_ports p hand sound p.clients p.client_senders after.server_senders p.waiting p.table.entries
+    server_ports = framed_server_ports p hand sound p.clients p.client_senders after.server_senders p.table.entries
         (p.next + 1) frame;
   }

@@ -17,6 +17,7 @@ use Rattle.rr_store.proofs.base.senders.Entries.{found_alone}
 use Rattle.rr_store.proofs.base.views.Counts.{listed}
 use Rattle.rr_store.proofs.base.lists.Replaced.{find_mapped}
 use Rattle.rr_store.proofs.receiving.request.Refusals.{skims_all, with_client_senders}
+use Rattle.rr_store.proofs.base.senders.Numbered.{numbered_once}
 
 -- dead requests have left the fronts of the queues to a server, and nothing else changed
 pub record IsReady {Q QH P PH K : Type 0} (p q : Parts Q QH P PH K) (c : ServerPart K) : Type 0 where
@@ -62,7 +63,7 @@ module _ {Q QH P PH K : Type 0} (p : Parts Q QH P PH K) (sound : IsSound p empty
   pub its_self : find (λ s. s.port.id == c.port.id) p.servers ≡ Some c
   its_self =
       found_alone (λ (d : ServerPart K). d.port.id == c.port.id) p.servers index c at (eq-eqb c.port.id c.port.id refl)
-      (λ k d e same. sound.server_ports.numbered_once k index d.connected c.connected
+      (λ k d e same. numbered_once sound.server_ports k index d.connected c.connected
       (listed (λ (c : ServerPart K). c.connected) p.servers k d e) (listed (λ (c : ServerPart K). c.connected) p.servers index c at)
       (eqb-true d.port.id c.port.id same))
 

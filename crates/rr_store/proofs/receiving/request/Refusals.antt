@@ -1,6 +1,6 @@
 -- What a server may be answered when it receives.
 use Rattle.std.proofs.Common.{◌≡◌, ◌≢◌, ◌<◌, ◌≤◌, ◌+◌, ◌^◌, ℕ, Bool, true, false, List, [], ◌∷◌, Option, None, Some, Ok, Err, length, map, nat_lt, refl, sym, ap, ◌∙◌, subst, ⊎_elim, arith}
-use Rattle.std.specs.Prelude.{◌==◌, ◌&&◌, not, IsTrue, IsFalse, slice_get, slice_index, slice_set, find, count_by}
+use Rattle.std.specs.Prelude.{◌==◌, ◌&&◌, not, IsTrue, IsFalse, slice_get, slice_index, slice_set, find, count_by, take}
 use Rattle.std.specs.Option.{option_map_or}
 use Rattle.std.specs.FinMap as fin_map
 use Rattle.std.proofs.lemmas.Bool.{cases_eq, eq-eqb, eqb-true, ne_eqb, lt-ltb, ltb-true, le-ltb}
@@ -19,13 +19,16 @@ use Rattle.rr_store.specs.declared.handle_entry.HandleEntry.{HandleEntry}
 use Rattle.rr_store.specs.declared.handle_entry.Stage.{Stage}
 use Rattle.rr_store.specs.declared.handle_entry.Stage.TheVariants as stage
 use Rattle.rr_store.specs.declared.details.RequestDetails.{RequestDetails}
+use Rattle.rr_store.specs.Emptying.{PartsEmptied}
 use Rattle.rr_store.specs.Parts.{Parts, ServerPart, Sender}
 use Rattle.rr_store.specs.Receiving.{queue_from, borrowed_from, IsNextSender}
-use Rattle.rr_store.specs.Skimming.{is_waited, SkimsSenders, with_received_request}
+use Rattle.rr_store.specs.Skimming.{is_waited, first_skimmed, without_first, SkimsSenders, with_received_request}
 use Rattle.rr_store.specs.Sound.{IsSound, empty_hand, is_active_of, is_in_sender, is_of_request, is_pending, own_place, request_details, request_uses}
 use Rattle.rr_store.specs.Views.{no_sender, sender_of, state_of, request_in_slot, request_at, handle_in}
 use Rattle.rr_store.proofs.base.views.Agreeing.{request_sender}
 use Rattle.rr_store.proofs.querying.Alive.{alive_here, alive_not}
+use Rattle.rr_store.proofs.base.frames.Emptied.{emptied_sound, emptied_view}
+use Rattle.rr_store.proofs.base.senders.Emptied.{among_emptied, one_emptied, senders_stay}
 use Rattle.rr_store.proofs.base.senders.Entries.{found_alone}
 use Rattle.rr_store.proofs.base.lists.Found.{found_passes, found_somewhere}
 use Rattle.rr_store.proofs.base.views.Counts.{handles_counted, listed}
@@ -37,6 +40,7 @@ use Rattle.rr_store.proofs.receiving.request.View.{rest, m, queued, popped_state
 use Rattle.rr_store.proofs.receiving.response.Inserted.{entry_waits}
 use Rattle.rr_store.proofs.base.hands.Stages.{handle_uses_request}
 use Rattle.rr_store.proofs.base.lists.Tallies.{and_none, tally-same}
+use Rattle.rr_store.proofs.base.senders.Numbered.{numbered_once}
 
 other_way : (a b c : Bool) → a ≡ c → (a && b) ≡ (b && c)
 other_way true true c e = e
@@ -81,7 +85,7 @@ module _ {Q QH P PH K : Type 0} (p : Parts Q QH P PH K) (sound : IsSound p empty
   the_one : find (λ d. d.port.id == c.port.id) p.servers ≡ Some c
   the_one =
       found_alone (λ (d : ServerPart K). d.port.id == c.port.id) p.servers index c at_c (eq-eqb c.port.id c.port.id refl)
-      (λ k d e same. sound.server_ports.numbered_once k index d.connected c.connected
+      (λ k d e same. numbered_once sound.server_ports k index d.connected c.connected
       (listed (λ (c : ServerPart K). c.connected) p.servers k d e) (listed (λ (c : ServerPart K). c.connected) p.servers index c at_c)
       (eqb-true d.port.id c.port.id same))
 
@@ -270,6 +274,21 @@ module _ {Q QH P PH K : Type 0} (p : Parts Q QH P PH K) (sound : IsSound p empty
 abbrev pub with_client_senders : {Q QH P PH K : Type 0} → Parts Q QH P PH K → List (Sender Q RequestDetails QH) → Parts Q QH P PH K
 with_client_senders p senders = record p { client_senders = senders }
 
+-- the slot of a request that was skimmed may be emptied besides
+skim_emptied : {Q QH P PH K : Type 0} (p : Parts Q QH P PH K) (sender receiver : ℕ)
+    → PartsEmptied (with_client_senders p (slice_set p.client_senders sender (without_first receiver (sender_of sender p.client_senders))))
+    (with_client_senders p (slice_set p.client_senders sender (first_skimmed receiver (sender_of sender p.client_senders))))
+skim_emptied p sender receiver =
+    let l = sender_of sender p.client_senders in
+    record {
+      rest = refl;
+      client_senders = one_emptied p.client_senders sender (without_first receiver l) (first_skimmed receiver l) (record {
+        rest = refl;
+        messages = among_emptied (take 1 (queue_at l.messages receiver 0)) (without_first receiver l).messages;
+      });
+      server_senders = senders_stay p.server_senders;
+    }
+
 -- requests that nobody waits for are skimmed one after another
 pub skims_all : {Q QH P PH K : Type 0} (p : Parts Q QH P PH K) (sound : IsSound p empty_hand) (index : ℕ) (c : ServerPart K)
     (at_c : slice_get p.servers index ≡ Some c) → p.limits.enable_fire_and_forget_requests ≡ false
@@ -281,7 +300,12 @@ pub skims_all : {Q QH P PH K : Type 0} (p : Parts Q QH P PH K) (sound : IsSound 
 skims_all p sound index c at_c forgets [] senders e =
     (subst (λ ls. IsSound (with_client_senders p ls) empty_hand) (sym e) sound, ([], ap (λ ls. state_of (with_client_senders p ls)) e))
 skims_all p sound index c at_c forgets (l ∷ ls) senders (slot, there, few, first, dead, more) =
-    let q = after_skim p sound l there index c at_c slot first in
+    let held = after_skim p sound l there index c at_c slot first in
+    let q = with_client_senders p (slice_set p.client_senders l (first_skimmed c.receiver (sender_of l p.client_senders))) in
+    let same = skim_emptied p l c.receiver in
+    let is_sound = skim_sound p sound l there index c at_c slot first in
     let one = skims_one p sound index c at_c l there slot first few forgets dead in
-    let others = skims_all q (skim_sound p sound l there index c at_c slot first) index c at_c forgets ls senders more in
-    (others.0, ((sender_of l p.client_senders).owner ∷ others.1.0, (one.0, state_of q, one.1, one.2, others.1.1)))
+    let takes = subst (λ s. TakesRequest (state_of p) (request_key (sender_of l p.client_senders).owner c.port.id) one.0 s)
+    (sym (emptied_view held q same empty_hand is_sound)) one.2 in
+    let others = skims_all q (emptied_sound held q same empty_hand is_sound) index c at_c forgets ls senders more in
+    (others.0, ((sender_of l p.client_senders).owner ∷ others.1.0, (one.0, state_of q, one.1, takes, others.1.1)))

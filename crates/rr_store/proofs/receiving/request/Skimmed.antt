@@ -11,7 +11,7 @@ use Rattle.rr_store.specs.Parts.{Parts, ServerPart, Sender}
 use Rattle.rr_store.specs.Receiving.{queue_from}
 use Rattle.rr_store.specs.Skimming.{without_first}
 use Rattle.rr_store.specs.Sound.{IsSound, IsCounted, IsHeldOnce, IsStored, IsVacated, IsShaped, empty_hand, request_details, request_uses, server_place}
-use Rattle.rr_store.specs.Views.{no_sender, no_request, sender_of}
+use Rattle.rr_store.specs.Views.{no_sender, no_request, sender_of, is_marked}
 use Rattle.rr_store.proofs.base.frames.Frames.{framed_client_ports, framed_server_ports, framed_by_value, framed_sized, senders_set}
 use Rattle.rr_store.proofs.base.views.Counts.{listed}
 use Rattle.rr_store.proofs.base.hands.Hands.{senders_same}
@@ -59,14 +59,12 @@ module _ {Q QH P PH K : Type 0} (p : Parts Q QH P PH K) (sound : IsSound p empty
         inside = λ i some. h.inside i (omega (arith, some, all_less m shaped c.receiver 0 slot placed one first i));
       }
 
-  frame : SameFrame p p.clients after_skim.client_senders p.server_senders p.waiting p.next
+  frame : SameFrame p p.clients after_skim.client_senders p.server_senders p.next
   frame = record {
     clients_alike = refl;
     client_senders_alike = senders_set p.client_senders sender fresh
-        (record { owner = refl; row = refl; receiver = refl; slots = refl; room = refl; shaped = shape });
+        (record { owner = refl; row = refl; receiver = refl; slots = refl; room = refl; marks = refl; shaped = shape });
     server_senders_alike = senders_same p.server_senders;
-    marks = refl;
-    marks_each = λ l. refl;
     numbers = omega arith;
   }
 
@@ -164,7 +162,9 @@ module _ {Q QH P PH K : Type 0} (p : Parts Q QH P PH K) (sound : IsSound p empty
           same_of (λ x. queue_at x.messages r ch) (queue_there m shaped c.receiver 0 slot placed one first r ch (λ e _. far e)) k ∙ old.0,
           same_of (λ x. borrowed_at x.messages r ch) refl k ∙ old.1,
         );
-    awaits_none = sound.vacated.awaits_none;
+    awaits_none = λ l i r server new fits.
+        ap (λ ms. is_marked p.limits.max_servers ms i r server) (same_of (λ x. x.may_answer) refl l)
+        ∙ sound.vacated.awaits_none l i r server new fits;
   }
 
   -- the core stays sound
@@ -172,23 +172,23 @@ module _ {Q QH P PH K : Type 0} (p : Parts Q QH P PH K) (sound : IsSound p empty
   skim_sound = record {
     counted = counted;
     held_once = held_once;
-    numbered = kept_numbered p empty_hand sound p.clients after_skim.client_senders p.server_senders p.waiting p.next frame kept
+    numbered = kept_numbered p empty_hand sound p.clients after_skim.client_senders p.server_senders p.next frame kept
         (handle_uses_request after_skim empty_hand counted) (handle_uses_response after_skim empty_hand counted);
-    addressed = kept_addressed p empty_hand sound p.clients after_skim.client_senders p.server_senders p.waiting p.next frame kept
+    addressed = kept_addressed p empty_hand sound p.clients after_skim.client_senders p.server_senders p.next frame kept
         (λ l i ch j d e some. sound.addressed.entries l i ch j d e some);
-    inserted = framed_inserted p empty_hand sound p.clients after_skim.client_senders p.server_senders p.waiting p.next frame;
+    inserted = framed_inserted p empty_hand sound p.clients after_skim.client_senders p.server_senders p.next frame;
     stored = stored;
-    sized = framed_sized p empty_hand sound p.clients after_skim.client_senders p.server_senders p.waiting p.table.entries p.next
+    sized = framed_sized p empty_hand sound p.clients after_skim.client_senders p.server_senders p.table.entries p.next
         frame
         sound.sized.next_fits sound.sized.loans_made;
     vacated = vacated;
-    have_values = framed_by_value p empty_hand sound p.clients after_skim.client_senders p.server_senders p.waiting
+    have_values = framed_by_value p empty_hand sound p.clients after_skim.client_senders p.server_senders
         p.table.entries
         p.next frame;
-    client_ports = framed_client_ports p empty_hand sound p.clients after_skim.client_senders p.server_senders p.waiting
+    client_ports = framed_client_ports p empty_hand sound p.clients after_skim.client_senders p.server_senders
         p.table.entries
         p.next frame;
-    server_ports = framed_server_ports p empty_hand sound p.clients after_skim.client_senders p.server_senders p.waiting
+    server_ports = framed_server_ports p empty_hand sound p.clients after_skim.client_senders p.server_senders
         p.table.entries
         p.next frame;
   }

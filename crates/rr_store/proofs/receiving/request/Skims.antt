@@ -10,7 +10,7 @@ use Rattle.rr_store.specs.declared.handle_entry.HandleEntry.{HandleEntry}
 use Rattle.rr_store.specs.declared.details.RequestDetails.{RequestDetails}
 use Rattle.rr_store.specs.Parts.{Sender}
 use Rattle.rr_store.specs.Receiving.{borrowed_from, Reaches}
-use Rattle.rr_store.specs.Skimming.{is_waited, without_first, SkimsSender, IsFrontAlive, SkimsSenders, IsSkimmedBelow}
+use Rattle.rr_store.specs.Skimming.{is_waited, first_skimmed, SkimsSender, IsFrontAlive, SkimsSenders, IsSkimmedBelow}
 use Rattle.rr_store.specs.Views.{sender_of, no_sender}
 use Rattle.rr_store.proofs.base.lists.SetTwo.{row_length}
 
@@ -37,7 +37,7 @@ module _ {T H : Type 0} (table : TableView HandleEntry) (receiver : ℕ) where
   pub skim_alike : (n : ℕ) (a b : Sender T RequestDetails H) → SkimsSender table receiver n a b → IsAlike a b
   skim_alike zero a b e = subst (IsAlike a) (sym e) (record { rows = refl; row = refl; borrowed = refl })
   skim_alike (suc n) a b (slot, f, d, more) =
-      let r = skim_alike n (without_first receiver a) b more in
+      let r = skim_alike n (first_skimmed receiver a) b more in
       record {
         rows = r.rows ∙ length-set_two a.messages.queues receiver 0 _;
         row = r.row ∙ row_length a.messages.queues receiver 0 _ [] receiver;
@@ -47,15 +47,15 @@ module _ {T H : Type 0} (table : TableView HandleEntry) (receiver : ℕ) where
   -- one more leaves it
   pub skim_more : (n : ℕ) (a b : Sender T RequestDetails H) → SkimsSender table receiver n a b → (slot : ℕ)
       → slice_get (queue_at b.messages receiver 0) 0 ≡ Some slot → is_waited table b slot ≡ false
-      → SkimsSender table receiver (suc n) a (without_first receiver b)
+      → SkimsSender table receiver (suc n) a (first_skimmed receiver b)
   skim_more zero a b e slot f d = (
     slot,
     ap (λ (x : Sender T RequestDetails H). slice_get (queue_at x.messages receiver 0) 0) (sym e)
         ∙ f,
     ap (λ (x : Sender T RequestDetails H). is_waited table x slot) (sym e) ∙ d,
-    ap (without_first receiver) e,
+    ap (first_skimmed receiver) e,
   )
-  skim_more (suc n) a b (first, g, h, more) slot f d = (first, g, h, skim_more n (without_first receiver a) b more slot f d)
+  skim_more (suc n) a b (first, g, h, more) slot f d = (first, g, h, skim_more n (first_skimmed receiver a) b more slot f d)
 
   module _ (most : ℕ) where
     -- what leaves the queue from one sender, as steps over all senders
@@ -64,7 +64,7 @@ module _ {T H : Type 0} (table : TableView HandleEntry) (receiver : ℕ) where
         → (ls : List ℕ) × SkimsSenders table receiver most ls a (slice_set a l x)
     to_senders zero a l there few x e = ([], ap (slice_set a l) e ∙ set-get_or a l no_sender)
     to_senders (suc n) a l there few x (slot, f, d, more) =
-        let y = without_first receiver (sender_of l a) in
+        let y = first_skimmed receiver (sender_of l a) in
         let b = slice_set a l y in
         let is : sender_of l b ≡ y = get_or-set_same a l y no_sender there in
         let r = to_senders n b l (omega (arith, there, length-set a l y))
@@ -77,7 +77,7 @@ module _ {T H : Type 0} (table : TableView HandleEntry) (receiver : ℕ) where
         → SkimsSenders table receiver most ms b c → SkimsSenders table receiver most (ls ++ ms) a c
     then_more [] ms a b c e more = subst (λ a. SkimsSenders table receiver most ms a c) e more
     then_more (l ∷ ls) ms a b c (slot, there, few, f, d, first) more =
-        (slot, there, few, f, d, then_more ls ms (slice_set a l (without_first receiver (sender_of l a))) b c first more)
+        (slot, there, few, f, d, then_more ls ms (slice_set a l (first_skimmed receiver (sender_of l a))) b c first more)
 
     -- before the first sender
     pub skimmed_none : (a : List (Sender T RequestDetails H)) → Reaches a receiver 0 → IsSkimmedBelow table receiver most 0 a a

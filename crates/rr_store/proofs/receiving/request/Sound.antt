@@ -16,7 +16,7 @@ use Rattle.rr_store.specs.Parts.{Parts, ServerPart, Sender}
 use Rattle.rr_store.specs.Receiving.{queue_from}
 use Rattle.rr_store.specs.Skimming.{with_taken_request}
 use Rattle.rr_store.specs.Sound.{IsSound, IsCounted, IsHeldOnce, IsStored, IsVacated, IsShaped, empty_hand, is_request_at, is_response_at, is_active_at, is_in_sender, is_request_loan, is_pending, is_active_of, is_response_loan, is_loan_from, is_received_at, request_details, request_uses, server_place}
-use Rattle.rr_store.specs.Views.{no_sender, no_request, sender_of}
+use Rattle.rr_store.specs.Views.{no_sender, no_request, sender_of, is_marked}
 use Rattle.rr_store.proofs.releasing.active.Sound.{servers_apart}
 use Rattle.rr_store.proofs.base.senders.Entries.{found_alone}
 use Rattle.rr_store.proofs.base.frames.Frames.{framed_client_ports, framed_server_ports, framed_by_value, framed_sized, senders_set}
@@ -27,6 +27,7 @@ use Rattle.rr_store.proofs.loaning.LoanedSender.{other_slot, other_senders, both
 use Rattle.rr_store.proofs.base.lists.Replaced.{set_alike}
 use Rattle.rr_store.proofs.base.hands.Stages.{handle_uses_request, handle_uses_response}
 use Rattle.rr_store.proofs.receiving.TakenSender.{queue_there, queue_here, borrowed_here, borrowed_there, held_more, uses_kept, taken_shaped, entry as first_entry}
+use Rattle.rr_store.proofs.base.senders.Numbered.{numbered_once}
 
 -- three tests, one of which is asked otherwise
 swapped : (a b c d : Bool) → b ≡ c → mark ((a && d) && b) ≡ mark (a && (c && d))
@@ -64,7 +65,7 @@ module _ {Q QH P PH K : Type 0} (p : Parts Q QH P PH K) (sound : IsSound p empty
   pub the_server : find (λ s. s.port.id == c.port.id) p.servers ≡ Some c
   the_server =
       found_alone (λ (d : ServerPart K). d.port.id == c.port.id) p.servers index c at (eq-eqb c.port.id c.port.id refl)
-      (λ k d e same. sound.server_ports.numbered_once k index d.connected c.connected
+      (λ k d e same. numbered_once sound.server_ports k index d.connected c.connected
       (listed (λ (c : ServerPart K). c.connected) p.servers k d e) (listed (λ (c : ServerPart K). c.connected) p.servers index c at)
       (eqb-true d.port.id c.port.id same))
 
@@ -78,7 +79,7 @@ module _ {Q QH P PH K : Type 0} (p : Parts Q QH P PH K) (sound : IsSound p empty
   its_place : (server : ℕ) → (c.port.id == server) ≡ (c.receiver == server_place p server)
   its_place server = servers_apart p sound c.port.id server served ∙ ap (λ r. r == server_place p server) place_is
 
-  pub frame : SameFrame p p.clients after.client_senders p.server_senders p.waiting (p.next + 1)
+  pub frame : SameFrame p p.clients after.client_senders p.server_senders (p.next + 1)
   frame = record {
     clients_alike = refl;
     client_senders_alike = senders_set p.client_senders sender fresh
@@ -88,11 +89,10 @@ module _ {Q QH P PH K : Type 0} (p : Parts Q QH P PH K) (sound : IsSound p empty
           receiver = refl;
           slots = length-set m.held slot _;
           room = refl;
+          marks = refl;
           shaped = taken_shaped m shaped c.receiver 0 slot placed one first;
         });
     server_senders_alike = senders_same p.server_senders;
-    marks = refl;
-    marks_each = λ l. refl;
     numbers = omega arith;
   }
 
@@ -303,7 +303,9 @@ module _ {Q QH P PH K : Type 0} (p : Parts Q QH P PH K) (sound : IsSound p empty
           same_of (λ x. borrowed_at x.messages r ch) (borrowed_there m shaped c.receiver 0 slot placed one first r ch (λ e _. far e)) k
               ∙ old.1,
         );
-    awaits_none = sound.vacated.awaits_none;
+    awaits_none = λ l i r server new fits.
+        ap (λ ms. is_marked p.limits.max_servers ms i r server) (same_of (λ x. x.may_answer) refl l)
+        ∙ sound.vacated.awaits_none l i r server (omega (arith, new)) fits;
   }
 
   -- the request in hand
@@ -311,24 +313,24 @@ module _ {Q QH P PH K : Type 0} (p : Parts Q QH P PH K) (sound : IsSound p empty
   request_in_hand = record {
     counted = counted;
     held_once = held_once;
-    numbered = kept_numbered p empty_hand sound p.clients after.client_senders p.server_senders p.waiting (p.next + 1) frame kept
+    numbered = kept_numbered p empty_hand sound p.clients after.client_senders p.server_senders (p.next + 1) frame kept
         (λ k s e is. omega (arith, handle_uses_request p empty_hand sound.counted k s e is, used_same s.value.sender s.value.slot))
         (λ k s e is. handle_uses_response p empty_hand sound.counted k s e is);
-    addressed = kept_addressed p empty_hand sound p.clients after.client_senders p.server_senders p.waiting (p.next + 1) frame
+    addressed = kept_addressed p empty_hand sound p.clients after.client_senders p.server_senders (p.next + 1) frame
         kept
         (λ l i ch j d e some. sound.addressed.entries l i ch j d e some);
-    inserted = framed_inserted p empty_hand sound p.clients after.client_senders p.server_senders p.waiting (p.next + 1) frame;
+    inserted = framed_inserted p empty_hand sound p.clients after.client_senders p.server_senders (p.next + 1) frame;
     stored = stored;
-    sized = framed_sized p empty_hand sound p.clients after.client_senders p.server_senders p.waiting p.table.entries (p.next + 1)
+    sized = framed_sized p empty_hand sound p.clients after.client_senders p.server_senders p.table.entries (p.next + 1)
         frame
         (omega (arith, left)) (λ i d e. omega (arith, sound.sized.loans_made i d e));
     vacated = vacated;
-    have_values = framed_by_value p empty_hand sound p.clients after.client_senders p.server_senders p.waiting p.table.entries
+    have_values = framed_by_value p empty_hand sound p.clients after.client_senders p.server_senders p.table.entries
         (p.next + 1) frame;
-    client_ports = framed_client_ports p empty_hand sound p.clients after.client_senders p.server_senders p.waiting
+    client_ports = framed_client_ports p empty_hand sound p.clients after.client_senders p.server_senders
         p.table.entries
         (p.next + 1) frame;
-    server_ports = framed_server_ports p empty_hand sound p.clients after.client_senders p.server_senders p.waiting
+    server_ports = framed_server_ports p empty_hand sound p.clients after.client_senders p.server_senders
         p.table.entries
         (p.next + 1) frame;
   }

@@ -31,7 +31,7 @@ use Rattle.rr_store.specs.Parts.{Parts, ServerPart, Sender}
 use Rattle.rr_store.specs.Receiving.{queue_from}
 use Rattle.rr_store.specs.Skimming.{with_received_request}
 use Rattle.rr_store.specs.Sound.{IsSound, IsShaped, empty_hand, active_place}
-use Rattle.rr_store.specs.Views.{no_sender, sender_of, state_of, request_in_slot, request_at, handle_of, requests_at}
+use Rattle.rr_store.specs.Views.{no_sender, sender_of, state_of, request_in_slot, request_at, handle_of, requests_at, waiting_at, marked}
 use Rattle.rr_store.proofs.base.views.Agreeing.{same_handle, same_state}
 use Rattle.rr_store.proofs.base.senders.Entries.{found_alone}
 use Rattle.rr_store.proofs.base.lists.Found.{found_passes, found_somewhere}
@@ -40,6 +40,7 @@ use Rattle.rr_store.proofs.base.views.Keyed.{at_requests}
 use Rattle.rr_store.proofs.base.lists.Replaced.{find_read, set_alike}
 use Rattle.rr_store.proofs.receiving.response.View.{find_skip, first_and_rest, nobody_left}
 use Rattle.rr_store.proofs.base.lists.SetTwo.{other_row}
+use Rattle.rr_store.proofs.base.senders.Numbered.{numbered_once}
 
 module _ {Q QH P PH K : Type 0} (p : Parts Q QH P PH K) (sound : IsSound p empty_hand) (sender : ℕ)
     (there : sender < length p.client_senders)
@@ -58,7 +59,7 @@ module _ {Q QH P PH K : Type 0} (p : Parts Q QH P PH K) (sound : IsSound p empty
   the_server : find (λ d. d.port.id == c.port.id) p.servers ≡ Some c
   the_server =
       found_alone (λ (d : ServerPart K). d.port.id == c.port.id) p.servers index c at_c (eq-eqb c.port.id c.port.id refl)
-      (λ k d e same. sound.server_ports.numbered_once k index d.connected c.connected
+      (λ k d e same. numbered_once sound.server_ports k index d.connected c.connected
       (listed (λ (c : ServerPart K). c.connected) p.servers k d e) (listed (λ (c : ServerPart K). c.connected) p.servers index c at_c)
       (eqb-true d.port.id c.port.id same))
 
@@ -193,10 +194,15 @@ module _ {Q QH P PH K : Type 0} (p : Parts Q QH P PH K) (sound : IsSound p empty
         (λ (x : Sender Q RequestDetails QH). request_in_slot p.spare_request_header x.messages
         j) refl k
 
+    -- and so do its marks
+    pub marks_say : (k j : ℕ) → waiting_at popped k j ≡ waiting_at p k j
+    marks_say k j = set_alike p.client_senders sender fresh no_sender
+        (λ (x : Sender Q RequestDetails QH). marked p.limits.max_servers p.servers x.may_answer j) refl k
+
     -- and so does each handle
     pub handles : (n : ℕ) (s : TableEntry HandleEntry) → fin_map.get p.table.entries n ≡ Some s → handle_of popped s ≡ handle_of p s
-    handles n s e = same_handle popped p s.value.stage s.value.sender s.value.slot (λ _. (says s.value.sender s.value.slot, refl))
-        (λ _. refl)
+    handles n s e = same_handle popped p s.value.stage s.value.sender s.value.slot
+        (λ _. (says s.value.sender s.value.slot, marks_say s.value.sender s.value.slot)) (λ _. refl)
 
     -- the entry left its list
     abbrev pub popped_state : State Q QH P PH K
@@ -242,4 +248,7 @@ module _ {Q QH P PH K : Type 0} (p : Parts Q QH P PH K) (sound : IsSound p empty
           (ActiveRequest (record { message = request_at p sender slot; server = c.port.id })))
           (map_values-same (handle_of after) (handle_of p) p.table.entries
           (λ n s e. same_handle after p s.value.stage s.value.sender s.value.slot
-          (λ _. (says more_held more_borrowed s.value.sender s.value.slot, refl)) (λ _. refl)))
+          (λ _. (
+            says more_held more_borrowed s.value.sender s.value.slot,
+            marks_say more_held more_borrowed s.value.sender s.value.slot,
+          )) (λ _. refl)))

@@ -37,6 +37,7 @@ use Rattle.rr_store.proofs.base.views.Keyed.{at_responses}
 use Rattle.rr_store.proofs.receiving.response.View.{queued, received_view, key, rest}
 use Rattle.rr_store.proofs.base.hands.Stages.{handle_uses_request, handle_uses_response}
 use Rattle.rr_store.proofs.base.lists.Tallies.{and_none, tally-same}
+use Rattle.rr_store.proofs.base.senders.Numbered.{numbered_once}
 
 and_again : (a b c : Bool) → ((a && b) && c) ≡ (a && (b && c))
 and_again true b c = refl
@@ -101,7 +102,7 @@ module _ {Q QH P PH K : Type 0} (p : Parts Q QH P PH K) (sound : IsSound p empty
   the_one : find (λ d. d.port.id == c.port.id) p.clients ≡ Some c
   the_one =
       found_alone (λ (d : ClientPart K). d.port.id == c.port.id) p.clients index c at_c (eq-eqb c.port.id c.port.id refl)
-      (λ k d e same. sound.client_ports.numbered_once k index d.connected c.connected
+      (λ k d e same. numbered_once sound.client_ports k index d.connected c.connected
       (listed (λ (c : ClientPart K). c.connected) p.clients k d e) (listed (λ (c : ClientPart K). c.connected) p.clients index c at_c)
       (eqb-true d.port.id c.port.id same))
 

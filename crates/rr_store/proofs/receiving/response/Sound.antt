@@ -50,7 +50,7 @@ module _ {Q QH P PH K : Type 0} (p : Parts Q QH P PH K) (sound : IsSound p empty
   pub placed : c.receiver < p.limits.max_clients
   placed = sound.client_ports.placed index c.connected (listed (λ (c : ClientPart K). c.connected) p.clients index c at)
 
-  frame : SameFrame p p.clients p.client_senders after.server_senders p.waiting p.next
+  frame : SameFrame p p.clients p.client_senders after.server_senders p.next
   frame = record {
     clients_alike = refl;
     client_senders_alike = senders_same p.client_senders;
@@ -61,10 +61,9 @@ module _ {Q QH P PH K : Type 0} (p : Parts Q QH P PH K) (sound : IsSound p empty
           receiver = refl;
           slots = length-set m.held slot _;
           room = refl;
+          marks = refl;
           shaped = taken_shaped m shaped c.receiver channel slot placed inside first;
         });
-    marks = refl;
-    marks_each = λ l. refl;
     numbers = omega arith;
   }
 
@@ -308,28 +307,28 @@ module _ {Q QH P PH K : Type 0} (p : Parts Q QH P PH K) (sound : IsSound p empty
   in_hand = record {
     counted = counted;
     held_once = held_once;
-    numbered = kept_numbered p empty_hand sound p.clients p.client_senders after.server_senders p.waiting p.next frame kept
+    numbered = kept_numbered p empty_hand sound p.clients p.client_senders after.server_senders p.next frame kept
         (λ k s e is. handle_uses_request p empty_hand sound.counted k s e is)
         (λ k s e is. omega (arith, handle_uses_response p empty_hand sound.counted k s e is, used_same s.value.sender s.value.slot));
-    addressed = kept_addressed p empty_hand sound p.clients p.client_senders after.server_senders p.waiting p.next frame kept
+    addressed = kept_addressed p empty_hand sound p.clients p.client_senders after.server_senders p.next frame kept
         (λ l i ch j d e some.
         let r = sound.addressed.entries l i ch j d e (omega (arith, some, queue_less l i d.receiver ch)) in (
           ap (λ (n : ResponseDetails). n.client) (details_same l i) ∙ r.0,
           ap (λ (n : ResponseDetails). n.channel) (details_same l i)
               ∙ r.1,
         ));
-    inserted = framed_inserted p empty_hand sound p.clients p.client_senders after.server_senders p.waiting p.next frame;
+    inserted = framed_inserted p empty_hand sound p.clients p.client_senders after.server_senders p.next frame;
     stored = stored;
-    sized = framed_sized p empty_hand sound p.clients p.client_senders after.server_senders p.waiting p.table.entries p.next frame
+    sized = framed_sized p empty_hand sound p.clients p.client_senders after.server_senders p.table.entries p.next frame
         sound.sized.next_fits sound.sized.loans_made;
     vacated = vacated;
-    have_values = framed_by_value p empty_hand sound p.clients p.client_senders after.server_senders p.waiting p.table.entries
+    have_values = framed_by_value p empty_hand sound p.clients p.client_senders after.server_senders p.table.entries
         p.next
         frame;
-    client_ports = framed_client_ports p empty_hand sound p.clients p.client_senders after.server_senders p.waiting
+    client_ports = framed_client_ports p empty_hand sound p.clients p.client_senders after.server_senders
         p.table.entries
         p.next frame;
-    server_ports = framed_server_ports p empty_hand sound p.clients p.client_senders after.server_senders p.waiting
+    server_ports = framed_server_ports p empty_hand sound p.clients p.client_senders after.server_senders
         p.table.entries
         p.next frame;
   }

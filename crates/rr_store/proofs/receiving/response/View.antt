@@ -36,6 +36,7 @@ use Rattle.rr_store.proofs.base.views.Keyed.{at_responses}
 use Rattle.rr_store.proofs.base.lists.Replaced.{find_read}
 use Rattle.rr_store.proofs.receiving.response.Sound.{shaped, placed, here_is, same_of, in_hand}
 use Rattle.rr_store.proofs.receiving.TakenSender.{queue_here, queue_there}
+use Rattle.rr_store.proofs.base.senders.Numbered.{numbered_once}
 
 -- where neither the old element nor the new one passes, the same is found
 pub find_skip : {X : Type 0} (test : X → Bool) (xs : List X) (i : ℕ) (y d : X) → i < length xs → test y ≡ false
@@ -89,7 +90,7 @@ module _ {Q QH P PH K : Type 0} (p : Parts Q QH P PH K) (sound : IsSound p empty
   the_client : find (λ d. d.port.id == c.port.id) p.clients ≡ Some c
   the_client =
       found_alone (λ (d : ClientPart K). d.port.id == c.port.id) p.clients index c at_c (eq-eqb c.port.id c.port.id refl)
-      (λ k d e same. sound.client_ports.numbered_once k index d.connected c.connected
+      (λ k d e same. numbered_once sound.client_ports k index d.connected c.connected
       (listed (λ (c : ClientPart K). c.connected) p.clients k d e) (listed (λ (c : ClientPart K). c.connected) p.clients index c at_c)
       (eqb-true d.port.id c.port.id same))
 

@@ -13,7 +13,7 @@ use Rattle.rr_store.specs.Parts.{Parts}
 use Rattle.rr_store.specs.Views.{sender_of, handle_in, state_of}
 use Rattle.rr_store.specs.Sound.{IsSound, empty_hand, is_of_request, server_place}
 use Rattle.rr_store.specs.Releasing.{is_active_request, server_of_stage}
-use Rattle.rr_store.proofs.releasing.active.Sound.{has_active, inside}
+use Rattle.rr_store.proofs.releasing.active.Sound.{has_active_before, inside}
 use Rattle.rr_store.proofs.base.lookups.Looking.{table_entry_under}
 use Rattle.rr_store.proofs.releasing.request.Fields.{of_handle}
 use Rattle.rr_store.proofs.releasing.request.Sound.{request_there}
@@ -65,5 +65,5 @@ module _ {Q QH P PH K : Type 0} (p : Parts Q QH P PH K) where
         slot = subst (λ (v : HandleEntry). 0 < slice_index (sender_of v.sender p.client_senders).messages.held v.slot) f.2 spot.1;
         receiver = inside p sound n f.0 f.1 g.0 g.1 active;
         some = subst (λ (v : HandleEntry). 0 < borrowed_at (sender_of v.sender p.client_senders).messages (server_place p g.0) 0) f.2
-            (has_active p sound n f.0 f.1 g.0 g.1 active);
+            (has_active_before p sound n f.0 f.1 g.0 g.1 active);
       }

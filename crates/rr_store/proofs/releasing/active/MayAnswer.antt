@@ -4,18 +4,17 @@ use Rattle.std.specs.Prelude.{◌==◌, ◌&&◌, not, slice_get, slice_set, fil
 use Rattle.std.proofs.Math.Nat.{mul-le-mul_right}
 use Rattle.std.proofs.lemmas.Bool.{cases_eq, cases_lt, eq-eqb, ne_eqb}
 use Rattle.std.proofs.lemmas.List.{get_or-set_same, get_or-set_other, get_or_past, length-set}
-use Rattle.rr_sender.specs.Senders.{at_two, set_two}
-use Rattle.rr_store.proofs.base.lists.Replaced.{set_alike, set_past}
+use Rattle.rr_store.specs.Views.{no_server}
 
--- what is false is false in a list that may be too short
-set_false : (xs : List Bool) (j : ℕ) → get_or (slice_set xs j false) j false ≡ false
-set_false xs j =
+-- what is none is none in a list that may be too short
+set_none : (marks : List ℕ) (j : ℕ) → get_or (slice_set marks j no_server) j no_server ≡ no_server
+set_none marks j =
     ⊎_elim
-    (λ h. get_or-set_same xs j false false h)
-    (λ h. get_or_past (slice_set xs j false) j false (omega (arith, h, length-set xs j false)))
-    (cases_lt j (length xs))
+    (λ h. get_or-set_same marks j no_server no_server h)
+    (λ h. get_or_past (slice_set marks j no_server) j no_server (omega (arith, h, length-set marks j no_server)))
+    (cases_lt j (length marks))
 
-true_stays : (b : Bool) → b ≡ (b && true)
+pub true_stays : (b : Bool) → b ≡ (b && true)
 true_stays true = refl
 true_stays false = refl
 
@@ -23,53 +22,24 @@ false_comes : (b : Bool) → false ≡ (b && false)
 false_comes true = refl
 false_comes false = refl
 
-module _ (rows : List (List Bool)) (i j : ℕ) where
-  abbrev row : List Bool
-  row = slice_set (get_or rows i []) j false
+-- that mark is gone, and every other as it was
+pub mark_cleared : (marks : List ℕ) (j q server : ℕ) → server < no_server
+    → (get_or (slice_set marks j no_server) q no_server == server) ≡ ((get_or marks q no_server == server) && not (j == q))
+mark_cleared marks j q server fits =
+    ⊎_elim
+    (λ e. ap (λ q. get_or (slice_set marks j no_server) q no_server == server) (sym e)
+    ∙ ap (λ m. m == server) (set_none marks j) ∙ ne_eqb no_server server (λ f. absurd (omega (arith, f, fits)))
+    ∙ false_comes (get_or marks q no_server == server)
+    ∙ sym (ap (λ b. (get_or marks q no_server == server) && not b) (eq-eqb j q e)))
+    (λ n. ap (λ m. m == server) (get_or-set_other marks j q no_server no_server (λ e. n (sym e)))
+    ∙ true_stays (get_or marks q no_server == server)
+    ∙ sym (ap (λ b. (get_or marks q no_server == server) && not b) (ne_eqb j q n)))
+    (cases_eq j q)
 
-  here : at_two false (set_two rows i j false) i j ≡ false
-  here =
-      ⊎_elim
-      (λ h. ap (λ (r : List Bool). get_or r j false) (get_or-set_same rows i row [] h) ∙ set_false (get_or rows i []) j)
-      (λ h. ap (λ (r : List Bool). get_or r j false) (get_or_past (set_two rows i j false) i [] (omega (arith, h, length-set rows i row))))
-      (cases_lt i (length rows))
-
-  there : (r q : ℕ) → (i ≡ r → j ≡ q → ⊥) → at_two false (set_two rows i j false) r q ≡ at_two false rows r q
-  there r q n =
-      ⊎_elim
-      (λ e. ⊎_elim
-      (λ h. ap (λ r. at_two false (set_two rows i j false) r q) (sym e)
-      ∙ ap (λ (x : List Bool). get_or x q false) (get_or-set_same rows i row [] h)
-      ∙ get_or-set_other (get_or rows i []) j q false false (λ f. n e (sym f)) ∙ ap (λ r. at_two false rows r q) e)
-      (λ h. ap (λ (rs : List (List Bool)). at_two false rs r q) (set_past rows i row h))
-      (cases_lt i (length rows)))
-      (λ m. ap (λ (x : List Bool). get_or x q false) (get_or-set_other rows i r row [] (λ e. m (sym e))))
-      (cases_eq i r)
-
-  -- that mark is gone, and every other as it was
-  pub mark_cleared : (r q : ℕ) → at_two false (set_two rows i j false) r q ≡ (at_two false rows r q && not (i == r && j == q))
-  mark_cleared r q =
-      ⊎_elim
-      (λ e. ⊎_elim
-      (λ f. sym (λ k. at_two false (set_two rows i j false) (e k) (f k)) ∙ here ∙ false_comes (at_two false rows r q)
-      ∙ sym (ap (λ b. at_two false rows r q && not b) (λ k. eq-eqb i r e k && eq-eqb j q f k)))
-      (λ n. there r q (λ _ f. n f) ∙ true_stays (at_two false rows r q)
-      ∙ sym (ap (λ b. at_two false rows r q && not b) (λ k. eq-eqb i r e k && ne_eqb j q n k)))
-      (cases_eq j q))
-      (λ n. there r q (λ e _. n e) ∙ true_stays (at_two false rows r q)
-      ∙ sym (ap (λ b. at_two false rows r q && not (b && j == q)) (ne_eqb i r n)))
-      (cases_eq i r)
-
-  -- what was not marked is not
-  pub not_marked : (r q : ℕ) → at_two false rows r q ≡ false → at_two false (set_two rows i j false) r q ≡ false
-  not_marked r q e = mark_cleared r q ∙ ap (λ b. b && not (i == r && j == q)) e
-
-  -- the marks are as many
-  pub as_many_rows : length (set_two rows i j false) ≡ length rows
-  as_many_rows = length-set rows i row
-
-  pub as_many_marks : (r : ℕ) → length (get_or (set_two rows i j false) r []) ≡ length (get_or rows r [])
-  as_many_marks r = set_alike rows i row [] length (length-set (get_or rows i []) j false) r
+-- what was not marked is not
+pub not_marked : (marks : List ℕ) (j q server : ℕ) → server < no_server → (get_or marks q no_server == server) ≡ false
+    → (get_or (slice_set marks j no_server) q no_server == server) ≡ false
+not_marked marks j q server fits e = mark_cleared marks j q server fits ∙ ap (λ b. b && not (j == q)) e
 
 -- a mark's index tells its slot and its receiver
 pub mark_of : (receivers slot receiver i r : ℕ) → receiver < receivers → r < receivers → slot * receivers + receiver ≡ i * receivers + r

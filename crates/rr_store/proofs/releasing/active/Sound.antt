@@ -6,12 +6,12 @@ use Rattle.std.specs.FinMap as fin_map
 use Rattle.std.proofs.lemmas.Bool.{cases_eq, eq-eqb, eqb-true, ne_eqb}
 use Rattle.rr_maps.specs.Maps.{mark}
 use Rattle.rr_table.specs.TableView.{TableEntry, removed}
-use Rattle.rr_sender.specs.Senders.{borrowed_at, set_two}
+use Rattle.rr_sender.specs.Senders.{borrowed_at}
 use Rattle.rr_store.specs.declared.handle_entry.HandleEntry.{HandleEntry}
 use Rattle.rr_store.specs.declared.handle_entry.Stage.TheVariants as stage
 use Rattle.rr_store.specs.declared.details.RequestDetails.{RequestDetails}
 use Rattle.rr_store.specs.Parts.{Parts, ServerPart, Sender}
-use Rattle.rr_store.specs.Views.{sender_of}
+use Rattle.rr_store.specs.Views.{no_sender, sender_of}
 use Rattle.rr_store.specs.Sound.{IsSound, empty_hand, is_of_request, is_of_response, is_request_loan, is_pending, is_active_of, is_response_loan, is_received, is_in_sender, response_details, server_place}
 use Rattle.rr_store.specs.Frames.{moved}
 use Rattle.rr_store.specs.Dropping.{IsDropped}
@@ -21,8 +21,13 @@ use Rattle.rr_store.proofs.base.lists.Found.{found_passes, found_somewhere}
 use Rattle.rr_store.proofs.base.senders.GivenBack.{less, senders_less, less_senders, same_of, held_less, count_less}
 use Rattle.rr_store.proofs.base.views.Counts.{listed}
 use Rattle.rr_store.proofs.base.hands.Hands.{count-cons, senders_same, removed_sound}
-use Rattle.rr_store.proofs.releasing.active.MayAnswer.{not_marked, as_many_rows, as_many_marks}
-use Rattle.rr_store.proofs.releasing.request.Sound.{unmarked, request_there}
+use Rattle.rr_store.proofs.releasing.request.Sound.{unmarked as uncounted_in, request_there}
+use Rattle.rr_store.proofs.base.frames.Rewrites.{rewritten_sound, senders_unwritten}
+use Rattle.rr_store.proofs.base.senders.Marks.{cleared, mark_rewritten}
+use Rattle.rr_store.proofs.base.lists.Replaced.{set_alike}
+use Rattle.std.proofs.lemmas.List.{length-set}
+use Rattle.rr_store.specs.Releasing.{without_mark}
+use Rattle.rr_store.proofs.base.senders.Numbered.{numbered_once}
 
 module _ {Q QH P PH K : Type 0} (p : Parts Q QH P PH K) (sound : IsSound p empty_hand) where
   -- a server with a receiver is connected
@@ -57,7 +62,7 @@ module _ {Q QH P PH K : Type 0} (p : Parts Q QH P PH K) (sound : IsSound p empty
       (λ n.
       ne_eqb (server_place p server) d.receiver (λ g. n (sound.server_ports.receivers_once i f.0 d.connected f.1.connected (l i d e)
       (l f.0 f.1 f.2) (sym g ∙ f.4)))
-      ∙ sym (ne_eqb d.port.id server (λ g. n (sound.server_ports.numbered_once i f.0 d.connected f.1.connected (l i d e) (l f.0 f.1 f.2)
+      ∙ sym (ne_eqb d.port.id server (λ g. n (numbered_once sound.server_ports i f.0 d.connected f.1.connected (l i d e) (l f.0 f.1 f.2)
       (g ∙ sym f.3)))))
       (cases_eq i f.0)
 
@@ -89,27 +94,51 @@ module _ {Q QH P PH K : Type 0} (p : Parts Q QH P PH K) (sound : IsSound p empty
   abbrev receiver : ℕ
   receiver = server_place p server
 
-  in_hand : IsSound taken (entry ∷ [])
-  in_hand = removed_sound p [] k s at sound
+  -- the senders without the server's mark, and the core with them
+  abbrev pub unanswered : List (Sender Q RequestDetails QH)
+  unanswered = cleared p.client_senders entry.sender (entry.slot * p.limits.max_servers + receiver)
 
-  spot : (entry.sender < length p.client_senders) × (0 < slice_index (sender_of entry.sender p.client_senders).messages.held entry.slot)
-  spot = request_there p sound k s at (ap is_of_request is)
+  abbrev pub unmarked : Parts Q QH P PH K
+  unmarked = record taken { client_senders = unanswered }
 
-  abbrev own : Sender Q RequestDetails QH
-  own = sender_of entry.sender p.client_senders
+  in_hand_before : IsSound taken (entry ∷ [])
+  in_hand_before = removed_sound p [] k s at sound
+
+  in_hand : IsSound unmarked (entry ∷ [])
+  in_hand =
+      rewritten_sound taken (entry ∷ []) in_hand_before unanswered p.server_senders
+      (mark_rewritten p.client_senders entry.sender (entry.slot * p.limits.max_servers + receiver)) (senders_unwritten p.server_senders)
+
+  abbrev pub own : Sender Q RequestDetails QH
+  own = sender_of entry.sender unanswered
+
+  pub spot : (entry.sender < length unanswered) × (0 < slice_index own.messages.held entry.slot)
+  spot =
+      let there = request_there p sound k s at (ap is_of_request is) in (
+        omega (
+          arith,
+          there.0,
+          length-set p.client_senders entry.sender
+              (without_mark (entry.slot * p.limits.max_servers + receiver) (sender_of entry.sender p.client_senders)),
+        ),
+        omega (
+          arith,
+          there.1,
+          set_alike p.client_senders entry.sender
+              (without_mark (entry.slot * p.limits.max_servers + receiver) (sender_of entry.sender p.client_senders)) no_sender
+              (λ x. slice_index x.messages.held entry.slot) refl entry.sender,
+        ),
+      )
 
   abbrev borrowed : List (List ℕ)
-  borrowed = one_less (sender_of entry.sender p.client_senders).messages.borrowed receiver 0
+  borrowed = one_less own.messages.borrowed receiver 0
 
   abbrev pub senders : List (Sender Q RequestDetails QH)
-  senders = senders_less p.client_senders entry.sender entry.slot borrowed own.loans own.pendings
-
-  abbrev pub marks : List (List Bool)
-  marks = set_two p.waiting entry.sender (entry.slot * p.limits.max_servers + receiver) false
+  senders = senders_less unanswered entry.sender entry.slot borrowed own.loans own.pendings
 
   -- the core without the active request
   abbrev pub after_active : Parts Q QH P PH K
-  after_active = moved taken p.clients senders p.server_senders marks taken.table.entries p.next
+  after_active = moved unmarked p.clients senders p.server_senders unmarked.table.entries p.next
 
   pub inside : receiver < p.limits.max_servers
   inside = sound.inserted.active_servers k server s at (ap (is_active_of server) is ∙ eq-eqb server server refl)
@@ -119,64 +148,70 @@ module _ {Q QH P PH K : Type 0} (p : Parts Q QH P PH K) (sound : IsSound p empty
       ∙ ap mark (λ i. eq-eqb server server refl i && eq-eqb entry.sender entry.sender refl i)
 
   -- the server has it from the client
-  pub has_active : 0 < borrowed_at (sender_of entry.sender p.client_senders).messages receiver 0
-  has_active = omega (
+  pub has_active_before : 0 < borrowed_at (sender_of entry.sender p.client_senders).messages receiver 0
+  has_active_before = omega (
     arith,
-    in_hand.stored.borrowed_requests entry.sender server spot.0,
+    in_hand_before.stored.borrowed_requests entry.sender server (request_there p sound k s at (ap is_of_request is)).0,
     count-cons (is_in_sender (is_active_of server) entry.sender) entry [],
     counted_here,
   )
 
-  same : {Y : Type 0} (f : Sender Q RequestDetails QH → Y) → f (less p.client_senders entry.sender entry.slot borrowed own.loans
-      own.pendings) ≡ f
-      (sender_of entry.sender p.client_senders) → (l : ℕ) → f (sender_of l senders) ≡ f (sender_of l p.client_senders)
-  same = same_of p.client_senders entry.sender entry.slot borrowed own.loans own.pendings
+  has_active : 0 < borrowed_at own.messages receiver 0
+  has_active = omega (
+    arith,
+    has_active_before,
+    set_alike p.client_senders entry.sender
+        (without_mark (entry.slot * p.limits.max_servers + receiver) (sender_of entry.sender p.client_senders)) no_sender
+        (λ x. borrowed_at x.messages receiver 0) refl entry.sender,
+  )
 
-  dropped : IsDropped taken entry senders p.server_senders marks
+  same : {Y : Type 0} (f : Sender Q RequestDetails QH → Y) → f (less unanswered entry.sender entry.slot borrowed own.loans
+      own.pendings) ≡ f
+      own → (l : ℕ) → f (sender_of l senders) ≡ f (sender_of l unanswered)
+  same = same_of unanswered entry.sender entry.slot borrowed own.loans own.pendings
+
+  dropped : IsDropped unmarked entry senders p.server_senders
   dropped = record {
     frame = record {
       clients_alike = refl;
-      client_senders_alike = less_senders p.client_senders entry.sender entry.slot borrowed own.loans own.pendings
-          (less_rows (sender_of entry.sender p.client_senders).messages.borrowed receiver 0)
-          (less_row (sender_of entry.sender p.client_senders).messages.borrowed receiver 0);
+      client_senders_alike = less_senders unanswered entry.sender entry.slot borrowed own.loans own.pendings
+          (less_rows own.messages.borrowed receiver 0)
+          (less_row own.messages.borrowed receiver 0);
       server_senders_alike = senders_same p.server_senders;
-      marks = as_many_rows p.waiting entry.sender (entry.slot * p.limits.max_servers + receiver);
-      marks_each = as_many_marks p.waiting entry.sender (entry.slot * p.limits.max_servers + receiver);
       numbers = omega arith;
     };
     requests_held = λ l i. omega (
       arith,
-      held_less p.client_senders entry.sender entry.slot borrowed own.loans own.pendings spot.0 spot.1 l i,
+      held_less unanswered entry.sender entry.slot borrowed own.loans own.pendings spot.0 spot.1 l i,
       ap (λ g. mark (is_of_request g && (entry.sender == l && entry.slot == i))) is,
     );
     responses_held = λ l i. omega
-        (arith, unmarked (is_of_response entry.stage) (entry.sender == l && entry.slot == i) (ap is_of_response is));
+        (arith, uncounted_in (is_of_response entry.stage) (entry.sender == l && entry.slot == i) (ap is_of_response is));
     all_request_details = λ l. same (λ x. x.messages.details) refl l;
     all_response_details = λ l. refl;
     requests_wait = λ l. same (λ x. x.messages.queues) refl l;
     responses_used = λ l i. omega arith;
     responses_wait = λ l receiver channel i. omega arith;
     responses_none = λ l receiver channel e. e;
-    requests_borrowed = borrowed_le p.client_senders entry.sender entry.slot receiver 0 own.loans own.pendings spot.0 spot.1 has_active;
+    requests_borrowed = borrowed_le unanswered entry.sender entry.slot receiver 0 own.loans own.pendings spot.0 spot.1 has_active;
     responses_borrowed = λ l receiver channel. omega arith;
-    awaited = λ l i r e. not_marked p.waiting entry.sender (entry.slot * p.limits.max_servers + receiver) l (i * p.limits.max_servers + r)
-        e;
-    request_loans = count_less p.client_senders entry.sender entry.slot borrowed own.loans own.pendings spot.0 spot.1 (λ x. x.loans)
+    marks = λ l. same (λ x. x.may_answer) refl l;
+    request_loans = count_less unanswered entry.sender entry.slot borrowed own.loans own.pendings spot.0 spot.1 (λ x. x.loans)
         (is_request_loan entry.stage) (omega (arith, ap (λ g. mark (is_request_loan g)) is));
-    pendings = count_less p.client_senders entry.sender entry.slot borrowed own.loans own.pendings spot.0 spot.1 (λ x. x.pendings)
+    pendings = count_less unanswered entry.sender entry.slot borrowed own.loans own.pendings spot.0 spot.1 (λ x. x.pendings)
         (is_pending entry.stage) (omega (arith, ap (λ g. mark (is_pending g)) is));
-    response_loans = λ l. omega (arith, unmarked (is_response_loan entry.stage) (entry.sender == l) (ap is_response_loan is));
+    response_loans = λ l. omega (arith, uncounted_in (is_response_loan entry.stage) (entry.sender == l) (ap is_response_loan is));
     loans_from = λ n other loans t e _. ap (λ g. is_response_loan g && (response_details p entry.sender entry.slot).active_request == n) is;
     request_borrows = λ l other h. omega (
       arith,
-      borrowed_less p.client_senders entry.sender entry.slot receiver 0 own.loans own.pendings spot.0 spot.1 has_active l
+      borrowed_less unanswered entry.sender entry.slot receiver 0 own.loans own.pendings spot.0 spot.1 has_active l
           (server_place p other) 0,
       ap (λ g. mark (is_active_of other g && entry.sender == l)) is,
       swapped (server == other) (receiver == server_place p other) (entry.sender == l) (servers_apart p sound server other inside),
     );
     response_borrows = λ l i channel d h e. omega (
       arith,
-      unmarked (is_received entry.stage) (entry.sender == l && ((response_details p entry.sender entry.slot).client == d.port.id
+      uncounted_in (is_received entry.stage) (entry.sender == l && ((response_details p entry.sender entry.slot).client == d.port.id
           && (response_details p entry.sender entry.slot).channel == channel)) (ap is_received is),
     );
   }
@@ -189,4 +224,4 @@ module _ {Q QH P PH K : Type 0} (p : Parts Q QH P PH K) (sound : IsSound p empty
 
   -- the core stays sound
   pub active_sound : IsSound after_active empty_hand
-  active_sound = dropped_sound taken entry [] in_hand senders p.server_senders marks dropped
+  active_sound = dropped_sound unmarked entry [] in_hand senders p.server_senders dropped

@@ -5,7 +5,7 @@ use Rattle.std.proofs.lemmas.List.{get_or_past, get_or-set_same, get_or-set_othe
 use Rattle.rr_sender.specs.Senders.{times, all_entries, at_two, set_two, queue_at}
 use Rattle.rr_sender.proofs.EntryLaws.{times-set_two, at_two-set_two, length-set_two}
 use Rattle.std.specs.Prelude.{slice_set}
-use Rattle.rr_store.specs.Clearing.{channel_cleared, IsClearedBelow}
+use Rattle.rr_store.specs.Clearing.{channel_cleared, channel_dropped, IsClearedBelow}
 use Rattle.rr_store.specs.Frames.{SenderAlike, SendersAlike}
 use Rattle.rr_store.specs.Parts.{Sender}
 use Rattle.rr_store.specs.Sound.{IsShaped}
@@ -110,6 +110,7 @@ module _ {T N H : Type 0} (senders : List (Sender T N H)) (receivers channels ca
     receiver = refl;
     slots = refl;
     room = refl;
+    marks = refl;
     shaped = λ r n k h. record {
       contents = h.contents;
       details = h.details;
@@ -142,22 +143,29 @@ module _ {T N H : Type 0} (senders : List (Sender T N H)) (receivers channels ca
 
 -- senders are emptied one after another
 module _ {T N H : Type 0} (receiver channel : ℕ) (senders : List (Sender T N H)) where
+  -- the sender at an index
+  dropped_at : (all : List (Sender T N H)) (l : ℕ) → sender_of l (map (channel_dropped receiver channel) all)
+      ≡ channel_dropped receiver channel (sender_of l all)
+  dropped_at [] l = refl
+  dropped_at (x ∷ all) zero = refl
+  dropped_at (x ∷ all) (suc l) = dropped_at all l
+
   pub cleared_none : IsClearedBelow receiver channel 0 senders senders
   cleared_none = record { many = refl; done = λ l h. absurd (omega (arith, h)); rest = λ l h. refl }
 
   pub cleared_more : (n : ℕ) (now : List (Sender T N H)) → IsClearedBelow receiver channel n senders now → n < length senders
       → (x : Sender T N H)
-      → sender_of n now ≡ x → IsClearedBelow receiver channel (n + 1) senders (slice_set now n (channel_cleared receiver channel x))
+      → sender_of n now ≡ x → IsClearedBelow receiver channel (n + 1) senders (slice_set now n (channel_dropped receiver channel x))
   cleared_more n now so there x is = record {
-    many = length-set now n (channel_cleared receiver channel x) ∙ so.many;
+    many = length-set now n (channel_dropped receiver channel x) ∙ so.many;
     done = λ l h w. ⊎_elim
-        (λ e. ap (λ i. sender_of i (slice_set now n (channel_cleared receiver channel x))) e
-        ∙ get_or-set_same now n (channel_cleared receiver channel x) no_sender (omega (arith, there, so.many))
-        ∙ ap (channel_cleared receiver channel) (sym is ∙ so.rest n (omega arith))
-        ∙ ap (λ i. channel_cleared receiver channel (sender_of i senders)) (sym e))
-        (λ e. get_or-set_other now n l (channel_cleared receiver channel x) no_sender e ∙ so.done l (below l h e) w)
+        (λ e. ap (λ i. sender_of i (slice_set now n (channel_dropped receiver channel x))) e
+        ∙ get_or-set_same now n (channel_dropped receiver channel x) no_sender (omega (arith, there, so.many))
+        ∙ ap (channel_dropped receiver channel) (sym is ∙ so.rest n (omega arith))
+        ∙ ap (λ i. channel_dropped receiver channel (sender_of i senders)) (sym e))
+        (λ e. get_or-set_other now n l (channel_dropped receiver channel x) no_sender e ∙ so.done l (below l h e) w)
         (cases_eq l n);
-    rest = λ l h. get_or-set_other now n l (channel_cleared receiver channel x) no_sender (λ e. omega (arith, e, h))
+    rest = λ l h. get_or-set_other now n l (channel_dropped receiver channel x) no_sender (λ e. omega (arith, e, h))
         ∙ so.rest l (omega (arith, h));
   }
     where
@@ -165,8 +173,8 @@ module _ {T N H : Type 0} (receiver channel : ℕ) (senders : List (Sender T N H
       below l h e = ⊎_elim (λ g. g) (λ g. absurd (e (omega (arith, h, g)))) (cases_lt l n)
 
   pub cleared_all : (n : ℕ) (now : List (Sender T N H)) → IsClearedBelow receiver channel n senders now → length senders ≤ n
-      → now ≡ map (channel_cleared receiver channel) senders
+      → now ≡ map (channel_dropped receiver channel) senders
   cleared_all n now so all =
-      ext_get_or no_sender now (map (channel_cleared receiver channel) senders)
-      (so.many ∙ sym (length-map senders (channel_cleared receiver channel)))
-      (λ l h. so.done l (omega (arith, h, all, so.many)) (omega (arith, h, so.many)) ∙ sym (cleared_at receiver channel senders l))
+      ext_get_or no_sender now (map (channel_dropped receiver channel) senders)
+      (so.many ∙ sym (length-map senders (channel_dropped receiver channel)))
+      (λ l h. so.done l (omega (arith, h, all, so.many)) (omega (arith, h, so.many)) ∙ sym (dropped_at senders l))

@@ -55,7 +55,7 @@ module _ {Q QH P PH K : Type 0} (p : Parts Q QH P PH K) (sound : IsSound p empty
 
   -- the core without the pending response
   abbrev pub after_pending : Parts Q QH P PH K
-  after_pending = moved taken p.clients senders server_senders p.waiting taken.table.entries p.next
+  after_pending = moved taken p.clients senders server_senders taken.table.entries p.next
 
   counted_here : mark (is_in_sender is_pending entry.sender entry) ≡ 1
   counted_here = ap (λ b. mark (b && entry.sender == entry.sender)) (ap is_pending pending)
@@ -89,7 +89,7 @@ module _ {Q QH P PH K : Type 0} (p : Parts Q QH P PH K) (sound : IsSound p empty
   is : (l : ℕ) → sender_of l server_senders ≡ channel_cleared c.receiver entry.slot (sender_of l p.server_senders)
   is l = cleared_at c.receiver entry.slot p.server_senders l
 
-  dropped : IsDropped taken entry senders server_senders p.waiting
+  dropped : IsDropped taken entry senders server_senders
   dropped = record {
     frame = record {
       clients_alike = refl;
@@ -97,8 +97,6 @@ module _ {Q QH P PH K : Type 0} (p : Parts Q QH P PH K) (sound : IsSound p empty
           (λ r. refl);
       server_senders_alike = cleared_alike p.server_senders p.limits.max_clients
           (worst_case_requests p.limits) p.limits.max_response_buffer_size c.receiver entry.slot sound.sized.server_senders placed inside;
-      marks = refl;
-      marks_each = λ l. refl;
       numbers = omega arith;
     };
     requests_held = λ l i. omega (
@@ -127,7 +125,7 @@ module _ {Q QH P PH K : Type 0} (p : Parts Q QH P PH K) (sound : IsSound p empty
     requests_borrowed = λ l receiver channel. omega (arith, same (λ x. borrowed_at x.messages receiver channel) refl l);
     responses_borrowed = λ l receiver channel. omega
         (arith, ap (λ (x : Sender P ResponseDetails PH). borrowed_at x.messages receiver channel) (is l));
-    awaited = λ l slot receiver e. e;
+    marks = λ l. same (λ x. x.may_answer) refl l;
     request_loans = count_less p.client_senders entry.sender entry.slot own.messages.borrowed own.loans (own.pendings - 1) spot.0 spot.1
         (λ x. x.loans) (is_request_loan entry.stage) (omega (arith, ap (λ g. mark (is_request_loan g)) pending));
     pendings = count_less p.client_senders entry.sender entry.slot own.messages.borrowed own.loans (own.pendings - 1) spot.0 spot.1
@@ -154,4 +152,4 @@ module _ {Q QH P PH K : Type 0} (p : Parts Q QH P PH K) (sound : IsSound p empty
 
   -- the core stays sound
   pub pending_sound : IsSound after_pending empty_hand
-  pending_sound = dropped_sound taken entry [] in_hand senders server_senders p.waiting dropped
+  pending_sound = dropped_sound taken entry [] in_hand senders server_senders dropped

@@ -36,6 +36,7 @@ use Rattle.rr_store.proofs.receiving.response.View.{nobody_left}
 use Rattle.rr_store.proofs.releasing.View.{release_is, client_in_use, removed_view, table_entry_shown}
 use Rattle.rr_store.proofs.base.hands.Stages.{handle_uses_request}
 use Rattle.rr_store.proofs.base.views.Uncounted.{uncounted}
+use Rattle.rr_store.proofs.base.senders.Numbered.{numbered_once}
 
 module _ {Q QH P PH K : Type 0} (p : Parts Q QH P PH K) (sound : IsSound p empty_hand) (k : ℕ) (s : TableEntry HandleEntry)
     (at : fin_map.get p.table.entries k ≡ Some s) (hint : Bool) (connections : ℕ)
@@ -74,7 +75,7 @@ module _ {Q QH P PH K : Type 0} (p : Parts Q QH P PH K) (sound : IsSound p empty
   the_client n d e id =
       let j = found_somewhere (λ (d : ClientPart K). d.port.id == n) p.clients d e in
       let same : d.port.id ≡ c.port.id = eqb-true d.port.id n (found_passes (λ (d : ClientPart K). d.port.id == n) p.clients d e) ∙ id in
-      let one = sound.client_ports.numbered_once j.0 index d.connected c.connected
+      let one = numbered_once sound.client_ports j.0 index d.connected c.connected
       (listed (λ (c : ClientPart K). c.connected) p.clients j.0 d j.1)
       (listed (λ (c : ClientPart K). c.connected) p.clients index c there) same in
       let f : Some d ≡ Some c = sym j.1 ∙ ap (slice_get p.clients) one ∙ there in cc

@@ -91,7 +91,7 @@ module _ {Q QH P PH K : Type 0} (p : Parts Q QH P PH K) (sound : IsSound p empty
 
   -- the core without the request
   abbrev pub after_loan : Parts Q QH P PH K
-  after_loan = moved taken p.clients senders p.server_senders p.waiting taken.table.entries p.next
+  after_loan = moved taken p.clients senders p.server_senders taken.table.entries p.next
 
   counted_here : mark (is_in_sender is_request_loan entry.sender entry) ≡ 1
   counted_here = ap (λ b. mark (b && entry.sender == entry.sender)) loan ∙ ap mark (eq-eqb entry.sender entry.sender refl)
@@ -110,15 +110,13 @@ module _ {Q QH P PH K : Type 0} (p : Parts Q QH P PH K) (sound : IsSound p empty
       → f (sender_of l senders) ≡ f (sender_of l p.client_senders)
   same = same_of p.client_senders entry.sender entry.slot own.messages.borrowed (own.loans - 1) own.pendings
 
-  dropped : IsDropped taken entry senders p.server_senders p.waiting
+  dropped : IsDropped taken entry senders p.server_senders
   dropped = record {
     frame = record {
       clients_alike = refl;
       client_senders_alike = less_senders p.client_senders entry.sender entry.slot own.messages.borrowed (own.loans - 1) own.pendings refl
           (λ r. refl);
       server_senders_alike = senders_same p.server_senders;
-      marks = refl;
-      marks_each = λ l. refl;
       numbers = omega arith;
     };
     requests_held = λ l i. omega (
@@ -135,7 +133,7 @@ module _ {Q QH P PH K : Type 0} (p : Parts Q QH P PH K) (sound : IsSound p empty
     responses_none = λ l receiver channel e. e;
     requests_borrowed = λ l receiver channel. omega (arith, same (λ x. borrowed_at x.messages receiver channel) refl l);
     responses_borrowed = λ l receiver channel. omega arith;
-    awaited = λ l slot receiver e. e;
+    marks = λ l. same (λ x. x.may_answer) refl l;
     request_loans = count_less p.client_senders entry.sender entry.slot own.messages.borrowed (own.loans - 1) own.pendings spot.0 spot.1
         (λ x. x.loans) (is_request_loan entry.stage) (omega (arith, has_loan, ap mark loan));
     pendings = count_less p.client_senders entry.sender entry.slot own.messages.borrowed (own.loans - 1) own.pendings spot.0 spot.1
@@ -158,7 +156,7 @@ module _ {Q QH P PH K : Type 0} (p : Parts Q QH P PH K) (sound : IsSound p empty
 
   -- the core stays sound
   pub released_sound : IsSound after_loan empty_hand
-  released_sound = dropped_sound taken entry [] in_hand senders p.server_senders p.waiting dropped
+  released_sound = dropped_sound taken entry [] in_hand senders p.server_senders dropped
 
   -- contracts see the handle go, and nothing else
   gone_alone : (s : State Q QH P PH K) (g : Stage) (sender slot : ℕ) → is_request_loan g ≡ true

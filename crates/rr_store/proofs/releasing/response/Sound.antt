@@ -29,6 +29,7 @@ use Rattle.rr_store.proofs.releasing.View.{release_is, client_in_use, removed_vi
 use Rattle.rr_store.proofs.releasing.request.Sound.{unmarked}
 use Rattle.rr_store.proofs.base.hands.Stages.{received_is_response}
 use Rattle.rr_store.proofs.base.views.Uncounted.{uncounted}
+use Rattle.rr_store.proofs.base.senders.Numbered.{numbered_once}
 
 -- what a received response is not
 record IsReceivedAlone (g : Stage) : Type 0 where
@@ -96,7 +97,7 @@ module _ {Q QH P PH K : Type 0} (p : Parts Q QH P PH K) (sound : IsSound p empty
 
   -- the core without the response
   abbrev pub after_received : Parts Q QH P PH K
-  after_received = moved taken p.clients p.client_senders senders p.waiting taken.table.entries p.next
+  after_received = moved taken p.clients p.client_senders senders taken.table.entries p.next
 
   counted_here : mark (is_received_at p entry.sender c.port.id channel entry) ≡ 1
   counted_here =
@@ -132,13 +133,13 @@ module _ {Q QH P PH K : Type 0} (p : Parts Q QH P PH K) (sound : IsSound p empty
       (λ n. let l : (j : ℕ) (b : ClientPart K) → slice_get p.clients j ≡ Some b
       → slice_get (map (λ c. c.connected) p.clients) j ≡ Some b.connected = λ j b g. listed (λ c. c.connected) p.clients j b g in
       ne_eqb (response_details p entry.sender entry.slot).client d.port.id
-      (λ is. n (sound.client_ports.numbered_once i index d.connected c.connected (l i d e) (l index c there) (sym is ∙ sym named)))
+      (λ is. n (numbered_once sound.client_ports i index d.connected c.connected (l i d e) (l index c there) (sym is ∙ sym named)))
       ∙ sym (ne_eqb c.receiver d.receiver
       (λ is. n (sound.client_ports.receivers_once i index d.connected c.connected (l i d e) (l index c there)
       (sym is)))))
       (cases_eq i index)
 
-  dropped : IsDropped taken entry p.client_senders senders p.waiting
+  dropped : IsDropped taken entry p.client_senders senders
   dropped = record {
     frame = record {
       clients_alike = refl;
@@ -146,8 +147,6 @@ module _ {Q QH P PH K : Type 0} (p : Parts Q QH P PH K) (sound : IsSound p empty
       server_senders_alike = less_senders p.server_senders entry.sender entry.slot borrowed own.loans own.pendings
           (less_rows (sender_of entry.sender p.server_senders).messages.borrowed c.receiver channel)
           (less_row (sender_of entry.sender p.server_senders).messages.borrowed c.receiver channel);
-      marks = refl;
-      marks_each = λ l. refl;
       numbers = omega arith;
     };
     requests_held = λ l i. omega (arith, unmarked (is_of_request entry.stage) (entry.sender == l && entry.slot == i) alone.request);
@@ -169,7 +168,7 @@ module _ {Q QH P PH K : Type 0} (p : Parts Q QH P PH K) (sound : IsSound p empty
     requests_borrowed = λ l receiver channel. omega arith;
     responses_borrowed = borrowed_le p.server_senders entry.sender entry.slot c.receiver channel own.loans own.pendings spot.0 spot.1
         has_received;
-    awaited = λ l slot receiver e. e;
+    marks = λ l. refl;
     request_loans = λ l. omega (arith, unmarked (is_request_loan entry.stage) (entry.sender == l) alone.loan);
     pendings = λ l. omega (arith, unmarked (is_pending entry.stage) (entry.sender == l) alone.pending);
     response_loans = count_less p.server_senders entry.sender entry.slot borrowed own.loans own.pendings spot.0 spot.1 (λ x. x.loans)
@@ -188,7 +187,7 @@ module _ {Q QH P PH K : Type 0} (p : Parts Q QH P PH K) (sound : IsSound p empty
 
   -- the core stays sound
   pub received_sound : IsSound after_received empty_hand
-  received_sound = dropped_sound taken entry [] in_hand p.client_senders senders p.waiting dropped
+  received_sound = dropped_sound taken entry [] in_hand p.client_senders senders dropped
 
   gone_alone : (s : State Q QH P PH K) (g : Stage) (sender slot : ℕ) → is_received g ≡ true
       → after_handle_gone s (handle_in p g sender slot) ≡ s

@@ -21,6 +21,7 @@ use Rattle.rr_store.proofs.base.senders.Entries.{found_alone}
 use Rattle.rr_store.proofs.base.views.Counts.{listed}
 use Rattle.rr_store.proofs.base.hands.Hands.{count-cons}
 use Rattle.rr_store.proofs.base.hands.Stages.{handle_uses_request, response_loan_is_response}
+use Rattle.rr_store.proofs.base.senders.Numbered.{numbered_once}
 
 module _ {Q QH P PH K : Type 0} (p : Parts Q QH P PH K) (hand : Hand) (sound : IsSound p hand) where
   -- the client of a sender, and that it is the one with its number
@@ -41,7 +42,7 @@ module _ {Q QH P PH K : Type 0} (p : Parts Q QH P PH K) (hand : Hand) (sound : I
         ap (λ (c : Connected K). c.port.id) x.2 ∙ sym own.1 ∙ ap (λ x. x.owner) at_sender,
         ap (λ (c : Connected K). c.port.pool_size) x.2 ∙ sym own.2 ∙ ap (λ x. length x.messages.held) at_sender,
         found_alone (λ (d : ClientPart K). d.port.id == x.0.port.id) p.clients b.0 x.0 x.1 (eq-eqb x.0.port.id x.0.port.id refl)
-            (λ j d e same. sound.client_ports.numbered_once j b.0 d.connected x.0.connected
+            (λ j d e same. numbered_once sound.client_ports j b.0 d.connected x.0.connected
             (listed (λ (c : ClientPart K). c.connected) p.clients j d e)
             (listed (λ (c : ClientPart K). c.connected) p.clients b.0 x.0 x.1) (eqb-true d.port.id x.0.port.id same)),
       )
@@ -50,7 +51,7 @@ module _ {Q QH P PH K : Type 0} (p : Parts Q QH P PH K) (hand : Hand) (sound : I
   pub server_alone : (i : ℕ) (c : ServerPart K) → slice_get p.servers i ≡ Some c → find (λ d. d.port.id == c.port.id) p.servers ≡ Some c
   server_alone i c at =
       found_alone (λ (d : ServerPart K). d.port.id == c.port.id) p.servers i c at (eq-eqb c.port.id c.port.id refl)
-      (λ j d e same. sound.server_ports.numbered_once j i d.connected c.connected
+      (λ j d e same. numbered_once sound.server_ports j i d.connected c.connected
       (listed (λ (c : ServerPart K). c.connected) p.servers j d e)
       (listed (λ (c : ServerPart K). c.connected) p.servers i c at) (eqb-true d.port.id c.port.id same))
 

@@ -58,7 +58,7 @@ module _ {Q QH P PH K : Type 0} (p : Parts Q QH P PH K) (entry : HandleEntry) (h
 
   -- the core without the response
   abbrev pub after_response_loan : Parts Q QH P PH K
-  after_response_loan = moved p p.clients p.client_senders senders p.waiting p.table.entries p.next
+  after_response_loan = moved p p.clients p.client_senders senders p.table.entries p.next
 
   counted_here : mark (is_in_sender is_response_loan entry.sender entry) ≡ 1
   counted_here = ap (λ b. mark (b && entry.sender == entry.sender)) loan ∙ ap mark (eq-eqb entry.sender entry.sender refl)
@@ -77,15 +77,13 @@ module _ {Q QH P PH K : Type 0} (p : Parts Q QH P PH K) (entry : HandleEntry) (h
       → (l : ℕ) → f (sender_of l senders) ≡ f (sender_of l p.server_senders)
   same = same_of p.server_senders entry.sender entry.slot own.messages.borrowed (own.loans - 1) own.pendings
 
-  pub dropped : IsDropped p entry p.client_senders senders p.waiting
+  pub dropped : IsDropped p entry p.client_senders senders
   dropped = record {
     frame = record {
       clients_alike = refl;
       client_senders_alike = senders_same p.client_senders;
       server_senders_alike = less_senders p.server_senders entry.sender entry.slot own.messages.borrowed (own.loans - 1) own.pendings refl
           (λ r. refl);
-      marks = refl;
-      marks_each = λ l. refl;
       numbers = omega arith;
     };
     requests_held = λ l i. omega (arith, unmarked (is_of_request entry.stage) (entry.sender == l && entry.slot == i) alone.request);
@@ -106,7 +104,7 @@ module _ {Q QH P PH K : Type 0} (p : Parts Q QH P PH K) (entry : HandleEntry) (h
     responses_none = λ l receiver channel e. same (λ x. queue_at x.messages receiver channel) refl l ∙ e;
     requests_borrowed = λ l receiver channel. omega arith;
     responses_borrowed = λ l receiver channel. omega (arith, same (λ x. borrowed_at x.messages receiver channel) refl l);
-    awaited = λ l slot receiver e. e;
+    marks = λ l. refl;
     request_loans = λ l. omega (arith, unmarked (is_request_loan entry.stage) (entry.sender == l) alone.loan);
     pendings = λ l. omega (arith, unmarked (is_pending entry.stage) (entry.sender == l) alone.pending);
     response_loans = count_less p.server_senders entry.sender entry.slot own.messages.borrowed (own.loans - 1) own.pendings there some
@@ -125,7 +123,7 @@ module _ {Q QH P PH K : Type 0} (p : Parts Q QH P PH K) (entry : HandleEntry) (h
 
   -- the core stays sound
   pub response_loan_sound : IsSound after_response_loan hand
-  response_loan_sound = dropped_sound p entry hand sound p.client_senders senders p.waiting dropped
+  response_loan_sound = dropped_sound p entry hand sound p.client_senders senders dropped
 
   -- and contracts see the same
   pub response_loan_view : state_of after_response_loan ≡ state_of p

@@ -141,11 +141,11 @@ module _ {Q QH P PH K : Type 0} (q : Parts Q QH P PH K) (entry : HandleEntry)
         (subst (λ (h : HandleEntry). IsSound left (h ∷ [])) whole (response_loan_sound one entry
         (t.value ∷ []) in_hand loan spot.0 spot.1 apart))
 
-    its : IsDropped one entry q.client_senders left.server_senders q.waiting
+    its : IsDropped one entry q.client_senders left.server_senders
     its = dropped one entry (t.value ∷ []) in_hand loan spot.0 spot.1 apart
 
     kept : DetailsKept one left
-    kept = details_kept one entry (t.value ∷ []) in_hand q.client_senders left.server_senders q.waiting its
+    kept = details_kept one entry (t.value ∷ []) in_hand q.client_senders left.server_senders its
 
     details_same : (l i : ℕ) → response_details left l i ≡ response_details q l i
     details_same l i = ap (λ (ns : List ResponseDetails). get_or ns i no_response) (its.all_response_details l)

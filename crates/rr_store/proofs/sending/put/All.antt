@@ -1,10 +1,10 @@
 -- One more server has a slot in its queue.
 use Rattle.std.proofs.Common.{◌≡◌, ◌≤◌, ◌+◌, ℕ, Bool, List, [], Some, sym, ap, ◌∙◌, subst, arith}
 use Rattle.std.specs.Prelude.{slice_get}
-use Rattle.rr_sender.specs.Senders.{Messages, queue_at, uses, put, with_queue}
+use Rattle.rr_sender.specs.Senders.{Messages, queue_at, uses, put, put_into}
 use Rattle.rr_sender.proofs.EntryLaws.{mark-same, times-set_two, length-set_two}
 use Rattle.rr_store.specs.declared.port.ServerPort.{ServerPort}
-use Rattle.rr_store.specs.Sending.{IsPutting, receivers_of, with_puts}
+use Rattle.rr_store.specs.Sending.{IsPutting, receivers_of, after_puts}
 use Rattle.rr_store.proofs.base.lists.ReadAt.{drop_here}
 use Rattle.rr_store.proofs.sending.put.Queues.{times_put}
 use Rattle.rr_store.proofs.base.lists.SetTwo.{row_length}
@@ -18,7 +18,7 @@ module _ {T N H K : Type 0} (overflow : Bool) (slot : ℕ) (before now : Message
   queue = put overflow now.capacity (queue_at now receiver 0) slot
 
   abbrev next : Messages T N H
-  next = with_queue now receiver 0 queue
+  next = put_into overflow now receiver 0 slot
 
   -- the slot stands in one more queue at most
   one_more : uses next slot ≤ uses now slot + 1
@@ -33,7 +33,7 @@ module _ {T N H K : Type 0} (overflow : Bool) (slot : ℕ) (before now : Message
 
   put_so : IsPutting overflow slot before next servers (i + 1)
   put_so = record {
-    rest = sym (ap (λ (ss : List (ServerPort K)). with_puts overflow slot now (receivers_of ss)) (drop_here servers i s at)) ∙ so.rest;
+    rest = sym (ap (λ (ss : List (ServerPort K)). after_puts overflow slot now (receivers_of ss)) (drop_here servers i s at)) ∙ so.rest;
     queues = λ j t there.
         let has = so.queues j t there in (
           omega (arith, has.0, length-set_two now.queues receiver 0 queue),

@@ -1,17 +1,19 @@
 -- The marks of a request that was sent: each connected server may answer it.
-use Rattle.std.proofs.Common.{◌≡◌, ◌≢◌, ◌<◌, ◌+◌, ◌*◌, ℕ, Bool, true, false, List, [], ◌∷◌, Some, length, get_or, map, refl, sym, ap, ◌∙◌, ⊎_elim, arith}
-use Rattle.std.specs.Prelude.{slice_get, slice_set, slice_index_or, filter}
-use Rattle.std.proofs.lemmas.Bool.{cases_eq}
+use Rattle.std.proofs.Common.{◌≡◌, ◌≢◌, ◌<◌, ◌+◌, ◌*◌, ◌≤◌, ℕ, zero, suc, true, false, List, [], ◌∷◌, Some, length, get_or, map, refl, sym, ap, ◌∙◌, subst, ⊎_elim, arith}
+use Rattle.std.specs.Prelude.{◌==◌, slice_get, slice_set, filter}
+use Rattle.std.proofs.lemmas.Bool.{cases_eq, cases_lt, eq-eqb, ne_eqb}
+use Rattle.std.proofs.lemmas.Option.{slice_get_within}
 use Rattle.std.proofs.lemmas.List.{get_or-set_same, get_or-set_other, length-set}
 use Rattle.rr_store.specs.Parts.{Parts, ServerPart}
-use Rattle.rr_store.specs.Views.{sender_of, is_awaited, waiting_at}
+use Rattle.rr_store.specs.Views.{no_server, sender_of, is_marked, marked}
 use Rattle.rr_store.specs.Sound.{IsSound, Hand}
-use Rattle.rr_store.specs.Sending.{with_marks, server_marks}
+use Rattle.rr_store.specs.Sending.{marks_for, with_marks}
 use Rattle.rr_store.proofs.querying.Connected.{mark_within}
-use Rattle.rr_store.proofs.base.lists.EachOnce.{IsApart, stays, passed_by, reached}
+use Rattle.rr_store.proofs.base.lists.EachOnce.{IsApart, apart_rest, stays}
 use Rattle.rr_store.proofs.base.views.Counts.{listed}
 use Rattle.rr_store.proofs.releasing.active.MayAnswer.{mark_of, filter_same}
-use Rattle.rr_store.proofs.base.lists.Replaced.{set_alike}
+use Rattle.rr_store.proofs.base.lists.Replaced.{set_past}
+use Rattle.rr_store.proofs.base.senders.Numbered.{numbered_once}
 
 -- where each element passes, none goes
 pub filter_all : {X : Type 0} (xs : List X) → filter (λ x. true) xs ≡ xs
@@ -19,29 +21,53 @@ filter_all [] = refl
 filter_all {X} (x ∷ xs) = ap (λ (ys : List X). x ∷ ys) (filter_all xs)
 
 -- a mark is set
-abbrev set_one : List Bool → ℕ → List Bool
-set_one marks index = slice_set marks index true
+abbrev set_one : List ℕ → ℕ × ℕ → List ℕ
+set_one marks mark = slice_set marks mark.0 mark.1
 
--- a row has as many marks as before
-pub as_many_marks : (marks : List Bool) (indices : List ℕ) → length (with_marks marks indices) ≡ length marks
-as_many_marks marks indices = stays set_one (λ ms. length ms) (λ ms i. length-set ms i true) indices marks
+-- there are as many marks as before
+pub as_many_marks : (marks : List ℕ) (set : List (ℕ × ℕ)) → length (with_marks marks set) ≡ length marks
+as_many_marks marks set = stays set_one (λ ms. length ms) (λ ms m. length-set ms m.0 m.1) set marks
 
-module _ {X : Type 0} (key : X → ℕ) (xs : List X) (marks : List Bool) where
-  -- these are set
-  pub set_here : IsApart key xs → (i : ℕ) (x : X) → slice_get xs i ≡ Some x → key x < length marks
-      → get_or (with_marks marks (map key xs)) (key x) false ≡ true
-  set_here apart i x at inside =
-      reached set_one (λ ms j. get_or ms j false) (λ b. true) (λ ms j. j < length ms) (λ ms j h. get_or-set_same ms j true false h)
-      (λ ms a b n. get_or-set_other ms a b true false (λ e. n (sym e)))
-      (λ ms a b h. omega (arith, h, length-set ms a true)) key xs marks apart i x at inside
+module _ {X : Type 0} (index number : X → ℕ) where
+  -- another mark is as it was
+  pub set_there : (xs : List X) (marks : List ℕ) (j : ℕ) → ((i : ℕ) (x : X) → slice_get xs i ≡ Some x → index x ≢ j)
+      → get_or (with_marks marks (map (λ x. (index x, number x)) xs)) j no_server ≡ get_or marks j no_server
+  set_there [] marks j other = refl
+  set_there (x ∷ xs) marks j other =
+      set_there xs (set_one marks (index x, number x)) j (λ i y at. other (suc i) y at)
+      ∙ get_or-set_other marks (index x) j (number x) no_server (λ e. other 0 x refl (sym e))
 
-  -- and others as they were
-  pub set_there : (j : ℕ) → ((i : ℕ) (x : X) → slice_get xs i ≡ Some x → key x ≢ j)
-      → get_or (with_marks marks (map key xs)) j false ≡ get_or marks j false
-  set_there j other =
-      passed_by set_one (λ ms j. get_or ms j false) (λ b. true) (λ ms j. j < length ms) (λ ms j h. get_or-set_same ms j true false h)
-      (λ ms a b n. get_or-set_other ms a b true false (λ e. n (sym e)))
-      (λ ms a b h. omega (arith, h, length-set ms a true)) key xs marks j other
+  -- of these each stands once
+  pub set_here : (xs : List X) (marks : List ℕ) → IsApart index xs → (i : ℕ) (x : X) → slice_get xs i ≡ Some x → index x < length marks
+      → get_or (with_marks marks (map (λ x. (index x, number x)) xs)) (index x) no_server ≡ number x
+  set_here [] marks apart i x at inside = absurd (omega (arith, slice_get_within [] i x at))
+  set_here (y ∷ ys) marks apart zero x at inside =
+      let f : Some y ≡ Some x = at in
+      let same : y ≡ x = cc in
+      let R : X → Type 0 = λ z. index z < length marks in
+      ap (λ z. get_or (with_marks (set_one marks (index y, number y)) (map (λ x. (index x, number x)) ys)) (index z) no_server) (sym same)
+      ∙ set_there ys (set_one marks (index y, number y)) (index y)
+      (λ i z there e. absurd (omega (arith, apart (suc i) 0 z y there refl e)))
+      ∙ get_or-set_same marks (index y) (number y) no_server (subst R (sym same) inside) ∙ ap number same
+  set_here (y ∷ ys) marks apart (suc i) x at inside =
+      set_here ys (set_one marks (index y, number y)) (apart_rest index y ys apart) i x at
+      (omega (arith, inside, length-set marks (index y) (number y)))
+
+  -- no number comes that none of these has
+  pub none_set : (xs : List X) (marks : List ℕ) (j server : ℕ) → ((i : ℕ) (x : X) → slice_get xs i ≡ Some x → number x ≢ server)
+      → (get_or marks j no_server == server) ≡ false
+      → (get_or (with_marks marks (map (λ x. (index x, number x)) xs)) j no_server == server) ≡ false
+  none_set [] marks j server other none = none
+  none_set (x ∷ xs) marks j server other none =
+      none_set xs (set_one marks (index x, number x)) j server (λ i y at. other (suc i) y at)
+      (⊎_elim
+      (λ e. ⊎_elim
+      (λ h. ap (λ k. get_or (set_one marks (index x, number x)) k no_server == server) (sym e)
+      ∙ ap (λ m. m == server) (get_or-set_same marks (index x) (number x) no_server h) ∙ ne_eqb (number x) server (other 0 x refl))
+      (λ h. ap (λ (ms : List ℕ). get_or ms j no_server == server) (set_past marks (index x) (number x) h) ∙ none)
+      (cases_lt (index x) (length marks)))
+      (λ n. ap (λ m. m == server) (get_or-set_other marks (index x) j (number x) no_server (λ e. n (sym e))) ∙ none)
+      (cases_eq (index x) j))
 
 module _ {Q QH P PH K : Type 0} (p : Parts Q QH P PH K) (hand : Hand) (sound : IsSound p hand) where
   -- servers have receivers and numbers of their own
@@ -53,64 +79,62 @@ module _ {Q QH P PH K : Type 0} (p : Parts Q QH P PH K) (hand : Hand) (sound : I
       (listed (λ (s : ServerPart K). s.connected) p.servers i s at) (listed (λ (s : ServerPart K). s.connected) p.servers j t there) e
 
   pub numbers_apart : IsApart (λ (s : ServerPart K). s.port.id) p.servers
-  numbers_apart i j s t at there e = sound.server_ports.numbered_once i j s.connected t.connected
+  numbers_apart i j s t at there e = numbered_once sound.server_ports i j s.connected t.connected
       (listed (λ (s : ServerPart K). s.connected) p.servers i s at) (listed (λ (s : ServerPart K). s.connected) p.servers j t there) e
+
+  -- a server's number is below the next one
+  pub servers_below : (i : ℕ) (s : ServerPart K) → slice_get p.servers i ≡ Some s → s.port.id < p.next
+  servers_below i s at =
+      let own = sound.server_ports.own i s.connected (listed (λ (s : ServerPart K). s.connected) p.servers i s at) in
+      omega (arith, sound.server_ports.numbered s.sender own.0, own.1)
 
   module _ (sender slot : ℕ) (there : sender < length p.client_senders)
       (inside : slot < length (sender_of sender p.client_senders).messages.held) where
-    abbrev row : List Bool
-    row = slice_index_or p.waiting sender []
+    abbrev old : List ℕ
+    old = (sender_of sender p.client_senders).may_answer
 
-    abbrev pub marked : List (List Bool)
-    marked = slice_set p.waiting sender (with_marks row (server_marks p slot))
+    abbrev pub new : List ℕ
+    new = with_marks old (marks_for p.limits.max_servers slot p.servers)
 
-    abbrev after : Parts Q QH P PH K
-    after = record p { waiting = marked }
+    abbrev index : ServerPart K → ℕ
+    index s = slot * p.limits.max_servers + s.receiver
 
-    marks_apart : IsApart (λ (s : ServerPart K). slot * p.limits.max_servers + s.receiver) p.servers
-    marks_apart i j s t at at_t e = places_apart i j s t at at_t (omega (arith, e))
-
-    here_is : get_or marked sender [] ≡ with_marks row (server_marks p slot)
-    here_is = get_or-set_same p.waiting sender _ [] (omega (arith, there, sound.sized.waiting))
-
-    -- rows are as long as they were
-    pub as_long : (l : ℕ) → length (slice_index_or marked l []) ≡ length (slice_index_or p.waiting l [])
-    as_long l = set_alike p.waiting sender (with_marks row (server_marks p slot)) [] (λ (ms : List Bool). length ms)
-        (as_many_marks row (server_marks p slot)) l
+    indices_apart : IsApart index p.servers
+    indices_apart i j s t at at_t e = places_apart i j s t at at_t (omega (arith, e))
 
     -- each server may answer
-    pub awaited_here : (i : ℕ) (s : ServerPart K) → slice_get p.servers i ≡ Some s → is_awaited after sender slot s.receiver ≡ true
+    pub awaited_here : (i : ℕ) (s : ServerPart K) → slice_get p.servers i ≡ Some s
+        → is_marked p.limits.max_servers new slot s.receiver s.port.id ≡ true
     awaited_here i s at =
-        ap (λ (ms : List Bool). get_or ms (slot * p.limits.max_servers + s.receiver) false) here_is
-        ∙ set_here (λ (s : ServerPart K). slot * p.limits.max_servers + s.receiver) p.servers row marks_apart i s at
-        (mark_within slot (length (sender_of sender p.client_senders).messages.held) p.limits.max_servers s.receiver (length row) inside
-        (servers_placed i s at) (sound.sized.waiting_slots sender there))
+        eq-eqb _ s.port.id (set_here index (λ s. s.port.id) p.servers old indices_apart i s at
+        (mark_within slot (length (sender_of sender p.client_senders).messages.held) p.limits.max_servers s.receiver (length old) inside
+        (servers_placed i s at) (sound.sized.marks sender there)))
 
-    -- all other marks are as they were
-    pub awaited_there : (l j r : ℕ) → r < p.limits.max_servers
-        → (sender ≡ l → slot ≡ j → (i : ℕ) (s : ServerPart K) → slice_get p.servers i ≡ Some s → s.receiver ≢ r)
-        → is_awaited after l j r ≡ is_awaited p l j r
-    awaited_there l j r fits other =
-        ⊎_elim
-        (λ e. ap (λ l. is_awaited after l j r) (sym e)
-        ∙ ap (λ (ms : List Bool). get_or ms (j * p.limits.max_servers + r) false) here_is
-        ∙ set_there (λ (s : ServerPart K). slot * p.limits.max_servers + s.receiver) p.servers row (j * p.limits.max_servers + r)
-        (λ i s at same. let m = mark_of p.limits.max_servers slot s.receiver j r (servers_placed i s at) fits same in other e m.0 i s at
-        m.1)
-        ∙ ap (λ l. is_awaited p l j r) e)
-        (λ n. ap (λ (ms : List Bool). get_or ms (j * p.limits.max_servers + r) false)
-        (get_or-set_other p.waiting sender l _ [] (λ e. n (sym e))))
-        (cases_eq sender l)
+    -- another slot's marks are as they were
+    pub awaited_there : (j r server : ℕ) → r < p.limits.max_servers → slot ≢ j
+        → is_marked p.limits.max_servers new j r server ≡ is_marked p.limits.max_servers old j r server
+    awaited_there j r server fits other =
+        ap (λ m. m == server) (set_there index (λ s. s.port.id) p.servers old (j * p.limits.max_servers + r)
+        (λ i s at same. other (mark_of p.limits.max_servers slot s.receiver j r (servers_placed i s at) fits same).0))
+
+    -- and a server that is still to come may answer none
+    pub awaited_none : (j r server : ℕ) → p.next ≤ server → is_marked p.limits.max_servers old j r server ≡ false
+        → is_marked p.limits.max_servers new j r server ≡ false
+    awaited_none j r server later none =
+        none_set index (λ s. s.port.id) p.servers old (j * p.limits.max_servers + r) server
+        (λ i s at same. absurd (omega (arith, same, servers_below i s at, later))) none
 
     -- so the request waits for all servers
-    pub waits_for_all : waiting_at after sender slot ≡ map (λ s. s.port.id) p.servers
+    pub waits_for_all : marked p.limits.max_servers p.servers new slot ≡ map (λ s. s.port.id) p.servers
     waits_for_all =
-        ap (map (λ (s : ServerPart K). s.port.id)) (filter_same (λ (s : ServerPart K). is_awaited after sender slot s.receiver)
+        ap (map (λ (s : ServerPart K). s.port.id))
+        (filter_same (λ (s : ServerPart K). is_marked p.limits.max_servers new slot s.receiver s.port.id)
         (λ s. true) p.servers awaited_here ∙ filter_all p.servers)
 
     -- and another one for those for which it did
-    pub waits_as_before : (l j : ℕ) → (sender ≡ l → slot ≡ j → ⊥) → waiting_at after l j ≡ waiting_at p l j
-    waits_as_before l j other =
+    pub waits_as_before : (j : ℕ) → slot ≢ j → marked p.limits.max_servers p.servers new j ≡ marked p.limits.max_servers p.servers old j
+    waits_as_before j other =
         ap (map (λ (s : ServerPart K). s.port.id))
-        (filter_same (λ (s : ServerPart K). is_awaited after l j s.receiver) (λ s. is_awaited p l j s.receiver) p.servers
-        (λ i s at. awaited_there l j s.receiver (servers_placed i s at) (λ e f. absurd (other e f))))
+        (filter_same (λ (s : ServerPart K). is_marked p.limits.max_servers new j s.receiver s.port.id)
+        (λ s. is_marked p.limits.max_servers old j s.receiver s.port.id) p.servers
+        (λ i s at. awaited_there j s.receiver s.port.id (servers_placed i s at) other))

@@ -31,6 +31,7 @@ use Rattle.rr_store.proofs.base.views.Counts.{listed, pendings_counted}
 use Rattle.rr_store.proofs.base.lists.Replaced.{map_same, find_mapped}
 use Rattle.rr_store.proofs.releasing.View.{table_entry_shown}
 use Rattle.rr_store.proofs.sending.request.View as view
+use Rattle.rr_store.proofs.base.senders.Numbered.{numbered_once}
 
 module _ {X : Type 0} (t u : X → Bool) (xs : List X) (same : (i : ℕ) (x : X) → slice_get xs i ≡ Some x → t x ≡ u x) where
   -- tests that agree on each element are passed by one alike, and by as many
@@ -65,7 +66,7 @@ module _ {Q QH P PH K : Type 0} (p : Parts Q QH P PH K) (sound : IsSound p empty
       ∙ ap (option_map client_of)
       (found_alone (λ (d : ClientPart K). d.port.id == message.client) p.clients index c there
       (eq-eqb c.port.id message.client (sym its_client))
-      (λ j d at same. sound.client_ports.numbered_once j index d.connected c.connected
+      (λ j d at same. numbered_once sound.client_ports j index d.connected c.connected
       (listed (λ (c : ClientPart K). c.connected) p.clients j d at) (listed (λ (c : ClientPart K). c.connected) p.clients index c there)
       (eqb-true d.port.id message.client same ∙ its_client)))
 

@@ -13,12 +13,11 @@ use Rattle.rr_store.specs.declared.handle_entry.HandleEntry.{HandleEntry}
 use Rattle.rr_store.specs.declared.handle_entry.Stage.{Stage}
 use Rattle.rr_store.specs.declared.details.RequestDetails.{RequestDetails}
 use Rattle.rr_store.specs.Parts.{Parts, ServerPart, Sender}
-use Rattle.rr_store.specs.Views.{no_sender, no_request, sender_of}
+use Rattle.rr_store.specs.Views.{no_sender, no_request, sender_of, is_marked}
 use Rattle.rr_store.specs.Sound.{IsSound, IsCounted, IsHeldOnce, IsStored, IsVacated, IsShaped, handles, is_request_at, is_response_at, is_active_at, is_in_sender, is_request_loan, is_pending, is_active_of, is_response_loan, is_loan_from, is_received_at, has_request_at, request_uses, request_details, server_place}
 use Rattle.rr_store.specs.Frames.{SameFrame}
 use Rattle.rr_store.specs.Kept.{DetailsKept}
-use Rattle.rr_store.specs.Loaning.{with_messages}
-use Rattle.rr_store.specs.Sending.{request_held, pending_held, with_one_sent, with_puts, server_places, with_request_in_queues}
+use Rattle.rr_store.specs.Sending.{marks_for, queued, request_held, pending_held, with_one_sent, with_request_in_queues}
 use Rattle.rr_store.proofs.base.lists.Adding.{makes_requests}
 use Rattle.rr_store.proofs.base.views.Agreeing.{sender_within}
 use Rattle.rr_store.proofs.base.frames.Frames.{framed_client_ports, framed_server_ports, framed_by_value, framed_sized, senders_set}
@@ -28,7 +27,7 @@ use Rattle.rr_store.proofs.base.senders.Counted.{counted_set}
 use Rattle.rr_store.proofs.base.lists.Replaced.{set_alike}
 use Rattle.rr_store.proofs.sending.put.Sender.{queue_there, queue_other, times_queue_put, times_all_put, put_shaped}
 use Rattle.rr_store.proofs.base.senders.Queues.{times_queue}
-use Rattle.rr_store.proofs.sending.request.MayAnswer.{servers_placed, places_apart, as_long, awaited_there}
+use Rattle.rr_store.proofs.sending.request.MayAnswer.{servers_placed, places_apart, as_many_marks, awaited_none}
 use Rattle.rr_store.proofs.base.lookups.Shown.{held_within}
 use Rattle.rr_store.proofs.base.hands.Stages.{loan_is_request, handle_uses_request, handle_uses_response}
 
@@ -47,7 +46,7 @@ module _ {Q QH P PH K : Type 0} (p : Parts Q QH P PH K) (sender slot connections
   m = (sender_of sender p.client_senders).messages
 
   abbrev pub fresh : Sender Q RequestDetails QH
-  fresh = with_one_sent (with_messages (sender_of sender p.client_senders) (with_puts overflow slot m (server_places p)))
+  fresh = with_one_sent (queued p slot (sender_of sender p.client_senders))
 
   abbrev after : Parts Q QH P PH K
   after = with_request_in_queues p sender slot
@@ -81,7 +80,7 @@ module _ {Q QH P PH K : Type 0} (p : Parts Q QH P PH K) (sender slot connections
   pub capacity : 0 < m.capacity
   capacity = omega (arith, shaped.capacity_is, makes_requests p.limits sound.sized.limits_fit)
 
-  frame : SameFrame p p.clients after.client_senders p.server_senders after.waiting p.next
+  frame : SameFrame p p.clients after.client_senders p.server_senders p.next
   frame = record {
     clients_alike = refl;
     client_senders_alike = senders_set p.client_senders sender fresh (record {
@@ -90,12 +89,11 @@ module _ {Q QH P PH K : Type 0} (p : Parts Q QH P PH K) (sender slot connections
       receiver = refl;
       slots = refl;
       room = refl;
+      marks = as_many_marks (sender_of sender p.client_senders).may_answer (marks_for p.limits.max_servers slot p.servers);
       shaped = put_shaped m shaped capacity overflow slot has_value (λ (s : ServerPart K). s.receiver) p.servers
           (servers_placed p (entry ∷ []) sound) (places_apart p (entry ∷ []) sound);
     });
     server_senders_alike = senders_same p.server_senders;
-    marks = length-set p.waiting sender _;
-    marks_each = as_long p (entry ∷ []) sound sender slot there inside;
     numbers = omega arith;
   }
 
@@ -288,8 +286,14 @@ module _ {Q QH P PH K : Type 0} (p : Parts Q QH P PH K) (sender slot connections
               (cases_eq sender l),
           same_of (λ x. borrowed_at x.messages r ch) refl l ∙ old.1,
         );
-    awaits_none = λ l i r none fits. awaited_there p (entry ∷ []) sound sender slot there inside l i r fits (λ _ _. none)
-        ∙ sound.vacated.awaits_none l i r none fits;
+    awaits_none = λ l i r server new fits.
+        let none = sound.vacated.awaits_none l i r server new fits in
+        ⊎_elim
+        (λ e. at_here (λ x. is_marked p.limits.max_servers x.may_answer i r server) l e
+        ∙ awaited_none p (entry ∷ []) sound sender slot there inside i r server new
+        (sym (at_before (λ x. is_marked p.limits.max_servers x.may_answer i r server) l e) ∙ none))
+        (λ n. ap (λ (x : Sender Q RequestDetails QH). is_marked p.limits.max_servers x.may_answer i r server) (there_is l n) ∙ none)
+        (cases_eq sender l);
   }
     where
       same_queue : (r ch : ℕ) → ((i : ℕ) (s : ServerPart K) → slice_get p.servers i ≡ Some s → s.receiver ≢ r)
@@ -309,23 +313,23 @@ module _ {Q QH P PH K : Type 0} (p : Parts Q QH P PH K) (sender slot connections
   in_queues = record {
     counted = counted;
     held_once = held_once;
-    numbered = kept_numbered p (entry ∷ []) sound p.clients after.client_senders p.server_senders after.waiting p.next frame
+    numbered = kept_numbered p (entry ∷ []) sound p.clients after.client_senders p.server_senders p.next frame
         kept
         (handle_uses_request after (pend ∷ []) counted) (handle_uses_response after (pend ∷ []) counted);
-    addressed = kept_addressed p (entry ∷ []) sound p.clients after.client_senders p.server_senders after.waiting p.next frame
+    addressed = kept_addressed p (entry ∷ []) sound p.clients after.client_senders p.server_senders p.next frame
         kept
         sound.addressed.entries;
-    inserted = framed_inserted p (entry ∷ []) sound p.clients after.client_senders p.server_senders after.waiting p.next
+    inserted = framed_inserted p (entry ∷ []) sound p.clients after.client_senders p.server_senders p.next
         frame;
     stored = stored;
-    sized = framed_sized p (entry ∷ []) sound p.clients after.client_senders p.server_senders after.waiting p.table.entries
+    sized = framed_sized p (entry ∷ []) sound p.clients after.client_senders p.server_senders p.table.entries
         p.next
         frame sound.sized.next_fits sound.sized.loans_made;
     vacated = vacated;
-    have_values = framed_by_value p (entry ∷ []) sound p.clients after.client_senders p.server_senders after.waiting
+    have_values = framed_by_value p (entry ∷ []) sound p.clients after.client_senders p.server_senders
         p.table.entries p.next frame;
-    client_ports = framed_client_ports p (entry ∷ []) sound p.clients after.client_senders p.server_senders after.waiting
+    client_ports = framed_client_ports p (entry ∷ []) sound p.clients after.client_senders p.server_senders
         p.table.entries p.next frame;
-    server_ports = framed_server_ports p (entry ∷ []) sound p.clients after.client_senders p.server_senders after.waiting
+    server_ports = framed_server_ports p (entry ∷ []) sound p.clients after.client_senders p.server_senders
         p.table.entries p.next frame;
   }

@@ -1,15 +1,13 @@
 -- Servers as they are stored, and as parts: their queues, marks and numbers.
-use Rattle.std.proofs.Common.{◌≡◌, ◌<◌, ◌+◌, ◌*◌, ℕ, Bool, true, false, List, [], ◌∷◌, Some, length, map, refl, sym, ap, ◌∙◌, subst, Vec, Global}
-use Rattle.std.specs.Prelude.{◌&&◌, ◌||◌, IsSomeAnd, slice_get, slice_index_or}
+use Rattle.std.proofs.Common.{◌≡◌, ◌<◌, ◌+◌, ◌*◌, ℕ, Bool, true, false, List, [], ◌∷◌, Some, length, map, refl, sym, ap, ◌∙◌}
+use Rattle.std.specs.Prelude.{◌&&◌, ◌||◌, slice_get, slice_index_or}
 use Rattle.std.specs.List.{list_any}
 use Rattle.std.proofs.lemmas.Simd.{map-map}
-use Rattle.std.proofs.lemmas.Option.{slice_get-get_or}
 use Rattle.rr_sender.specs.Senders.{Messages}
 use Rattle.rr_store.specs.declared.port.ServerPort.{ServerPort}
 use Rattle.rr_store.specs.Parts.{ServerPart}
-use Rattle.rr_store.specs.Ports.{marks_of, server_part}
+use Rattle.rr_store.specs.Ports.{server_part}
 use Rattle.rr_store.specs.Sending.{HasQueues, receivers_of}
-use Rattle.rr_store.proofs.base.lists.Mapped.{of_index}
 use Rattle.rr_store.proofs.base.lookups.Looking.{list_any-map}
 use Rattle.rr_store.proofs.base.views.Counts.{listed}
 
@@ -38,28 +36,12 @@ module _ {K : Type 0} (items slice : List (ServerPort K)) (same : slice ≡ item
   pub receivers_are : receivers_of slice ≡ map (λ (s : ServerPart K). s.receiver) (map server_part items)
   receivers_are = ap receivers_of same ∙ sym (map-map (λ (s : ServerPart K). s.receiver) server_part items)
 
-  -- their marks of a slot
-  pub marks_are : (slot receivers : ℕ) → map (λ (s : ServerPort K). slot * receivers + s.port.receiver) slice
-      ≡ map (λ (s : ServerPart K). slot * receivers + s.receiver) (map server_part items)
-  marks_are slot receivers =
-      ap (map (λ (s : ServerPort K). slot * receivers + s.port.receiver)) same
-      ∙ sym (map-map (λ (s : ServerPart K). slot * receivers + s.receiver) server_part items)
-
   -- how many of them pass, and whether one does
   pub any_is : (t : ServerPart K → Bool) → list_any (λ s. t (server_part s)) slice ≡ list_any t (map server_part items)
   any_is t = ap (list_any (λ s. t (server_part s))) same ∙ sym (list_any-map server_part t items)
 
   -- each has a mark
-  pub has_marks : (rows : List (Vec Bool Global)) (sender slot receivers : ℕ) → sender < length (map marks_of rows)
-      → ((i : ℕ) (s : ServerPart K) → slice_get (map server_part items) i ≡ Some s
-      → slot * receivers + s.receiver < length (slice_index_or (map marks_of rows) sender []))
-      → IsSomeAnd (slice_get rows sender) (λ marks. (i : ℕ) (s : ServerPort K) → slice_get slice i ≡ Some s
-      → slot * receivers + s.port.receiver < length marks.items)
-  has_marks rows sender slot receivers there h =
-      of_index marks_of rows sender
-      (λ marks. (i : ℕ) (s : ServerPort K) → slice_get slice i ≡ Some s → slot * receivers + s.port.receiver < length marks)
-      (λ marks. (i : ℕ) (s : ServerPort K) → slice_get slice i ≡ Some s → slot * receivers + s.port.receiver < length marks.items)
-      (λ x h. h)
-      (subst (λ o. IsSomeAnd o (λ marks. (i : ℕ) (s : ServerPort K) → slice_get slice i ≡ Some s
-      → slot * receivers + s.port.receiver < length marks)) (sym (slice_get-get_or (map marks_of rows) sender [] there))
-      (λ i s at. h i (server_part s) (part_there i s at)))
+  pub has_marks : (marks : List ℕ) (slot receivers : ℕ)
+      → ((i : ℕ) (s : ServerPart K) → slice_get (map server_part items) i ≡ Some s → slot * receivers + s.receiver < length marks)
+      → (i : ℕ) (s : ServerPort K) → slice_get slice i ≡ Some s → slot * receivers + s.port.receiver < length marks
+  has_marks marks slot receivers h i s at = h i (server_part s) (part_there i s at)

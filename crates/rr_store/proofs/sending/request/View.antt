@@ -21,7 +21,7 @@ use Rattle.rr_protocol.proofs.ListsLaws.{same_lists}
 use Rattle.rr_store.specs.declared.handle_entry.HandleEntry.{HandleEntry}
 use Rattle.rr_store.specs.declared.details.RequestDetails.{RequestDetails}
 use Rattle.rr_store.specs.Parts.{Parts, ServerPart, Sender}
-use Rattle.rr_store.specs.Views.{no_sender, sender_of, state_of, request_in_slot, request_at, handle_of, handle_in, requests_at, waiting_at, server_of}
+use Rattle.rr_store.specs.Views.{no_sender, sender_of, state_of, request_in_slot, request_at, handle_of, handle_in, requests_at, marked, waiting_at, server_of}
 use Rattle.rr_store.specs.Sound.{IsSound, IsShaped, empty_hand, is_of_request, has_request_at, request_uses}
 use Rattle.rr_store.specs.Sending.{request_held, pending_held, with_request_sent}
 use Rattle.rr_store.proofs.base.views.Agreeing.{same_handle, same_state}
@@ -195,6 +195,23 @@ module _ {Q QH P PH K : Type 0} (p : Parts Q QH P PH K) (sound : IsSound p empty
       (inserted.taken_sound p sound k sender slot connections s at_s is) used
       (λ x. request_in_slot p.spare_request_header x.messages i) refl l
 
+  its_sender : sender_of sender after.client_senders ≡ fresh
+  its_sender = sent.here_is (inserted.taken p sound k sender slot connections s at_s is) sender slot connections
+      (inserted.taken_sound p sound k sender slot connections s at_s is) used
+
+  -- another request waits for those for which it did
+  marks_elsewhere : (l i : ℕ) → (sender ≡ l → slot ≡ i → ⊥) → waiting_at after l i ≡ waiting_at p l i
+  marks_elsewhere l i other =
+      ⊎_elim
+      (λ e. ap (λ l. waiting_at after l i) (sym e)
+      ∙ ap (λ (x : Sender Q RequestDetails QH). marked p.limits.max_servers p.servers x.may_answer i) its_sender
+      ∙ waits_as_before p empty_hand sound sender slot sender_there slot_there i (other e)
+      ∙ ap (λ l. waiting_at p l i) e)
+      (λ n. ap (λ (x : Sender Q RequestDetails QH). marked p.limits.max_servers p.servers x.may_answer i)
+      (sent.there_is (inserted.taken p sound k sender slot connections s at_s is) sender slot connections
+      (inserted.taken_sound p sound k sender slot connections s at_s is) used l n))
+      (cases_eq sender l)
+
   -- the other handles show what they did
   handles_same : (j : ℕ) (t : TableEntry HandleEntry) → fin_map.get p.table.entries j ≡ Some t → handle_of after t ≡ handle_of p t
   handles_same j t e = ⊎_elim (λ same. its_own same) (λ n. another n) (cases_eq j k)
@@ -211,8 +228,7 @@ module _ {Q QH P PH K : Type 0} (p : Parts Q QH P PH K) (sound : IsSound p empty
           same_handle after p t.value.stage t.value.sender t.value.slot
           (λ of_request. (
             same_message t.value.sender t.value.slot,
-            waits_as_before p empty_hand sound sender slot sender_there slot_there t.value.sender t.value.slot
-                (λ f g. elsewhere n of_request f g),
+            marks_elsewhere t.value.sender t.value.slot (λ f g. elsewhere n of_request f g),
           ))
           (λ _. refl)
         where
@@ -242,7 +258,8 @@ module _ {Q QH P PH K : Type 0} (p : Parts Q QH P PH K) (sound : IsSound p empty
       ap (λ r. PendingResponse (record { message = r; hint = false; connections = connections; servers = waiting_at after sender slot }))
       (same_message sender slot)
       ∙ ap (λ ns. PendingResponse (record { message = message; hint = false; connections = connections; servers = ns }))
-      (waits_for_all p empty_hand sound sender slot sender_there slot_there
+      (ap (λ (x : Sender Q RequestDetails QH). marked p.limits.max_servers p.servers x.may_answer slot) its_sender
+      ∙ waits_for_all p empty_hand sound sender slot sender_there slot_there
       ∙ sym (map-map (λ d. d.id) server_of p.servers))
 
   handles : (state_of after).handles ≡ fin_map.insert (state_of p).handles k shown

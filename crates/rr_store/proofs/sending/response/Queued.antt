@@ -12,13 +12,14 @@ use Rattle.rr_store.specs.Sound.{IsSound, Hand}
 use Rattle.rr_store.proofs.base.senders.Entries.{found_alone}
 use Rattle.rr_store.proofs.base.views.Counts.{listed}
 use Rattle.rr_store.proofs.base.views.Keyed.{at_responses}
+use Rattle.rr_store.proofs.base.senders.Numbered.{numbered_once}
 
 module _ {Q QH P PH K : Type 0} (p : Parts Q QH P PH K) (hand : Hand) (sound : IsSound p hand) where
   -- a client that stands at an index is the one with its number
   pub client_alone : (i : ℕ) (c : ClientPart K) → slice_get p.clients i ≡ Some c → find (λ d. d.port.id == c.port.id) p.clients ≡ Some c
   client_alone i c at =
       found_alone (λ (d : ClientPart K). d.port.id == c.port.id) p.clients i c at (eq-eqb c.port.id c.port.id refl)
-      (λ j d e same. sound.client_ports.numbered_once j i d.connected c.connected
+      (λ j d e same. numbered_once sound.client_ports j i d.connected c.connected
       (listed (λ (c : ClientPart K). c.connected) p.clients j d e)
       (listed (λ (c : ClientPart K). c.connected) p.clients i c at) (eqb-true d.port.id c.port.id same))
 

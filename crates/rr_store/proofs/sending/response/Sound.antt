@@ -57,7 +57,7 @@ module _ {Q QH P PH K : Type 0} (p : Parts Q QH P PH K) (entry : HandleEntry)
   pub within : entry.slot < length m.held
   within = held_within m.held entry.slot some
 
-  frame : SameFrame p p.clients p.client_senders after.server_senders p.waiting p.next
+  frame : SameFrame p p.clients p.client_senders after.server_senders p.next
   frame = record {
     clients_alike = refl;
     client_senders_alike = senders_same p.client_senders;
@@ -68,10 +68,9 @@ module _ {Q QH P PH K : Type 0} (p : Parts Q QH P PH K) (entry : HandleEntry)
           receiver = refl;
           slots = refl;
           room = refl;
+          marks = refl;
           shaped = put_shaped m shaped capacity overflow c.receiver channel entry.slot placed inside within;
         });
-    marks = refl;
-    marks_each = λ l. refl;
     numbers = omega arith;
   }
 
@@ -286,24 +285,24 @@ module _ {Q QH P PH K : Type 0} (p : Parts Q QH P PH K) (entry : HandleEntry)
   delivered_sound = record {
     counted = counted;
     held_once = held_once;
-    numbered = kept_numbered p (entry ∷ []) sound p.clients p.client_senders after.server_senders p.waiting p.next frame kept
+    numbered = kept_numbered p (entry ∷ []) sound p.clients p.client_senders after.server_senders p.next frame kept
         (handle_uses_request p (entry ∷ []) sound.counted)
         (handle_uses_response after (entry ∷ []) counted);
-    addressed = kept_addressed p (entry ∷ []) sound p.clients p.client_senders after.server_senders p.waiting p.next frame kept
+    addressed = kept_addressed p (entry ∷ []) sound p.clients p.client_senders after.server_senders p.next frame kept
         addressed;
-    inserted = framed_inserted p (entry ∷ []) sound p.clients p.client_senders after.server_senders p.waiting p.next frame;
+    inserted = framed_inserted p (entry ∷ []) sound p.clients p.client_senders after.server_senders p.next frame;
     stored = stored;
-    sized = framed_sized p (entry ∷ []) sound p.clients p.client_senders after.server_senders p.waiting p.table.entries p.next
+    sized = framed_sized p (entry ∷ []) sound p.clients p.client_senders after.server_senders p.table.entries p.next
         frame
         sound.sized.next_fits sound.sized.loans_made;
     vacated = vacated;
-    have_values = framed_by_value p (entry ∷ []) sound p.clients p.client_senders after.server_senders p.waiting p.table.entries
+    have_values = framed_by_value p (entry ∷ []) sound p.clients p.client_senders after.server_senders p.table.entries
         p.next
         frame;
-    client_ports = framed_client_ports p (entry ∷ []) sound p.clients p.client_senders after.server_senders p.waiting
+    client_ports = framed_client_ports p (entry ∷ []) sound p.clients p.client_senders after.server_senders
         p.table.entries
         p.next frame;
-    server_ports = framed_server_ports p (entry ∷ []) sound p.clients p.client_senders after.server_senders p.waiting
+    server_ports = framed_server_ports p (entry ∷ []) sound p.clients p.client_senders after.server_senders
         p.table.entries
         p.next frame;
   }

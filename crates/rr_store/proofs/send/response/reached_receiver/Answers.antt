@@ -1,8 +1,9 @@
-use Rattle.std.proofs.Common.{Some, ◌≡◌, ◌<◌, None, length, sym, ap, ◌∙◌, arith}
+use Rattle.std.proofs.Common.{Some, ◌≡◌, ◌<◌, None, length, sym, ap, ◌∙◌, subst, arith}
 use Rattle.std.specs.Prelude.{◌==◌}
 use Rattle.std.specs.List.{position}
 use Rattle.std.proofs.lemmas.Option.{slice_get_within, slice_get-get_or}
 use Rattle.rr_store.specs.declared.port.ClientPort.{ClientPort}
+use Rattle.rr_store.specs.Order.{IsRising}
 use Rattle.rr_store.proofs.base.lists.Replaced.{standing}
 use Rattle.rr_store.proofs.sending.response.Reaching.{not_reached, reached_by, reached_pending, reached_other}
 use Rattle.rr_store.proofs.send.response.reached_receiver.Goals as goal
@@ -27,7 +28,10 @@ within g c there =
     let clients = c.args.clients.now.items in
     let i = c.in_ok-index_of.field-0 in
     let now = c.index-client.result.now in
-    c.requires i now (slice_get-get_or clients i now there ∙ ap Some (sym c.index-client.ensures))
+    c.requires.senders i now (slice_get-get_or clients i now there ∙ ap Some (sym c.index-client.ensures))
+
+pub index_of-requires : goal.index_of-requires
+index_of-requires g c = subst (IsRising (λ (x : ClientPort _). x.port.id)) (sym c.as_slice.ensures.value) c.requires.rising
 
 pub returns-in_err-index_of : goal.returns-in_err-index_of
 returns-in_err-index_of g c =

@@ -2,16 +2,23 @@ use Rattle.std.proofs.Common.{◌≡◌, List, sym, subst}
 use Rattle.std.specs.Prelude.{◌==◌, IsSome, IsSomeAnd, slice_get}
 use Rattle.std.specs.List.{position}
 use Rattle.rr_store.specs.declared.port.ClientPort.{ClientPort}
+use Rattle.rr_store.specs.Order.{IsRising}
 use Rattle.rr_store.specs.Parts.{ClientPart}
 use Rattle.rr_store.specs.Ports.{client_part}
 use Rattle.rr_store.proofs.base.lists.Mapped.{some_mapped, to_mapped}
+use Rattle.rr_store.proofs.base.lists.Rising.{rising_unmapped}
 use Rattle.rr_store.proofs.store.Store.client_receiver.Goals as goal
 
-pub receiver_of-requires : goal.receiver_of-requires
-receiver_of-requires g c =
+pub receiver_of-requires-clause-rising : goal.receiver_of-requires-clause-rising
+receiver_of-requires-clause-rising g c =
+    subst (IsRising (λ (x : ClientPort _). x.port.id)) (sym c.as_slice.ensures.value)
+    (rising_unmapped client_part (λ (x : ClientPart _). x.port.id) c.self.inside.clients.items (rw (← c.self.view_is) at c.requires.rising))
+
+pub receiver_of-requires-clause-found : goal.receiver_of-requires-clause-found
+receiver_of-requires-clause-found g c =
     subst (λ (ports : List (ClientPort _)). IsSome (position (λ p. p.port.id == c.args.client) ports)) (sym c.as_slice.ensures.value)
     (some_mapped client_part (λ (x : ClientPart _). x.port.id == c.args.client) c.self.inside.clients.items (rw
-    (← c.self.view_is) at c.requires))
+    (← c.self.view_is) at c.requires.found))
 
 pub returns : goal.returns
 returns g c =

@@ -1,18 +1,19 @@
-use Rattle.std.proofs.Common.{◌<◌, ◌+◌, ◌^◌, length, map, sym, ap, ◌∙◌, subst, arith}
-use Rattle.std.specs.Prelude.{count_by, slice_index, slice_index_or, slice_set, [], not}
+use Rattle.std.proofs.Common.{◌≡◌, ◌<◌, ◌+◌, ◌*◌, ◌^◌, ℕ, Some, length, map, sym, ap, ◌∙◌, subst, arith}
+use Rattle.std.specs.Prelude.{count_by, slice_get, slice_index, not}
 use Rattle.std.proofs.lemmas.List.{length-map}
 use Rattle.rr_maps.proofs.Counting.{count-map}
 use Rattle.rr_sender.specs.Senders.{uses}
-use Rattle.rr_store.specs.Changes.{is_open_to, with_request_queued}
+use Rattle.rr_store.specs.Changes.{is_open_to}
+use Rattle.rr_store.specs.declared.port.ServerPort.{ServerPort}
 use Rattle.rr_store.specs.Inside.{parts_of}
-use Rattle.rr_store.specs.Loaning.{with_messages}
+use Rattle.rr_store.specs.Loaning.{with_sender_at}
 use Rattle.rr_store.specs.Parts.{Sender}
-use Rattle.rr_store.specs.Ports.{marks_of, server_part}
-use Rattle.rr_store.specs.Sending.{HasQueues, is_blocked_at, receivers_of, with_marks, with_puts}
+use Rattle.rr_store.specs.Ports.{server_part}
+use Rattle.rr_store.specs.Sending.{HasQueues, after_queued, is_blocked_at}
 use Rattle.rr_store.specs.Views.{sender_of}
 use Rattle.rr_store.proofs.base.senders.Stored.{stored_is}
-use Rattle.rr_store.proofs.releasing.request.Fields.{sender_asked, senders_then}
-use Rattle.rr_store.proofs.sending.request.Stored.{has_queues, has_marks, receivers_are, marks_are}
+use Rattle.rr_store.proofs.releasing.request.Fields.{sender_asked}
+use Rattle.rr_store.proofs.sending.request.Stored.{has_queues, has_marks}
 use Rattle.rr_store.proofs.store.Store.queue_request.Goals as goal
 
 pub open_count-count-requires : goal.open_count-count-requires
@@ -26,8 +27,8 @@ open_count-count-requires g c =
     (stored_is c.self.inside.client_senders.items c.args.sender c.index.result.now there c.index.ensures)
     (has_queues items slice c.as_slice-servers.ensures.value (sender_of c.args.sender p.client_senders).messages queues)
 
-pub put_in-requires-clause-queues : goal.put_in-requires-clause-queues
-put_in-requires-clause-queues g c =
+pub queue_in-requires-clause-queues : goal.queue_in-requires-clause-queues
+queue_in-requires-clause-queues g c =
     let p = parts_of c.self.inside in
     let slice = c.as_slice-servers.result.now in
     let there = rw (← c.self.view_is) at c.requires.sender in
@@ -37,8 +38,8 @@ put_in-requires-clause-queues g c =
     (has_queues c.self.inside.servers.items slice c.as_slice-servers.ensures.value
     (sender_of c.args.sender p.client_senders).messages queues)
 
-pub put_in-requires-clause-held : goal.put_in-requires-clause-held
-put_in-requires-clause-held g c =
+pub queue_in-requires-clause-held : goal.queue_in-requires-clause-held
+queue_in-requires-clause-held g c =
     let items = c.self.inside.servers.items in
     let slice = c.as_slice-servers.result.now in
     let there = rw (← c.self.view_is) at c.requires.sender in
@@ -50,12 +51,18 @@ put_in-requires-clause-held g c =
     × (uses l.messages c.args.slot + length (map server_part items) < 2 ^ 64))
     (λ l h. (h.0, h.1, omega (arith, h.2, length-map items server_part, ap length c.as_slice-servers.ensures.value))) takes
 
-pub set_marks_in-requires : goal.set_marks_in-requires
-set_marks_in-requires g c =
+pub queue_in-requires-clause-marks : goal.queue_in-requires-clause-marks
+queue_in-requires-clause-marks g c =
+    let slice = c.as_slice-servers.result.now in
+    let receivers = c.self.inside.limits.max_servers in
+    let there = rw (← c.self.view_is) at c.requires.sender in
     let marks = rw (← c.self.view_is) at c.requires.marks in
-    let rows = rw (← c.self.view_is) at c.requires.rows in
-    has_marks c.self.inside.servers.items c.as_slice-servers.result.now c.as_slice-servers.ensures.value c.self.inside.waiting.items
-    c.args.sender c.args.slot c.self.inside.limits.max_servers rows marks
+    sender_asked c.self.inside.client_senders.items c.args.sender there
+    (λ l. (i : ℕ) (s : ServerPort _) → slice_get slice i ≡ Some s → c.args.slot * receivers + s.port.receiver < length l.may_answer.items)
+    (λ l. (i : ℕ) (s : ServerPort _) → slice_get slice i ≡ Some s → c.args.slot * receivers + s.port.receiver < length l.may_answer)
+    (λ l h. h)
+    (has_marks c.self.inside.servers.items slice c.as_slice-servers.ensures.value
+    (sender_of c.args.sender (parts_of c.self.inside).client_senders).may_answer c.args.slot receivers marks)
 
 pub returns-clause-count : goal.returns-clause-count
 returns-clause-count g c =
@@ -72,19 +79,8 @@ returns-clause-count g c =
 pub returns-clause-queued : goal.returns-clause-queued
 returns-clause-queued g c =
     let p = parts_of c.self.inside in
-    let items = c.self.inside.servers.items in
-    let slice = c.as_slice-servers.result.now in
-    let same = c.as_slice-servers.ensures.value in
-    let overflow = p.limits.enable_safe_overflow_for_requests in
-    let there = rw (← c.self.view_is) at c.requires.sender in
-    let m = (sender_of c.args.sender p.client_senders).messages in
-    let senders = senders_then c.self.inside.client_senders.items c.args.sender there _
-    (λ m. with_puts overflow c.args.slot m (receivers_of slice)) c.put_in.ensures
-    ∙ ap (λ rs. slice_set p.client_senders c.args.sender (with_messages (sender_of c.args.sender p.client_senders)
-    (with_puts overflow c.args.slot m rs))) (receivers_are items slice same) in
-    let marks = c.set_marks_in.ensures
-    ∙ ap (λ is. slice_set p.waiting c.args.sender (with_marks (slice_index_or p.waiting c.args.sender []) is))
-    (marks_are items slice same c.args.slot p.limits.max_servers) in
     rw (← c.self.view_is)
-    (ap (λ ls. record p { client_senders = ls; waiting = map marks_of c.set_marks_in.new.waiting.items }) senders
-    ∙ ap (λ ws. record p { client_senders = (with_request_queued p c.args.sender c.args.slot).client_senders; waiting = ws }) marks)
+    (ap (λ ls. record p { client_senders = ls }) (c.queue_in.ensures
+    ∙ ap (λ servers. with_sender_at p.client_senders c.args.sender
+    (after_queued p.limits.enable_safe_overflow_for_requests p.limits.max_servers c.args.slot (map server_part servers)))
+    c.as_slice-servers.ensures.value))

@@ -3,9 +3,11 @@ use Rattle.std.specs.Prelude.{◌==◌, IsSome}
 use Rattle.std.specs.List.{position}
 use Rattle.std.proofs.lemmas.Bool.{false≢true}
 use Rattle.rr_store.specs.declared.port.ServerPort.{ServerPort}
+use Rattle.rr_store.specs.Order.{IsRising}
 use Rattle.rr_store.specs.Parts.{ServerPart}
 use Rattle.rr_store.specs.Ports.{server_part}
 use Rattle.rr_store.proofs.base.lists.Mapped.{position-map, some_mapped}
+use Rattle.rr_store.proofs.base.lists.Rising.{rising_unmapped}
 use Rattle.rr_store.proofs.store.Store.server_index.Goals as goal
 
 -- where a port stands is told of the field
@@ -14,13 +16,18 @@ told : {K : Type 0} (items slice : List (ServerPort K)) (n : ℕ) (o : Option �
     → position (λ (x : ServerPort K). x.port.id == n) items ≡ o
 told {K} items slice n o same is = ap (position (λ (x : ServerPort K). x.port.id == n)) (sym same) ∙ sym is
 
+pub index_of-requires : goal.index_of-requires
+index_of-requires g c =
+    subst (IsRising (λ (x : ServerPort _). x.port.id)) (sym c.as_slice.ensures.value)
+    (rising_unmapped server_part (λ (x : ServerPart _). x.port.id) c.self.inside.servers.items (rw (← c.self.view_is) at c.requires.rising))
+
 pub unreachable-requires : goal.unreachable-requires
 unreachable-requires g c =
     false≢true (
     subst IsSome (told c.self.inside.servers.items c.as_slice.result.now c.args.server _ c.as_slice.ensures.value c.index_of.ensures
     ∙ c.in-None.is)
     (some_mapped server_part (λ (x : ServerPart _). x.port.id == c.args.server) c.self.inside.servers.items (rw
-    (← c.self.view_is) at c.requires)))
+    (← c.self.view_is) at c.requires.found)))
 
 pub returns : goal.returns
 returns g c =
