@@ -16,7 +16,7 @@ use Rattle.rr_protocol.specs.declared.settings.ServerSettings.{ServerSettings}
 use Rattle.rr_store.specs.declared.details.RequestDetails.{RequestDetails}
 use Rattle.rr_store.specs.declared.details.ResponseDetails.{ResponseDetails}
 use Rattle.rr_store.specs.declared.handle_entry.HandleEntry.{HandleEntry}
-use Rattle.rr_store.specs.Clearing.{channel_dropped}
+use Rattle.rr_store.specs.Clearing.{channel_cleared}
 use Rattle.rr_store.specs.Creating.{client_port, server_port}
 use Rattle.rr_store.specs.Loaning.{with_messages, with_sender_at}
 use Rattle.rr_store.specs.Parts.{Parts, ClientPart, ServerPart, Sender}
@@ -59,7 +59,7 @@ module _ {Q QH P PH K : Type 0} (p : Parts Q QH P PH K) where
 
   -- with nothing in the queues from all servers to a client's channel
   abbrev pub with_channel_cleared : ℕ → ℕ → Parts Q QH P PH K
-  with_channel_cleared receiver channel = record p { server_senders = map (channel_dropped receiver channel) p.server_senders }
+  with_channel_cleared receiver channel = record p { server_senders = map (channel_cleared receiver channel) p.server_senders }
 
   -- the first reason of its own by which a client doesn't loan a request of so many elements
   abbrev pub request_loan_limit : ClientPart K → ℕ → Option LoanError

@@ -12,17 +12,17 @@ is_pending_response (PendingResponse p) = true
 is_pending_response _ = false
 
 -- a sender of which nothing waits for a receiver on a channel
-abbrev pub channel_cleared : {T N H : Type 0} → ℕ → ℕ → Sender T N H → Sender T N H
-channel_cleared receiver channel sender = with_messages sender (with_queue sender.messages receiver channel [])
+abbrev pub with_empty_queue : {T N H : Type 0} → ℕ → ℕ → Sender T N H → Sender T N H
+with_empty_queue receiver channel sender = with_messages sender (with_queue sender.messages receiver channel [])
 
 -- and each slot is emptied of which that was the last use
-abbrev pub channel_dropped : {T N H : Type 0} → ℕ → ℕ → Sender T N H → Sender T N H
-channel_dropped receiver channel sender = with_messages sender (queue_cleared sender.messages receiver channel)
+abbrev pub channel_cleared : {T N H : Type 0} → ℕ → ℕ → Sender T N H → Sender T N H
+channel_cleared receiver channel sender = with_messages sender (queue_cleared sender.messages receiver channel)
 
 -- the first senders are like that, and the others as they were
 pub record IsClearedBelow {T N H : Type 0} (receiver channel n : ℕ) (before after : List (Sender T N H)) : Type 0 where
   pub many : length after ≡ length before
-  pub done : (l : ℕ) → l < n → l < length before → sender_of l after ≡ channel_dropped receiver channel (sender_of l before)
+  pub done : (l : ℕ) → l < n → l < length before → sender_of l after ≡ channel_cleared receiver channel (sender_of l before)
   pub rest : (l : ℕ) → n ≤ l → sender_of l after ≡ sender_of l before
 
 -- a sender with one pending response less

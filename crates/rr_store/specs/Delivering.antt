@@ -1,7 +1,7 @@
 -- Which queue a response reaches, and what a sender has after it was put there.
 use Rattle.std.specs.Prelude.{◌<◌, ℕ, ◌==◌, Bool, false, not, ◌&&◌, if◌then◌else◌, List, [], length, find, Option, Some, None, IfSome, option_and_then, slice_index_or, slice_set}
 use Rattle.rr_table.specs.TableView.{TableView, value_in}
-use Rattle.rr_sender.specs.Senders.{Messages, queue_at, handed_over, is_full, put, with_queue}
+use Rattle.rr_sender.specs.Senders.{Messages, queue_at, handed_over, is_full, put, with_queue, given_back}
 use Rattle.rr_protocol.specs.declared.settings.BackpressureAction.{BackpressureAction}
 use Rattle.rr_protocol.specs.Backpressure.{discards}
 use Rattle.rr_protocol.specs.Ports.{Port}
@@ -9,7 +9,6 @@ use Rattle.rr_store.specs.declared.handle_entry.HandleEntry.{HandleEntry}
 use Rattle.rr_store.specs.declared.details.ResponseDetails.{ResponseDetails}
 use Rattle.rr_store.specs.Loaning.{with_messages}
 use Rattle.rr_store.specs.Parts.{ClientPart, Sender, Parts}
-use Rattle.rr_store.specs.Releasing.{let_go}
 use Rattle.rr_store.specs.Sound.{is_pending}
 use Rattle.rr_store.specs.Views.{sender_of}
 
@@ -45,7 +44,7 @@ module _ {T N H : Type 0} where
 
   -- and after a handle's hold of the slot went; each slot is emptied of which that was the last use
   abbrev pub handed_on : Messages T N H → Bool → ℕ → ℕ → Option ℕ → Messages T N H
-  handed_on m overflow channel slot None = let_go m slot
+  handed_on m overflow channel slot None = given_back m slot
   handed_on m overflow channel slot (Some receiver) = handed_over overflow m receiver channel slot
 
 module _ {Q QH P PH K : Type 0} (p : Parts Q QH P PH K) where

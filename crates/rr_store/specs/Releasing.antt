@@ -1,6 +1,6 @@
 -- What a release takes away, and from which part.
-use Rattle.std.specs.Prelude.{ℕ, ◌-◌, Bool, true, false, [], ◌∷◌, slice_index, slice_set}
-use Rattle.rr_sender.specs.Senders.{Messages, borrowed_at, emptied_among, with_held, with_borrowed}
+use Rattle.std.specs.Prelude.{ℕ, ◌-◌, Bool, true, false, slice_index, slice_set}
+use Rattle.rr_sender.specs.Senders.{Messages, borrowed_at, given_back, with_held, with_borrowed}
 use Rattle.rr_protocol.specs.Messages.{Handle, RequestMutUninit, RequestMut, ActiveRequest, ResponseMutUninit, ResponseMut, Response}
 use Rattle.rr_store.specs.declared.handle_entry.Stage.{Stage}
 use Rattle.rr_store.specs.declared.handle_entry.Stage.TheVariants as stage
@@ -35,19 +35,16 @@ server_of_stage (stage.ActiveRequest server loans) = server
 server_of_stage _ = 0
 
 -- a slot is held once less
-abbrev pub given_back : {T N H : Type 0} → Messages T N H → ℕ → Messages T N H
-given_back m slot = with_held m slot (slice_index m.held slot - 1)
+abbrev pub held_once_less : {T N H : Type 0} → Messages T N H → ℕ → Messages T N H
+held_once_less m slot = with_held m slot (slice_index m.held slot - 1)
 
 -- and a receiver has one less from a channel
 abbrev pub borrow_ended : {T N H : Type 0} → Messages T N H → ℕ → ℕ → ℕ → Messages T N H
-borrow_ended m receiver channel slot = given_back (with_borrowed m receiver channel (borrowed_at m receiver channel - 1)) slot
+borrow_ended m receiver channel slot = held_once_less (with_borrowed m receiver channel (borrowed_at m receiver channel - 1)) slot
 
--- and in both cases the slot is emptied if that was its last use
-abbrev pub let_go : {T N H : Type 0} → Messages T N H → ℕ → Messages T N H
-let_go m slot = emptied_among (slot ∷ []) (given_back m slot)
-
-abbrev pub borrow_let_go : {T N H : Type 0} → Messages T N H → ℕ → ℕ → ℕ → Messages T N H
-borrow_let_go m receiver channel slot = emptied_among (slot ∷ []) (borrow_ended m receiver channel slot)
+-- and the slot is emptied if that was its last use
+abbrev pub borrow_given_back : {T N H : Type 0} → Messages T N H → ℕ → ℕ → ℕ → Messages T N H
+borrow_given_back m receiver channel slot = given_back (with_borrowed m receiver channel (borrowed_at m receiver channel - 1)) slot
 
 -- a sender by which no server may answer where a mark stands
 abbrev pub without_mark : {T N H : Type 0} → ℕ → Sender T N H → Sender T N H

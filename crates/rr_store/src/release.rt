@@ -5,7 +5,7 @@ ghost use Rattle.rr_sender.specs.Senders.{borrowed_at};
 ghost use Rattle.rr_store.specs.Loaning.{with_sender_at};
 ghost use Rattle.rr_store.specs.Order.{IsRising};
 ghost use Rattle.rr_store.specs.Ports.{sender_part};
-ghost use Rattle.rr_store.specs.Releasing.{borrow_let_go, without_loan, without_mark};
+ghost use Rattle.rr_store.specs.Releasing.{borrow_given_back, without_loan, without_mark};
 ghost use Rattle.rr_store.specs.Views.{sender_of};
 ghost use Rattle.rr_store.specs.Writing.{with_messages};
 
@@ -56,7 +56,7 @@ pub fn end_borrow_in<B: Body, N: Copy, H: Drop>(
 )
     requires receiver { IsSomeAnd (slice_get senders.old.items sender) (λ l. (receiver < length l.messages.queues) × (channel < length (slice_index_or l.messages.queues receiver []))) }
     requires counted { IsSomeAnd (slice_get senders.old.items sender) (λ l. (0 < borrowed_at l.messages receiver channel) × (0 < slice_index l.messages.held slot)) }
-    ensures { IsSomeAnd (slice_get senders.old.items sender) (λ l. senders.new.items ≡ slice_set senders.old.items sender (with_messages l (borrow_let_go l.messages receiver channel slot))) }
+    ensures { IsSomeAnd (slice_get senders.old.items sender) (λ l. senders.new.items ≡ slice_set senders.old.items sender (with_messages l (borrow_given_back l.messages receiver channel slot))) }
 {
     let sender = &mut senders[sender];
     sender.messages.end_borrow(receiver, channel);

@@ -20,7 +20,7 @@ use Rattle.rr_store.specs.Loaning.{with_messages}
 use Rattle.rr_store.specs.Order.{IsRising}
 use Rattle.rr_store.specs.Parts.{ServerPart, Sender, Parts}
 use Rattle.rr_store.specs.Reaching.{IsCore}
-use Rattle.rr_store.specs.Releasing.{borrow_ended, borrow_let_go, is_active_request, server_of_stage, without_mark}
+use Rattle.rr_store.specs.Releasing.{borrow_ended, borrow_given_back, is_active_request, server_of_stage, without_mark}
 use Rattle.rr_store.specs.Sound.{IsSound, empty_hand, server_place}
 use Rattle.rr_store.specs.Views.{no_sender, sender_of, state_of}
 use Rattle.rr_store.proofs.base.frames.Emptied.{emptied_sound, emptied_view}
@@ -135,7 +135,7 @@ module _ {Q QH P PH K : Type 0} (p : Parts Q QH P PH K) (core : IsCore p) (n : �
               omega (arith, found.slot, same (λ l. slice_index l.messages.held entry.slot) refl),
             )
 
-        module _ (t : Parts Q QH P PH K) (ended : t ≡ with_requests r entry.sender (λ m. borrow_let_go m receiver 0 entry.slot)) where
+        module _ (t : Parts Q QH P PH K) (ended : t ≡ with_requests r entry.sender (λ m. borrow_given_back m receiver 0 entry.slot)) where
           -- where the slot is not emptied
           abbrev held_less : HandleEntry → Parts Q QH P PH K
           held_less h = with_requests (unmarked h) h.sender (λ m. borrow_ended m its 0 h.slot)
@@ -152,19 +152,19 @@ module _ {Q QH P PH K : Type 0} (p : Parts Q QH P PH K) (core : IsCore p) (n : �
 
           -- and where it may be
           abbrev after : Parts Q QH P PH K
-          after = with_requests (unmarked entry) entry.sender (λ m. borrow_let_go m its 0 entry.slot)
+          after = with_requests (unmarked entry) entry.sender (λ m. borrow_given_back m its 0 entry.slot)
 
           after_is : t ≡ after
           after_is =
-              ended ∙ ap (λ r. with_requests r entry.sender (λ m. borrow_let_go m receiver 0 entry.slot)) steps
-              ∙ ap (λ x. with_requests (unmarked entry) entry.sender (λ m. borrow_let_go m x 0 entry.slot)) receiver_is
+              ended ∙ ap (λ r. with_requests r entry.sender (λ m. borrow_given_back m receiver 0 entry.slot)) steps
+              ∙ ap (λ x. with_requests (unmarked entry) entry.sender (λ m. borrow_given_back m x 0 entry.slot)) receiver_is
 
           emptied : PartsEmptied before after
           emptied =
               let l = sender_of entry.sender (unmarked entry).client_senders in
               requests_emptied (unmarked entry) (unmarked entry).client_senders entry.sender
               (with_messages l (borrow_ended l.messages its 0 entry.slot))
-              (with_messages l (borrow_let_go l.messages its 0 entry.slot))
+              (with_messages l (borrow_given_back l.messages its 0 entry.slot))
               (record { rest = refl; messages = among_emptied (entry.slot ∷ []) (borrow_ended l.messages its 0 entry.slot) })
 
           pub view_then : state_of t ≡ after_release (state_of p) n

@@ -5,7 +5,7 @@ use Rattle.std.specs.FinMap as fin_map
 use Rattle.std.proofs.lemmas.List.{length-set}
 use Rattle.rr_table.specs.TableView.{table_entry}
 use Rattle.rr_table.specs.declared.place.Place.{Place}
-use Rattle.rr_sender.specs.Senders.{queue_at, with_queue}
+use Rattle.rr_sender.specs.Senders.{queue_at, with_queue, given_back}
 use Rattle.rr_protocol.specs.Releases.{after_release}
 use Rattle.rr_protocol.specs.State.{handle_at}
 use Rattle.rr_laws.specs.Complete.{MessagesComplete}
@@ -16,12 +16,12 @@ use Rattle.rr_store.specs.declared.details.RequestDetails.{RequestDetails}
 use Rattle.rr_store.specs.declared.handle_entry.HandleEntry.{HandleEntry}
 use Rattle.rr_store.specs.Changes.{with_channel_cleared, with_client_sender_at, with_requests, without_handle}
 use Rattle.rr_store.specs.Loaning.{with_messages}
-use Rattle.rr_store.specs.Clearing.{channel_cleared, channel_dropped, is_pending_response, without_pending}
+use Rattle.rr_store.specs.Clearing.{with_empty_queue, channel_cleared, is_pending_response, without_pending}
 use Rattle.rr_store.specs.Emptying.{PartsEmptied}
 use Rattle.rr_store.specs.Parts.{ClientPart, Parts, Sender}
 use Rattle.rr_store.specs.Reaching.{IsCore}
 use Rattle.rr_store.specs.Receiving.{Reaches}
-use Rattle.rr_store.specs.Releasing.{given_back, let_go}
+use Rattle.rr_store.specs.Releasing.{held_once_less}
 use Rattle.rr_store.specs.Sound.{IsSound, empty_hand}
 use Rattle.rr_store.specs.Views.{no_sender, sender_of, state_of}
 use Rattle.rr_store.proofs.base.frames.Emptied.{emptied_sound, emptied_view}
@@ -102,26 +102,26 @@ module _ {Q QH P PH K : Type 0} (p : Parts Q QH P PH K) (core : IsCore p) (n : �
               set_alike p.client_senders entry.sender fewer no_sender (λ l. slice_index l.messages.held entry.slot) refl entry.sender,
             ))
 
-        module _ (t : Parts Q QH P PH K) (given : t ≡ with_requests s entry.sender (λ m. let_go m entry.slot)) where
+        module _ (t : Parts Q QH P PH K) (given : t ≡ with_requests s entry.sender (λ m. given_back m entry.slot)) where
           abbrev receiver_there : ℕ
           receiver_there = client.it.receiver
 
           -- where no slot is emptied
           abbrev held_less : HandleEntry → Sender Q RequestDetails QH
           held_less h = with_messages (without_pending (sender_of h.sender p.client_senders))
-              (given_back (sender_of h.sender p.client_senders).messages h.slot)
+              (held_once_less (sender_of h.sender p.client_senders).messages h.slot)
 
           abbrev before : Parts Q QH P PH K
           before = record (without_handle p n) {
             client_senders = slice_set p.client_senders entry.sender (held_less entry);
-            server_senders = map (channel_cleared receiver_there entry.slot) p.server_senders;
+            server_senders = map (with_empty_queue receiver_there entry.slot) p.server_senders;
           }
 
           before_is : before ≡ after_pending p core.sound n found.table_entry found.at found.hint found.connections found.pending
               client.index client.it client.at sends
           before_is = ap (λ (h : HandleEntry). record (without_handle p n) {
             client_senders = slice_set p.client_senders h.sender (held_less h);
-            server_senders = map (channel_cleared receiver_there h.slot) p.server_senders;
+            server_senders = map (with_empty_queue receiver_there h.slot) p.server_senders;
           }) (sym found.is)
 
           before_sound : IsSound before empty_hand
@@ -131,7 +131,7 @@ module _ {Q QH P PH K : Type 0} (p : Parts Q QH P PH K) (core : IsCore p) (n : �
 
           -- and where some may be
           abbrev left : Sender Q RequestDetails QH
-          left = with_messages fewer (let_go fewer.messages entry.slot)
+          left = with_messages fewer (given_back fewer.messages entry.slot)
 
           abbrev after : Parts Q QH P PH K
           after = record (with_channel_cleared (without_handle p n) receiver_there entry.slot) {
@@ -139,16 +139,16 @@ module _ {Q QH P PH K : Type 0} (p : Parts Q QH P PH K) (core : IsCore p) (n : �
           }
 
           after_is : t ≡ after
-          after_is = given ∙ ap (λ s. with_requests s entry.sender (λ m. let_go m entry.slot)) steps
+          after_is = given ∙ ap (λ s. with_requests s entry.sender (λ m. given_back m entry.slot)) steps
               ∙ ap (λ ls. record (with_channel_cleared (without_handle p n) receiver_there entry.slot) { client_senders = ls })
-              (stored_twice p.client_senders entry.sender fewer (λ l. with_messages l (let_go l.messages entry.slot)) found.sender)
+              (stored_twice p.client_senders entry.sender fewer (λ l. with_messages l (given_back l.messages entry.slot)) found.sender)
 
           emptied : PartsEmptied before after
           emptied = record {
             rest = refl;
             client_senders = one_emptied p.client_senders entry.sender (held_less entry) left
                 (record { rest = refl; messages = among_emptied (entry.slot ∷ []) (held_less entry).messages });
-            server_senders = each_emptied (channel_cleared receiver_there entry.slot) (channel_dropped receiver_there entry.slot)
+            server_senders = each_emptied (with_empty_queue receiver_there entry.slot) (channel_cleared receiver_there entry.slot)
                 (λ l. record {
                   rest = refl;
                   messages = among_emptied (queue_at l.messages receiver_there entry.slot)

@@ -20,7 +20,7 @@ use Rattle.rr_store.specs.Loaning.{with_messages}
 use Rattle.rr_store.specs.Order.{IsRising}
 use Rattle.rr_store.specs.Parts.{ClientPart, Parts}
 use Rattle.rr_store.specs.Reaching.{IsCore}
-use Rattle.rr_store.specs.Releasing.{borrow_ended, borrow_let_go, is_received_response}
+use Rattle.rr_store.specs.Releasing.{borrow_ended, borrow_given_back, is_received_response}
 use Rattle.rr_store.specs.Sound.{IsSound, empty_hand, response_details}
 use Rattle.rr_store.specs.Views.{sender_of, state_of}
 use Rattle.rr_store.proofs.base.frames.Emptied.{emptied_sound, emptied_view}
@@ -107,7 +107,7 @@ module _ {Q QH P PH K : Type 0} (p : Parts Q QH P PH K) (core : IsCore p) (n : �
             × (0 < slice_index (sender_of entry.sender q.server_senders).messages.held entry.slot)) (sym gone) (here, found.slot)
 
         module _ (t : Parts Q QH P PH K)
-            (ended : t ≡ with_responses q entry.sender (λ m. borrow_let_go m receiver details.channel entry.slot)) where
+            (ended : t ≡ with_responses q entry.sender (λ m. borrow_given_back m receiver details.channel entry.slot)) where
           -- where the slot is not emptied
           abbrev held_less : HandleEntry → Parts Q QH P PH K
           held_less h = with_responses (without_handle p n) h.sender
@@ -128,21 +128,21 @@ module _ {Q QH P PH K : Type 0} (p : Parts Q QH P PH K) (core : IsCore p) (n : �
           its_channel = (response_details p entry.sender entry.slot).channel
 
           abbrev after : Parts Q QH P PH K
-          after = with_responses (without_handle p n) entry.sender (λ m. borrow_let_go m client.it.receiver its_channel entry.slot)
+          after = with_responses (without_handle p n) entry.sender (λ m. borrow_given_back m client.it.receiver its_channel entry.slot)
 
           after_is : t ≡ after
           after_is =
-              ended ∙ ap (λ q. with_responses q entry.sender (λ m. borrow_let_go m receiver details.channel entry.slot)) gone
-              ∙ ap (λ x. with_responses (without_handle p n) entry.sender (λ m. borrow_let_go m x details.channel entry.slot)) receiver_is
+              ended ∙ ap (λ q. with_responses q entry.sender (λ m. borrow_given_back m receiver details.channel entry.slot)) gone
+              ∙ ap (λ x. with_responses (without_handle p n) entry.sender (λ m. borrow_given_back m x details.channel entry.slot)) receiver_is
               ∙ ap (λ (d : ResponseDetails). with_responses (without_handle p n) entry.sender
-              (λ m. borrow_let_go m client.it.receiver d.channel entry.slot)) (sym details_are)
+              (λ m. borrow_given_back m client.it.receiver d.channel entry.slot)) (sym details_are)
 
           emptied : PartsEmptied before after
           emptied =
               let l = sender_of entry.sender p.server_senders in
               responses_emptied (without_handle p n) p.server_senders entry.sender
               (with_messages l (borrow_ended l.messages client.it.receiver its_channel entry.slot))
-              (with_messages l (borrow_let_go l.messages client.it.receiver its_channel entry.slot))
+              (with_messages l (borrow_given_back l.messages client.it.receiver its_channel entry.slot))
               (record {
                 rest = refl;
                 messages = among_emptied (entry.slot ∷ []) (borrow_ended l.messages client.it.receiver its_channel entry.slot);

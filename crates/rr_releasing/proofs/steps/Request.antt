@@ -11,6 +11,7 @@ use Rattle.rr_laws.specs.Complete.{MessagesComplete}
 use Rattle.rr_laws.specs.Reached.{IsReached}
 use Rattle.rr_laws.proofs.CompleteReleases.{after_release_complete}
 use Rattle.rr_laws.proofs.Leaving.{after_release_reached}
+use Rattle.rr_sender.specs.Senders.{given_back}
 use Rattle.rr_store.specs.declared.details.RequestDetails.{RequestDetails}
 use Rattle.rr_store.specs.declared.handle_entry.HandleEntry.{HandleEntry}
 use Rattle.rr_store.specs.Changes.{with_client_sender_at, with_requests, without_handle}
@@ -18,7 +19,7 @@ use Rattle.rr_store.specs.Loaning.{with_messages}
 use Rattle.rr_store.specs.Emptying.{PartsEmptied}
 use Rattle.rr_store.specs.Parts.{ClientPart, Parts, Sender}
 use Rattle.rr_store.specs.Reaching.{IsCore}
-use Rattle.rr_store.specs.Releasing.{given_back, is_loaned_request, let_go, without_loan}
+use Rattle.rr_store.specs.Releasing.{held_once_less, is_loaned_request, without_loan}
 use Rattle.rr_store.specs.Sound.{IsSound, empty_hand}
 use Rattle.rr_store.specs.Views.{no_sender, sender_of, state_of}
 use Rattle.rr_store.proofs.base.frames.Emptied.{emptied_sound, emptied_view}
@@ -44,11 +45,11 @@ module _ {Q QH P PH K : Type 0} (p : Parts Q QH P PH K) (core : IsCore p) (n : �
 
   -- the sender without the hold of a handle
   abbrev given : HandleEntry → Sender Q RequestDetails QH
-  given h = with_messages (sender_of h.sender p.client_senders) (given_back (sender_of h.sender p.client_senders).messages h.slot)
+  given h = with_messages (sender_of h.sender p.client_senders) (held_once_less (sender_of h.sender p.client_senders).messages h.slot)
 
   -- and of which the slot is emptied if that was its last use
   abbrev left : Sender Q RequestDetails QH
-  left = with_messages (sender_of entry.sender p.client_senders) (let_go (sender_of entry.sender p.client_senders).messages entry.slot)
+  left = with_messages (sender_of entry.sender p.client_senders) (given_back (sender_of entry.sender p.client_senders).messages entry.slot)
 
   -- the sender has the request on loan
   on_loan : 0 < (sender_of entry.sender p.client_senders).loans
@@ -63,9 +64,9 @@ module _ {Q QH P PH K : Type 0} (p : Parts Q QH P PH K) (core : IsCore p) (n : �
     slot_asked = subst (λ (q : Parts Q QH P PH K). 0 < slice_index (sender_of entry.sender q.client_senders).messages.held entry.slot)
         (sym gone) found.slot
 
-    module _ (r : Parts Q QH P PH K) (freed : r ≡ with_requests q entry.sender (λ m. let_go m entry.slot)) where
-      steps : r ≡ with_requests (without_handle p n) entry.sender (λ m. let_go m entry.slot)
-      steps = freed ∙ ap (λ q. with_requests q entry.sender (λ m. let_go m entry.slot)) gone
+    module _ (r : Parts Q QH P PH K) (freed : r ≡ with_requests q entry.sender (λ m. given_back m entry.slot)) where
+      steps : r ≡ with_requests (without_handle p n) entry.sender (λ m. given_back m entry.slot)
+      steps = freed ∙ ap (λ q. with_requests q entry.sender (λ m. given_back m entry.slot)) gone
 
       pub sender_still : entry.sender < length r.client_senders
       sender_still = subst (λ (r : Parts Q QH P PH K). entry.sender < length r.client_senders) (sym steps)

@@ -11,6 +11,7 @@ use Rattle.rr_laws.specs.Complete.{MessagesComplete}
 use Rattle.rr_laws.specs.Reached.{IsReached}
 use Rattle.rr_laws.proofs.CompleteReleases.{after_release_complete}
 use Rattle.rr_laws.proofs.Leaving.{after_release_reached}
+use Rattle.rr_sender.specs.Senders.{given_back}
 use Rattle.rr_store.specs.declared.details.ResponseDetails.{ResponseDetails}
 use Rattle.rr_store.specs.declared.handle_entry.HandleEntry.{HandleEntry}
 use Rattle.rr_store.specs.Changes.{with_responses, with_server_sender_at, without_handle}
@@ -19,7 +20,7 @@ use Rattle.rr_store.specs.Emptying.{PartsEmptied}
 use Rattle.rr_store.specs.Ending.{IsAskedPlace, IsLoanEnded, found_under}
 use Rattle.rr_store.specs.Parts.{ServerPart, Parts, Sender}
 use Rattle.rr_store.specs.Reaching.{IsCore}
-use Rattle.rr_store.specs.Releasing.{given_back, is_loaned_response, let_go, without_loan}
+use Rattle.rr_store.specs.Releasing.{held_once_less, is_loaned_response, without_loan}
 use Rattle.rr_store.specs.Sound.{IsSound, empty_hand, response_details}
 use Rattle.rr_store.specs.Views.{no_sender, sender_of, state_of}
 use Rattle.rr_store.proofs.base.frames.Emptied.{emptied_sound, emptied_view}
@@ -42,11 +43,11 @@ module _ {Q QH P PH K : Type 0} (p : Parts Q QH P PH K) (core : IsCore p) (n : �
 
   -- the sender without the hold of the response
   abbrev given : Sender P ResponseDetails PH
-  given = with_messages (sender_of entry.sender p.server_senders) (given_back (sender_of entry.sender p.server_senders).messages entry.slot)
+  given = with_messages (sender_of entry.sender p.server_senders) (held_once_less (sender_of entry.sender p.server_senders).messages entry.slot)
 
   -- and of which the slot is emptied if that was its last use
   abbrev left : Sender P ResponseDetails PH
-  left = with_messages (sender_of entry.sender p.server_senders) (let_go (sender_of entry.sender p.server_senders).messages entry.slot)
+  left = with_messages (sender_of entry.sender p.server_senders) (given_back (sender_of entry.sender p.server_senders).messages entry.slot)
 
   module _ (q : Parts Q QH P PH K) (gone : q ≡ without_handle p n) where
     pub sender_asked : entry.sender < length q.server_senders
@@ -62,15 +63,15 @@ module _ {Q QH P PH K : Type 0} (p : Parts Q QH P PH K) (core : IsCore p) (n : �
         (sym gone) found.slot
 
     module _ (details : ResponseDetails) (are : details ≡ response_details q entry.sender entry.slot)
-        (r : Parts Q QH P PH K) (free : r ≡ with_responses q entry.sender (λ m. let_go m entry.slot)) where
+        (r : Parts Q QH P PH K) (free : r ≡ with_responses q entry.sender (λ m. given_back m entry.slot)) where
       details_are : response_details p entry.sender entry.slot ≡ details
       details_are = sym (are ∙ ap (λ q. response_details q entry.sender entry.slot) gone)
 
       abbrev freed : Parts Q QH P PH K
-      freed = with_responses (without_handle p n) entry.sender (λ m. let_go m entry.slot)
+      freed = with_responses (without_handle p n) entry.sender (λ m. given_back m entry.slot)
 
       r_is : r ≡ freed
-      r_is = free ∙ ap (λ q. with_responses q entry.sender (λ m. let_go m entry.slot)) gone
+      r_is = free ∙ ap (λ q. with_responses q entry.sender (λ m. given_back m entry.slot)) gone
 
       pub sender_still : entry.sender < length r.server_senders
       sender_still = subst (λ (r : Parts Q QH P PH K). entry.sender < length r.server_senders) (sym r_is)

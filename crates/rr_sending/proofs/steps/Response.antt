@@ -28,7 +28,7 @@ use Rattle.rr_store.specs.Loaning.{with_messages}
 use Rattle.rr_store.specs.Order.{IsRising}
 use Rattle.rr_store.specs.Parts.{ClientPart, ServerPart, Parts, Sender}
 use Rattle.rr_store.specs.Reaching.{IsCore}
-use Rattle.rr_store.specs.Releasing.{given_back, is_loaned_response, without_loan}
+use Rattle.rr_store.specs.Releasing.{held_once_less, is_loaned_response, without_loan}
 use Rattle.rr_store.specs.Sound.{IsSound, empty_hand, response_details}
 use Rattle.rr_store.specs.Views.{no_sender, response_at, sender_of, server_of, state_of}
 use Rattle.rr_store.proofs.base.frames.Emptied.{emptied_sound, emptied_view}
@@ -151,13 +151,13 @@ module _ {Q QH P PH K : Type 0} (p : Parts Q QH P PH K) (core : IsCore p) (n : �
           mid = slice_set p.server_senders entry.sender put
 
           abbrev held_less : Sender P ResponseDetails PH → Sender P ResponseDetails PH
-          held_less l = without_loan (with_messages l (given_back l.messages entry.slot))
+          held_less l = without_loan (with_messages l (held_once_less l.messages entry.slot))
 
-          handed_emptied : (o : Option ℕ) → MessagesEmptied (given_back (in_queue m overflow details.channel entry.slot o) entry.slot)
+          handed_emptied : (o : Option ℕ) → MessagesEmptied (held_once_less (in_queue m overflow details.channel entry.slot o) entry.slot)
               (handed_on m overflow details.channel entry.slot o)
-          handed_emptied None = among_emptied (entry.slot ∷ []) (given_back m entry.slot)
+          handed_emptied None = among_emptied (entry.slot ∷ []) (held_once_less m entry.slot)
           handed_emptied (Some r) = among_emptied (entry.slot ∷ evicted overflow m.capacity (queue_at m r details.channel))
-              (given_back (in_queue m overflow details.channel entry.slot (Some r)) entry.slot)
+              (held_once_less (in_queue m overflow details.channel entry.slot (Some r)) entry.slot)
 
           pub loan_sender : entry.sender < length s.server_senders
           loan_sender = subst (λ (s : Parts Q QH P PH K). entry.sender < length s.server_senders) (sym s_is)

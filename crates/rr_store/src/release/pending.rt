@@ -1,6 +1,6 @@
 //! Releases of pending responses.
 ghost use Rattle.std.specs.Prelude.{◌≡◌, ◌<◌, length, map};
-ghost use Rattle.rr_store.specs.Clearing.{channel_dropped, without_pending};
+ghost use Rattle.rr_store.specs.Clearing.{channel_cleared, without_pending};
 ghost use Rattle.rr_store.specs.Loaning.{with_sender_at};
 ghost use Rattle.rr_store.specs.Ports.{sender_part};
 ghost use Rattle.rr_store.specs.Receiving.{Reaches};
@@ -33,7 +33,7 @@ pub fn clear_channel<B: Body, N: Copy, H: Drop>(
     channel: usize,
 )
     requires { Reaches (map sender_part senders.old.items) receiver channel }
-    ensures { map sender_part senders.new.items ≡ map (channel_dropped receiver channel) (map sender_part senders.old.items) }
+    ensures { map sender_part senders.new.items ≡ map (channel_cleared receiver channel) (map sender_part senders.old.items) }
 {
     for sender in 0..senders.len() {
         senders[sender].messages.clear_queue(receiver, channel);

@@ -1,14 +1,14 @@
 //! What a release changes.
 ghost use Rattle.std.specs.Prelude.{◌≡◌, ◌==◌, ◌+◌, ◌*◌, ◌<◌, [], Option, IfSome, IsSome, IsSomeAnd, length, slice_get, slice_index, slice_index_or};
 ghost use Rattle.std.specs.List.{position};
-ghost use Rattle.rr_sender.specs.Senders.{borrowed_at};
+ghost use Rattle.rr_sender.specs.Senders.{borrowed_at, given_back};
 ghost use Rattle.rr_table.specs.declared.place.Place as place;
 ghost use Rattle.rr_store.specs.Changes.{with_client_sender_at, with_server_sender_at, with_requests, with_responses, with_channel_cleared};
 ghost use Rattle.rr_store.specs.Clearing.{without_pending};
 ghost use Rattle.rr_store.specs.Ending.{IsAskedPlace, IsLoanEnded, found_under};
 ghost use Rattle.rr_store.specs.Order.{IsRising};
 ghost use Rattle.rr_store.specs.Receiving.{Reaches};
-ghost use Rattle.rr_store.specs.Releasing.{borrow_let_go, let_go, without_loan, without_mark};
+ghost use Rattle.rr_store.specs.Releasing.{borrow_given_back, without_loan, without_mark};
 ghost use Rattle.rr_store.specs.Sound.{request_details, response_details};
 ghost use Rattle.rr_store.specs.Views.{sender_of};
 
@@ -50,7 +50,7 @@ impl<QB: Body, QH: Default + Drop, PB: Body, PH: Default + Drop, K: Backpressure
     pub fn give_back_request(&mut self, sender: usize, slot: usize)
         requires sender { sender < length self.old.client_senders }
         requires held { 0 < slice_index (sender_of sender self.old.client_senders).messages.held slot }
-        ensures { self.new ≡ with_requests self.old sender (λ m. let_go m slot) }
+        ensures { self.new ≡ with_requests self.old sender (λ m. given_back m slot) }
     {
         self.client_senders[sender].messages.give_back(slot);
     }
@@ -60,7 +60,7 @@ impl<QB: Body, QH: Default + Drop, PB: Body, PH: Default + Drop, K: Backpressure
     pub fn give_back_response(&mut self, sender: usize, slot: usize)
         requires sender { sender < length self.old.server_senders }
         requires held { 0 < slice_index (sender_of sender self.old.server_senders).messages.held slot }
-        ensures { self.new ≡ with_responses self.old sender (λ m. let_go m slot) }
+        ensures { self.new ≡ with_responses self.old sender (λ m. given_back m slot) }
     {
         self.server_senders[sender].messages.give_back(slot);
     }
@@ -71,7 +71,7 @@ impl<QB: Body, QH: Default + Drop, PB: Body, PH: Default + Drop, K: Backpressure
         requires sender { sender < length self.old.client_senders }
         requires queue { (receiver < length (sender_of sender self.old.client_senders).messages.queues) × (0 < length (slice_index_or (sender_of sender self.old.client_senders).messages.queues receiver [])) }
         requires counted { (0 < borrowed_at (sender_of sender self.old.client_senders).messages receiver 0) × (0 < slice_index (sender_of sender self.old.client_senders).messages.held slot) }
-        ensures { self.new ≡ with_requests self.old sender (λ m. borrow_let_go m receiver 0 slot) }
+        ensures { self.new ≡ with_requests self.old sender (λ m. borrow_given_back m receiver 0 slot) }
     {
         release::end_borrow_in(&mut self.client_senders, sender, receiver, 0, slot);
     }
@@ -88,7 +88,7 @@ impl<QB: Body, QH: Default + Drop, PB: Body, PH: Default + Drop, K: Backpressure
         requires sender { sender < length self.old.server_senders }
         requires queue { (receiver < length (sender_of sender self.old.server_senders).messages.queues) × (channel < length (slice_index_or (sender_of sender self.old.server_senders).messages.queues receiver [])) }
         requires counted { (0 < borrowed_at (sender_of sender self.old.server_senders).messages receiver channel) × (0 < slice_index (sender_of sender self.old.server_senders).messages.held slot) }
-        ensures { self.new ≡ with_responses self.old sender (λ m. borrow_let_go m receiver channel slot) }
+        ensures { self.new ≡ with_responses self.old sender (λ m. borrow_given_back m receiver channel slot) }
     {
         release::end_borrow_in(&mut self.server_senders, sender, receiver, channel, slot);
     }

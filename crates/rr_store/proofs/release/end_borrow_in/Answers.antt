@@ -1,8 +1,8 @@
 use Rattle.std.proofs.Common.{◌≡◌, ◌<◌, ℕ, List, [], length, sym, ap, ◌∙◌, subst, arith}
 use Rattle.std.specs.Prelude.{IsSomeAnd, slice_get, slice_index, slice_index_or, slice_set}
-use Rattle.rr_sender.specs.Senders.{borrowed_at}
+use Rattle.rr_sender.specs.Senders.{borrowed_at, given_back}
 use Rattle.rr_store.specs.declared.port.OwnedSender.{OwnedSender}
-use Rattle.rr_store.specs.Releasing.{borrow_let_go, let_go}
+use Rattle.rr_store.specs.Releasing.{borrow_given_back}
 use Rattle.rr_store.specs.Writing.{with_messages}
 use Rattle.rr_store.proofs.base.senders.Ports.{of_read, to_read, asked_within}
 use Rattle.rr_store.proofs.release.end_borrow_in.Goals as goal
@@ -55,7 +55,7 @@ returns g c =
     let items = c.args.senders.now.items in
     let now = c.index_mut-sender.result.now in
     to_read items c.args.sender now c.index_mut-sender.ensures.value
-    (λ l. _ ≡ slice_set items c.args.sender (with_messages l (borrow_let_go l.messages c.args.receiver c.args.channel c.args.slot)))
+    (λ l. _ ≡ slice_set items c.args.sender (with_messages l (borrow_given_back l.messages c.args.receiver c.args.channel c.args.slot)))
     (within items c.args.sender c.args.receiver c.args.channel c.args.slot c.requires.counted)
     (ap (λ m. slice_set items c.args.sender (with_messages now m))
-    (c.give_back.ensures ∙ ap (λ m. let_go m c.args.slot) c.end_borrow.ensures))
+    (c.give_back.ensures ∙ ap (λ m. given_back m c.args.slot) c.end_borrow.ensures))

@@ -5,7 +5,7 @@ use Rattle.std.proofs.lemmas.List.{get_or_past, get_or-set_same, get_or-set_othe
 use Rattle.rr_sender.specs.Senders.{times, all_entries, at_two, set_two, queue_at}
 use Rattle.rr_sender.proofs.EntryLaws.{times-set_two, at_two-set_two, length-set_two}
 use Rattle.std.specs.Prelude.{slice_set}
-use Rattle.rr_store.specs.Clearing.{channel_cleared, channel_dropped, IsClearedBelow}
+use Rattle.rr_store.specs.Clearing.{with_empty_queue, channel_cleared, IsClearedBelow}
 use Rattle.rr_store.specs.Frames.{SenderAlike, SendersAlike}
 use Rattle.rr_store.specs.Parts.{Sender}
 use Rattle.rr_store.specs.Sound.{IsShaped}
@@ -15,12 +15,12 @@ use Rattle.rr_store.proofs.base.lists.SetTwo.{other_row, other_column, row_lengt
 
 module _ {T N H : Type 0} (receiver channel : ℕ) where
   -- nothing is emptied where there is no sender
-  none_cleared : channel_cleared receiver channel (no_sender {T = T} {N = N} {H = H}) ≡ no_sender
+  none_cleared : with_empty_queue receiver channel (no_sender {T = T} {N = N} {H = H}) ≡ no_sender
   none_cleared = refl
 
   -- the sender at an index
   pub cleared_at : (senders : List (Sender T N H)) (l : ℕ) → sender_of l
-      (map (channel_cleared receiver channel) senders) ≡ channel_cleared receiver channel (sender_of l senders)
+      (map (with_empty_queue receiver channel) senders) ≡ with_empty_queue receiver channel (sender_of l senders)
   cleared_at [] l = sym none_cleared
   cleared_at (x ∷ senders) zero = refl
   cleared_at (x ∷ senders) (suc l) = cleared_at senders l
@@ -29,17 +29,17 @@ module _ {T N H : Type 0} (senders : List (Sender T N H)) (receivers channels ca
     (shaped : (l : ℕ) → l < length senders → IsShaped receivers channels capacity (sender_of l senders).messages)
     (placed : receiver < receivers) (inside : channel < channels) where
   abbrev pub after : List (Sender T N H)
-  after = map (channel_cleared receiver channel) senders
+  after = map (with_empty_queue receiver channel) senders
 
   -- a sender is there, or both are none
   within_or : {Z : Type 0} (l : ℕ) → (l < length senders → Z) → (sender_of l after ≡ sender_of l senders → Z) → Z
   within_or l there past =
       ⊎_elim there
-      (λ h. past (get_or_past after l no_sender (omega (arith, h, length-map senders (channel_cleared receiver channel)))
+      (λ h. past (get_or_past after l no_sender (omega (arith, h, length-map senders (with_empty_queue receiver channel)))
       ∙ sym (get_or_past senders l no_sender h)))
       (cases_lt l (length senders))
 
-  is : (l : ℕ) → sender_of l after ≡ channel_cleared receiver channel (sender_of l senders)
+  is : (l : ℕ) → sender_of l after ≡ with_empty_queue receiver channel (sender_of l senders)
   is l = cleared_at receiver channel senders l
 
   queues : (l r c : ℕ) → queue_at (sender_of l after).messages r c
@@ -103,7 +103,7 @@ module _ {T N H : Type 0} (senders : List (Sender T N H)) (receivers channels ca
       ))
       (λ e. omega (arith, ap (λ (x : Sender T N H). times i (all_entries x.messages.queues)) e))
 
-  alike_there : (l : ℕ) → l < length senders → SenderAlike (sender_of l senders) (channel_cleared receiver channel (sender_of l senders))
+  alike_there : (l : ℕ) → l < length senders → SenderAlike (sender_of l senders) (with_empty_queue receiver channel (sender_of l senders))
   alike_there l there = record {
     owner = refl;
     row = refl;
@@ -135,7 +135,7 @@ module _ {T N H : Type 0} (senders : List (Sender T N H)) (receivers channels ca
   -- the senders are of the same sizes
   pub cleared_alike : SendersAlike senders after
   cleared_alike = record {
-    many = length-map senders (channel_cleared receiver channel);
+    many = length-map senders (with_empty_queue receiver channel);
     each = λ l. within_or l
         (λ h. subst (λ x. SenderAlike (sender_of l senders) x) (sym (is l)) (alike_there l h))
         (λ e. subst (λ x. SenderAlike (sender_of l senders) x) (sym e) ((senders_same senders).each l));
@@ -144,8 +144,8 @@ module _ {T N H : Type 0} (senders : List (Sender T N H)) (receivers channels ca
 -- senders are emptied one after another
 module _ {T N H : Type 0} (receiver channel : ℕ) (senders : List (Sender T N H)) where
   -- the sender at an index
-  dropped_at : (all : List (Sender T N H)) (l : ℕ) → sender_of l (map (channel_dropped receiver channel) all)
-      ≡ channel_dropped receiver channel (sender_of l all)
+  dropped_at : (all : List (Sender T N H)) (l : ℕ) → sender_of l (map (channel_cleared receiver channel) all)
+      ≡ channel_cleared receiver channel (sender_of l all)
   dropped_at [] l = refl
   dropped_at (x ∷ all) zero = refl
   dropped_at (x ∷ all) (suc l) = dropped_at all l
@@ -155,17 +155,17 @@ module _ {T N H : Type 0} (receiver channel : ℕ) (senders : List (Sender T N H
 
   pub cleared_more : (n : ℕ) (now : List (Sender T N H)) → IsClearedBelow receiver channel n senders now → n < length senders
       → (x : Sender T N H)
-      → sender_of n now ≡ x → IsClearedBelow receiver channel (n + 1) senders (slice_set now n (channel_dropped receiver channel x))
+      → sender_of n now ≡ x → IsClearedBelow receiver channel (n + 1) senders (slice_set now n (channel_cleared receiver channel x))
   cleared_more n now so there x is = record {
-    many = length-set now n (channel_dropped receiver channel x) ∙ so.many;
+    many = length-set now n (channel_cleared receiver channel x) ∙ so.many;
     done = λ l h w. ⊎_elim
-        (λ e. ap (λ i. sender_of i (slice_set now n (channel_dropped receiver channel x))) e
-        ∙ get_or-set_same now n (channel_dropped receiver channel x) no_sender (omega (arith, there, so.many))
-        ∙ ap (channel_dropped receiver channel) (sym is ∙ so.rest n (omega arith))
-        ∙ ap (λ i. channel_dropped receiver channel (sender_of i senders)) (sym e))
-        (λ e. get_or-set_other now n l (channel_dropped receiver channel x) no_sender e ∙ so.done l (below l h e) w)
+        (λ e. ap (λ i. sender_of i (slice_set now n (channel_cleared receiver channel x))) e
+        ∙ get_or-set_same now n (channel_cleared receiver channel x) no_sender (omega (arith, there, so.many))
+        ∙ ap (channel_cleared receiver channel) (sym is ∙ so.rest n (omega arith))
+        ∙ ap (λ i. channel_cleared receiver channel (sender_of i senders)) (sym e))
+        (λ e. get_or-set_other now n l (channel_cleared receiver channel x) no_sender e ∙ so.done l (below l h e) w)
         (cases_eq l n);
-    rest = λ l h. get_or-set_other now n l (channel_dropped receiver channel x) no_sender (λ e. omega (arith, e, h))
+    rest = λ l h. get_or-set_other now n l (channel_cleared receiver channel x) no_sender (λ e. omega (arith, e, h))
         ∙ so.rest l (omega (arith, h));
   }
     where
@@ -173,8 +173,8 @@ module _ {T N H : Type 0} (receiver channel : ℕ) (senders : List (Sender T N H
       below l h e = ⊎_elim (λ g. g) (λ g. absurd (e (omega (arith, h, g)))) (cases_lt l n)
 
   pub cleared_all : (n : ℕ) (now : List (Sender T N H)) → IsClearedBelow receiver channel n senders now → length senders ≤ n
-      → now ≡ map (channel_dropped receiver channel) senders
+      → now ≡ map (channel_cleared receiver channel) senders
   cleared_all n now so all =
-      ext_get_or no_sender now (map (channel_dropped receiver channel) senders)
-      (so.many ∙ sym (length-map senders (channel_dropped receiver channel)))
+      ext_get_or no_sender now (map (channel_cleared receiver channel) senders)
+      (so.many ∙ sym (length-map senders (channel_cleared receiver channel)))
       (λ l h. so.done l (omega (arith, h, all, so.many)) (omega (arith, h, so.many)) ∙ sym (dropped_at senders l))

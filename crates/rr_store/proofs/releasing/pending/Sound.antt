@@ -15,7 +15,7 @@ use Rattle.rr_store.specs.Parts.{Parts, ClientPart, Sender}
 use Rattle.rr_store.specs.Views.{sender_of}
 use Rattle.rr_store.specs.Sound.{IsSound, empty_hand, is_of_request, is_of_response, is_request_loan, is_pending, is_active_of, is_response_loan, is_received, is_in_sender, response_details, server_place}
 use Rattle.rr_store.specs.Frames.{moved}
-use Rattle.rr_store.specs.Clearing.{channel_cleared}
+use Rattle.rr_store.specs.Clearing.{with_empty_queue}
 use Rattle.rr_store.specs.Dropping.{IsDropped}
 use Rattle.rr_store.proofs.releasing.pending.Cleared.{cleared_at, cleared_alike, all_less, queue_less, stays_empty}
 use Rattle.rr_store.proofs.base.hands.Dropping.{dropped_sound}
@@ -51,7 +51,7 @@ module _ {Q QH P PH K : Type 0} (p : Parts Q QH P PH K) (sound : IsSound p empty
   senders = senders_less p.client_senders entry.sender entry.slot own.messages.borrowed own.loans (own.pendings - 1)
 
   abbrev pub server_senders : List (Sender P ResponseDetails PH)
-  server_senders = map (channel_cleared c.receiver entry.slot) p.server_senders
+  server_senders = map (with_empty_queue c.receiver entry.slot) p.server_senders
 
   -- the core without the pending response
   abbrev pub after_pending : Parts Q QH P PH K
@@ -86,7 +86,7 @@ module _ {Q QH P PH K : Type 0} (p : Parts Q QH P PH K) (sound : IsSound p empty
       → f (sender_of l senders) ≡ f (sender_of l p.client_senders)
   same = same_of p.client_senders entry.sender entry.slot own.messages.borrowed own.loans (own.pendings - 1)
 
-  is : (l : ℕ) → sender_of l server_senders ≡ channel_cleared c.receiver entry.slot (sender_of l p.server_senders)
+  is : (l : ℕ) → sender_of l server_senders ≡ with_empty_queue c.receiver entry.slot (sender_of l p.server_senders)
   is l = cleared_at c.receiver entry.slot p.server_senders l
 
   dropped : IsDropped taken entry senders server_senders

@@ -20,7 +20,7 @@ use Rattle.rr_store.specs.declared.handle_entry.HandleEntry.{HandleEntry}
 use Rattle.rr_store.specs.declared.handle_entry.Stage.{Stage}
 use Rattle.rr_store.specs.declared.handle_entry.Stage.TheVariants as stage
 use Rattle.rr_store.specs.declared.details.ResponseDetails.{ResponseDetails}
-use Rattle.rr_store.specs.Clearing.{channel_cleared}
+use Rattle.rr_store.specs.Clearing.{with_empty_queue}
 use Rattle.rr_store.specs.Parts.{Parts, ClientPart, Sender}
 use Rattle.rr_store.specs.Sound.{IsSound, empty_hand, is_of_request, request_details}
 use Rattle.rr_store.specs.Views.{sender_of, no_sender, state_of, client_of, response_in_slot, handle_in, handle_of, responses_at}
@@ -52,7 +52,7 @@ module _ {Q QH P PH K : Type 0} (p : Parts Q QH P PH K) (sound : IsSound p empty
   abbrev emptied : Parts Q QH P PH K
   emptied = record gone { server_senders = server_senders p sound k s at hint connections pending index c there sends }
 
-  is : (l : ℕ) → sender_of l emptied.server_senders ≡ channel_cleared c.receiver channel (sender_of l p.server_senders)
+  is : (l : ℕ) → sender_of l emptied.server_senders ≡ with_empty_queue c.receiver channel (sender_of l p.server_senders)
   is l = cleared_at c.receiver channel p.server_senders l
 
   handles : (n : ℕ) (t : TableEntry HandleEntry) → fin_map.get gone.table.entries n ≡ Some t → handle_of emptied t ≡ handle_of gone t
@@ -96,7 +96,7 @@ module _ {Q QH P PH K : Type 0} (p : Parts Q QH P PH K) (sound : IsSound p empty
   -- what is read from a sender that is there
   from_sender : (key : ResponseKey) (d : ClientPart K) → find (λ (d : ClientPart K). d.port.id == key.client) p.clients ≡ Some d
       → (l : ℕ) (x : Sender P ResponseDetails PH) → slice_get p.server_senders l ≡ Some x
-      → reads key d (channel_cleared c.receiver channel x) ≡ cond (stays key) (reads key d x) none
+      → reads key d (with_empty_queue c.receiver channel x) ≡ cond (stays key) (reads key d x) none
   from_sender key d e l x found =
       ⊎_elim
       (λ id. ⊎_elim
@@ -114,16 +114,16 @@ module _ {Q QH P PH K : Type 0} (p : Parts Q QH P PH K) (sound : IsSound p empty
       x_is : sender_of l p.server_senders ≡ x
       x_is = get_or_from_slice_get p.server_senders l x no_sender found
 
-      now : sender_of l emptied.server_senders ≡ channel_cleared c.receiver channel x
-      now = is l ∙ ap (channel_cleared c.receiver channel) x_is
+      now : sender_of l emptied.server_senders ≡ with_empty_queue c.receiver channel x
+      now = is l ∙ ap (with_empty_queue c.receiver channel) x_is
 
       empty : key.client ≡ c.port.id → key.channel ≡ channel
-          → reads key d (channel_cleared c.receiver channel x) ≡ cond (stays key) (reads key d x) none
+          → reads key d (with_empty_queue c.receiver channel x) ≡ cond (stays key) (reads key d x) none
       empty id ch =
           let receiver : d.receiver ≡ c.receiver = ap (λ (d : ClientPart K). d.receiver) (the_client key.client d e id) in
-          let queue : queue_at (channel_cleared c.receiver channel x).messages d.receiver key.channel ≡ [] =
-          ap (λ r. queue_at (channel_cleared c.receiver channel x).messages r key.channel) receiver
-          ∙ ap (λ h. queue_at (channel_cleared c.receiver channel x).messages c.receiver h) ch
+          let queue : queue_at (with_empty_queue c.receiver channel x).messages d.receiver key.channel ≡ [] =
+          ap (λ r. queue_at (with_empty_queue c.receiver channel x).messages r key.channel) receiver
+          ∙ ap (λ h. queue_at (with_empty_queue c.receiver channel x).messages c.receiver h) ch
           ∙ ap (λ (x : Sender P ResponseDetails PH). queue_at x.messages c.receiver channel) (sym now)
           ∙ queue_here p.server_senders p.limits.max_clients (worst_case_requests p.limits) p.limits.max_response_buffer_size c.receiver
           channel
@@ -134,7 +134,7 @@ module _ {Q QH P PH K : Type 0} (p : Parts Q QH P PH K) (sound : IsSound p empty
           ∙ sym (ap (λ b. cond (not b) (reads key d x) none) (λ i. eq-eqb key.client c.port.id id i && eq-eqb key.channel channel ch i))
 
       as_before : (d.receiver ≡ c.receiver → key.channel ≡ channel → ⊥) → stays key ≡ true
-          → reads key d (channel_cleared c.receiver channel x) ≡ cond (stays key) (reads key d x) none
+          → reads key d (with_empty_queue c.receiver channel x) ≡ cond (stays key) (reads key d x) none
       as_before other stay =
           ap (map (response_in_slot p.spare_response_header x.messages))
           (ap (λ (x : Sender P ResponseDetails PH). queue_at x.messages d.receiver key.channel) (sym now)
@@ -155,7 +155,7 @@ module _ {Q QH P PH K : Type 0} (p : Parts Q QH P PH K) (sound : IsSound p empty
 
       in_sender : (d : ClientPart K) → find (λ (d : ClientPart K). d.port.id == key.client) p.clients ≡ Some d
           → (o : Option (Sender P ResponseDetails PH)) → find (λ sender. sender.owner == key.server) p.server_senders ≡ o
-          → option_map_or (reads key d) (option_map (channel_cleared c.receiver channel) o) none ≡ cond (stays key)
+          → option_map_or (reads key d) (option_map (with_empty_queue c.receiver channel) o) none ≡ cond (stays key)
           (option_map_or (reads key d) o none) none
       in_sender d e None f = alike (stays key)
       in_sender d e (Some x) f =
@@ -166,7 +166,7 @@ module _ {Q QH P PH K : Type 0} (p : Parts Q QH P PH K) (sound : IsSound p empty
           → option_map_or (reads key d) (find (λ sender. sender.owner == key.server) emptied.server_senders) none ≡ cond (stays key)
           (option_map_or (reads key d) (find (λ sender. sender.owner == key.server) p.server_senders) none) none
       with_client d e =
-          ap (λ o. option_map_or (reads key d) o none) (find_mapped (channel_cleared c.receiver channel)
+          ap (λ o. option_map_or (reads key d) o none) (find_mapped (with_empty_queue c.receiver channel)
           (λ (sender : Sender P ResponseDetails PH). sender.owner == key.server) p.server_senders)
           ∙ in_sender d e (find (λ sender. sender.owner == key.server) p.server_senders) refl
 

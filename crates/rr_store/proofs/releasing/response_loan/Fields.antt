@@ -17,7 +17,7 @@ use Rattle.rr_store.specs.Loaning as part
 use Rattle.rr_store.specs.Parts.{ServerPart, Sender, Parts}
 use Rattle.rr_store.specs.Views.{sender_of, handle_in, state_of}
 use Rattle.rr_store.specs.Sound.{IsSound, empty_hand, is_in_sender, is_response_loan, response_details}
-use Rattle.rr_store.specs.Releasing.{is_loaned_response, given_back, without_loan}
+use Rattle.rr_store.specs.Releasing.{is_loaned_response, held_once_less, without_loan}
 use Rattle.rr_store.proofs.base.lists.Adding.{with_responders, same_responders}
 use Rattle.rr_store.proofs.releasing.response_loan.View.{response_loan_gone}
 use Rattle.rr_store.proofs.releasing.response_loan.Place.{asked_right}
@@ -94,7 +94,7 @@ module _ {Q QH P PH K : Type 0} (p : Parts Q QH P PH K) where
     pub response_loan_parts : (details : ResponseDetails) → response_details p entry.sender entry.slot ≡ details
         → (senders : List (Sender P ResponseDetails PH)) (table : TableView HandleEntry)
         → senders ≡ slice_set p.server_senders entry.sender (without_loan (part.with_messages (sender_of entry.sender p.server_senders)
-        (given_back (sender_of entry.sender p.server_senders).messages entry.slot)))
+        (held_once_less (sender_of entry.sender p.server_senders).messages entry.slot)))
         → (place : Option Place) → IfSome place (IsAskedPlace p.client_senders details c.receiver)
         → IsLoanEnded details.active_request (found_under (removed p.table k) details.active_request place) (removed p.table k) table
         → IsSound (with_responders p senders table p.next) empty_hand

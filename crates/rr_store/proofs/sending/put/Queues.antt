@@ -78,13 +78,13 @@ module _ (overflow : Bool) (capacity slot : ℕ) where
         → 0 < length (get_or queues (receiver x) []) → at_two [] after (receiver x) 0 ≡ put overflow capacity
         (at_two [] queues (receiver x) 0) slot
     put_here apart i x at inside channels =
-        reached step (λ qs r. at_two [] qs r 0) (λ queue. put overflow capacity queue slot) Fits
+        reached step (λ r. r) (λ qs r. at_two [] qs r 0) (λ r queue. put overflow capacity queue slot) Fits
         (λ qs r h. at_two-set_two [] qs r 0 h.0 h.1 _) there keeps receiver xs queues apart i x at (inside, channels)
 
     -- another receiver has what it had
     pub put_there : (r : ℕ) → ((i : ℕ) (x : X) → slice_get xs i ≡ Some x → receiver x ≢ r) → at_two [] after r 0 ≡ at_two [] queues r 0
     put_there r other =
-        passed_by step (λ qs r. at_two [] qs r 0) (λ queue. put overflow capacity queue slot) Fits
+        passed_by step (λ r. r) (λ qs r. at_two [] qs r 0) (λ r queue. put overflow capacity queue slot) Fits
         (λ qs r h. at_two-set_two [] qs r 0 h.0 h.1 _) there keeps receiver xs queues r other
 
     -- and so have all on other channels

@@ -46,7 +46,8 @@ module _ {M : Type 0} (overflow : Bool) (capacity : ℕ) (message : M) where
     pub listed_here : IsApart number xs → (i : ℕ) (x : X) → slice_get xs i ≡ Some x
         → at after (request_key client (number x)) ≡ put overflow capacity (at lists (request_key client (number x))) message
     listed_here apart i x there =
-        reached step (λ ls key. at ls key) (λ xs. put overflow capacity xs message) (λ ls key. true ≡ true) at_it at_other (λ ls a b h. h)
+        reached step (λ key. key) (λ ls key. at ls key) (λ key xs. put overflow capacity xs message) (λ ls key. true ≡ true) at_it at_other
+        (λ ls a b h. h)
         (λ x. request_key client (number x)) xs lists (λ j l y z f g e. apart j l y z f g (ap (λ (k : RequestKey). k.server) e)) i x there
         refl
 
@@ -54,5 +55,6 @@ module _ {M : Type 0} (overflow : Bool) (capacity : ℕ) (message : M) where
     pub listed_there : (key : RequestKey) → ((i : ℕ) (x : X) → slice_get xs i ≡ Some x → request_key client (number x) ≢ key)
         → at after key ≡ at lists key
     listed_there key other =
-        passed_by step (λ ls key. at ls key) (λ xs. put overflow capacity xs message) (λ ls key. true ≡ true) at_it at_other (λ ls a b h. h)
+        passed_by step (λ key. key) (λ ls key. at ls key) (λ key xs. put overflow capacity xs message) (λ ls key. true ≡ true) at_it at_other
+        (λ ls a b h. h)
         (λ x. request_key client (number x)) xs lists key other

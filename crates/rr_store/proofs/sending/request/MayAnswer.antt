@@ -1,15 +1,14 @@
 -- The marks of a request that was sent: each connected server may answer it.
-use Rattle.std.proofs.Common.{◌≡◌, ◌≢◌, ◌<◌, ◌+◌, ◌*◌, ◌≤◌, ℕ, zero, suc, true, false, List, [], ◌∷◌, Some, length, get_or, map, refl, sym, ap, ◌∙◌, subst, ⊎_elim, arith}
+use Rattle.std.proofs.Common.{◌≡◌, ◌≢◌, ◌<◌, ◌+◌, ◌*◌, ◌≤◌, ℕ, suc, true, false, List, [], ◌∷◌, Some, length, get_or, map, refl, sym, ap, ◌∙◌, ⊎_elim, arith}
 use Rattle.std.specs.Prelude.{◌==◌, slice_get, slice_set, filter}
 use Rattle.std.proofs.lemmas.Bool.{cases_eq, cases_lt, eq-eqb, ne_eqb}
-use Rattle.std.proofs.lemmas.Option.{slice_get_within}
 use Rattle.std.proofs.lemmas.List.{get_or-set_same, get_or-set_other, length-set}
 use Rattle.rr_store.specs.Parts.{Parts, ServerPart}
 use Rattle.rr_store.specs.Views.{no_server, sender_of, is_marked, marked}
 use Rattle.rr_store.specs.Sound.{IsSound, Hand}
 use Rattle.rr_store.specs.Sending.{marks_for, with_marks}
 use Rattle.rr_store.proofs.querying.Connected.{mark_within}
-use Rattle.rr_store.proofs.base.lists.EachOnce.{IsApart, apart_rest, stays}
+use Rattle.rr_store.proofs.base.lists.EachOnce.{IsApart, passed_by, reached, stays}
 use Rattle.rr_store.proofs.base.views.Counts.{listed}
 use Rattle.rr_store.proofs.releasing.active.MayAnswer.{mark_of, filter_same}
 use Rattle.rr_store.proofs.base.lists.Replaced.{set_past}
@@ -29,29 +28,30 @@ pub as_many_marks : (marks : List ℕ) (set : List (ℕ × ℕ)) → length (wit
 as_many_marks marks set = stays set_one (λ ms. length ms) (λ ms m. length-set ms m.0 m.1) set marks
 
 module _ {X : Type 0} (index number : X → ℕ) where
+  abbrev mark_for : X → ℕ × ℕ
+  mark_for x = (index x, number x)
+
+  abbrev look : List ℕ → ℕ → ℕ
+  look marks j = get_or marks j no_server
+
+  here : (marks : List ℕ) (mark : ℕ × ℕ) → mark.0 < length marks → look (set_one marks mark) mark.0 ≡ mark.1
+  here marks mark inside = get_or-set_same marks mark.0 mark.1 no_server inside
+
+  there : (marks : List ℕ) (mark : ℕ × ℕ) (j : ℕ) → mark.0 ≢ j → look (set_one marks mark) j ≡ look marks j
+  there marks mark j other = get_or-set_other marks mark.0 j mark.1 no_server (λ e. other (sym e))
+
+  keeps : (marks : List ℕ) (mark : ℕ × ℕ) (j : ℕ) → j < length marks → j < length (set_one marks mark)
+  keeps marks mark j h = omega (arith, h, length-set marks mark.0 mark.1)
+
   -- another mark is as it was
   pub set_there : (xs : List X) (marks : List ℕ) (j : ℕ) → ((i : ℕ) (x : X) → slice_get xs i ≡ Some x → index x ≢ j)
-      → get_or (with_marks marks (map (λ x. (index x, number x)) xs)) j no_server ≡ get_or marks j no_server
-  set_there [] marks j other = refl
-  set_there (x ∷ xs) marks j other =
-      set_there xs (set_one marks (index x, number x)) j (λ i y at. other (suc i) y at)
-      ∙ get_or-set_other marks (index x) j (number x) no_server (λ e. other 0 x refl (sym e))
+      → look (with_marks marks (map mark_for xs)) j ≡ look marks j
+  set_there = passed_by set_one (λ m. m.0) look (λ m old. m.1) (λ marks j. j < length marks) here there keeps mark_for
 
   -- of these each stands once
   pub set_here : (xs : List X) (marks : List ℕ) → IsApart index xs → (i : ℕ) (x : X) → slice_get xs i ≡ Some x → index x < length marks
-      → get_or (with_marks marks (map (λ x. (index x, number x)) xs)) (index x) no_server ≡ number x
-  set_here [] marks apart i x at inside = absurd (omega (arith, slice_get_within [] i x at))
-  set_here (y ∷ ys) marks apart zero x at inside =
-      let f : Some y ≡ Some x = at in
-      let same : y ≡ x = cc in
-      let R : X → Type 0 = λ z. index z < length marks in
-      ap (λ z. get_or (with_marks (set_one marks (index y, number y)) (map (λ x. (index x, number x)) ys)) (index z) no_server) (sym same)
-      ∙ set_there ys (set_one marks (index y, number y)) (index y)
-      (λ i z there e. absurd (omega (arith, apart (suc i) 0 z y there refl e)))
-      ∙ get_or-set_same marks (index y) (number y) no_server (subst R (sym same) inside) ∙ ap number same
-  set_here (y ∷ ys) marks apart (suc i) x at inside =
-      set_here ys (set_one marks (index y, number y)) (apart_rest index y ys apart) i x at
-      (omega (arith, inside, length-set marks (index y) (number y)))
+      → look (with_marks marks (map mark_for xs)) (index x) ≡ number x
+  set_here = reached set_one (λ m. m.0) look (λ m old. m.1) (λ marks j. j < length marks) here there keeps mark_for
 
   -- no number comes that none of these has
   pub none_set : (xs : List X) (marks : List ℕ) (j server : ℕ) → ((i : ℕ) (x : X) → slice_get xs i ≡ Some x → number x ≢ server)

@@ -2,12 +2,11 @@
 use Rattle.std.proofs.Common.{◌≡◌, ◌<◌, ◌+◌, ◌*◌, ℕ, Bool, true, false, List, [], ◌∷◌, Some, length, map, refl, sym, ap, ◌∙◌}
 use Rattle.std.specs.Prelude.{◌&&◌, ◌||◌, slice_get, slice_index_or}
 use Rattle.std.specs.List.{list_any}
-use Rattle.std.proofs.lemmas.Simd.{map-map}
 use Rattle.rr_sender.specs.Senders.{Messages}
 use Rattle.rr_store.specs.declared.port.ServerPort.{ServerPort}
 use Rattle.rr_store.specs.Parts.{ServerPart}
 use Rattle.rr_store.specs.Ports.{server_part}
-use Rattle.rr_store.specs.Sending.{HasQueues, receivers_of}
+use Rattle.rr_store.specs.Sending.{HasQueues}
 use Rattle.rr_store.proofs.base.lookups.Looking.{list_any-map}
 use Rattle.rr_store.proofs.base.views.Counts.{listed}
 
@@ -31,10 +30,6 @@ module _ {K : Type 0} (items slice : List (ServerPort K)) (same : slice ≡ item
       → ((i : ℕ) (s : ServerPart K) → slice_get (map server_part items) i ≡ Some s
       → (s.receiver < length m.queues) × (0 < length (slice_index_or m.queues s.receiver []))) → HasQueues m slice
   has_queues m h i s at = h i (server_part s) (part_there i s at)
-
-  -- where they are sent to
-  pub receivers_are : receivers_of slice ≡ map (λ (s : ServerPart K). s.receiver) (map server_part items)
-  receivers_are = ap receivers_of same ∙ sym (map-map (λ (s : ServerPart K). s.receiver) server_part items)
 
   -- how many of them pass, and whether one does
   pub any_is : (t : ServerPart K → Bool) → list_any (λ s. t (server_part s)) slice ≡ list_any t (map server_part items)

@@ -21,7 +21,7 @@ use Rattle.rr_store.specs.Delivering.{HasQueue, delivered, is_refused_in, reache
 use Rattle.rr_store.specs.Ending.{IsAskedPlace, IsLoanEnded, found_under}
 use Rattle.rr_store.specs.Loaning as part
 use Rattle.rr_store.specs.Parts.{Parts, ClientPart, ServerPart, Sender}
-use Rattle.rr_store.specs.Releasing.{given_back, without_loan}
+use Rattle.rr_store.specs.Releasing.{held_once_less, without_loan}
 use Rattle.rr_store.specs.Sound.{IsSound, IsShaped, empty_hand, is_response_loan, response_details, response_uses}
 use Rattle.rr_store.specs.Views.{no_sender, no_response, sender_of, state_of, server_of, response_in_slot, response_at}
 use Rattle.rr_store.proofs.base.lists.Adding.{some_responses, with_responders, same_responders}
@@ -214,7 +214,7 @@ module _ {Q QH P PH K : Type 0} (p : Parts Q QH P PH K) (sound : IsSound p empty
       → mid ≡ slice_set p.server_senders entry.sender (part.with_messages (sender_of entry.sender p.server_senders)
       (delivered m overflow noted.channel entry.slot reach_is))
       → senders ≡ slice_set mid entry.sender
-      (without_loan (part.with_messages (sender_of entry.sender mid) (given_back (sender_of entry.sender mid).messages entry.slot)))
+      (without_loan (part.with_messages (sender_of entry.sender mid) (held_once_less (sender_of entry.sender mid).messages entry.slot)))
       → (place : Option Place) → IfSome place (IsAskedPlace p.client_senders noted c.receiver)
       → IsLoanEnded noted.active_request (found_under (removed p.table k) noted.active_request place) (removed p.table k) table
       → IsSound (with_responders p senders table p.next) empty_hand
@@ -236,7 +236,7 @@ module _ {Q QH P PH K : Type 0} (p : Parts Q QH P PH K) (sound : IsSound p empty
       let same : with_responders p senders table p.next ≡ ended q entry q_is.0 loan table =
       same_responders p (ended q entry q_is.0 loan table) senders table p.next
       (ls ∙ ap (λ (xs : List (Sender P ResponseDetails PH)). slice_set xs entry.sender
-      (without_loan (part.with_messages (sender_of entry.sender xs) (given_back (sender_of entry.sender xs).messages entry.slot)))) mid_is)
+      (without_loan (part.with_messages (sender_of entry.sender xs) (held_once_less (sender_of entry.sender xs).messages entry.slot)))) mid_is)
       refl refl refl
       in
       let gone = response_loan_gone p sound k f.table_entry f.at f.loan index c there

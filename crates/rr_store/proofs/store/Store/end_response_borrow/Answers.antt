@@ -2,7 +2,7 @@ use Rattle.std.proofs.Common.{◌<◌, length, ap}
 use Rattle.std.specs.Prelude.{[], slice_index, slice_index_or}
 use Rattle.rr_sender.specs.Senders.{borrowed_at}
 use Rattle.rr_store.specs.Inside.{parts_of}
-use Rattle.rr_store.specs.Releasing.{borrow_let_go}
+use Rattle.rr_store.specs.Releasing.{borrow_given_back}
 use Rattle.rr_store.proofs.releasing.request.Fields.{sender_asked, senders_then}
 use Rattle.rr_store.proofs.store.Store.end_response_borrow.Goals as goal
 
@@ -28,5 +28,5 @@ pub returns : goal.returns
 returns g c =
     let there = rw (← c.self.view_is) at c.requires.sender in
     rw (← c.self.view_is) (ap (λ ls. record (parts_of c.self.inside) { server_senders = ls })
-    (senders_then c.self.inside.server_senders.items c.args.sender there _ (λ m. borrow_let_go m c.args.receiver c.args.channel c.args.slot)
+    (senders_then c.self.inside.server_senders.items c.args.sender there _ (λ m. borrow_given_back m c.args.receiver c.args.channel c.args.slot)
     c.end_borrow_in.ensures))
