@@ -1,3 +1,4 @@
+pub mod Live
 pub mod LoanedSender
 pub mod request
 pub mod response

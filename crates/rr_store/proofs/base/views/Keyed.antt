@@ -70,7 +70,7 @@ module _ {Q QH P PH K : Type 0} (p : Parts Q QH P PH K) where
   at_requests key = at_each request_keys_total request_keys_exact (request_keys p) (requests_at p) key (requests_listed key)
 
 -- a queue with an entry is one of the receiver's
-queue_within : (queues : List (List (List ℕ))) (receiver channel : ℕ) → (at_two [] queues receiver channel ≡ [] → ⊥)
+pub queue_within : (queues : List (List (List ℕ))) (receiver channel : ℕ) → (at_two [] queues receiver channel ≡ [] → ⊥)
     → channel < length (get_or queues receiver [])
 queue_within queues receiver channel some =
     ⊎_elim (λ h. h)
