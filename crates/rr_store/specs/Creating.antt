@@ -9,7 +9,7 @@ use Rattle.rr_protocol.specs.Ports.{Port}
 use Rattle.rr_protocol.specs.Creation.{pool_size_of, loans_of}
 use Rattle.rr_store.specs.declared.details.RequestDetails.{RequestDetails}
 use Rattle.rr_store.specs.declared.details.ResponseDetails.{ResponseDetails}
-use Rattle.rr_store.specs.Parts.{Parts}
+use Rattle.rr_store.specs.Parts.{Parts, ClientPart, ServerPart, Sender}
 use Rattle.rr_store.specs.Views.{no_server}
 
 -- a sender from which nothing was sent
@@ -49,14 +49,52 @@ module _ {Q QH P PH K : Type 0} (p : Parts Q QH P PH K) where
         has_value = true;
       }
 
+  -- a client that is this receiver, and the sender from which it sends
+  abbrev pub client_part : ClientSettings K → ℕ → ClientPart K
+  client_part settings receiver =
+      record { connected = record { port = client_port settings; sender = length p.client_senders; receiver = receiver }; loans_made = 0 }
+
+  abbrev pub client_sender : ClientSettings K → ℕ → Messages Q RequestDetails QH → Sender Q RequestDetails QH
+  client_sender settings receiver messages =
+      record {
+        owner = p.next;
+        row = length p.table.rows;
+        receiver = receiver;
+        loans = 0;
+        pendings = 0;
+        may_answer = replicate ((client_port settings).pool_size * p.limits.max_servers) no_server;
+        messages = messages;
+      }
+
   -- a client sends from a new sender, and is this receiver
   abbrev pub with_client_part : ClientSettings K → ℕ → Messages Q RequestDetails QH → Parts Q QH P PH K
   with_client_part settings receiver messages =
       record p {
         next = p.next + 1;
-        clients = p.clients ++ record { connected = record { port = client_port settings; sender = length p.client_senders; receiver = receiver }; loans_made = 0 } ∷ [];
-        client_senders = p.client_senders ++ record { owner = p.next; row = length p.table.rows; receiver = receiver; loans = 0; pendings = 0; may_answer = replicate ((client_port settings).pool_size * p.limits.max_servers) no_server; messages = messages } ∷ [];
+        clients = p.clients ++ client_part settings receiver ∷ [];
+        client_senders = p.client_senders ++ client_sender settings receiver messages ∷ [];
         table = with_row p.table ((p.limits.max_servers + 1) * (client_port settings).pool_size);
+      }
+
+  -- a server that is this receiver, and the sender from which it sends
+  abbrev pub server_part : ServerSettings K → ℕ → ServerPart K
+  server_part settings receiver =
+      record {
+        connected = record { port = server_port settings; sender = length p.server_senders; receiver = receiver };
+        max_loaned_responses_per_request = loans_of settings;
+        max_loaned_responses = max_loaned_responses p.limits (loans_of settings);
+      }
+
+  abbrev pub server_sender : ℕ → Messages P ResponseDetails PH → Sender P ResponseDetails PH
+  server_sender receiver messages =
+      record {
+        owner = p.next;
+        row = length p.table.rows;
+        receiver = receiver;
+        loans = 0;
+        pendings = 0;
+        may_answer = [];
+        messages = messages;
       }
 
   -- a server does
@@ -64,7 +102,7 @@ module _ {Q QH P PH K : Type 0} (p : Parts Q QH P PH K) where
   with_server_part settings receiver messages =
       record p {
         next = p.next + 1;
-        servers = p.servers ++ record { connected = record { port = server_port settings; sender = length p.server_senders; receiver = receiver }; max_loaned_responses_per_request = loans_of settings; max_loaned_responses = max_loaned_responses p.limits (loans_of settings) } ∷ [];
-        server_senders = p.server_senders ++ record { owner = p.next; row = length p.table.rows; receiver = receiver; loans = 0; pendings = 0; may_answer = []; messages = messages } ∷ [];
+        servers = p.servers ++ server_part settings receiver ∷ [];
+        server_senders = p.server_senders ++ server_sender receiver messages ∷ [];
         table = with_row p.table (server_port settings).pool_size;
       }

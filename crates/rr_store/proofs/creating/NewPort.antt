@@ -10,35 +10,34 @@ use Rattle.rr_store.specs.Parts.{Connected, Sender}
 use Rattle.rr_store.specs.Views.{sender_of}
 use Rattle.rr_store.specs.Sound.{HasSenders, IsShaped}
 use Rattle.rr_store.specs.Creating.{IsNew}
-use Rattle.rr_store.proofs.creating.NewSenders.{sender_before, sender_last, sender_cases, new_queue}
+use Rattle.rr_store.proofs.creating.NewSenders.{sender_before, sender_last, each_added, apart_added, new_queue, new_slots}
 use Rattle.rr_store.proofs.base.lists.Adding.{given_before}
 use Rattle.rr_store.proofs.base.lists.Tallies.{last_at, snoc_cases, snoc_keeps}
 
 -- a sender from which nothing was sent has its size
 pub new_shaped : {T N H : Type 0} {slots room receivers channels capacity : ℕ} {details : N} {m : Messages T N H}
     → IsNew slots room receivers channels capacity details m → IsShaped receivers channels capacity m
-new_shaped {T} {N} {H} {slots} {room} {receivers} {channels} {capacity} {details} {m} new = let slots_are : length m.held ≡ slots =
-    ap length new.held ∙ length-replicate slots 0 in record {
-      contents = new.contents ∙ sym slots_are;
-      details = ap length new.details ∙ length-replicate slots details ∙ sym slots_are;
-      user_headers = new.user_headers ∙ sym slots_are;
-      queues = ap length new.queues ∙ length-replicate receivers (replicate channels []);
-      borrowed = ap length new.borrowed ∙ length-replicate receivers (replicate channels 0);
-      queue_channels = λ r h. ap (λ (q : List (List (List ℕ))). length (get_or q r [])) new.queues
-          ∙ ap length (get_or-replicate receivers r (replicate channels []) [] h)
-          ∙ length-replicate channels [];
-      borrowed_channels = λ r h. ap (λ (q : List (List ℕ)). length (get_or q r [])) new.borrowed
-          ∙ ap length (get_or-replicate receivers r (replicate channels 0) [] h)
-          ∙ length-replicate channels 0;
-      capacity_is = new.capacity_is;
-      within = λ r c. omega (arith, ap length (new_queue m new r c));
-      inside = λ slot some. absurd (omega (
-        arith,
-        some,
-        ap (λ (q : List (List (List ℕ))). times slot (all_entries q)) new.queues,
-        times-empty slot receivers channels,
-      ));
-    }
+new_shaped {T} {N} {H} {slots} {room} {receivers} {channels} {capacity} {details} {m} new = let slots_are = new_slots new in record {
+  contents = new.contents ∙ sym slots_are;
+  details = ap length new.details ∙ length-replicate slots details ∙ sym slots_are;
+  user_headers = new.user_headers ∙ sym slots_are;
+  queues = ap length new.queues ∙ length-replicate receivers (replicate channels []);
+  borrowed = ap length new.borrowed ∙ length-replicate receivers (replicate channels 0);
+  queue_channels = λ r h. ap (λ (q : List (List (List ℕ))). length (get_or q r [])) new.queues
+      ∙ ap length (get_or-replicate receivers r (replicate channels []) [] h)
+      ∙ length-replicate channels [];
+  borrowed_channels = λ r h. ap (λ (q : List (List ℕ)). length (get_or q r [])) new.borrowed
+      ∙ ap length (get_or-replicate receivers r (replicate channels 0) [] h)
+      ∙ length-replicate channels 0;
+  capacity_is = new.capacity_is;
+  within = λ r c. omega (arith, ap length (new_queue m new r c));
+  inside = λ slot some. absurd (omega (
+    arith,
+    some,
+    ap (λ (q : List (List (List ℕ))). times slot (all_entries q)) new.queues,
+    times-empty slot receivers channels,
+  ));
+}
 
 -- a later number may be the next one
 pub later_next : {T N H K : Type 0} {next ports : ℕ} {connected : List (Connected K)} {senders : List (Sender T N H)}
@@ -133,35 +132,8 @@ module _ {T N H K C : Type 0} (connected : C → Connected K) (next ports : ℕ)
                 omega (arith, its_sender, h, far, length-append senders (last ∷ [])),
               ))
               (cases_lt l (length senders));
-          owned_once = λ l k h g same. sender_cases senders last new l
-              (λ before e. sender_cases senders last new k
-              (λ also f. n.owned_once l k before also (sym (ap (λ (x : Sender T N H). x.owner) e) ∙ same
-              ∙ ap (λ (x : Sender T N H). x.owner) f))
-              (λ is f gone. absurd (omega (
-                arith,
-                n.numbered l before,
-                ap (λ (x : Sender T N H). x.owner) e,
-                same,
-                owned,
-                ap (λ (x : Sender T N H). x.owner) f,
-              )))
-              (λ far f gone. absurd (omega (arith, g, far, length-append senders (last ∷ [])))))
-              (λ is e gone. sender_cases senders last new k
-              (λ also f. absurd (omega (
-                arith,
-                n.numbered k also,
-                ap (λ (x : Sender T N H). x.owner) e,
-                same,
-                owned,
-                ap (λ (x : Sender T N H). x.owner) f,
-              )))
-              (λ too f gone. is ∙ sym too)
-              (λ far f gone. absurd (omega (arith, g, far, length-append senders (last ∷ [])))))
-              (λ far e gone. absurd (omega (arith, h, far, length-append senders (last ∷ []))));
-          numbered = λ l h. sender_cases senders last new l
-              (λ before e. omega (arith, n.numbered l before, ap (λ (x : Sender T N H). x.owner) e))
-              (λ is e gone. omega (arith, owned, ap (λ (x : Sender T N H). x.owner) e))
-              (λ far e gone. absurd (omega (arith, h, far, length-append senders (last ∷ []))));
+          owned_once = apart_added senders last (λ x. x.owner) (λ l h. omega (arith, n.numbered l h, owned)) n.owned_once;
+          numbered = each_added senders last (λ _ x. x.owner < next + 1) (λ l h. omega (arith, n.numbered l h)) (omega (arith, owned));
           placed = λ i c at. connected_cases i c at (λ before h. n.placed i c before)
               (λ end is. omega (arith, inside, ap (λ (c : Connected K). c.receiver) is));
           receivers_once = λ i j c d at there same. connected_cases i c at

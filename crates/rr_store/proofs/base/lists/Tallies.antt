@@ -3,7 +3,7 @@ use Rattle.std.proofs.Common.{◌≡◌, ◌<◌, ◌≤◌, ◌+◌, ℕ, zero,
 use Rattle.std.specs.Prelude.{slice_get, count_by}
 use Rattle.std.specs.Ordering.{nat_cmp}
 use Rattle.std.specs.FinMap as fin_map
-use Rattle.std.proofs.lemmas.Bool.{cases_eq, cases_lt}
+use Rattle.std.proofs.lemmas.Bool.{cases_eq, cases_lt, false_from_ne_true}
 use Rattle.std.proofs.lemmas.List.{length-append}
 use Rattle.std.proofs.lemmas.Option.{slice_get-get_or, get_or_from_slice_get, slice_get_within}
 use Rattle.std.proofs.Math.ListN.{get_or-append}
@@ -29,6 +29,10 @@ module _ {X : Type 0} (m : fin_map.FinMap nat_cmp X) where
   -- what no value passes
   pub tally-none : (p : X → Bool) → ((k : ℕ) (x : X) → fin_map.get m k ≡ Some x → p x ≡ false) → tally p m ≡ 0
   tally-none p none = tally-same p (λ x. false) none ∙ count_none (fin_map.entries m)
+
+  -- and what none can pass
+  pub tally-never : (p : X → Bool) → ((k : ℕ) (x : X) → fin_map.get m k ≡ Some x → p x ≡ true → ⊥) → tally p m ≡ 0
+  tally-never p never = tally-none p (λ k x at. false_from_ne_true (p x) (never k x at))
 
 -- an element of a list with one more is one of the list's, or the last
 pub snoc_cases : {X Z : Type 0} (xs : List X) (y : X) (i : ℕ) (x : X) → slice_get (xs ++ y ∷ []) i ≡ Some x

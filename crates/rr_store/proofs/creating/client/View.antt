@@ -1,5 +1,5 @@
 -- What contracts see of a core after a client was created.
-use Rattle.std.proofs.Common.{◌≡◌, ◌≢◌, ◌*◌, ℕ, Bool, true, false, cond, List, [], Option, None, Some, find, length, map, refl, sym, ap, ◌∙◌, replicate}
+use Rattle.std.proofs.Common.{◌≡◌, ◌≢◌, ℕ, Bool, true, false, cond, List, [], Option, None, Some, find, map, refl, sym, ap, ◌∙◌}
 use Rattle.std.specs.Prelude.{◌==◌, slice_get}
 use Rattle.std.specs.Option.{option_map_or, option_or}
 use Rattle.std.specs.FinMap as fin_map
@@ -16,9 +16,9 @@ use Rattle.rr_store.specs.declared.handle_entry.HandleEntry.{HandleEntry}
 use Rattle.rr_store.specs.declared.details.RequestDetails.{RequestDetails}
 use Rattle.rr_store.specs.declared.details.ResponseDetails.{ResponseDetails}
 use Rattle.rr_store.specs.Parts.{Parts, ClientPart, ServerPart, Sender}
-use Rattle.rr_store.specs.Views.{no_sender, no_request, sender_of, client_of, handle_of, request_in_slot, response_in_slot, requests_at, responses_at, state_of, marked, no_server}
+use Rattle.rr_store.specs.Views.{no_sender, no_request, sender_of, client_of, handle_of, request_in_slot, response_in_slot, requests_at, responses_at, state_of, marked}
 use Rattle.rr_store.specs.Sound.{IsSound, empty_hand}
-use Rattle.rr_store.specs.Creating.{IsNew, client_port, with_client_part}
+use Rattle.rr_store.specs.Creating.{IsNew, client_part, client_sender, with_client_part}
 use Rattle.rr_store.proofs.base.lists.Found.{found_somewhere, find_last}
 use Rattle.rr_store.proofs.creating.NewSenders.{new_queue, sender_before}
 use Rattle.rr_store.proofs.base.views.Agreeing.{request_sender, same_handle, same_requests, same_responses, same_state}
@@ -57,15 +57,7 @@ module _ {Q QH P PH K : Type 0} (p : Parts Q QH P PH K) (settings : ClientSettin
       go : (server : Option (ServerPart K)) (sender : Option (Sender Q RequestDetails QH)) (b : Bool)
           → option_map_or (λ s. option_map_or
           (λ l. map (request_in_slot p.spare_request_header l.messages) (queue_at l.messages s.receiver 0))
-          (option_or sender (cond b (Some (record {
-            owner = p.next;
-            row = length p.table.rows;
-            receiver = receiver;
-            loans = 0;
-            pendings = 0;
-            may_answer = replicate ((client_port p settings).pool_size * p.limits.max_servers) no_server;
-            messages = m;
-          })) None)) []) server []
+          (option_or sender (cond b (Some (client_sender p settings receiver m)) None)) []) server []
           ≡ option_map_or (λ s. option_map_or
           (λ l. map (request_in_slot p.spare_request_header l.messages) (queue_at l.messages s.receiver 0))
           sender []) server []
@@ -85,24 +77,11 @@ module _ {Q QH P PH K : Type 0} (p : Parts Q QH P PH K) (settings : ClientSettin
       shown : Sender P ResponseDetails PH → ClientPart K → List (ResponseMessage P PH)
       shown l c = map (response_in_slot p.spare_response_header l.messages) (queue_at l.messages c.receiver key.channel)
 
-      last : ClientPart K
-      last = record {
-        connected = record { port = client_port p settings; sender = length p.client_senders; receiver = receiver };
-        loans_made = 0;
-      }
-
       go : (client : Option (ClientPart K)) (sender : Option (Sender P ResponseDetails PH)) (b : Bool)
           → find (λ l. l.owner == key.server) p.server_senders ≡ sender
           → option_map_or (λ c. option_map_or (λ l. map (response_in_slot p.spare_response_header l.messages)
           (queue_at l.messages c.receiver key.channel)) sender []) (option_or client
-          (cond b (Some (record {
-            connected = record {
-              port = client_port p settings;
-              sender = length p.client_senders;
-              receiver = receiver;
-            };
-            loans_made = 0;
-          })) None)) []
+          (cond b (Some (client_part p settings receiver)) None)) []
           ≡ option_map_or (λ c. option_map_or (λ l. map (response_in_slot p.spare_response_header l.messages)
           (queue_at l.messages c.receiver key.channel)) sender []) client []
       go (Some c) sender b e = refl

@@ -1,19 +1,14 @@
 -- What is true of a core stays true as a server is created.
-use Rattle.std.proofs.Common.{◌≡◌, ◌≢◌, ◌<◌, ◌+◌, ◌*◌, ◌^◌, ℕ, Bool, true, false, cond, [], ◌∷◌, Option, None, Some, find, length, get_or, refl, sym, ap, ◌∙◌, subst, arith}
-use Rattle.std.specs.Prelude.{◌==◌, ◌&&◌, slice_get, slice_index}
+use Rattle.std.proofs.Common.{◌≡◌, ◌≢◌, ◌<◌, ◌+◌, ◌*◌, ◌^◌, ℕ, Bool, true, false, cond, Option, None, Some, find, length, get_or, refl, sym, ap, ◌∙◌, subst, arith}
+use Rattle.std.specs.Prelude.{◌==◌, ◌&&◌, slice_get}
 use Rattle.std.specs.Option.{option_map_or, option_or}
 use Rattle.std.specs.FinMap as fin_map
-use Rattle.std.proofs.lemmas.Bool.{false_from_ne_true, eqb-true, eq-eqb, and_parts}
-use Rattle.std.proofs.lemmas.List.{length-append, length-replicate}
-use Rattle.std.proofs.Math.ListN.{get_or-append}
-use Rattle.std.proofs.Math.Seq.{get_or-append_seam}
+use Rattle.std.proofs.lemmas.Bool.{eqb-true, eq-eqb, and_parts}
 use Rattle.rr_maps.specs.Maps.{tally}
 use Rattle.rr_table.specs.TableView.{TableEntry}
-use Rattle.rr_table.specs.declared.place.Place.{Place}
 use Rattle.rr_sender.specs.Senders.{Messages, times, queue_at, borrowed_at}
 use Rattle.rr_protocol.specs.declared.settings.ServerSettings.{ServerSettings}
 use Rattle.rr_protocol.specs.Limits.{worst_case_requests, max_loaned_responses}
-use Rattle.rr_protocol.specs.Creation.{loans_of}
 use Rattle.rr_store.specs.declared.handle_entry.HandleEntry.{HandleEntry}
 use Rattle.rr_store.specs.declared.handle_entry.Stage.{Stage}
 use Rattle.rr_store.specs.declared.handle_entry.Stage.TheVariants as stage
@@ -21,13 +16,13 @@ use Rattle.rr_store.specs.declared.details.ResponseDetails.{ResponseDetails}
 use Rattle.rr_store.specs.Parts.{Parts, ServerPart, Sender}
 use Rattle.rr_store.specs.Views.{no_response, sender_of}
 use Rattle.rr_store.specs.Sound.{IsSound, IsCounted, IsHeldOnce, IsNumbered, IsAddressed, IsPlaced, IsStored, IsSized, IsVacated, IsShaped, empty_hand, handles, is_in_sender, is_of_response, is_active_of, is_response_loan, is_received, has_request_at, is_received_at, response_details, response_uses, server_place, place_at}
-use Rattle.rr_store.specs.Creating.{IsNew, server_port, with_server_part}
+use Rattle.rr_store.specs.Creating.{IsNew, server_part, server_port, server_sender, with_server_part}
 use Rattle.rr_store.proofs.base.lists.Found.{find_last}
-use Rattle.rr_store.proofs.creating.NewSenders.{LooksLike, count_added, looks_like, sender_before, sender_cases, new_queue}
+use Rattle.rr_store.proofs.creating.NewSenders.{LooksLike, apart_added, count_added, each_added, looks_like, new_borrowed, new_slots, none_in, row_stays, rows_added, same_place, same_sender, sender_before}
 use Rattle.rr_store.proofs.creating.NewPort.{port_added, later_next, new_shaped}
 use Rattle.rr_store.proofs.base.views.Agreeing.{response_sender}
 use Rattle.rr_store.proofs.base.hands.Stages.{response_loan_is_response, received_is_response, handle_uses_response}
-use Rattle.rr_store.proofs.base.lists.Tallies.{and_none, tally-none, tally-same, snoc_cases, snoc_keeps}
+use Rattle.rr_store.proofs.base.lists.Tallies.{and_none, tally-never, tally-same, snoc_cases, snoc_keeps}
 
 module _ {Q QH P PH K : Type 0} (p : Parts Q QH P PH K) (settings : ServerSettings K) (receiver : ℕ) (m : Messages P ResponseDetails PH)
     (sound : IsSound p empty_hand)
@@ -41,14 +36,10 @@ module _ {Q QH P PH K : Type 0} (p : Parts Q QH P PH K) (settings : ServerSettin
   after = with_server_part p settings receiver m
 
   abbrev last_server : ServerPart K
-  last_server = record {
-    connected = record { port = server_port p settings; sender = length p.server_senders; receiver = receiver };
-    max_loaned_responses_per_request = loans_of settings;
-    max_loaned_responses = max_loaned_responses p.limits (loans_of settings);
-  }
+  last_server = server_part p settings receiver
 
   abbrev last : Sender P ResponseDetails PH
-  last = record { owner = p.next; row = length p.table.rows; receiver = receiver; loans = 0; pendings = 0; may_answer = []; messages = m }
+  last = server_sender p receiver m
 
   like : LooksLike p.server_senders after.server_senders
   like = looks_like p.server_senders last new
@@ -58,30 +49,22 @@ module _ {Q QH P PH K : Type 0} (p : Parts Q QH P PH K) (settings : ServerSettin
       → (server ≡ p.next → server_place after server ≡ receiver → server_place p server ≡ p.limits.max_servers → Z) → Z
   place_cases {Z} server same fresh = go (find (λ s. s.port.id == server) p.servers) refl (p.next == server) refl
     where
-      shown : server_place after server ≡ option_map_or (λ s. s.receiver)
-          (option_or (find (λ s. s.port.id == server) p.servers) (cond (p.next == server) (Some last_server) None)) p.limits.max_servers
-      shown = ap (λ o. option_map_or (λ (s : ServerPart K). s.receiver) o p.limits.max_servers)
-          (find_last (λ s. s.port.id == server) p.servers last_server)
+      to : Option (ServerPart K) → ℕ
+      to o = option_map_or (λ s. s.receiver) o p.limits.max_servers
+
+      or_last : Option (ServerPart K) → Bool → Option (ServerPart K)
+      or_last o b = option_or o (cond b (Some last_server) None)
+
+      shown : server_place after server ≡ to (or_last (find (λ s. s.port.id == server) p.servers) (p.next == server))
+      shown = ap to (find_last (λ s. s.port.id == server) p.servers last_server)
 
       go : (o : Option (ServerPart K)) → find (λ s. s.port.id == server) p.servers ≡ o → (b : Bool) → (p.next == server) ≡ b → Z
-      go (Some s) e b f =
-          same (shown
-          ∙ ap (λ o. option_map_or (λ (s : ServerPart K). s.receiver)
-          (option_or o (cond (p.next == server) (Some last_server) None)) p.limits.max_servers) e
-          ∙ sym (ap (λ o. option_map_or (λ (s : ServerPart K). s.receiver) o p.limits.max_servers) e))
+      go (Some s) e b f = same (shown ∙ ap (λ o. to (or_last o (p.next == server))) e ∙ sym (ap to e))
       go None e true f =
-          fresh (sym (eqb-true p.next server f))
-          (shown
-          ∙ ap (λ o. option_map_or (λ (s : ServerPart K). s.receiver)
-          (option_or o (cond (p.next == server) (Some last_server) None)) p.limits.max_servers) e
-          ∙ ap (λ b. option_map_or (λ (s : ServerPart K). s.receiver) (cond b (Some last_server) None) p.limits.max_servers) f)
-          (ap (λ o. option_map_or (λ (s : ServerPart K). s.receiver) o p.limits.max_servers) e)
+          fresh (sym (eqb-true p.next server f)) (shown ∙ ap (λ o. to (or_last o (p.next == server))) e ∙ ap (λ b. to (or_last None b)) f)
+          (ap to e)
       go None e false f =
-          same (shown
-          ∙ ap (λ o. option_map_or (λ (s : ServerPart K). s.receiver)
-          (option_or o (cond (p.next == server) (Some last_server) None)) p.limits.max_servers) e
-          ∙ ap (λ b. option_map_or (λ (s : ServerPart K). s.receiver) (cond b (Some last_server) None) p.limits.max_servers) f
-          ∙ sym (ap (λ o. option_map_or (λ (s : ServerPart K). s.receiver) o p.limits.max_servers) e))
+          same (shown ∙ ap (λ o. to (or_last o (p.next == server))) e ∙ ap (λ b. to (or_last None b)) f ∙ sym (ap to e))
 
   -- no handle is an active request of a server that isn't sent to
   none_active : (server : ℕ) → server_place p server ≡ p.limits.max_servers → (k : ℕ) (s : TableEntry HandleEntry)
@@ -107,8 +90,8 @@ module _ {Q QH P PH K : Type 0} (p : Parts Q QH P PH K) (settings : ServerSettin
           arith,
           ap (λ n. times i (queue_at (sender_of l p.client_senders).messages n 0)) e,
           ap (times i) (sound.vacated.of_servers l receiver 0 vacant).0,
-          tally-none p.table.entries (λ s. has_request_at l i s && is_active_of server s.value.stage)
-              (λ k s at. false_from_ne_true _ (λ t. none_active server far k s at (and_parts (has_request_at l i s) _ t).1)),
+          tally-never p.table.entries (λ s. has_request_at l i s && is_active_of server s.value.stage)
+              (λ k s at t. none_active server far k s at (and_parts (has_request_at l i s) _ t).1),
         ));
     responses = λ l i. omega (arith, like.used l i, sound.held_once.responses l i);
   }
@@ -178,30 +161,20 @@ module _ {Q QH P PH K : Type 0} (p : Parts Q QH P PH K) (settings : ServerSettin
         let details = details_kept l i (used_before l i h) in
         let a = sound.addressed.answers l i k j (used_before l i h) g (e ∙ ap (λ (n : ResponseDetails). n.request) details) in
         (ap (λ (n : ResponseDetails). n.channel) details ∙ a.0, ap (λ (n : ResponseDetails). n.client) details ∙ a.1);
-    entries = λ l i channel j c at some. sender_cases p.server_senders last new l
-        (λ before e. let there = sound.addressed.entries l i channel j c at
-        (omega (arith, some, ap (times i) (like.queues l c.receiver channel))) in
+    entries = λ l i channel j c at some.
+        let before : 0 < times i (queue_at (sender_of l p.server_senders).messages c.receiver channel) = omega
+        (arith, some, ap (times i) (like.queues l c.receiver channel)) in
+        let there = sound.addressed.entries l i channel j c at before in
         let details : response_details after l i ≡ response_details p l i = ap
-        (λ (x : Sender P ResponseDetails PH). get_or x.messages.details i no_response) e in
-        (ap (λ (n : ResponseDetails). n.client) details ∙ there.0, ap (λ (n : ResponseDetails). n.channel) details ∙ there.1))
-        (λ is e gone. absurd (omega (
-          arith,
-          some,
-          ap (λ (x : Sender P ResponseDetails PH). times i (queue_at x.messages c.receiver channel)) e,
-          ap (times i) (new_queue m new c.receiver channel),
-        )))
-        (λ far e gone. absurd
-        (omega (arith, some, ap (λ (x : Sender P ResponseDetails PH). times i (queue_at x.messages c.receiver channel)) e)));
+        (λ (x : Sender P ResponseDetails PH). get_or x.messages.details i no_response)
+        (same_sender p.server_senders last (λ x. times i (queue_at x.messages c.receiver channel)) refl l before) in
+        (ap (λ (n : ResponseDetails). n.client) details ∙ there.0, ap (λ (n : ResponseDetails). n.channel) details ∙ there.1);
   }
 
   -- a response stands in the row of a sender that was there
   in_its_sender : (k : ℕ) (s : TableEntry HandleEntry) → fin_map.get p.table.entries k ≡ Some s → is_of_response s.value.stage ≡ true
       → sender_of s.value.sender after.server_senders ≡ sender_of s.value.sender p.server_senders
   in_its_sender k s at is = sender_before p.server_senders last s.value.sender (response_sender p empty_hand sound.counted k s at is)
-
-  in_its_row : (slot : ℕ) {a b : Sender P ResponseDetails PH} → a ≡ b
-      → ◌≡◌ {A = Place} (record { row = a.row; index = slot }) (record { row = b.row; index = slot })
-  in_its_row slot same = ap (λ (l : Sender P ResponseDetails PH). record { row = l.row; index = slot }) same
 
   -- a handle's place follows from the same row
   place_kept : (k : ℕ) (s : TableEntry HandleEntry) → fin_map.get p.table.entries k ≡ Some s → (g : Stage) → s.value.stage ≡ g
@@ -212,81 +185,24 @@ module _ {Q QH P PH K : Type 0} (p : Parts Q QH P PH K) (settings : ServerSettin
         index = (n + 1) * length (sender_of s.value.sender p.client_senders).messages.held + s.value.slot;
       })
       (active_kept k server s at (ap (is_active_of server) e ∙ eq-eqb server server refl))
-  place_kept k s at stage.ResponseMutUninit e = in_its_row s.value.slot (in_its_sender k s at (ap is_of_response e))
-  place_kept k s at stage.ResponseMut e = in_its_row s.value.slot (in_its_sender k s at (ap is_of_response e))
-  place_kept k s at stage.Response e = in_its_row s.value.slot (in_its_sender k s at (ap is_of_response e))
+  place_kept k s at stage.ResponseMutUninit e = same_place s.value.slot (in_its_sender k s at (ap is_of_response e))
+  place_kept k s at stage.ResponseMut e = same_place s.value.slot (in_its_sender k s at (ap is_of_response e))
+  place_kept k s at stage.Response e = same_place s.value.slot (in_its_sender k s at (ap is_of_response e))
   place_kept k s at other e = refl
-
-  -- the rows that were there stay
-  row_before : (r : ℕ) → r < length p.table.rows → slice_index after.table.rows r ≡ slice_index p.table.rows r
-  row_before r h = get_or-append p.table.rows _ 0 r h
-
-  more_rows : (r : ℕ) → r < length p.table.rows → r < length after.table.rows
-  more_rows r h = omega (arith, h, length-append p.table.rows ((server_port p settings).pool_size ∷ []))
-
-  -- as many slots as the port says
-  slots_are : length m.held ≡ (server_port p settings).pool_size
-  slots_are = ap length new.held ∙ length-replicate (server_port p settings).pool_size 0
 
   inserted : IsPlaced after
   inserted =
       let n = sound.inserted in
       record {
         placed = λ k s at. n.placed k s at ∙ sym (place_kept k s at s.value.stage refl);
-        client_rows = λ l h. let r = n.client_rows l h in (more_rows _ r.0, row_before _ r.0 ∙ r.1);
-        server_rows = λ l h. sender_cases p.server_senders last new l
-            (λ before e. let r = n.server_rows l before in
-            let P : Sender P ResponseDetails PH → Type 0 = λ x. (x.row < length after.table.rows)
-            × (slice_index after.table.rows x.row ≡ length x.messages.held) in
-            subst P (sym e) (more_rows _ r.0, row_before _ r.0 ∙ r.1))
-            (λ is e g. let P : Sender P ResponseDetails PH → Type 0 = λ x. (x.row < length after.table.rows)
-            × (slice_index after.table.rows x.row ≡ length x.messages.held) in
-            subst P (sym e) (
-              omega (arith, length-append p.table.rows ((server_port p settings).pool_size ∷ [])),
-              get_or-append_seam p.table.rows (server_port p settings).pool_size [] 0 ∙ sym slots_are,
-            ))
-            (λ far e g. absurd (omega (arith, h, far, length-append p.server_senders (last ∷ []))));
+        client_rows = λ l h. row_stays p.table.rows _ _ _ (n.client_rows l h);
+        server_rows = rows_added p.server_senders last new (λ slots. slots) p.table.rows refl n.server_rows;
         client_rows_apart = n.client_rows_apart;
-        server_rows_apart = λ l k h g same. sender_cases p.server_senders last new l
-            (λ before e. sender_cases p.server_senders last new k
-            (λ also f. n.server_rows_apart l k before also (sym (ap (λ (x : Sender P ResponseDetails PH). x.row) e) ∙ same
-            ∙ ap (λ (x : Sender P ResponseDetails PH). x.row) f))
-            (λ is f gone. absurd (omega (
-              arith,
-              (n.server_rows l before).0,
-              ap (λ (x : Sender P ResponseDetails PH). x.row) e,
-              same,
-              ap (λ (x : Sender P ResponseDetails PH). x.row) f,
-            )))
-            (λ far f gone. absurd (omega (arith, g, far, length-append p.server_senders (last ∷ [])))))
-            (λ is e gone. sender_cases p.server_senders last new k
-            (λ also f. absurd (omega (
-              arith,
-              (n.server_rows k also).0,
-              ap (λ (x : Sender P ResponseDetails PH). x.row) e,
-              same,
-              ap (λ (x : Sender P ResponseDetails PH). x.row) f,
-            )))
-            (λ too f gone. is ∙ sym too)
-            (λ far f gone. absurd (omega (arith, g, far, length-append p.server_senders (last ∷ [])))))
-            (λ far e gone. absurd (omega (arith, h, far, length-append p.server_senders (last ∷ []))));
-        rows_apart = λ l k h g same. sender_cases p.server_senders last new k
-            (λ before e. n.rows_apart l k h before (same ∙ ap (λ (x : Sender P ResponseDetails PH). x.row) e))
-            (λ is e gone. absurd (omega (arith, (n.client_rows l h).0, ap (λ (x : Sender P ResponseDetails PH). x.row) e, same)))
-            (λ far e gone. absurd (omega (arith, g, far, length-append p.server_senders (last ∷ []))));
+        server_rows_apart = apart_added p.server_senders last (λ x. x.row) (λ l h. (n.server_rows l h).0) n.server_rows_apart;
+        rows_apart = λ l k h. each_added p.server_senders last (λ _ x. (sender_of l p.client_senders).row ≢ x.row)
+            (λ k before. n.rows_apart l k h before) (λ same. absurd (omega (arith, (n.client_rows l h).0, same))) k;
         active_servers = λ k server s at is. omega (arith, n.active_servers k server s at is, active_kept k server s at is);
       }
-
-  -- no handle is in the new sender
-  none_last : (test : Stage → Bool) → ((g : Stage) → test g ≡ true → is_of_response g ≡ true)
-      → tally (λ s. test s.value.stage && s.value.sender == length p.server_senders) p.table.entries ≡ 0
-  none_last test of_response =
-      tally-none p.table.entries (λ s. test s.value.stage && s.value.sender == length p.server_senders)
-      (λ k s at. false_from_ne_true _ (λ t.
-      let both = and_parts (test s.value.stage) (s.value.sender == length p.server_senders) t in
-      let within : s.value.sender < length p.server_senders = response_sender p empty_hand sound.counted k s at
-      (of_response s.value.stage both.0) in
-      omega (arith, within, eqb-true s.value.sender (length p.server_senders) both.1)))
 
   -- a test that reads the details of a response counts as before
   noted_alike : (test : Stage → Bool) → ((g : Stage) → test g ≡ true → is_of_response g ≡ true)
@@ -309,50 +225,49 @@ module _ {Q QH P PH K : Type 0} (p : Parts Q QH P PH K) (settings : ServerSettin
       record {
         request_loans = n.request_loans;
         pendings = n.pendings;
-        response_loans = count_added p.server_senders last new (λ x. x.loans) (λ l. handles p (is_in_sender is_response_loan l) empty_hand)
-            refl (omega (arith, none_last is_response_loan response_loan_is_response)) n.response_loans;
+        response_loans = count_added p.server_senders last (λ x. x.loans) (λ l. handles p (is_in_sender is_response_loan l) empty_hand)
+            refl (omega (
+              arith,
+              none_in p.table.entries (length p.server_senders) is_response_loan (λ k s at is. response_sender p
+                  empty_hand sound.counted k s at (response_loan_is_response s.value.stage is)),
+            )) n.response_loans;
         active_loans = λ k server loans s at is. n.active_loans k server loans s at is
             ∙ ap (λ n. n + 0) (sym (noted_alike is_response_loan response_loan_is_response (λ s details. details.active_request == k)));
         borrowed_requests = λ l server h. place_cases server
             (λ e. ap (λ x. borrowed_at (sender_of l p.client_senders).messages x 0) e ∙ n.borrowed_requests l server h)
             (λ is e far. ap (λ x. borrowed_at (sender_of l p.client_senders).messages x 0) e
             ∙ (sound.vacated.of_servers l receiver 0 vacant).1
-            ∙ sym (tally-none p.table.entries (λ s. is_active_of server s.value.stage && s.value.sender == l)
-            (λ k s at. false_from_ne_true _ (λ t. none_active server far k s at (and_parts (is_active_of server s.value.stage) _ t).0)))
+            ∙ sym (tally-never p.table.entries (λ s. is_active_of server s.value.stage && s.value.sender == l)
+            (λ k s at t. none_active server far k s at (and_parts (is_active_of server s.value.stage) _ t).0))
             ∙ and_none _);
-        borrowed_responses = λ l i channel c h at. like.borrowed l c.receiver channel ∙ sender_cases p.server_senders last new l
-            (λ before e. n.borrowed_responses l i channel c before at)
-            (λ is e gone. ap (λ (x : Sender P ResponseDetails PH). borrowed_at x.messages c.receiver channel) gone
-            ∙ sym (tally-none p.table.entries (λ s. is_received_at p l c.port.id channel s.value) (λ k s there. false_from_ne_true _ (λ t.
-            let received = and_parts (is_received s.value.stage) _ t in
-            let here = and_parts (s.value.sender == l) _ received.1 in
-            omega (
+        borrowed_responses = λ l i channel c h at. count_added p.server_senders last (λ x. borrowed_at x.messages c.receiver channel)
+            (λ l. handles p (is_received_at p l c.port.id channel) empty_hand) (new_borrowed m new c.receiver channel)
+            (omega (
               arith,
-              eqb-true s.value.sender l here.0,
-              is,
-              response_sender p empty_hand sound.counted k s there (received_is_response s.value.stage received.0),
-            )))) ∙ and_none _)
-            (λ far e gone. absurd (omega (arith, h, far, length-append p.server_senders (last ∷ []))))
+              tally-never p.table.entries (λ s. is_received_at p (length p.server_senders) c.port.id channel s.value)
+                  (λ k s there t.
+                  let received = and_parts (is_received s.value.stage) _ t in
+                  let here = and_parts (s.value.sender == length p.server_senders) _ received.1 in
+                  omega (
+                    arith,
+                    eqb-true s.value.sender (length p.server_senders) here.0,
+                    response_sender p empty_hand sound.counted k s there (received_is_response s.value.stage received.0),
+                  )),
+            ))
+            (λ l before. n.borrowed_responses l i channel c before at) l h
             ∙ ap (λ n. n + 0) (sym (noted_alike is_received received_is_response
             (λ s details. s.value.sender == l && (details.client == c.port.id && details.channel == channel))));
       }
 
   -- the new sender has its size
-  shaped : IsShaped p.limits.max_clients (worst_case_requests p.limits) p.limits.max_response_buffer_size m
-  shaped = new_shaped new
-
   sized : IsSized after
   sized =
       let n = sound.sized in
       record {
         limits_fit = n.limits_fit;
         client_senders = n.client_senders;
-        server_senders = λ l h. sender_cases p.server_senders last new l
-            (λ before e. let P : Sender P ResponseDetails PH → Type 0 = λ x. IsShaped p.limits.max_clients
-            (worst_case_requests p.limits) p.limits.max_response_buffer_size x.messages in subst P (sym e) (n.server_senders l before))
-            (λ is e gone. let P : Sender P ResponseDetails PH → Type 0 = λ x. IsShaped p.limits.max_clients
-            (worst_case_requests p.limits) p.limits.max_response_buffer_size x.messages in subst P (sym e) shaped)
-            (λ far e gone. absurd (omega (arith, h, far, length-append p.server_senders (last ∷ []))));
+        server_senders = each_added p.server_senders last (λ _ x. IsShaped p.limits.max_clients (worst_case_requests p.limits)
+            p.limits.max_response_buffer_size x.messages) n.server_senders (new_shaped new);
         marks = n.marks;
         next_fits = omega (arith, left);
         channels = n.channels;
@@ -391,6 +306,5 @@ module _ {Q QH P PH K : Type 0} (p : Parts Q QH P PH K) (settings : ServerSettin
     };
     client_ports = later_next sound.client_ports;
     server_ports = port_added (λ (s : ServerPart K). s.connected) p.next p.limits.max_servers p.servers p.server_senders sound.server_ports
-        last_server last
-        new refl refl refl slots_are new.room_is refl inside vacant few;
+        last_server last new refl refl refl (new_slots new) new.room_is refl inside vacant few;
   }

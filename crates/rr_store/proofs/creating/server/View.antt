@@ -1,5 +1,5 @@
 -- What contracts see of a core after a server was created.
-use Rattle.std.proofs.Common.{◌≡◌, ◌≢◌, ◌<◌, ℕ, Bool, true, false, cond, List, [], ◌∷◌, ◌++◌, Option, None, Some, find, filter, length, map, refl, sym, ap, ◌∙◌, arith}
+use Rattle.std.proofs.Common.{◌≡◌, ◌≢◌, ◌<◌, ℕ, Bool, true, false, cond, List, [], ◌∷◌, ◌++◌, Option, None, Some, find, filter, map, refl, sym, ap, ◌∙◌, arith}
 use Rattle.std.specs.Prelude.{◌==◌, slice_get}
 use Rattle.std.specs.Option.{option_map_or, option_or}
 use Rattle.std.specs.FinMap as fin_map
@@ -11,15 +11,14 @@ use Rattle.rr_sender.specs.Senders.{Messages, queue_at}
 use Rattle.rr_protocol.specs.declared.settings.ServerSettings.{ServerSettings}
 use Rattle.rr_protocol.specs.Keys.{RequestKey, ResponseKey}
 use Rattle.rr_protocol.specs.Messages.{RequestMessage, ResponseMessage}
-use Rattle.rr_protocol.specs.Creation.{with_server, loans_of}
-use Rattle.rr_protocol.specs.Limits.{max_loaned_responses}
+use Rattle.rr_protocol.specs.Creation.{with_server}
 use Rattle.rr_store.specs.declared.handle_entry.HandleEntry.{HandleEntry}
 use Rattle.rr_store.specs.declared.details.RequestDetails.{RequestDetails}
 use Rattle.rr_store.specs.declared.details.ResponseDetails.{ResponseDetails}
 use Rattle.rr_store.specs.Parts.{Parts, ClientPart, ServerPart, Sender}
 use Rattle.rr_store.specs.Views.{no_sender, no_response, sender_of, server_of, handle_of, request_in_slot, response_in_slot, requests_at, responses_at, is_awaited, waiting_at, state_of}
 use Rattle.rr_store.specs.Sound.{IsSound, empty_hand}
-use Rattle.rr_store.specs.Creating.{IsNew, server_port, with_server_part}
+use Rattle.rr_store.specs.Creating.{IsNew, server_part, server_sender, with_server_part}
 use Rattle.rr_store.proofs.base.lists.Found.{found_somewhere, find_last}
 use Rattle.rr_store.proofs.creating.NewSenders.{new_queue, sender_before}
 use Rattle.rr_store.proofs.base.views.Agreeing.{response_sender, same_handle, same_requests, same_responses, same_state}
@@ -42,17 +41,10 @@ module _ {Q QH P PH K : Type 0} (p : Parts Q QH P PH K) (settings : ServerSettin
   abbrev after : Parts Q QH P PH K
   after = with_server_part p settings receiver m
 
-  abbrev last : ServerPart K
-  last = record {
-    connected = record { port = server_port p settings; sender = length p.server_senders; receiver = receiver };
-    max_loaned_responses_per_request = loans_of settings;
-    max_loaned_responses = max_loaned_responses p.limits (loans_of settings);
-  }
-
   -- no request awaits the new server
   waiting : (sender slot : ℕ) → waiting_at after sender slot ≡ waiting_at p sender slot
   waiting sender slot = ap (map (λ (s : ServerPart K). s.port.id))
-      (filter_more (λ (s : ServerPart K). is_awaited p sender slot s.receiver s.port.id) p.servers last
+      (filter_more (λ (s : ServerPart K). is_awaited p sender slot s.receiver s.port.id) p.servers (server_part p settings receiver)
       (sound.vacated.awaits_none sender slot receiver p.next (omega arith) (omega (arith, sound.sized.next_fits))))
 
   -- the handles show what they did
@@ -77,15 +69,7 @@ module _ {Q QH P PH K : Type 0} (p : Parts Q QH P PH K) (settings : ServerSettin
       go : (client : Option (ClientPart K)) (sender : Option (Sender P ResponseDetails PH)) (b : Bool)
           → option_map_or (λ c. option_map_or (λ l. map (response_in_slot p.spare_response_header l.messages)
           (queue_at l.messages c.receiver key.channel)) (option_or sender
-          (cond b (Some (record {
-            owner = p.next;
-            row = length p.table.rows;
-            receiver = receiver;
-            loans = 0;
-            pendings = 0;
-            may_answer = [];
-            messages = m;
-          })) None)) []) client []
+          (cond b (Some (server_sender p receiver m)) None)) []) client []
           ≡ option_map_or (λ c. option_map_or (λ l. map (response_in_slot p.spare_response_header l.messages)
           (queue_at l.messages c.receiver key.channel)) sender []) client []
       go None sender b = refl
@@ -108,12 +92,7 @@ module _ {Q QH P PH K : Type 0} (p : Parts Q QH P PH K) (settings : ServerSettin
           → find (λ l. l.owner == key.client) p.client_senders ≡ sender
           → option_map_or (λ s. option_map_or
           (λ l. map (request_in_slot p.spare_request_header l.messages) (queue_at l.messages s.receiver 0))
-          sender []) (option_or server (cond b (Some (record {
-            connected =
-                record { port = server_port p settings; sender = length p.server_senders; receiver = receiver };
-            max_loaned_responses_per_request = loans_of settings;
-            max_loaned_responses = max_loaned_responses p.limits (loans_of settings);
-          })) None)) []
+          sender []) (option_or server (cond b (Some (server_part p settings receiver)) None)) []
           ≡ option_map_or (λ s. option_map_or
           (λ l. map (request_in_slot p.spare_request_header l.messages) (queue_at l.messages s.receiver 0))
           sender []) server []
