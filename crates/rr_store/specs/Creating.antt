@@ -50,12 +50,12 @@ module _ {Q QH P PH K : Type 0} (p : Parts Q QH P PH K) where
       }
 
   -- a client that is this receiver, and the sender from which it sends
-  abbrev pub client_part : ClientSettings K → ℕ → ClientPart K
-  client_part settings receiver =
+  abbrev pub new_client : ClientSettings K → ℕ → ClientPart K
+  new_client settings receiver =
       record { connected = record { port = client_port settings; sender = length p.client_senders; receiver = receiver }; loans_made = 0 }
 
-  abbrev pub client_sender : ClientSettings K → ℕ → Messages Q RequestDetails QH → Sender Q RequestDetails QH
-  client_sender settings receiver messages =
+  abbrev pub new_client_sender : ClientSettings K → ℕ → Messages Q RequestDetails QH → Sender Q RequestDetails QH
+  new_client_sender settings receiver messages =
       record {
         owner = p.next;
         row = length p.table.rows;
@@ -71,22 +71,22 @@ module _ {Q QH P PH K : Type 0} (p : Parts Q QH P PH K) where
   with_client_part settings receiver messages =
       record p {
         next = p.next + 1;
-        clients = p.clients ++ client_part settings receiver ∷ [];
-        client_senders = p.client_senders ++ client_sender settings receiver messages ∷ [];
+        clients = p.clients ++ new_client settings receiver ∷ [];
+        client_senders = p.client_senders ++ new_client_sender settings receiver messages ∷ [];
         table = with_row p.table ((p.limits.max_servers + 1) * (client_port settings).pool_size);
       }
 
   -- a server that is this receiver, and the sender from which it sends
-  abbrev pub server_part : ServerSettings K → ℕ → ServerPart K
-  server_part settings receiver =
+  abbrev pub new_server : ServerSettings K → ℕ → ServerPart K
+  new_server settings receiver =
       record {
         connected = record { port = server_port settings; sender = length p.server_senders; receiver = receiver };
         max_loaned_responses_per_request = loans_of settings;
         max_loaned_responses = max_loaned_responses p.limits (loans_of settings);
       }
 
-  abbrev pub server_sender : ℕ → Messages P ResponseDetails PH → Sender P ResponseDetails PH
-  server_sender receiver messages =
+  abbrev pub new_server_sender : ℕ → Messages P ResponseDetails PH → Sender P ResponseDetails PH
+  new_server_sender receiver messages =
       record {
         owner = p.next;
         row = length p.table.rows;
@@ -102,7 +102,7 @@ module _ {Q QH P PH K : Type 0} (p : Parts Q QH P PH K) where
   with_server_part settings receiver messages =
       record p {
         next = p.next + 1;
-        servers = p.servers ++ server_part settings receiver ∷ [];
-        server_senders = p.server_senders ++ server_sender receiver messages ∷ [];
+        servers = p.servers ++ new_server settings receiver ∷ [];
+        server_senders = p.server_senders ++ new_server_sender receiver messages ∷ [];
         table = with_row p.table (server_port settings).pool_size;
       }

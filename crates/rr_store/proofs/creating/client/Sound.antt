@@ -14,7 +14,7 @@ use Rattle.rr_store.specs.declared.details.RequestDetails.{RequestDetails}
 use Rattle.rr_store.specs.Parts.{Parts, ClientPart, Sender}
 use Rattle.rr_store.specs.Views.{no_request, sender_of, no_server}
 use Rattle.rr_store.specs.Sound.{IsSound, IsCounted, IsNumbered, IsAddressed, IsPlaced, IsStored, IsSized, IsVacated, IsShaped, empty_hand, handles, is_in_sender, is_of_request, is_request_loan, is_pending, is_active_of, is_received, is_received_at, request_details, response_details, request_uses, server_place, place_at}
-use Rattle.rr_store.specs.Creating.{IsNew, client_part, client_port, client_sender, with_client_part}
+use Rattle.rr_store.specs.Creating.{IsNew, new_client, client_port, new_client_sender, with_client_part}
 use Rattle.rr_store.proofs.creating.NewSenders.{LooksLike, apart_added, count_added, each_added, looks_like, new_borrowed, new_slots, none_in, row_stays, rows_added, same_everywhere, same_place, same_shown, sender_before}
 use Rattle.rr_store.proofs.base.lists.Adding.{pool_fits, makes_channels}
 use Rattle.rr_store.proofs.creating.NewPort.{port_added, later_next, new_shaped}
@@ -36,7 +36,7 @@ module _ {Q QH P PH K : Type 0} (p : Parts Q QH P PH K) (settings : ClientSettin
   after = with_client_part p settings receiver m
 
   abbrev last : Sender Q RequestDetails QH
-  last = client_sender p settings receiver m
+  last = new_client_sender p settings receiver m
 
   like : LooksLike p.client_senders after.client_senders
   like = looks_like p.client_senders last new
@@ -190,7 +190,7 @@ module _ {Q QH P PH K : Type 0} (p : Parts Q QH P PH K) (settings : ClientSettin
         next_fits = omega (arith, left);
         channels = each_added p.client_senders last (λ _ x. length x.messages.held ≤ worst_case_requests p.limits) n.channels
             (omega (arith, slots_are, pool_fits (worst_case_requests p.limits) settings.pool (makes_channels p.limits n.limits_fit)));
-        loans_made = λ i c at. snoc_cases p.clients (client_part p settings receiver) i c at
+        loans_made = λ i c at. snoc_cases p.clients (new_client p settings receiver) i c at
             (λ before h. omega (arith, n.loans_made i c before)) (λ e is. omega (arith, ap (λ (c : ClientPart K). c.loans_made) is));
         most_loans = n.most_loans;
         rows_fit = each_added p.client_senders last (λ _ x. (p.limits.max_servers + 1) * length x.messages.held < 2 ^ 64) n.rows_fit
@@ -224,11 +224,11 @@ module _ {Q QH P PH K : Type 0} (p : Parts Q QH P PH K) (settings : ClientSettin
     sized = sized;
     vacated = vacated;
     have_values = record {
-      clients = λ i c at. snoc_cases p.clients (client_part p settings receiver) i c at (λ before h. sound.have_values.clients i c before)
+      clients = λ i c at. snoc_cases p.clients (new_client p settings receiver) i c at (λ before h. sound.have_values.clients i c before)
           (λ e is. ap (λ (c : ClientPart K). c.port.has_value) (sym is));
       servers = sound.have_values.servers;
     };
     client_ports = port_added (λ (c : ClientPart K). c.connected) p.next p.limits.max_clients p.clients p.client_senders sound.client_ports
-        (client_part p settings receiver) last new refl refl refl (new_slots new) new.room_is refl inside vacant few;
+        (new_client p settings receiver) last new refl refl refl (new_slots new) new.room_is refl inside vacant few;
     server_ports = later_next sound.server_ports;
   }

@@ -18,7 +18,7 @@ use Rattle.rr_store.specs.declared.details.ResponseDetails.{ResponseDetails}
 use Rattle.rr_store.specs.Parts.{Parts, ClientPart, ServerPart, Sender}
 use Rattle.rr_store.specs.Views.{no_sender, no_request, sender_of, client_of, handle_of, request_in_slot, response_in_slot, requests_at, responses_at, state_of, marked}
 use Rattle.rr_store.specs.Sound.{IsSound, empty_hand}
-use Rattle.rr_store.specs.Creating.{IsNew, client_part, client_sender, with_client_part}
+use Rattle.rr_store.specs.Creating.{IsNew, new_client, new_client_sender, with_client_part}
 use Rattle.rr_store.proofs.base.lists.Found.{found_somewhere, find_last}
 use Rattle.rr_store.proofs.creating.NewSenders.{new_queue, sender_before}
 use Rattle.rr_store.proofs.base.views.Agreeing.{request_sender, same_handle, same_requests, same_responses, same_state}
@@ -57,7 +57,7 @@ module _ {Q QH P PH K : Type 0} (p : Parts Q QH P PH K) (settings : ClientSettin
       go : (server : Option (ServerPart K)) (sender : Option (Sender Q RequestDetails QH)) (b : Bool)
           → option_map_or (λ s. option_map_or
           (λ l. map (request_in_slot p.spare_request_header l.messages) (queue_at l.messages s.receiver 0))
-          (option_or sender (cond b (Some (client_sender p settings receiver m)) None)) []) server []
+          (option_or sender (cond b (Some (new_client_sender p settings receiver m)) None)) []) server []
           ≡ option_map_or (λ s. option_map_or
           (λ l. map (request_in_slot p.spare_request_header l.messages) (queue_at l.messages s.receiver 0))
           sender []) server []
@@ -81,7 +81,7 @@ module _ {Q QH P PH K : Type 0} (p : Parts Q QH P PH K) (settings : ClientSettin
           → find (λ l. l.owner == key.server) p.server_senders ≡ sender
           → option_map_or (λ c. option_map_or (λ l. map (response_in_slot p.spare_response_header l.messages)
           (queue_at l.messages c.receiver key.channel)) sender []) (option_or client
-          (cond b (Some (client_part p settings receiver)) None)) []
+          (cond b (Some (new_client p settings receiver)) None)) []
           ≡ option_map_or (λ c. option_map_or (λ l. map (response_in_slot p.spare_response_header l.messages)
           (queue_at l.messages c.receiver key.channel)) sender []) client []
       go (Some c) sender b e = refl

@@ -16,7 +16,7 @@ use Rattle.rr_store.specs.declared.details.ResponseDetails.{ResponseDetails}
 use Rattle.rr_store.specs.Parts.{Parts, ServerPart, Sender}
 use Rattle.rr_store.specs.Views.{no_response, sender_of}
 use Rattle.rr_store.specs.Sound.{IsSound, IsCounted, IsHeldOnce, IsNumbered, IsAddressed, IsPlaced, IsStored, IsSized, IsVacated, IsShaped, empty_hand, handles, is_in_sender, is_of_response, is_active_of, is_response_loan, is_received, has_request_at, is_received_at, response_details, response_uses, server_place, place_at}
-use Rattle.rr_store.specs.Creating.{IsNew, server_part, server_port, server_sender, with_server_part}
+use Rattle.rr_store.specs.Creating.{IsNew, new_server, server_port, new_server_sender, with_server_part}
 use Rattle.rr_store.proofs.base.lists.Found.{find_last}
 use Rattle.rr_store.proofs.creating.NewSenders.{LooksLike, apart_added, count_added, each_added, looks_like, new_borrowed, new_slots, none_in, row_stays, rows_added, same_place, same_sender, sender_before}
 use Rattle.rr_store.proofs.creating.NewPort.{port_added, later_next, new_shaped}
@@ -36,10 +36,10 @@ module _ {Q QH P PH K : Type 0} (p : Parts Q QH P PH K) (settings : ServerSettin
   after = with_server_part p settings receiver m
 
   abbrev last_server : ServerPart K
-  last_server = server_part p settings receiver
+  last_server = new_server p settings receiver
 
   abbrev last : Sender P ResponseDetails PH
-  last = server_sender p receiver m
+  last = new_server_sender p receiver m
 
   like : LooksLike p.server_senders after.server_senders
   like = looks_like p.server_senders last new

@@ -18,7 +18,7 @@ use Rattle.rr_store.specs.declared.details.ResponseDetails.{ResponseDetails}
 use Rattle.rr_store.specs.Parts.{Parts, ClientPart, ServerPart, Sender}
 use Rattle.rr_store.specs.Views.{no_sender, no_response, sender_of, server_of, handle_of, request_in_slot, response_in_slot, requests_at, responses_at, is_awaited, waiting_at, state_of}
 use Rattle.rr_store.specs.Sound.{IsSound, empty_hand}
-use Rattle.rr_store.specs.Creating.{IsNew, server_part, server_sender, with_server_part}
+use Rattle.rr_store.specs.Creating.{IsNew, new_server, new_server_sender, with_server_part}
 use Rattle.rr_store.proofs.base.lists.Found.{found_somewhere, find_last}
 use Rattle.rr_store.proofs.creating.NewSenders.{new_queue, sender_before}
 use Rattle.rr_store.proofs.base.views.Agreeing.{response_sender, same_handle, same_requests, same_responses, same_state}
@@ -44,7 +44,7 @@ module _ {Q QH P PH K : Type 0} (p : Parts Q QH P PH K) (settings : ServerSettin
   -- no request awaits the new server
   waiting : (sender slot : ℕ) → waiting_at after sender slot ≡ waiting_at p sender slot
   waiting sender slot = ap (map (λ (s : ServerPart K). s.port.id))
-      (filter_more (λ (s : ServerPart K). is_awaited p sender slot s.receiver s.port.id) p.servers (server_part p settings receiver)
+      (filter_more (λ (s : ServerPart K). is_awaited p sender slot s.receiver s.port.id) p.servers (new_server p settings receiver)
       (sound.vacated.awaits_none sender slot receiver p.next (omega arith) (omega (arith, sound.sized.next_fits))))
 
   -- the handles show what they did
@@ -69,7 +69,7 @@ module _ {Q QH P PH K : Type 0} (p : Parts Q QH P PH K) (settings : ServerSettin
       go : (client : Option (ClientPart K)) (sender : Option (Sender P ResponseDetails PH)) (b : Bool)
           → option_map_or (λ c. option_map_or (λ l. map (response_in_slot p.spare_response_header l.messages)
           (queue_at l.messages c.receiver key.channel)) (option_or sender
-          (cond b (Some (server_sender p receiver m)) None)) []) client []
+          (cond b (Some (new_server_sender p receiver m)) None)) []) client []
           ≡ option_map_or (λ c. option_map_or (λ l. map (response_in_slot p.spare_response_header l.messages)
           (queue_at l.messages c.receiver key.channel)) sender []) client []
       go None sender b = refl
@@ -92,7 +92,7 @@ module _ {Q QH P PH K : Type 0} (p : Parts Q QH P PH K) (settings : ServerSettin
           → find (λ l. l.owner == key.client) p.client_senders ≡ sender
           → option_map_or (λ s. option_map_or
           (λ l. map (request_in_slot p.spare_request_header l.messages) (queue_at l.messages s.receiver 0))
-          sender []) (option_or server (cond b (Some (server_part p settings receiver)) None)) []
+          sender []) (option_or server (cond b (Some (new_server p settings receiver)) None)) []
           ≡ option_map_or (λ s. option_map_or
           (λ l. map (request_in_slot p.spare_request_header l.messages) (queue_at l.messages s.receiver 0))
           sender []) server []
