@@ -10,8 +10,12 @@ use rr_slots::Body;
 use rr_store::Store;
 use std::alloc::Global;
 
-/// Makes a store without ports. Returns `ZeroLimit` and `LimitsTooLarge` as `Limits::refusal` tells; making it takes no
-/// memory.
+/// Makes a store without ports. Takes no memory.
+///
+/// # Errors
+///
+/// - `ZeroLimit` if a limit is below its least value.
+/// - `LimitsTooLarge` if a worst-case size is more than a `usize` counts.
 pub fn new_store<QB: Body, QH: Default + Drop, PB: Body, PH: Default + Drop, K: BackpressureFn>(
     alloc: Global,
     limits: Limits,

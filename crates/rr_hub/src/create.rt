@@ -18,11 +18,15 @@ impl<QB: Body, QH: Default + Drop, PB: Body, PH: Default + Drop, K: Backpressure
     PH,
     K,
 > {
-    /// Creates a client under the next number.
+    /// Creates a client under the next number, which it returns. The initial length is one that the body's family takes. After
+    /// iceoryx2's `PortFactoryClient::create`.
     ///
-    /// `UnableToCreatePortTag` if no number is left, `ExceedsMaxSupportedClients` if as many clients are connected as may be,
-    /// `UnableToCreateDataSegment` if memory was refused; nothing has changed then. The initial length is one that the
-    /// body's family takes. After iceoryx2's `PortFactoryClient::create`.
+    /// # Errors
+    ///
+    /// An error leaves the hub as it was.
+    /// - `UnableToCreatePortTag` if no number is left.
+    /// - `ExceedsMaxSupportedClients` if as many clients are connected as may be.
+    /// - `UnableToCreateDataSegment` if memory was refused.
     pub fn create_client(&mut self, settings: ClientSettings<K>) -> Result<u64, ClientCreateError>
         requires { IsTrue (takes_len QB.family settings.initial_max_slice_len) }
         ensures creates { CreatesClient self.old settings result self.new }
@@ -31,12 +35,15 @@ impl<QB: Body, QH: Default + Drop, PB: Body, PH: Default + Drop, K: Backpressure
         create_client(&mut self.parts, self.alloc, settings)
     }
 
-    /// Creates a server under the next number.
+    /// Creates a server under the next number, which it returns. The initial length is one that the body's family takes. After
+    /// iceoryx2's `PortFactoryServer::create`.
     ///
-    /// `UnableToCreatePortTag` if no number is left, `ExceedsMaxSupportedServers` if as many servers are connected as may be,
-    /// `UnableToCreateDataSegment` if the worst-case number of responses is more than a `usize` counts, or memory was refused;
-    /// nothing has changed then. The initial length is one that the body's family takes. After iceoryx2's
-    /// `PortFactoryServer::create`.
+    /// # Errors
+    ///
+    /// An error leaves the hub as it was.
+    /// - `UnableToCreatePortTag` if no number is left.
+    /// - `ExceedsMaxSupportedServers` if as many servers are connected as may be.
+    /// - `UnableToCreateDataSegment` if the worst-case number of responses is more than a `usize` counts, or memory was refused.
     pub fn create_server(&mut self, settings: ServerSettings<K>) -> Result<u64, ServerCreateError>
         requires { IsTrue (takes_len PB.family settings.initial_max_slice_len) }
         ensures creates { CreatesServer self.old settings result self.new }

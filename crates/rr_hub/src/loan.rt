@@ -21,12 +21,15 @@ impl<QB: Body, QH: Default + Drop, PB: Body, PH: Default + Drop, K: Backpressure
     K,
 > {
     /// Loans a request of `len` elements, a length that the body's family takes, from a client whose value lives. It has the
-    /// next number, of which one is left, any free channel and a default user header.
+    /// next number, of which one is left, any free channel and a default user header. After iceoryx2's `Client::loan_uninit`.
     ///
-    /// `ExceedsMaxLoanSize` for a slice that is longer than a static pool has room for; `ExceedsMaxLoans` if the client has as
-    /// many requests on loan as it may; `OutOfMemory` if its live requests fill its pool, or a longer slice found no memory,
-    /// neither of which comes for up to the initial slice length from a pool of the worst-case size. Nothing has changed then.
-    /// After iceoryx2's `Client::loan_uninit`.
+    /// # Errors
+    ///
+    /// An error leaves the hub as it was.
+    /// - `ExceedsMaxLoanSize` if a slice is longer than a static pool has room for.
+    /// - `ExceedsMaxLoans` if the client has as many requests on loan as it may.
+    /// - `OutOfMemory` if the client's live requests fill its pool, or a longer slice found no memory. Up to the initial slice
+    ///   length a pool of the worst-case size never returns it.
     #[inline(always)]
     pub fn loan_request(&mut self, client: u64, len: usize) -> Result<HandleId, LoanError>
         requires kind { kind_at self.old client ≡ Some kind.Client }
@@ -40,12 +43,16 @@ impl<QB: Body, QH: Default + Drop, PB: Body, PH: Default + Drop, K: Backpressure
     }
 
     /// Loans a response of `len` elements, a length that the body's family takes, from an active request. It has the next
-    /// number, of which one is left, and a default user header, and goes to the request's channel.
+    /// number, of which one is left, a default user header, and the request's channel. After iceoryx2's
+    /// `ActiveRequest::loan_uninit`.
     ///
-    /// `ExceedsMaxLoanSize` for a slice that is longer than a static pool has room for; `ExceedsMaxLoans` if the active
-    /// request has as many responses on loan as it may, or its server has; `OutOfMemory` if the server's live responses fill
-    /// its pool, or a longer slice found no memory, neither of which comes for up to the initial slice length from a pool of the
-    /// worst-case size. Nothing has changed then. After iceoryx2's `ActiveRequest::loan_uninit`.
+    /// # Errors
+    ///
+    /// An error leaves the hub as it was.
+    /// - `ExceedsMaxLoanSize` if a slice is longer than a static pool has room for.
+    /// - `ExceedsMaxLoans` if the active request, or its server, has as many responses on loan as it may.
+    /// - `OutOfMemory` if the server's live responses fill its pool, or a longer slice found no memory. Up to the initial slice
+    ///   length a pool of the worst-case size never returns it.
     #[inline(always)]
     pub fn loan_response(&mut self, active: &HandleId, len: usize) -> Result<HandleId, LoanError>
         requires kind { kind_at self.old active.now ≡ Some kind.ActiveRequest }

@@ -20,7 +20,12 @@ impl<QB: Body, QH: Default + Drop, PB: Body, PH: Default + Drop, K: Backpressure
     PH,
     K,
 > {
-    /// A hub without ports. `ZeroLimit` and `LimitsTooLarge` as `Limits::refusal` tells; making it takes no memory.
+    /// Makes a hub without ports. Takes no memory. Our own.
+    ///
+    /// # Errors
+    ///
+    /// - `ZeroLimit` if a limit is below its least value.
+    /// - `LimitsTooLarge` if a worst-case size is more than a `usize` counts.
     pub fn new(alloc: Global, limits: Limits, node_id: UniqueNodeId) -> Result<Self, HubCreateError>
         ensures { CreatesHub limits node_id.0 result }
     {
@@ -30,14 +35,14 @@ impl<QB: Body, QH: Default + Drop, PB: Body, PH: Default + Drop, K: Backpressure
         }
     }
 
-    /// How many numbers the hub can still give.
+    /// Returns how many numbers the hub can still give. Our own.
     pub fn numbers_left(&self) -> u64
         ensures { result ≡ numbers_left self.now }
     {
         NUMBERS - self.parts.next_number()
     }
 
-    /// The number that is given next, if one is left. It names nothing yet.
+    /// Returns the number that is given next, if one is left. It names nothing yet. Our own.
     pub fn next_number(&self) -> u64
         ensures number { result ≡ self.now.next }
         ensures free { kind_at self.now result ≡ None }

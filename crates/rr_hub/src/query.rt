@@ -21,9 +21,8 @@ impl<QB: Body, QH: Default + Drop, PB: Body, PH: Default + Drop, K: Backpressure
     PH,
     K,
 > {
-    /// What a number names: a client or a server whose value lives, or a handle. `None` if it names nothing.
-    ///
-    /// It walks over the ports, and finds a handle at its hint. Our own.
+    /// Returns what a number names: a client or a server whose value lives, or a handle. Returns `None` if it names nothing.
+    /// Walks over the ports, and finds a handle at its hint. Our own.
     #[inline(always)]
     pub fn kind(&self, id: &HandleId) -> Option<Kind>
         ensures { result ≡ kind_at self.now id.now }
@@ -31,9 +30,8 @@ impl<QB: Body, QH: Default + Drop, PB: Body, PH: Default + Drop, K: Backpressure
         kind_of(&self.parts, id.number(), id.hint())
     }
 
-    /// The body of a handle's request, as far as it was written.
-    ///
-    /// After iceoryx2's `payload` of `RequestMut`, `PendingResponse` and `ActiveRequest`.
+    /// Returns the body of a handle's request, as far as it was written. After iceoryx2's `payload` of `RequestMut`,
+    /// `PendingResponse` and `ActiveRequest`.
     #[inline(always)]
     pub fn request_body(&self, id: &HandleId) -> &QB
         requires { IsSome (option_and_then request_in (handle_at self.now id.now)) }
@@ -49,9 +47,8 @@ impl<QB: Body, QH: Default + Drop, PB: Body, PH: Default + Drop, K: Backpressure
         }
     }
 
-    /// The body of a handle's response, as far as it was written.
-    ///
-    /// After iceoryx2's `payload` of `ResponseMut` and `Response`.
+    /// Returns the body of a handle's response, as far as it was written. After iceoryx2's `payload` of `ResponseMut` and
+    /// `Response`.
     #[inline(always)]
     pub fn response_body(&self, id: &HandleId) -> &PB
         requires { IsSome (option_and_then response_in (handle_at self.now id.now)) }
@@ -67,9 +64,8 @@ impl<QB: Body, QH: Default + Drop, PB: Body, PH: Default + Drop, K: Backpressure
         }
     }
 
-    /// Whether a connected server may still answer a pending response's request.
-    ///
-    /// It looks once at each connected server. After iceoryx2's `PendingResponse::is_connected`.
+    /// Returns whether a connected server may still answer a pending response's request. Looks once at each connected server.
+    /// After iceoryx2's `PendingResponse::is_connected`.
     #[inline(always)]
     pub fn is_pending_connected(&self, id: &HandleId) -> bool
         requires { kind_at self.now id.now ≡ Some Kind.PendingResponse }
@@ -84,9 +80,8 @@ impl<QB: Body, QH: Default + Drop, PB: Body, PH: Default + Drop, K: Backpressure
         }
     }
 
-    /// Whether the pending response of an active request's request lives.
-    ///
-    /// It looks at the one place where that handle can stand. After iceoryx2's `ActiveRequest::is_connected`.
+    /// Returns whether the pending response of an active request's request lives. Looks at the one place where that handle can
+    /// stand. After iceoryx2's `ActiveRequest::is_connected`.
     #[inline(always)]
     pub fn is_active_connected(&self, id: &HandleId) -> bool
         requires { kind_at self.now id.now ≡ Some Kind.ActiveRequest }
@@ -101,9 +96,8 @@ impl<QB: Body, QH: Default + Drop, PB: Body, PH: Default + Drop, K: Backpressure
         }
     }
 
-    /// The number of the request that a server received as an active request.
-    ///
-    /// Our own: iceoryx2 has no numbers of requests.
+    /// Returns the number of the request that a server received as an active request. Our own: iceoryx2 has no numbers of
+    /// requests.
     #[inline(always)]
     pub fn request_number(&self, id: &HandleId) -> u64
         requires { IsSome (active_at self.now id.now) }

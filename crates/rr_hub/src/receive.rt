@@ -18,11 +18,13 @@ impl<QB: Body, QH: Default + Drop, PB: Body, PH: Default + Drop, K: Backpressure
     PH,
     K,
 > {
-    /// Receives the oldest response of some server that a pending response has not received yet. It keeps its number.
+    /// Receives the oldest response that some server's queue on the request's channel has. It keeps its number. Returns `None`
+    /// if no response is queued. Looks once at each server that ever was, and takes no memory. After iceoryx2's
+    /// `PendingResponse::receive`.
     ///
-    /// `None` if no server's response waits. `ExceedsMaxBorrows` if some waits, but the client has as many responses from each
-    /// such server on this channel as it may. Nothing has changed then. It looks once at each server that ever was, and takes
-    /// no memory. After iceoryx2's `PendingResponse::receive`.
+    /// # Errors
+    ///
+    /// - `ExceedsMaxBorrows` if every queue that has a response is at its borrow limit. The hub stays as it was.
     #[inline(always)]
     pub fn receive_response(&mut self, id: &HandleId) -> Result<Option<HandleId>, ReceiveError>
         requires { kind_at self.old id.now ≡ Some kind.PendingResponse }
@@ -38,13 +40,15 @@ impl<QB: Body, QH: Default + Drop, PB: Body, PH: Default + Drop, K: Backpressure
         }
     }
 
-    /// Receives the oldest request of some client that a server, whose value lives, has not received yet. It has the next
-    /// number, of which one is left.
-    ///
-    /// Requests whose pending responses were released are dropped first, where they are the oldest of their clients, unless
-    /// the limits have fire-and-forget requests. `None` if no client's request waits then. `ExceedsMaxBorrows` if some waits,
-    /// but the server has as many requests of each such client as it may. It looks at each client that ever was at most
+    /// Receives the oldest request of some client for a server whose value lives. It has the next number, of which one is left.
+    /// Drops requests whose pending responses were released first, where they are the oldest of their clients, unless the limits
+    /// have fire-and-forget requests. Returns `None` if no request is queued then. Looks at each client that ever was at most
     /// twice, and once at each request that it drops, and takes no memory. After iceoryx2's `Server::receive`.
+    ///
+    /// # Errors
+    ///
+    /// - `ExceedsMaxBorrows` if every queue that has a request is at its borrow limit. Requests that were dropped stay dropped,
+    ///   and nothing else changes.
     #[inline(always)]
     pub fn receive_request(&mut self, server: u64) -> Result<Option<HandleId>, ReceiveError>
         requires kind { kind_at self.old server ≡ Some kind.Server }

@@ -17,13 +17,15 @@ impl<QB: Body, QH: Default + Drop, PB: Body, PH: Default + Drop, K: Backpressure
     PH,
     K,
 > {
-    /// Sends a request to every connected server, and tells how many queues took it. It is a pending response from then on,
-    /// and keeps its number.
+    /// Sends a request to every connected server, and returns how many queues took it. The request is a pending response from
+    /// then on, and keeps its number. Looks a few times at each connected server, and takes no memory. After iceoryx2's
+    /// `RequestMut::send`.
     ///
-    /// `ExceedsMaxActiveRequests` if the client has as many pending responses as it may, `UnableToDeliver` if the queue to
-    /// some server is full, may not overflow, and is not passed over. The request is released then, and no queue has it: each
-    /// answer about a full queue comes before the first delivery. It looks a few times at each connected server, and takes
-    /// no memory. After iceoryx2's `RequestMut::send`.
+    /// # Errors
+    ///
+    /// An error releases the request, and no queue has it: each answer about a full queue comes before the first delivery.
+    /// - `ExceedsMaxActiveRequests` if the client has as many pending responses as it may.
+    /// - `SendError(UnableToDeliver)` if the queue to some server is full, may not overflow, and is not passed over.
     #[inline(always)]
     pub fn send_request(&mut self, id: &HandleId) -> Result<usize, RequestSendError>
         requires { kind_at self.old id.now ≡ Some kind.RequestMut }
@@ -39,12 +41,14 @@ impl<QB: Body, QH: Default + Drop, PB: Body, PH: Default + Drop, K: Backpressure
     }
 
     /// Sends a response to its request, if that is still a pending response of a connected client, and releases the handle.
-    /// Else the response is released alone.
+    /// Else releases the response alone. Looks at about ten of 1,000 clients, at the senders of clients up to the right one, at
+    /// one queue, and where that is full at the connected servers up to the right one. Takes no memory. After iceoryx2's
+    /// `ResponseMut::send`.
     ///
-    /// `UnableToDeliver` if the queue to the client's channel is full, may not overflow, and is not passed over. The response
-    /// is released then too, and the queue stays. It looks at about ten of 1,000 clients, at the senders of clients up to the
-    /// right one, at one queue, and where that is full at the connected servers up to the right one, and takes no memory. After
-    /// iceoryx2's `ResponseMut::send`.
+    /// # Errors
+    ///
+    /// - `UnableToDeliver` if the queue to the client's channel is full, may not overflow, and is not passed over. The response
+    ///   is released, and the queue stays.
     #[inline(always)]
     pub fn send_response(&mut self, id: &HandleId) -> Result<(), SendError>
         requires { kind_at self.old id.now ≡ Some kind.ResponseMut }

@@ -19,8 +19,8 @@ impl<QB: Body, QH: Default + Drop, PB: Body, PH: Default + Drop, K: Backpressure
     PH,
     K,
 > {
-    /// Appends an element to a request that is being written, and tells whether it had room: `false` where the body is
-    /// complete, and then nothing changes.
+    /// Appends an element to a request that is being written, and returns `true`. Returns `false` if the body is complete; the
+    /// element is dropped then, and the hub stays as it was.
     ///
     /// Our own: it stands for writes through the `MaybeUninit` that iceoryx2's `RequestMutUninit::payload_mut` lends.
     #[inline(always)]
@@ -37,8 +37,8 @@ impl<QB: Body, QH: Default + Drop, PB: Body, PH: Default + Drop, K: Backpressure
         }
     }
 
-    /// Appends an element to a response that is being written, and tells whether it had room: `false` where the body is
-    /// complete, and then nothing changes.
+    /// Appends an element to a response that is being written, and returns `true`. Returns `false` if the body is complete; the
+    /// element is dropped then, and the hub stays as it was.
     ///
     /// Our own: it stands for writes through the `MaybeUninit` that iceoryx2's `ResponseMutUninit::payload_mut` lends.
     #[inline(always)]

@@ -1,7 +1,7 @@
 //! A handler of one's own for full queues.
 use crate::settings::BackpressureAction;
 
-/// What a handler is told: the numbers of the two ports between which a queue is full.
+/// What a handler is asked about: the numbers of the two ports between which a queue is full.
 #[derive(Clone, Copy, Debug, PartialEq, Eq)]
 pub struct BackpressureInfo {
     pub sender: u64,

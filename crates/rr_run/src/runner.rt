@@ -51,9 +51,12 @@ impl<T: Copy + Default, B: Body<Item = T>, H: Copy + Default, K: BackpressureFn>
     H,
     K,
 > {
-    /// A runner over a hub without ports.
+    /// Makes a runner over a hub without ports. Takes no memory. Our own.
     ///
-    /// `ZeroLimit` and `LimitsTooLarge` as `Limits::refusal` tells; making it takes no memory. Our own.
+    /// # Errors
+    ///
+    /// - `ZeroLimit` if a limit is below its least value.
+    /// - `LimitsTooLarge` if a worst-case size is more than a `usize` counts.
     pub fn new(alloc: Global, limits: Limits, node_id: UniqueNodeId) -> Result<Self, HubCreateError>
         ensures { CreatesHub limits node_id.0 result }
     {
@@ -74,7 +77,7 @@ impl<T: Copy + Default, B: Body<Item = T>, H: Copy + Default, K: BackpressureFn>
         self.core.kind(&self.hints.id_of(number))
     }
 
-    /// Whether `apply` takes a command: one that it tells of, and no release of a port's value.
+    /// Returns whether `apply` takes a command: one of those that it names, and no release of a port's value.
     ///
     /// Our own.
     pub fn offers(&self, command: &Command<T, H, K>) -> bool
@@ -100,10 +103,10 @@ impl<T: Copy + Default, B: Body<Item = T>, H: Copy + Default, K: BackpressureFn>
         }
     }
 
-    /// Carries out a command, and answers it.
+    /// Carries out a command, and returns its reply.
     ///
     /// So far it takes creations, loans, copies, pushes, `AssumeInit`, sends, receives, payloads, `IsConnected`, and releases
-    /// of handles. A refusal leaves everything as it was; the first that holds is answered, in this order: `Unknown`,
+    /// of handles. A refusal leaves everything as it was; it is the first that holds, in this order: `Unknown`,
     /// `WrongKind`, `NumbersExhausted`, `Incomplete`. Beside the memory that the call itself takes, a hint may be kept for
     /// each handle. Our own: iceoryx2 has the calls alone.
     pub fn apply(&mut self, command: Command<T, H, K>) -> Reply<T, H>

@@ -21,7 +21,7 @@ mod words;
 /// A runner of the typed family, of numbers.
 type ScriptRunner = Runner<u64, Option<u64>, u64, NoHandler>;
 
-/// The program: does what the words ask for, and answers its status.
+/// The program: does what the words ask for, and returns its status.
 ///
 /// `script` alone reads commands from the input, one a line, and writes each reply before the next line is read. 0 if all was
 /// done. Else one line goes to `faults`: 1 for a line that is none (`bad line L`), 2 for a read or write that failed, 3 for
@@ -58,7 +58,7 @@ fn script<R: BufRead + Drop, W: Write>(
     play(alloc, &mut lines, output)
 }
 
-/// Makes the hub that the first line tells, and carries out the others.
+/// Makes the hub of the first line, and carries out the other lines.
 fn play<R: BufRead + Drop, W: Write>(
     alloc: Global,
     lines: &mut Lines<R>,
@@ -74,7 +74,7 @@ fn play<R: BufRead + Drop, W: Write>(
     }
 }
 
-/// Makes a hub, and tells it.
+/// Makes a hub, and writes `done`.
 fn hub<W: Write>(alloc: Global, limits: Limits, output: &mut W) -> Result<ScriptRunner, Stop> {
     match Runner::new(alloc, limits, UniqueNodeId(0)) {
         Ok(runner) => {

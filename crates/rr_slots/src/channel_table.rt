@@ -10,7 +10,7 @@ use std::marker::Model;
 pub enum Channel {
     /// Open for no request.
     Closed,
-    /// Open for this request; the flag tells whether its disconnect hint is set.
+    /// Open for this request; the flag is whether its disconnect hint is set.
     Open(RequestId, bool),
 }
 

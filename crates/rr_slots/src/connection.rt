@@ -46,8 +46,8 @@ impl Connection {
         })
     }
 
-    /// Enters an entry at the end of a channel's queue. A full queue gives up its oldest entry, which is answered; at
-    /// capacity 0 that is the new entry itself. `None` where there was room.
+    /// Enters an entry at the end of a channel's queue. Returns the oldest entry if the queue was full; at capacity 0 that is
+    /// the new entry itself. Returns `None` if there was room.
     pub fn push(&mut self, channel: usize, entry: usize) -> Option<usize>
         requires { channel < length self.old.queues }
         ensures evicted { result ≡ evicted self.old.capacity (queue_of self.old channel) entry }

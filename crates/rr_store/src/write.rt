@@ -8,7 +8,7 @@ ghost use Rattle.rr_store.specs.Writing.{is_written, with_messages};
 use crate::OwnedSender;
 use rr_slots::Body;
 
-/// Appends an element to what stands in a slot of a sender, unless it is complete, and tells whether it did.
+/// Appends an element to what stands in a slot of a sender, unless it is complete, and returns whether it did.
 #[inline(always)]
 pub fn push_in<B: Body, N: Copy, H: Drop>(
     senders: &mut Vec<OwnedSender<B, N, H>>,

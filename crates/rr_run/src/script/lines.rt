@@ -46,7 +46,7 @@ impl<R: BufRead + Drop> Lines<R> {
         Err(Stop::ReadFault)
     }
 
-    /// Reads one line, and tells whether there was one.
+    /// Reads one line, and returns whether there was one.
     fn advance(&mut self) -> Result<bool, Stop> {
         match self.source.read() {
             Ok(Found::Line) => {

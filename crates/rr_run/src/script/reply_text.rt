@@ -94,7 +94,7 @@ struct ErrorText {
     name: &'static str,
 }
 
-/// An error that is told by its name alone.
+/// An error of which the text is its name alone.
 fn plain(name: &'static str) -> ErrorText {
     ErrorText {
         call: "",

@@ -29,7 +29,7 @@ impl Stop {
         }
     }
 
-    /// Tells it in one line. What can't be told there is told nowhere.
+    /// Writes it in one line. What can't be written there is written nowhere.
     pub(crate) fn tell<W: Write>(self, faults: &mut W) -> io::Result<()> {
         match self {
             Stop::BadLine(number) => writeln!(faults, "bad line {number}"),

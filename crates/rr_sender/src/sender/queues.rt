@@ -90,7 +90,7 @@ impl<B: Body, N: Copy, H: Drop> Sender<B, N, H> {
         self.links.first(receiver, channel)
     }
 
-    /// Takes the oldest entry of a queue that has one, and answers its slot.
+    /// Takes the oldest entry of a queue that has one, and returns its slot.
     ///
     /// What held the slot as an entry holds it as a handle from now on, and the receiver has one more from this channel.
     #[inline(always)]

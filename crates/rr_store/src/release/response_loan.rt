@@ -43,7 +43,7 @@ pub fn index_of_owner<B: Body, N: Copy, H: Drop>(
 }
 
 /// Counts one response less on loan from an active request, if one stands under the number. Looks in one place alone, where one
-/// is told.
+/// is given.
 #[tactic(auto, using(crate::proofs::base::lookups::Placed::kept_there))]
 #[inline(always)]
 pub fn end_loan_from(table: &mut Table<HandleEntry>, number: u64, at: Option<Place>)

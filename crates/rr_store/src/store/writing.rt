@@ -18,7 +18,7 @@ impl<QB: Body, QH: Default + Drop, PB: Body, PH: Default + Drop, K: Backpressure
     PH,
     K,
 > {
-    /// Appends an element to the request in a slot, unless it is complete, and tells whether it did.
+    /// Appends an element to the request in a slot, unless it is complete, and returns whether it did.
     #[inline(always)]
     pub fn push_request(&mut self, sender: usize, slot: usize, item: QB::Item) -> bool
         requires sender { sender < length self.old.client_senders }
@@ -29,7 +29,7 @@ impl<QB: Body, QH: Default + Drop, PB: Body, PH: Default + Drop, K: Backpressure
         write::push_in(&mut self.client_senders, sender, slot, item)
     }
 
-    /// Appends an element to the response in a slot, unless it is complete, and tells whether it did.
+    /// Appends an element to the response in a slot, unless it is complete, and returns whether it did.
     #[inline(always)]
     pub fn push_response(&mut self, sender: usize, slot: usize, item: PB::Item) -> bool
         requires sender { sender < length self.old.server_senders }
