@@ -48,6 +48,7 @@ impl Connection {
 
     /// Enters an entry at the end of a channel's queue. Returns the oldest entry if the queue was full; at capacity 0 that is
     /// the new entry itself. Returns `None` if there was room.
+    #[inline(always)]
     pub fn push(&mut self, channel: usize, entry: usize) -> Option<usize>
         requires { channel < length self.old.queues }
         ensures evicted { result ≡ evicted self.old.capacity (queue_of self.old channel) entry }

@@ -5,9 +5,10 @@ use Rattle.std.specs.Ordering.{nat_cmp}
 use Rattle.std.specs.FinMap.{FinMap, get}
 use Rattle.std.proofs.lemmas.Bool.{eq-eqb, eqb-true}
 use Rattle.rr_table.specs.TableView.{TableEntry, table_entry, kept_in, value_in}
-use Rattle.rr_table.specs.Places.{place, entry, table_of, standing, IsDistinct}
+use Rattle.rr_table.specs.Places.{place, entry, of_number, table_of, standing, IsDistinct}
 use Rattle.rr_table.specs.declared.place.Place.{Place}
 use Rattle.rr_table.specs.declared.table.Entry.{Entry}
+use Rattle.rr_table.proofs.Here.{of_number_none}
 use Rattle.rr_table.proofs.Standing.{table_entry_of, stands_at, none_or_some}
 
 module _ {E : Type 0} where
@@ -62,3 +63,8 @@ module _ {E : Type 0} where
     kept_none at =
         kept_nowhere (table_of rows).entries n p
         (λ s h is. absurd (let g : None ≡ Some (entry n s.value) = sym at ∙ ap (standing rows) (sym is) ∙ stands_at rows n s h in cc))
+
+    -- the number doesn't stand there
+    pub kept_unless : of_number n (standing rows p) ≡ None → None ≡ value_in (table_of rows) n p
+    kept_unless none =
+        ⊎_elim kept_none (λ f. kept_not f.0 f.1 (of_number_none n (standing rows p) none f.0 f.1)) (none_or_some (standing rows p))

@@ -50,6 +50,11 @@ module _ {E : Type 0} where
   abbrev pub standing : List (List (Option (Entry E))) → Place → Option (Entry E)
   standing rows p = slice_index_or (slice_index_or rows p.row []) p.index None
 
+  -- an entry, if it has this number
+  abbrev pub of_number : ℕ → Option (Entry E) → Option (Entry E)
+  of_number n None = None
+  of_number n (Some e) = if e.number == n then Some e else None
+
   -- no number stands in two places
   abbrev pub IsDistinct : List (List (Option (Entry E))) → Type 0
   IsDistinct rows = (p q : Place) (a b : Entry E) → standing rows p ≡ Some a → standing rows q ≡ Some b → a.number ≡ b.number → p ≡ q

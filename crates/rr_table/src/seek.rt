@@ -1,21 +1,30 @@
 //! How the place of a number is found.
 
 ghost use Rattle.std.specs.Prelude.{◌≡◌};
-ghost use Rattle.rr_table.specs.Places.{places_of, rows_of, standing, IsIndexOf, IsPlaceOf};
+ghost use Rattle.rr_table.specs.Places.{of_number, places_of, rows_of, standing, IsIndexOf, IsPlaceOf};
 
 use crate::place::Place;
 use crate::table::{Entry, VACANT};
 
-/// The entry in a place, or None where the place is vacant or outside the rows.
+/// Returns the entry of a number if it stands in this place, or `None` if another number does, or none, or the place is
+/// outside the rows.
+///
+/// Compares the number before it tests it for `VACANT`, so that a caller that asks twice tests it once.
 #[inline(always)]
-pub(crate) fn entry_at<E: Copy>(rows: &Vec<Vec<Entry<E>>>, place: Place) -> Option<Entry<E>>
-    ensures { result ≡ standing (rows_of rows.now) place }
+pub(crate) fn entry_at<E: Copy>(
+    rows: &Vec<Vec<Entry<E>>>,
+    number: u64,
+    place: Place,
+) -> Option<Entry<E>>
+    ensures { result ≡ of_number number (standing (rows_of rows.now) place) }
 {
     if place.row < rows.len() {
         if place.index < rows[place.row].len() {
             let entry = rows[place.row][place.index];
-            if entry.number != VACANT {
-                return Some(entry);
+            if entry.number == number {
+                if number != VACANT {
+                    return Some(entry);
+                }
             }
         }
     }
@@ -28,10 +37,8 @@ pub(crate) fn entry_at<E: Copy>(rows: &Vec<Vec<Entry<E>>>, place: Place) -> Opti
 pub(crate) fn seek<E: Copy>(rows: &Vec<Vec<Entry<E>>>, number: u64, hint: Place) -> Option<Place>
     ensures { IsPlaceOf (rows_of rows.now) number result }
 {
-    if let Some(entry) = entry_at(rows, hint) {
-        if entry.number == number {
-            return Some(hint);
-        }
+    if entry_at(rows, number, hint).is_some() {
+        return Some(hint);
     }
     for row in 0..rows.len() {
         if let Some(index) = seek_in_row(&rows[row], number) {

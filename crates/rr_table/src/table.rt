@@ -88,7 +88,7 @@ impl<E: Copy> Table<E> {
         ensures { result ≡ value_at self.now number }
     {
         match seek(&self.rows, number, hint) {
-            Some(place) => match entry_at(&self.rows, place) {
+            Some(place) => match entry_at(&self.rows, number, place) {
                 Some(entry) => Some(entry.value),
                 None => None,
             },
@@ -102,14 +102,8 @@ impl<E: Copy> Table<E> {
     pub fn get_at(&self, number: u64, place: Place) -> Option<E>
         ensures { result ≡ value_in self.now number place }
     {
-        match entry_at(&self.rows, place) {
-            Some(entry) => {
-                if entry.number == number {
-                    Some(entry.value)
-                } else {
-                    None
-                }
-            }
+        match entry_at(&self.rows, number, place) {
+            Some(entry) => Some(entry.value),
             None => None,
         }
     }
@@ -120,10 +114,7 @@ impl<E: Copy> Table<E> {
         ensures there { result ≡ true → IsAt self.now number place }
         ensures elsewhere { IsAt self.now number place → result ≡ true }
     {
-        match entry_at(&self.rows, place) {
-            Some(entry) => entry.number == number,
-            None => false,
-        }
+        entry_at(&self.rows, number, place).is_some()
     }
 
     /// Returns the value under a number from the place where it stands.

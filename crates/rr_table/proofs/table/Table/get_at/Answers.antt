@@ -1,16 +1,14 @@
 use Rattle.std.proofs.Common.{sym, ◌∙◌}
-use Rattle.rr_table.proofs.Kept.{kept_here, kept_not, kept_none}
+use Rattle.rr_table.proofs.Here.{of_number_some}
+use Rattle.rr_table.proofs.Kept.{kept_here, kept_unless}
 use Rattle.rr_table.specs.Places.{rows_of}
 use Rattle.rr_table.proofs.table.Table.get_at.Goals as goal
 
-pub returns-then-entry-number : goal.returns-then-entry-number
-returns-then-entry-number g c =
-    rw (← c.self.view_is) (kept_here (rows_of c.self.inside.rows) _ _ _ c.self.invariant
-    (sym c.entry_at.ensures ∙ c.in-Some.is) c.if-entry-number.true)
-
-pub returns-else-entry-number : goal.returns-else-entry-number
-returns-else-entry-number g c =
-    rw (← c.self.view_is) (kept_not (rows_of c.self.inside.rows) _ _ _ (sym c.entry_at.ensures ∙ c.in-Some.is) c.if-entry-number.false)
+pub returns-in-Some : goal.returns-in-Some
+returns-in-Some g c =
+    rw (← c.self.view_is)
+    (let found = of_number_some _ _ _ (sym c.entry_at.ensures ∙ c.in-Some.is) in
+    kept_here (rows_of c.self.inside.rows) _ _ _ c.self.invariant found.0 found.1)
 
 pub returns-in-None : goal.returns-in-None
-returns-in-None g c = rw (← c.self.view_is) (kept_none (rows_of c.self.inside.rows) _ _ (sym c.entry_at.ensures ∙ c.in-None.is))
+returns-in-None g c = rw (← c.self.view_is) (kept_unless (rows_of c.self.inside.rows) _ _ (sym c.entry_at.ensures ∙ c.in-None.is))
