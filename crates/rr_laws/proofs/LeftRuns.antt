@@ -12,6 +12,7 @@ use Rattle.rr_protocol.specs.declared.error.ClientCreateError.{ClientCreateError
 use Rattle.rr_protocol.specs.declared.error.ServerCreateError.{ServerCreateError}
 use Rattle.rr_protocol.specs.declared.error.LoanError.{LoanError}
 use Rattle.rr_protocol.specs.Limits.{hub_refusal}
+use Rattle.rr_protocol.specs.Lists.{no_lists}
 use Rattle.rr_protocol.specs.Messages.{Content, Handle}
 use Rattle.rr_protocol.specs.Ports.{Client, Server}
 use Rattle.rr_protocol.specs.State.{State, empty_hub, handle_at, is_client_value, is_server_value}
@@ -25,7 +26,7 @@ use Rattle.rr_commands.specs.Step.{client_settings, server_settings, with_conten
 use Rattle.rr_commands.specs.Run.{Run}
 use Rattle.rr_laws.specs.Roles.{role_of}
 use Rattle.rr_laws.specs.Reached.{IsReached}
-use Rattle.rr_laws.specs.Left.{IsLeftFit}
+use Rattle.rr_laws.specs.Left.{LeftFit, IsLeftFit}
 use Rattle.rr_laws.proofs.RoleLaws.{role_at}
 use Rattle.rr_laws.proofs.Opening.{some_and}
 use Rattle.rr_laws.proofs.Connected.{has_below}
@@ -36,6 +37,10 @@ use Rattle.rr_laws.proofs.Changing.{complete_reached}
 use Rattle.rr_laws.proofs.Stepping.{step_reached}
 use Rattle.rr_laws.proofs.LeftPorts.{left_with_client, left_with_server}
 use Rattle.rr_laws.proofs.LeftSteps.{after_release_left, loans_request_left, loans_response_left, sends_request_left, sends_response_left, receives_request_left, receives_response_left}
+
+-- in the empty hub
+pub empty_left : {K : Type 0} → LeftFit {K = K} [] [] no_lists 0
+empty_left = record { one_kind = λ n h. absurd (let f : false ≡ true = h in cc); gone = λ n. rw at-no_lists tt }
 
 module _ {T H K : Type 0} where
   same_left : (old new : State T H T H K) → new ≡ old → IsLeftFit old → IsLeftFit new
@@ -201,4 +206,4 @@ module _ {T H K : Type 0} (action : K → ℕ → ℕ → BackpressureAction) (I
       Run action IsDefaultElement IsDefaultHeader family (empty_hub limits node_id) commands replies s → IsLeftFit s
   left_from_empty limits node_id makes_hub commands replies s run =
       run_left (empty_hub limits node_id) (empty_hub_reached limits node_id makes_hub)
-      (record { one_kind = λ n h. absurd (let f : false ≡ true = h in cc); gone = λ n. rw at-no_lists tt }) commands replies s run
+      empty_left commands replies s run

@@ -138,6 +138,14 @@ module _ {Q QH P PH K : Type 0} where
   handle_gone_next s n (ResponseMut m) = refl
   handle_gone_next s n (Response m) = refl
 
+  -- after a port value is gone
+  pub port_value_left : (s : State Q QH P PH K) (n : ℕ) → IsLeftFit s → IsLeftFit (without_port_value s n)
+  port_value_left s n left =
+      left_with_servers (map (λ (c : Client K). record c { port = without_value n c.port }) s.clients) s.servers s.expired s.next
+      (left_with_clients s.clients s.servers s.expired s.next left (λ (c : Client K). record c { port = without_value n c.port })
+      (λ c. without_value_id n c.port))
+      (λ (c : Server K). record c { port = without_value n c.port }) (λ c. without_value_id n c.port)
+
   -- after a release of a number that was given
   pub after_release_left : (s : State Q QH P PH K) (n : ℕ) → IsReached s → IsLeftFit s → n < s.next → IsLeftFit (after_release s n)
   after_release_left s n fits left below = go (handle_at s n) refl
@@ -146,12 +154,7 @@ module _ {Q QH P PH K : Type 0} where
           IsLeftFit (option_map_or (λ handle. without_unused_port
           (after_handle_gone (record s { handles = fin_map.remove s.handles n }) handle) (port_of handle)) o
           (without_unused_port (without_port_value s n) n))
-      go None e =
-          unused_port_left (without_port_value s n) n (without_port_value_reached s n fits)
-          (left_with_servers (map (λ (c : Client K). record c { port = without_value n c.port }) s.clients) s.servers s.expired s.next
-          (left_with_clients s.clients s.servers s.expired s.next left (λ (c : Client K). record c { port = without_value n c.port })
-          (λ c. without_value_id n c.port))
-          (λ (c : Server K). record c { port = without_value n c.port }) (λ c. without_value_id n c.port)) below
+      go None e = unused_port_left (without_port_value s n) n (without_port_value_reached s n fits) (port_value_left s n left) below
       go (Some h) e =
           unused_port_left _ (port_of h) (handle_gone_reached s fits n h e) (handle_gone_left s n left h)
           (subst (λ k. port_of h < k) (sym (handle_gone_next s n h)) (port_below s fits n h e))

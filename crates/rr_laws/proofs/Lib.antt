@@ -29,9 +29,15 @@ pub mod ApartSends
 pub mod ApartReceives
 pub mod ApartSteps
 pub mod Naming
+pub mod Filled
 pub mod LeftPorts
 pub mod LeftSteps
 pub mod LeftRuns
+pub mod Distinct
+pub mod ExpiredLists
+pub mod ExpiredPorts
+pub mod ExpiredSteps
+pub mod ExpiredRuns
 pub mod CompleteMessages
 pub mod CompleteReleases
 pub mod CompleteCalls

@@ -3,6 +3,7 @@ pub mod Reached
 pub mod Complete
 pub mod Apart
 pub mod Left
+pub mod Expired
 pub mod Bound
 pub mod Unreduced
 pub mod History

@@ -2,11 +2,13 @@
 #![tactic(auto)]
 
 mod bounded;
+mod expired;
 mod ordered;
 mod own_request;
 mod unreduced;
 
 pub use bounded::bound;
+pub use expired::expired_lists;
 pub use ordered::in_order;
 pub use own_request::own_request_once;
 pub use unreduced::unreduced_pool;
