@@ -3,7 +3,8 @@ ghost use Rattle.rr_laws.specs.Bound.{HoldsOfRuns};
 ghost use Rattle.rr_laws.specs.Left.{IsLeftFit};
 ghost use Rattle.rr_laws.specs.Expired.{ExpiredFit};
 
-/// Whatever is run on an empty hub, a connected server lists no more clients that left, and a connected client no more servers, than it has room for, each once, and each with an entry that waits for it; who is not connected lists nobody.
+/// Whatever is run on an empty hub, a connected server lists no more clients that left, and a connected client no more
+/// servers, than it has room for, each once, and each with an entry that waits for it; who is not connected lists nobody.
 ///
 /// Who is listed was given its number, and is not connected; and no two connected ports have one number.
 pub fn expired_lists<T: Default, H: Default, K>()
