@@ -23,6 +23,7 @@ const NO_RESPONSE: ResponseDetails = ResponseDetails {
     request: 0,
     request_id: 0,
     client: 0,
+    client_sender: 0,
     channel: 0,
 };
 

@@ -33,9 +33,9 @@ module _ {K : Type 0} where
 abbrev pub response_loan_held : {K : Type 0} → ServerPart K → ℕ → HandleEntry
 response_loan_held c slot = record { stage = stage.ResponseMutUninit; sender = c.sender; slot = slot }
 
--- the details of a response with a number: its server and the active request that it is loaned from, and of which request and channel that is
-abbrev pub response_loan_details_of : ℕ → ℕ → RequestDetails → ℕ → ℕ → ResponseDetails
-response_loan_details_of server n request slot number =
+-- the details of a response with a number: its server and the active request that it is loaned from, in which sender the request of that stands, which one it is, and in which slot
+abbrev pub response_loan_details_of : ℕ → ℕ → ℕ → RequestDetails → ℕ → ℕ → ResponseDetails
+response_loan_details_of server n sender request slot number =
     record {
       number = number;
       server = server;
@@ -43,13 +43,14 @@ response_loan_details_of server n request slot number =
       request = request.number;
       request_id = request.request_id;
       client = request.client;
+      client_sender = sender;
       channel = slot;
     }
 
 module _ {Q QH P PH K : Type 0} (p : Parts Q QH P PH K) where
   -- the details of a response that a server loans from an active request, whose request stands in this sender and slot
   abbrev pub response_loan_details : ServerPart K → ℕ → ℕ → ℕ → ResponseDetails
-  response_loan_details c n sender slot = response_loan_details_of c.port.id n (request_details p sender slot) slot p.next
+  response_loan_details c n sender slot = response_loan_details_of c.port.id n sender (request_details p sender slot) slot p.next
 
   -- the place of the response's handle
   abbrev pub response_loan_place : ServerPart K → ℕ → Place

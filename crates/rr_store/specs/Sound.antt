@@ -195,7 +195,7 @@ module _ {Q QH P PH K : Type 0} (p : Parts Q QH P PH K) where
     pub received : (k : ℕ) (s : TableEntry HandleEntry) → fin_map.get p.table.entries k ≡ Some s → is_received s.value.stage ≡ true →
         (i : ℕ) × (c : ClientPart K) × (slice_get p.clients i ≡ Some c) × (c.port.id ≡ (response_details s.value.sender s.value.slot).client)
     pub answering : (l i k server loans : ℕ) (s : TableEntry HandleEntry) → 0 < response_uses l i → fin_map.get p.table.entries k ≡ Some s → s.value.stage ≡ stage.ActiveRequest server loans → (response_details l i).active_request ≡ k →
-        ((request_details s.value.sender s.value.slot).number ≡ (response_details l i).request) × ((response_details l i).server ≡ server)
+        ((request_details s.value.sender s.value.slot).number ≡ (response_details l i).request) × ((response_details l i).server ≡ server) × (s.value.sender ≡ (response_details l i).client_sender)
 
   -- each message says who sent it, and an entry stands where it says
   pub record IsAddressed : Type 0 where

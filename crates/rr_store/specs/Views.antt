@@ -22,7 +22,7 @@ abbrev pub no_request : RequestDetails
 no_request = record { number = 0; client = 0; request_id = 0 }
 
 abbrev pub no_response : ResponseDetails
-no_response = record { number = 0; server = 0; active_request = 0; request = 0; request_id = 0; client = 0; channel = 0 }
+no_response = record { number = 0; server = 0; active_request = 0; request = 0; request_id = 0; client = 0; client_sender = 0; channel = 0 }
 
 -- what stands where no server may answer: the number of none
 abbrev pub no_server : ℕ

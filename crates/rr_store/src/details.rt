@@ -26,6 +26,8 @@ pub struct ResponseDetails {
     pub request_id: u64,
     /// That request's client.
     pub client: u64,
+    /// Where that client's sender stands.
+    pub client_sender: usize,
     /// That request's channel.
     pub channel: usize,
 }

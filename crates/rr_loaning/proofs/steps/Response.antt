@@ -225,7 +225,7 @@ module _ {Q QH P PH K : Type 0} (p : Parts Q QH P PH K) (core : IsCore p) (n : �
                 (state_of p) (state_of q) n refl refl (ap state_of same)
 
             module _ (details : ResponseDetails)
-                (are : details ≡ response_loan_details_of server n (request_details p entry.sender entry.slot) entry.slot p.next)
+                (are : details ≡ response_loan_details_of server n entry.sender (request_details p entry.sender entry.slot) entry.slot p.next)
                 (header : PH) (own_place : Place) (q : Parts Q QH P PH K)
                 (row : own_place.row ≡ (sender_of sender p.server_senders).row)
                 (free : slice_get (sender_of sender p.server_senders).messages.held own_place.index ≡ Some 0)
@@ -246,7 +246,7 @@ module _ {Q QH P PH K : Type 0} (p : Parts Q QH P PH K) (core : IsCore p) (n : �
 
               details_are : details ≡ its_details
               details_are = are
-                  ∙ ap (λ s. response_loan_details_of s n (request_details p entry.sender entry.slot) entry.slot p.next) (sym named)
+                  ∙ ap (λ s. response_loan_details_of s n entry.sender (request_details p entry.sender entry.slot) entry.slot p.next) (sym named)
 
               abbrev loan_made : Parts Q QH P PH K
               loan_made = with_responses p stands.it.sender (λ m. loaned m own_place.index len its_details header)

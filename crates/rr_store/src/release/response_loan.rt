@@ -1,6 +1,5 @@
 //! Releases of responses on loan.
-ghost use Rattle.std.specs.Prelude.{◌≡◌, ◌==◌, ◌<◌, Option, None, Some, IfSome, IsSomeAnd, map, slice_get, slice_set};
-ghost use Rattle.std.specs.List.{position};
+ghost use Rattle.std.specs.Prelude.{◌≡◌, ◌<◌, Option, None, Some, IfSome, map};
 ghost use Rattle.rr_table.specs.declared.place.Place as place;
 ghost use Rattle.std.specs.FinMap as fin_map;
 ghost use Rattle.rr_table.specs.TableView.{table_entry};
@@ -12,8 +11,8 @@ use crate::{HandleEntry, OwnedSender, ResponseDetails, Stage};
 use rr_slots::Body;
 use rr_table::{Place, Table};
 
-/// Returns where the active request of a response stands, if it stands. `receiver` is its server. Returns `None` if its client
-/// has no sender, or no row has so many places.
+/// Returns where the active request of a response stands, if it stands. `receiver` is its server. Returns `None` if no sender
+/// stands where the response says, or no row has so many places.
 #[inline(always)]
 pub fn asked_place<B: Body, N: Copy, H: Drop>(
     senders: &[OwnedSender<B, N, H>],
@@ -22,24 +21,13 @@ pub fn asked_place<B: Body, N: Copy, H: Drop>(
 ) -> Option<Place>
     ensures { IfSome result (IsAskedPlace (map sender_part senders.now) details receiver) }
 {
-    let sender = &senders[index_of_owner(senders, details.client)?];
+    let sender = senders.get(details.client_sender)?;
     let row = sender.row;
     let first = receiver
         .checked_add(1)?
         .checked_mul(sender.messages.slots())?;
     let index = first.checked_add(details.channel)?;
     Some(Place { row, index })
-}
-
-/// Where among the senders the one stands from which the port with a number sends.
-#[inline(always)]
-pub fn index_of_owner<B: Body, N: Copy, H: Drop>(
-    senders: &[OwnedSender<B, N, H>],
-    owner: u64,
-) -> Option<usize>
-    ensures { result ≡ position (λ l. l.owner == owner) senders.now }
-{
-    senders.iter().position(|sender| sender.owner == owner)
 }
 
 /// Counts one response less on loan from an active request, if one stands under the number. Looks in one place alone, where one

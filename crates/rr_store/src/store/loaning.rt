@@ -127,7 +127,7 @@ impl<QB: Body, QH: Default + Drop, PB: Body, PH: Default + Drop, K: Backpressure
     ) -> ResponseDetails
         requires sender { sender < length self.now.client_senders }
         requires slot { slot < length (sender_of sender self.now.client_senders).messages.held }
-        ensures { result ≡ response_loan_details_of server active_request (request_details self.now sender slot) slot self.now.next }
+        ensures { result ≡ response_loan_details_of server active_request sender (request_details self.now sender slot) slot self.now.next }
     {
         let request = self.request_details(sender, slot);
         ResponseDetails {
@@ -137,6 +137,7 @@ impl<QB: Body, QH: Default + Drop, PB: Body, PH: Default + Drop, K: Backpressure
             request: request.number,
             request_id: request.request_id,
             client: request.client,
+            client_sender: sender,
             channel: slot,
         }
     }

@@ -112,6 +112,7 @@ module _ {Q QH P PH K : Type 0} (p : Parts Q QH P PH K) (hand : Hand) (sound : I
                 request_number s.value.sender s.value.slot (requests k s at (ap is_of_request is)) ∙ a.0
                     ∙ sym (ap (λ (n : ResponseDetails). n.request) details),
                 ap (λ (n : ResponseDetails). n.server) details ∙ a.1,
+                a.2 ∙ sym (ap (λ (n : ResponseDetails). n.client_sender) details),
               );
         }
 

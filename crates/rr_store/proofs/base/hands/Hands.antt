@@ -217,7 +217,8 @@ module _ {Q QH P PH K : Type 0} (p : Parts Q QH P PH K) where
             (λ m is. let R : TableEntry HandleEntry → Type 0 = λ t. t.value.stage ≡ stage.ActiveRequest server loans
             → (response_details p l i).active_request ≡ j →
             ((request_details p t.value.sender t.value.slot).number ≡ (response_details p l i).request)
-            × ((response_details p l i).server ≡ server) in
+            × ((response_details p l i).server ≡ server)
+            × (t.value.sender ≡ (response_details p l i).client_sender) in
             subst R is (λ h f. new.answering server loans h l i u (f ∙ sym m)))
             (λ b. n.answering l i j server loans t u b);
       };

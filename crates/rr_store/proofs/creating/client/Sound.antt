@@ -81,6 +81,7 @@ module _ {Q QH P PH K : Type 0} (p : Parts Q QH P PH K) (settings : ClientSettin
               number_kept s.value.sender s.value.slot (handle_uses_request p empty_hand sound.counted k s at (ap is_of_request is))
                   ∙ a.0,
               a.1,
+              a.2,
             );
       }
 

@@ -133,8 +133,11 @@ module _ {Q QH P PH K : Type 0} (p : Parts Q QH P PH K) (settings : ServerSettin
         answering = λ l i k server loans s u at is f.
             let details = details_kept l i (used_before l i u) in
             let a = n.answering l i k server loans s (used_before l i u) at is
-            (sym (ap (λ (n : ResponseDetails). n.active_request) details) ∙ f) in
-            (a.0 ∙ sym (ap (λ (n : ResponseDetails). n.request) details), ap (λ (n : ResponseDetails). n.server) details ∙ a.1);
+            (sym (ap (λ (n : ResponseDetails). n.active_request) details) ∙ f) in (
+              a.0 ∙ sym (ap (λ (n : ResponseDetails). n.request) details),
+              ap (λ (n : ResponseDetails). n.server) details ∙ a.1,
+              a.2 ∙ sym (ap (λ (n : ResponseDetails). n.client_sender) details),
+            );
       }
 
   addressed : IsAddressed after

@@ -200,6 +200,7 @@ module _ {Q QH P PH K : Type 0} (p : Parts Q QH P PH K) (sound : IsSound p empty
                   (handle_uses_request p empty_hand sound.counted k s e (ap is_of_request is)))
                   ∙ a.0,
               a.1,
+              a.2,
             );
       }
 

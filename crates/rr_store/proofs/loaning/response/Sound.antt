@@ -258,8 +258,11 @@ module _ {Q QH P PH K : Type 0} (p : Parts Q QH P PH K) (index : ℕ) (c : Serve
             (λ _ _ v. absurd (let g : None ≡ Some s = sym taken
             ∙ ap (fin_map.get p.table.entries) (sym (ap (λ (a : ResponseDetails). a.active_request) v) ∙ f) ∙ e in cc))
             (λ w v.
-            let b = n.answering a i k server loans s w e is (sym (ap (λ (a : ResponseDetails). a.active_request) v) ∙ f) in
-            (b.0 ∙ sym (ap (λ (a : ResponseDetails). a.request) v), ap (λ (a : ResponseDetails). a.server) v ∙ b.1));
+            let b = n.answering a i k server loans s w e is (sym (ap (λ (a : ResponseDetails). a.active_request) v) ∙ f) in (
+              b.0 ∙ sym (ap (λ (a : ResponseDetails). a.request) v),
+              ap (λ (a : ResponseDetails). a.server) v ∙ b.1,
+              b.2 ∙ sym (ap (λ (a : ResponseDetails). a.client_sender) v),
+            ));
       }
 
   addressed : IsAddressed after

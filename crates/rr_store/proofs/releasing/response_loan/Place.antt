@@ -4,7 +4,7 @@ use Rattle.std.specs.Prelude.{◌==◌, IfSome, IsSomeAnd, slice_get, find}
 use Rattle.std.specs.Option.{option_map_or}
 use Rattle.std.specs.FinMap as fin_map
 use Rattle.std.proofs.lemmas.Bool.{eq-eqb, eqb-true}
-use Rattle.std.proofs.lemmas.Option.{slice_get-get_or, get_or_from_slice_get, slice_get_within}
+use Rattle.std.proofs.lemmas.Option.{slice_get-get_or}
 use Rattle.rr_maps.specs.Maps.{mark}
 use Rattle.rr_table.specs.TableView.{TableEntry}
 use Rattle.rr_table.specs.declared.place.Place.{Place}
@@ -55,18 +55,6 @@ module _ {Q QH P PH K : Type 0} (p : Parts Q QH P PH K) (hand : Hand) (sound : I
       (listed (λ (c : ServerPart K). c.connected) p.servers j d e)
       (listed (λ (c : ServerPart K). c.connected) p.servers i c at) (eqb-true d.port.id c.port.id same))
 
-module _ {Q QH P PH K : Type 0} (p : Parts Q QH P PH K) (hand : Hand) (sound : IsSound p hand) where
-  -- a sender of clients is the one with its owner
-  pub owner_alone : (sender : ℕ) → sender < length p.client_senders
-      → find (λ l. l.owner == (sender_of sender p.client_senders).owner) p.client_senders ≡ Some (sender_of sender p.client_senders)
-  owner_alone sender there =
-      found_alone (λ (l : Sender Q RequestDetails QH). l.owner == (sender_of sender p.client_senders).owner) p.client_senders sender
-      (sender_of sender p.client_senders) (slice_get-get_or p.client_senders sender no_sender there)
-      (eq-eqb (sender_of sender p.client_senders).owner (sender_of sender p.client_senders).owner refl)
-      (λ k l e same. sound.client_ports.owned_once k sender (slice_get_within p.client_senders k l e) there
-      (ap (λ (l : Sender Q RequestDetails QH). l.owner) (get_or_from_slice_get p.client_senders k l no_sender e)
-      ∙ eqb-true l.owner (sender_of sender p.client_senders).owner same))
-
 module _ {Q QH P PH K : Type 0} (q : Parts Q QH P PH K) (entry : HandleEntry)
     (sound : IsSound q (entry ∷ [])) (loan : is_response_loan entry.stage ≡ true)
     (index : ℕ) (c : ServerPart K) (at : slice_get q.servers index ≡ Some c) (sends : c.sender ≡ entry.sender) where
@@ -100,7 +88,11 @@ module _ {Q QH P PH K : Type 0} (q : Parts Q QH P PH K) (entry : HandleEntry)
         let uses : 0 < request_uses q t.value.sender t.value.slot = handle_uses_request q (entry ∷ []) sound.counted asked t here of_request
         in
         let r = sound.addressed.answers entry.sender entry.slot t.value.sender t.value.slot in_use uses a.0 in
-        let found = owner_alone q (entry ∷ []) sound t.value.sender (request_sender q (entry ∷ []) sound.counted asked t here of_request) in
+        let found : slice_get q.client_senders (response_details q entry.sender entry.slot).client_sender
+        ≡ Some (sender_of t.value.sender q.client_senders) =
+        ap (slice_get q.client_senders) (sym a.2)
+        ∙ slice_get-get_or q.client_senders t.value.sender no_sender (request_sender q (entry ∷ []) sound.counted asked t here of_request)
+        in
         let its : place ≡ record {
           row = (sender_of t.value.sender q.client_senders).row;
           index = (c.receiver + 1) * length (sender_of t.value.sender q.client_senders).messages.held +
@@ -108,7 +100,7 @@ module _ {Q QH P PH K : Type 0} (q : Parts Q QH P PH K) (entry : HandleEntry)
         } =
         subst (λ o. IsSomeAnd o (λ (l : Sender Q RequestDetails QH). ◌≡◌ {A = Place} place
         (record { row = l.row; index = (c.receiver + 1) * length l.messages.held + (response_details q entry.sender entry.slot).channel })))
-        (ap (λ n. find (λ (l : Sender Q RequestDetails QH). l.owner == n) q.client_senders) r.1 ∙ found) told in
+        found told in
         let serves : server_place q server ≡ c.receiver =
         ap (λ n. server_place q n) (sym a.1 ∙ server_is)
         ∙ ap (λ o. option_map_or (λ (s : ServerPart K). s.receiver) o q.limits.max_servers) (server_alone q (entry ∷ []) sound index c at)
