@@ -20,6 +20,7 @@ pub mod Dropping
 pub mod Releasing
 pub mod Sending
 pub mod Ending
+pub mod Expired
 pub mod Clearing
 pub mod Delivering
 pub mod Skimming

@@ -7,6 +7,7 @@ use Rattle.rr_protocol.specs.Ports.{Port}
 use Rattle.rr_store.specs.declared.handle_entry.HandleEntry.{HandleEntry}
 use Rattle.rr_store.specs.declared.details.RequestDetails.{RequestDetails}
 use Rattle.rr_store.specs.declared.details.ResponseDetails.{ResponseDetails}
+use Rattle.rr_store.specs.declared.port.LeftPort.{LeftPort}
 
 -- a connected port: the index of its sender, and its index among the receivers of the other side
 pub record Connected (K : Type 0) : Type 0 where
@@ -37,7 +38,7 @@ pub record Sender (T N H : Type 0) : Type 0 where
   pub may_answer : List ℕ
   pub messages : Messages T N H
 
--- the whole
+-- the whole, with the ports that left in the order in which they did
 pub record Parts (Q QH P PH K : Type 0) : Type 0 where
   pub limits : Limits
   pub node_id : ℕ
@@ -46,6 +47,8 @@ pub record Parts (Q QH P PH K : Type 0) : Type 0 where
   pub servers : List (ServerPart K)
   pub client_senders : List (Sender Q RequestDetails QH)
   pub server_senders : List (Sender P ResponseDetails PH)
+  pub left_clients : List LeftPort
+  pub left_servers : List LeftPort
   pub table : TableView HandleEntry
   pub spare_request_header : QH
   pub spare_response_header : PH

@@ -12,6 +12,7 @@ use Rattle.rr_store.specs.declared.handle_entry.Stage.{Stage}
 use Rattle.rr_store.specs.declared.handle_entry.Stage.TheVariants as stage
 use Rattle.rr_store.specs.declared.details.RequestDetails.{RequestDetails}
 use Rattle.rr_store.specs.declared.details.ResponseDetails.{ResponseDetails}
+use Rattle.rr_store.specs.declared.port.LeftPort.{LeftPort}
 use Rattle.rr_store.specs.Order.{IsRising}
 use Rattle.rr_store.specs.Parts.{Connected, ClientPart, ServerPart, Sender, Parts}
 use Rattle.rr_store.specs.Views.{no_request, no_response, no_server, sender_of, is_awaited}
@@ -100,18 +101,33 @@ pub record IsShaped {T N H : Type 0} (receivers channels capacity : ℕ) (m : Me
   pub within : (r c : ℕ) → length (queue_at m r c) ≤ capacity
   pub inside : (slot : ℕ) → 0 < times slot (all_entries m.queues) → slot < length m.held
 
--- each port has a sender of its own, of the size that it says, which knows the port's receiver; each sender has a port; and ports stand in the order in which they were created
+-- each port has a sender of its own, of the size that it says, which knows the port's receiver; and ports stand in the order in which they were created
 pub record HasSenders {T N H K : Type 0} (next ports : ℕ) (connected : List (Connected K)) (senders : List (Sender T N H)) : Type 0 where
   pub few : length connected ≤ ports
   pub own : (i : ℕ) (c : Connected K) → slice_get connected i ≡ Some c →
       (c.sender < length senders) × ((sender_of c.sender senders).owner ≡ c.port.id) × (length (sender_of c.sender senders).messages.held ≡ c.port.pool_size) × ((sender_of c.sender senders).messages.room ≡ c.port.initial_max_slice_len)
   pub received : (i : ℕ) (c : Connected K) → slice_get connected i ≡ Some c → (sender_of c.sender senders).receiver ≡ c.receiver
-  pub ported : (sender : ℕ) → sender < length senders → (i : ℕ) × (c : Connected K) × (slice_get connected i ≡ Some c) × (c.sender ≡ sender)
   pub owned_once : (i j : ℕ) → i < length senders → j < length senders → (sender_of i senders).owner ≡ (sender_of j senders).owner → i ≡ j
   pub numbered : (i : ℕ) → i < length senders → (sender_of i senders).owner < next
   pub placed : (i : ℕ) (c : Connected K) → slice_get connected i ≡ Some c → c.receiver < ports
   pub receivers_once : (i j : ℕ) (c d : Connected K) → slice_get connected i ≡ Some c → slice_get connected j ≡ Some d → c.receiver ≡ d.receiver → i ≡ j
   pub rising : IsRising (λ (c : Connected K). c.port.id) connected
+
+-- one of the ports sends from this sender
+abbrev pub HasPort : {C : Type 0} → (C → ℕ) → List C → ℕ → Type 0
+HasPort {C} sender ports n = (i : ℕ) × (c : C) × (slice_get ports i ≡ Some c) × (sender c ≡ n)
+
+-- the port that loaned a message, or waits for responses to it, is connected
+pub record IsPorted {K : Type 0} (clients : List (ClientPart K)) (servers : List (ServerPart K)) (entry : HandleEntry) : Type 0 where
+  pub request_loan : is_request_loan entry.stage ≡ true → HasPort (λ c. c.sender) clients entry.sender
+  pub pending : is_pending entry.stage ≡ true → HasPort (λ c. c.sender) clients entry.sender
+  pub response_loan : is_response_loan entry.stage ≡ true → HasPort (λ s. s.sender) servers entry.sender
+
+-- the sender of each port that left is there, under its number, and is no connected port's; and none is listed twice
+pub record HaveLeft {T N H K : Type 0} (connected : List (Connected K)) (left : List LeftPort) (senders : List (Sender T N H)) : Type 0 where
+  pub own : (i : ℕ) (l : LeftPort) → slice_get left i ≡ Some l → (l.sender < length senders) × ((sender_of l.sender senders).owner ≡ l.number)
+  pub apart : (i j : ℕ) (l : LeftPort) (c : Connected K) → slice_get left i ≡ Some l → slice_get connected j ≡ Some c → l.sender ≢ c.sender
+  pub once : (i j : ℕ) (l m : LeftPort) → slice_get left i ≡ Some l → slice_get left j ≡ Some m → l.sender ≡ m.sender → i ≡ j
 
 module _ {Q QH P PH K : Type 0} (p : Parts Q QH P PH K) where
   -- the details of a request, and of a response
@@ -250,10 +266,14 @@ module _ {Q QH P PH K : Type 0} (p : Parts Q QH P PH K) where
         (queue_at (sender_of sender p.client_senders).messages receiver channel ≡ []) × (borrowed_at (sender_of sender p.client_senders).messages receiver channel ≡ 0)
     pub awaits_none : (sender slot receiver server : ℕ) → p.next ≤ server → server < no_server → is_awaited p sender slot receiver server ≡ false
 
-  -- each port value lives
-  pub record HaveValues : Type 0 where
-    pub clients : (i : ℕ) (c : ClientPart K) → slice_get p.clients i ≡ Some c → c.port.has_value ≡ true
-    pub servers : (i : ℕ) (c : ServerPart K) → slice_get p.servers i ≡ Some c → c.port.has_value ≡ true
+  -- the ports of all handles are connected, and each port value lives; no client has a server's number; and the senders of ports that left are known
+  pub record HavePorts : Type 0 where
+    pub handles : (k : ℕ) (s : TableEntry HandleEntry) → fin_map.get p.table.entries k ≡ Some s → IsPorted p.clients p.servers s.value
+    pub client_values : (i : ℕ) (c : ClientPart K) → slice_get p.clients i ≡ Some c → c.port.has_value ≡ true
+    pub server_values : (i : ℕ) (c : ServerPart K) → slice_get p.servers i ≡ Some c → c.port.has_value ≡ true
+    pub apart : (i j : ℕ) (c : ClientPart K) (s : ServerPart K) → slice_get p.clients i ≡ Some c → slice_get p.servers j ≡ Some s → c.port.id ≢ s.port.id
+    pub left_clients : HaveLeft (map (λ c. c.connected) p.clients) p.left_clients p.client_senders
+    pub left_servers : HaveLeft (map (λ s. s.connected) p.servers) p.left_servers p.server_senders
 
 -- all of it
 pub record IsSound {Q QH P PH K : Type 0} (p : Parts Q QH P PH K) (hand : Hand) : Type 0 where
@@ -265,6 +285,6 @@ pub record IsSound {Q QH P PH K : Type 0} (p : Parts Q QH P PH K) (hand : Hand) 
   pub stored : IsStored p hand
   pub sized : IsSized p
   pub vacated : IsVacated p
-  pub have_values : HaveValues p
+  pub have_ports : HavePorts p
   pub client_ports : HasSenders p.next p.limits.max_clients (map (λ c. c.connected) p.clients) p.client_senders
   pub server_ports : HasSenders p.next p.limits.max_servers (map (λ s. s.connected) p.servers) p.server_senders

@@ -5,8 +5,8 @@ use Rattle.std.specs.Option.{option_map_or}
 use Rattle.rr_maps.specs.Maps.{map_values}
 use Rattle.rr_table.specs.TableView.{TableEntry}
 use Rattle.rr_sender.specs.Senders.{Messages, content_at, queue_at}
-use Rattle.rr_protocol.specs.Lists.{no_lists, lists_by}
-use Rattle.rr_protocol.specs.Keys.{RequestKey, ResponseKey, request_key}
+use Rattle.rr_protocol.specs.Lists.{Lists, lists_by}
+use Rattle.rr_protocol.specs.Keys.{RequestKey, ResponseKey, request_key, request_key_cmp, response_key_cmp}
 use Rattle.rr_protocol.specs.Messages.{Content, RequestMessage, ResponseMessage, Handle, RequestMutUninit, RequestMut, PendingResponse, ActiveRequest, ResponseMutUninit, ResponseMut, Response}
 use Rattle.rr_protocol.specs.Ports.{Client, Server}
 use Rattle.rr_protocol.specs.State.{State}
@@ -15,6 +15,7 @@ use Rattle.rr_store.specs.declared.handle_entry.Stage.{Stage}
 use Rattle.rr_store.specs.declared.handle_entry.Stage.TheVariants as stage
 use Rattle.rr_store.specs.declared.details.RequestDetails.{RequestDetails}
 use Rattle.rr_store.specs.declared.details.ResponseDetails.{ResponseDetails}
+use Rattle.rr_store.specs.Expired.{expired_of}
 use Rattle.rr_store.specs.Parts.{ClientPart, ServerPart, Sender, Parts}
 
 -- the details of no request, and of no response
@@ -146,6 +147,13 @@ module _ {Q QH P PH K : Type 0} where
       p.clients)
       p.server_senders
 
+  -- the requests, and the responses, that wait
+  abbrev pub request_lists : Parts Q QH P PH K → Lists request_key_cmp (RequestMessage Q QH)
+  request_lists p = lists_by (request_keys p) (requests_at p)
+
+  abbrev pub response_lists : Parts Q QH P PH K → Lists response_key_cmp (ResponseMessage P PH)
+  response_lists p = lists_by (response_keys p) (responses_at p)
+
   -- what contracts see of a core
   abbrev pub state_of : Parts Q QH P PH K → State Q QH P PH K
   state_of p =
@@ -155,8 +163,8 @@ module _ {Q QH P PH K : Type 0} where
         clients = map client_of p.clients;
         servers = map server_of p.servers;
         handles = map_values (handle_of p) p.table.entries;
-        requests = lists_by (request_keys p) (requests_at p);
-        responses = lists_by (response_keys p) (responses_at p);
-        expired = no_lists;
+        requests = request_lists p;
+        responses = response_lists p;
+        expired = expired_of (request_lists p) (response_lists p) (map (λ l. l.number) p.left_clients) (map (λ l. l.number) p.left_servers);
         next = p.next;
       }

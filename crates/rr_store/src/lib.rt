@@ -19,6 +19,7 @@ pub use details::{RequestDetails, ResponseDetails};
 pub use handle_entry::{HandleEntry, Stage};
 pub use handle_id::HandleId;
 pub use port::{
-    ClientPort, ConnectedPort, NO_SERVER, OwnedSender, Port, ServerPort, index_of, index_of_sender,
+    ClientPort, ConnectedPort, LeftPort, NO_SERVER, OwnedSender, Port, ServerPort, index_of,
+    index_of_sender,
 };
 pub use store::Store;

@@ -63,6 +63,13 @@ pub struct OwnedSender<B: Body, N: Copy, H: Drop> {
     pub messages: Sender<B, N, H>,
 }
 
+/// A port that left: its number, and the index of the sender from which it sent.
+#[derive(Clone, Copy, Debug)]
+pub struct LeftPort {
+    pub number: u64,
+    pub sender: usize,
+}
+
 impl<K: Drop> Port<K> {
     /// Whether the port has this number, and its value lives.
     pub fn has_value_under(&self, number: u64) -> bool

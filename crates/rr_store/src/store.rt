@@ -1,5 +1,7 @@
 //! What a core keeps, as one value.
-use crate::{ClientPort, HandleEntry, OwnedSender, RequestDetails, ResponseDetails, ServerPort};
+use crate::{
+    ClientPort, HandleEntry, LeftPort, OwnedSender, RequestDetails, ResponseDetails, ServerPort,
+};
 use rr_protocol::{BackpressureFn, Limits, UniqueNodeId};
 use rr_slots::Body;
 use rr_table::Table;
@@ -28,6 +30,9 @@ pub struct Store<QB: Body, QH: Default + Drop, PB: Body, PH: Default + Drop, K: 
     pub(crate) servers: Vec<ServerPort<K>>,
     pub(crate) client_senders: Vec<OwnedSender<QB, RequestDetails, QH>>,
     pub(crate) server_senders: Vec<OwnedSender<PB, ResponseDetails, PH>>,
+    // In the order in which they left.
+    pub(crate) left_clients: Vec<LeftPort>,
+    pub(crate) left_servers: Vec<LeftPort>,
     pub(crate) table: Table<HandleEntry>,
     // What a slot that isn't there would show.
     pub(crate) spare_request_header: QH,

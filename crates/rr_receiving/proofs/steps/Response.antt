@@ -21,16 +21,16 @@ use Rattle.rr_store.specs.Kinds.{stage_kind}
 use Rattle.rr_store.specs.Parts.{ClientPart, Parts}
 use Rattle.rr_store.specs.Reaching.{IsCore}
 use Rattle.rr_store.specs.Receiving.{IsNextSender, Reaches, borrowed_from, queue_from, received_held, with_received_response, with_taken_response}
-use Rattle.rr_store.specs.Sound.{IsSound, empty_hand, response_details, response_place}
+use Rattle.rr_store.specs.Sound.{IsSound, empty_hand, response_details, response_place, is_pending}
 use Rattle.rr_store.specs.Views.{handle_of, sender_of, state_of}
 use Rattle.rr_store.proofs.base.hands.Vacant.{response_vacant}
 use Rattle.rr_store.proofs.base.lookups.Asking.{borrows_fit}
 use Rattle.rr_store.proofs.base.lookups.Looking.{handle_at-state_of}
 use Rattle.rr_store.proofs.base.lookups.Placed.{value_there}
 use Rattle.rr_store.proofs.base.lookups.Shown.{request_spot}
-use Rattle.rr_store.proofs.base.senders.Owners.{First, client_of_sender, client_receiver}
+use Rattle.rr_store.proofs.base.senders.Owners.{First, client_receiver, port_of_sender}
 use Rattle.rr_store.proofs.base.senders.Queues.{times_queue}
-use Rattle.rr_store.proofs.querying.Connected.{of_kind, pending_has_request}
+use Rattle.rr_store.proofs.querying.Connected.{of_kind, pending_has_request, pending_stage}
 use Rattle.rr_store.proofs.receiving.response.Inserted.{entry_waits, no_handle, not_held, received_sound}
 use Rattle.rr_store.proofs.receiving.response.Refusals.{IsAsking, asking, by_error, reaches, receives, receives_nothing}
 use Rattle.rr_store.proofs.receiving.response.Sound.{details_same, same_of}
@@ -53,8 +53,9 @@ module _ {Q QH P PH K : Type 0} (p : Parts Q QH P PH K) (core : IsCore p) (n : �
   -- the client that sends from its sender
   client : First (λ (c : ClientPart K). c.sender) (λ (c : ClientPart K). c.sender == entry.sender) p.clients entry.sender
   client =
-      client_of_sender p empty_hand core.sound entry.sender
-      (request_spot p empty_hand core.sound.counted n entry found (pending_has_request entry.stage pending)).0
+      port_of_sender (λ (c : ClientPart K). c.sender) p.clients entry.sender
+      ((core.sound.have_ports.handles n (table_entry place entry) taken).pending
+      (ap is_pending (pending_stage entry.stage pending).2))
 
   -- that client asks, on the channel of the request's slot
   asks : IsAsking p n client.index entry.slot client.it

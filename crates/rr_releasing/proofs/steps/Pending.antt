@@ -28,7 +28,7 @@ use Rattle.rr_store.proofs.base.frames.Emptied.{emptied_sound, emptied_view}
 use Rattle.rr_store.proofs.base.senders.Emptied.{among_emptied, each_emptied, one_emptied}
 use Rattle.rr_store.proofs.base.lists.Replaced.{set_alike}
 use Rattle.rr_store.proofs.base.lookups.Placed.{value_there}
-use Rattle.rr_store.proofs.base.senders.Owners.{First, client_of_sender, client_receiver}
+use Rattle.rr_store.proofs.base.senders.Owners.{First, client_receiver, port_of_sender}
 use Rattle.rr_store.proofs.base.senders.Stored.{stored_twice}
 use Rattle.rr_store.proofs.receiving.response.Refusals.{reaches}
 use Rattle.rr_store.proofs.releasing.pending.Fields.{PendingFound, pending_found}
@@ -42,7 +42,10 @@ module _ {Q QH P PH K : Type 0} (p : Parts Q QH P PH K) (core : IsCore p) (n : �
   found = pending_found p core.sound (state_of p) n n refl refl kind entry (value_there p.table n place entry taken)
 
   client : First (λ (c : ClientPart K). c.sender) (λ (c : ClientPart K). c.sender == entry.sender) p.clients entry.sender
-  client = client_of_sender p empty_hand core.sound entry.sender found.sender
+  client =
+      port_of_sender (λ (c : ClientPart K). c.sender) p.clients entry.sender
+      ((core.sound.have_ports.handles n (table_entry place entry) taken).pending
+      (rw (sym (ap (λ (h : HandleEntry). h.stage) found.is) ∙ found.pending) refl))
 
   sends : client.it.sender ≡ found.table_entry.value.sender
   sends = client.is ∙ sym (ap (λ (h : HandleEntry). h.sender) found.is)

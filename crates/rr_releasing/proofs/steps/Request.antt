@@ -20,13 +20,13 @@ use Rattle.rr_store.specs.Emptying.{PartsEmptied}
 use Rattle.rr_store.specs.Parts.{ClientPart, Parts, Sender}
 use Rattle.rr_store.specs.Reaching.{IsCore}
 use Rattle.rr_store.specs.Releasing.{held_once_less, is_loaned_request, without_loan}
-use Rattle.rr_store.specs.Sound.{IsSound, empty_hand}
+use Rattle.rr_store.specs.Sound.{IsSound, empty_hand, is_request_loan}
 use Rattle.rr_store.specs.Views.{no_sender, sender_of, state_of}
 use Rattle.rr_store.proofs.base.frames.Emptied.{emptied_sound, emptied_view}
 use Rattle.rr_store.proofs.base.senders.Emptied.{among_emptied, requests_emptied}
 use Rattle.rr_store.proofs.base.lists.Replaced.{set_alike}
 use Rattle.rr_store.proofs.base.lookups.Placed.{value_there}
-use Rattle.rr_store.proofs.base.senders.Owners.{First, client_of_sender}
+use Rattle.rr_store.proofs.base.senders.Owners.{First, port_of_sender}
 use Rattle.rr_store.proofs.base.senders.Stored.{stored_twice}
 use Rattle.rr_store.proofs.releasing.request.Fields.{LoanFound, loan_found}
 use Rattle.rr_store.proofs.releasing.request.Sound.{after_loan, has_loan, released_sound, released_view}
@@ -38,7 +38,10 @@ module _ {Q QH P PH K : Type 0} (p : Parts Q QH P PH K) (core : IsCore p) (n : �
   found = loan_found p core.sound (state_of p) n n refl refl kind entry (value_there p.table n place entry taken)
 
   client : First (λ (c : ClientPart K). c.sender) (λ (c : ClientPart K). c.sender == entry.sender) p.clients entry.sender
-  client = client_of_sender p empty_hand core.sound entry.sender found.sender
+  client =
+      port_of_sender (λ (c : ClientPart K). c.sender) p.clients entry.sender
+      ((core.sound.have_ports.handles n (table_entry place entry) taken).request_loan
+      (ap (λ (h : HandleEntry). is_request_loan h.stage) (sym found.is) ∙ found.loan))
 
   sends : client.it.sender ≡ found.table_entry.value.sender
   sends = client.is ∙ sym (ap (λ (h : HandleEntry). h.sender) found.is)

@@ -27,7 +27,7 @@ use Rattle.rr_store.specs.Parts.{ClientPart, ServerPart, Parts, Sender}
 use Rattle.rr_store.specs.Reaching.{IsCore}
 use Rattle.rr_store.specs.Releasing.{is_loaned_request}
 use Rattle.rr_store.specs.Sending.{after_queued, pending_held, queued, request_held, server_places, with_one_sent, with_request_sent}
-use Rattle.rr_store.specs.Sound.{IsSound, empty_hand, is_in_sender, is_of_request, is_pending}
+use Rattle.rr_store.specs.Sound.{IsSound, empty_hand, is_in_sender, is_of_request, is_pending, is_request_loan}
 use Rattle.rr_store.specs.Views.{handle_in, no_sender, request_at, sender_of, state_of}
 use Rattle.rr_store.proofs.base.frames.Emptied.{emptied_sound, emptied_view}
 use Rattle.rr_store.proofs.base.senders.Emptied.{requests_emptied}
@@ -38,7 +38,7 @@ use Rattle.rr_store.proofs.base.lookups.Asking.{countable}
 use Rattle.rr_store.proofs.base.lookups.Looking.{shown}
 use Rattle.rr_store.proofs.base.lookups.Placed.{value_there}
 use Rattle.rr_store.proofs.base.lookups.Shown.{request_held as has_value, request_spot}
-use Rattle.rr_store.proofs.base.senders.Owners.{First, client_of_sender}
+use Rattle.rr_store.proofs.base.senders.Owners.{First, port_of_sender}
 use Rattle.rr_store.proofs.base.senders.Ports.{of_found}
 use Rattle.rr_store.proofs.base.senders.Stored.{stored_twice}
 use Rattle.rr_store.proofs.querying.Connected.{mark_within, of_kind}
@@ -70,7 +70,9 @@ module _ {Q QH P PH K : Type 0} (p : Parts Q QH P PH K) (core : IsCore p) (n : �
   sender_asked = spot.0
 
   client : First (λ (c : ClientPart K). c.sender) (λ (c : ClientPart K). c.sender == entry.sender) p.clients entry.sender
-  client = client_of_sender p empty_hand core.sound entry.sender spot.0
+  client =
+      port_of_sender (λ (c : ClientPart K). c.sender) p.clients entry.sender
+      ((core.sound.have_ports.handles n (table_entry place entry) at).request_loan (ap is_request_loan stage_is))
 
   -- what the client that sends from the sender has or becomes
   abbrev Ends : Parts Q QH P PH K → (ℕ → ClientPart K → Type 0) → Type 0

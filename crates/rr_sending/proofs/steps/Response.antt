@@ -29,14 +29,14 @@ use Rattle.rr_store.specs.Order.{IsRising}
 use Rattle.rr_store.specs.Parts.{ClientPart, ServerPart, Parts, Sender}
 use Rattle.rr_store.specs.Reaching.{IsCore}
 use Rattle.rr_store.specs.Releasing.{held_once_less, is_loaned_response, without_loan}
-use Rattle.rr_store.specs.Sound.{IsSound, empty_hand, response_details}
+use Rattle.rr_store.specs.Sound.{IsSound, empty_hand, response_details, is_response_loan}
 use Rattle.rr_store.specs.Views.{no_sender, response_at, sender_of, server_of, state_of}
 use Rattle.rr_store.proofs.base.frames.Emptied.{emptied_sound, emptied_view}
 use Rattle.rr_store.proofs.base.senders.Emptied.{among_emptied, responses_emptied}
 use Rattle.rr_store.proofs.base.lists.Replaced.{set_alike}
 use Rattle.rr_store.proofs.base.lookups.Placed.{value_there}
 use Rattle.rr_store.proofs.base.lookups.Shown.{held_within}
-use Rattle.rr_store.proofs.base.senders.Owners.{First, clients_rise, server_of_sender, server_receiver}
+use Rattle.rr_store.proofs.base.senders.Owners.{First, clients_rise, port_of_sender, server_receiver}
 use Rattle.rr_store.proofs.base.senders.Ports.{of_found}
 use Rattle.rr_store.proofs.base.senders.Stored.{stored_twice}
 use Rattle.rr_store.proofs.base.views.Counts.{listed}
@@ -62,7 +62,10 @@ module _ {Q QH P PH K : Type 0} (p : Parts Q QH P PH K) (core : IsCore p) (n : �
   found = response_loan_found p core.sound (state_of p) n n refl refl loan_asked entry value
 
   server : First (λ (s : ServerPart K). s.sender) (λ (s : ServerPart K). s.sender == entry.sender) p.servers entry.sender
-  server = server_of_sender p empty_hand core.sound entry.sender found.sender
+  server =
+      port_of_sender (λ (s : ServerPart K). s.sender) p.servers entry.sender
+      ((core.sound.have_ports.handles n (table_entry place entry) at).response_loan
+      (ap (λ (h : HandleEntry). is_response_loan h.stage) (sym found.is) ∙ found.loan))
 
   -- what the server that sends from the sender has or becomes
   abbrev Ends : Parts Q QH P PH K → (ℕ → ServerPart K → Type 0) → Type 0

@@ -3,3 +3,5 @@ pub mod Agreeing
 pub mod Counts
 pub mod Unseen
 pub mod Uncounted
+pub mod Expired
+pub mod Left

@@ -1,18 +1,18 @@
 -- The ports of one side and their senders, with one more port that sends from a new sender.
-use Rattle.std.proofs.Common.{◌≡◌, ◌≢◌, ◌<◌, ◌+◌, ℕ, List, [], ◌∷◌, ◌++◌, Option, None, Some, option_map, length, get_or, map, replicate, sym, ap, ◌∙◌, subst, ⊎_elim, arith, refl}
+use Rattle.std.proofs.Common.{◌≡◌, ◌≢◌, ◌<◌, ◌+◌, ℕ, List, [], ◌∷◌, ◌++◌, Option, None, Some, option_map, length, get_or, map, replicate, sym, ap, ◌∙◌, subst, arith, refl}
 use Rattle.std.specs.Prelude.{slice_get}
-use Rattle.std.proofs.lemmas.Bool.{cases_lt}
 use Rattle.std.proofs.lemmas.List.{length-append, length-map, length-replicate, map-append, get_or-replicate}
 use Rattle.std.proofs.lemmas.Option.{slice_get-map}
 use Rattle.rr_sender.specs.Senders.{Messages, times, all_entries}
 use Rattle.rr_sender.proofs.EntryLaws.{times-empty}
+use Rattle.rr_store.specs.declared.port.LeftPort.{LeftPort}
 use Rattle.rr_store.specs.Parts.{Connected, Sender}
 use Rattle.rr_store.specs.Views.{sender_of}
-use Rattle.rr_store.specs.Sound.{HasSenders, IsShaped}
+use Rattle.rr_store.specs.Sound.{HasPort, HasSenders, HaveLeft, IsShaped}
 use Rattle.rr_store.specs.Creating.{IsNew}
 use Rattle.rr_store.proofs.creating.NewSenders.{sender_before, sender_last, each_added, apart_added, new_queue, new_slots}
 use Rattle.rr_store.proofs.base.lists.Adding.{given_before}
-use Rattle.rr_store.proofs.base.lists.Tallies.{last_at, snoc_cases, snoc_keeps}
+use Rattle.rr_store.proofs.base.lists.Tallies.{snoc_cases, snoc_keeps}
 
 -- a sender from which nothing was sent has its size
 pub new_shaped : {T N H : Type 0} {slots room receivers channels capacity : ℕ} {details : N} {m : Messages T N H}
@@ -39,6 +39,11 @@ new_shaped {T} {N} {H} {slots} {room} {receivers} {channels} {capacity} {details
   ));
 }
 
+-- a sender's port is still there
+pub port_stays : {C : Type 0} (sender : C → ℕ) (ports : List C) (new : C) (n : ℕ) → HasPort sender ports n
+    → HasPort sender (ports ++ new ∷ []) n
+port_stays sender ports new n has = (has.0, has.1, snoc_keeps ports new has.0 has.1 has.2, has.3)
+
 -- a later number may be the next one
 pub later_next : {T N H K : Type 0} {next ports : ℕ} {connected : List (Connected K)} {senders : List (Sender T N H)}
     → HasSenders next ports connected senders
@@ -47,7 +52,6 @@ later_next n = record {
   few = n.few;
   own = n.own;
   received = n.received;
-  ported = n.ported;
   owned_once = n.owned_once;
   numbered = λ i h. omega (arith, n.numbered i h);
   placed = n.placed;
@@ -84,7 +88,7 @@ module _ {T N H K C : Type 0} (connected : C → Connected K) (next ports : ℕ)
         go (Some x) e f = let is : Some (connected x) ≡ Some c = f in let also : connected x ≡ c = cc in
             vacant i x e (ap (λ (c : Connected K). c.receiver) also ∙ same)
 
-    -- each port has a sender of its own, and each sender a port
+    -- each port has a sender of its own
     pub port_added : HasSenders (next + 1) ports (map connected (cs ++ port ∷ [])) (senders ++ last ∷ [])
     port_added =
         record {
@@ -116,22 +120,6 @@ module _ {T N H K C : Type 0} (connected : C → Connected K) (next ports : ℕ)
               let Knows : Connected K → Type 0 = λ c. (sender_of c.sender (senders ++ last ∷ [])).receiver ≡ c.receiver in
               subst Knows is (ap (λ l. (sender_of l (senders ++ last ∷ [])).receiver) its_sender
               ∙ ap (λ (x : Sender T N H). x.receiver) (sender_last senders last) ∙ receiver_is));
-          ported = λ l h. ⊎_elim
-              (λ b. let o = n.ported l b in (
-                o.0,
-                o.1,
-                ap (λ xs. slice_get xs o.0)
-                    (map-append connected cs _) ∙ snoc_keeps _ _ o.0 o.1 o.2,
-                o.3,
-              ))
-              (λ far. (
-                length cs,
-                connected port,
-                ap (λ xs. slice_get xs (length cs)) (map-append connected cs _)
-                    ∙ last_at _ _ (length cs) (length-map cs connected),
-                omega (arith, its_sender, h, far, length-append senders (last ∷ [])),
-              ))
-              (cases_lt l (length senders));
           owned_once = apart_added senders last (λ x. x.owner) (λ l h. omega (arith, n.numbered l h, owned)) n.owned_once;
           numbered = each_added senders last (λ _ x. x.owner < next + 1) (λ l h. omega (arith, n.numbered l h)) (omega (arith, owned));
           placed = λ i c at. connected_cases i c at (λ before h. n.placed i c before)
@@ -156,3 +144,16 @@ module _ {T N H K C : Type 0} (connected : C → Connected K) (next ports : ℕ)
               (λ also g. absurd (omega (arith, less, end, g)))
               (λ too also. absurd (omega (arith, less, end, too))));
         }
+
+    -- the senders of ports that left are as they were
+    pub left_added : (left : List LeftPort) → HaveLeft (map connected cs) left senders
+        → HaveLeft (map connected (cs ++ port ∷ [])) left (senders ++ last ∷ [])
+    left_added left has = record {
+      own = λ i l at. let o = has.own i l at in (
+        omega (arith, o.0, length-append senders (last ∷ [])),
+        ap (λ (x : Sender T N H). x.owner) (sender_before senders last l.sender o.0) ∙ o.1,
+      );
+      apart = λ i j l c at there. connected_cases j c there (λ before h. has.apart i j l c at before)
+          (λ end is same. omega (arith, (has.own i l at).0, same, its_sender, ap (λ (c : Connected K). c.sender) is));
+      once = has.once;
+    }

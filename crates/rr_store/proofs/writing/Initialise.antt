@@ -133,7 +133,7 @@ module _ {Q QH P PH K : Type 0} (p : Parts Q QH P PH K) where
       };
       sized = sound.sized;
       vacated = sound.vacated;
-      have_values = sound.have_values;
+      have_ports = sound.have_ports;
       client_ports = sound.client_ports;
       server_ports = sound.server_ports;
     }
@@ -196,6 +196,11 @@ module _ {Q QH P PH K : Type 0} (p : Parts Q QH P PH K) (n : ℕ) (entry : Handl
         loans = λ server loans e. absurd (not_active s is server loans e);
         received = λ e. sound.numbered.received n s at (sym (blind_received s.value.stage) ∙ e);
         answering = λ server loans e. absurd (not_active s is server loans e);
+        ported = let h = sound.have_ports.handles n s at in record {
+          request_loan = λ e. h.request_loan (sym (blind_request_loan s.value.stage) ∙ e);
+          pending = λ e. h.pending (sym (blind_pending s.value.stage) ∙ e);
+          response_loan = λ e. h.response_loan (sym (blind_response_loan s.value.stage) ∙ e);
+        };
       }
 
       -- the core stays sound

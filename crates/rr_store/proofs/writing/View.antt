@@ -26,7 +26,7 @@ use Rattle.rr_store.specs.Sound.{IsSound, Hand, is_of_request, is_of_response, r
 use Rattle.rr_store.specs.Frames.{moved}
 use Rattle.rr_store.specs.Writing.{with_messages}
 use Rattle.rr_store.proofs.base.lists.Adding.{mapped}
-use Rattle.rr_store.proofs.base.views.Agreeing.{same_handle, same_requests, same_responses, same_state}
+use Rattle.rr_store.proofs.base.views.Agreeing.{same_handle, same_requests, same_responses, same_state, same_expired}
 use Rattle.rr_store.proofs.base.lookups.Looking.{table_entry_under, shown}
 use Rattle.rr_store.proofs.base.lookups.Shown.{request_held, response_held, request_spot, response_spot}
 use Rattle.rr_store.proofs.base.frames.Rewrites.{senders_unwritten, rewritten_sound}
@@ -100,7 +100,8 @@ module _ {Q QH P PH K : Type 0} (p : Parts Q QH P PH K) (n : ℕ) (entry : Handl
       ∙ ap (fin_map.insert (state_of p).handles n) (ap (λ (v : HandleEntry). handle_in q v.stage v.sender v.slot) f.2 ∙ its)
       ∙ sym (ap (λ o. option_map_or (λ handle. fin_map.insert (state_of p).handles n (change handle)) o (state_of p).handles)
       (shown p n entry h)))
-      (same_requests q p requests) (same_responses q p responses) refl refl
+      (same_requests q p requests) (same_responses q p responses)
+      (same_expired _ _ (same_requests q p requests) (same_responses q p responses)) refl
 
   -- where one handle at most passes a test in a slot, and this one does, no other does
   alone : (of : Stage → Bool) → of entry.stage ≡ true

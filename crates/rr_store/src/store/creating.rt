@@ -41,6 +41,8 @@ impl<QB: Body, QH: Default + Drop, PB: Body, PH: Default + Drop, K: Backpressure
             servers: Vec::new(alloc),
             client_senders: Vec::new(alloc),
             server_senders: Vec::new(alloc),
+            left_clients: Vec::new(alloc),
+            left_servers: Vec::new(alloc),
             table: Table::new(alloc),
             spare_request_header: QH::default(),
             spare_response_header: PH::default(),

@@ -26,7 +26,7 @@ use Rattle.rr_store.proofs.base.frames.Rewrites.{rewritten_sound}
 use Rattle.rr_store.proofs.base.hands.Stages.{handle_uses_request, handle_uses_response}
 use Rattle.rr_store.proofs.base.lists.Replaced.{find_mapped}
 use Rattle.rr_store.proofs.base.senders.Queues.{times_queue}
-use Rattle.rr_store.proofs.base.views.Agreeing.{same_handle, same_requests, same_responses, same_state}
+use Rattle.rr_store.proofs.base.views.Agreeing.{same_handle, same_requests, same_responses, same_state, same_expired}
 
 -- what is made of each slot that a list has
 map_listed : {Y : Type 0} (f g : ℕ → Y) (slots : List ℕ) → ((i : ℕ) → 0 < times i slots → g i ≡ f i) → map g slots ≡ map f slots
@@ -195,7 +195,8 @@ module _ {Q QH P PH K : Type 0} (p : Parts Q QH P PH K) (hand : Hand)
   senders_view counted =
       same_state (state_of other_senders) (state_of p) refl refl refl refl
       (map_values-same (handle_of other_senders) (handle_of p) p.table.entries (handles_same counted))
-      (same_requests other_senders p requests_same) (same_responses other_senders p responses_same) refl refl
+      (same_requests other_senders p requests_same) (same_responses other_senders p responses_same)
+      (same_expired _ _ (same_requests other_senders p requests_same) (same_responses other_senders p responses_same)) refl
 
   senders_sound : IsSound p hand → IsSound other_senders hand
   senders_sound sound = rewritten_sound p hand sound client_senders server_senders

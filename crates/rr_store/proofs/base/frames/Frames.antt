@@ -8,9 +8,10 @@ use Rattle.rr_table.specs.TableView.{TableEntry}
 use Rattle.rr_store.specs.declared.handle_entry.HandleEntry.{HandleEntry}
 use Rattle.rr_store.specs.declared.details.RequestDetails.{RequestDetails}
 use Rattle.rr_store.specs.declared.details.ResponseDetails.{ResponseDetails}
+use Rattle.rr_store.specs.declared.port.LeftPort.{LeftPort}
 use Rattle.rr_store.specs.Parts.{Parts, Connected, ClientPart, Sender}
 use Rattle.rr_store.specs.Views.{sender_of, no_sender}
-use Rattle.rr_store.specs.Sound.{IsSound, IsSized, HaveValues, HasSenders, Hand}
+use Rattle.rr_store.specs.Sound.{IsSound, IsSized, HavePorts, HaveLeft, HasPort, HasSenders, Hand}
 use Rattle.rr_store.specs.Frames.{SenderAlike, SendersAlike, moved, SameFrame}
 use Rattle.std.proofs.lemmas.Bool.{cases_eq, cases_lt}
 use Rattle.std.proofs.lemmas.List.{get_or-set_same, get_or-set_other, length-set}
@@ -35,13 +36,20 @@ module _ {T N H K : Type 0} (ports : List (Connected K)) (senders others : List 
         let is = same.each c.sender in
         (omega (arith, o.0, same.many), is.owner ∙ o.1, is.slots ∙ o.2, is.room ∙ o.3);
     received = λ i c at. (same.each c.sender).receiver ∙ has.received i c at;
-    ported = λ l h. has.ported l (omega (arith, h, same.many));
     owned_once = λ i j h g e. has.owned_once i j (omega (arith, h, same.many)) (omega (arith, g, same.many))
         (sym (same.each i).owner ∙ e ∙ (same.each j).owner);
     numbered = λ i h. omega (arith, has.numbered i (omega (arith, h, same.many)), (same.each i).owner, le);
     placed = has.placed;
     receivers_once = has.receivers_once;
     rising = has.rising;
+  }
+
+  -- and so have those that left
+  pub left_kept : (left : List LeftPort) → HaveLeft ports left senders → HaveLeft ports left others
+  left_kept left has = record {
+    own = λ i l at. let o = has.own i l at in (omega (arith, o.0, same.many), (same.each l.sender).owner ∙ o.1);
+    apart = has.apart;
+    once = has.once;
   }
 
 module _ {T N H : Type 0} (senders : List (Sender T N H)) (l : ℕ) (sender : Sender T N H) where
@@ -100,12 +108,29 @@ module _ {Q QH P PH K : Type 0} (p : Parts Q QH P PH K) (hand : Hand) (sound : I
     pub framed_server_ports : HasSenders next p.limits.max_servers (map (λ s. s.connected) p.servers) server_senders
     framed_server_ports = senders_kept _ _ _ frame.server_senders_alike p.next next p.limits.max_servers frame.numbers sound.server_ports
 
-    pub framed_by_value : HaveValues after
-    framed_by_value = record {
-      clients = λ i c at. let d = client_before i c at in sym (ap (λ (f : Connected K). f.port.has_value) d.2)
-          ∙ sound.have_values.clients i d.0 d.1;
-      servers = sound.have_values.servers;
-    }
+    -- and so do the ports of handles, if there are no new ones
+    pub framed_have_ports : ((k : ℕ) (s : TableEntry HandleEntry) → fin_map.get entries k ≡ Some s → fin_map.get p.table.entries k ≡ Some s)
+        → HavePorts after
+    framed_have_ports before =
+        let n = sound.have_ports in
+        let stays : (sender : ℕ) → HasPort (λ (c : ClientPart K). c.sender) p.clients sender
+        → HasPort (λ (c : ClientPart K). c.sender) clients sender = λ sender has. let d = client_after has.0 has.1 has.2 in
+        (has.0, d.0, d.1, ap (λ (f : Connected K). f.sender) d.2 ∙ has.3) in
+        record {
+          handles = λ k s at. let h = n.handles k s (before k s at) in record {
+            request_loan = λ is. stays s.value.sender (h.request_loan is);
+            pending = λ is. stays s.value.sender (h.pending is);
+            response_loan = h.response_loan;
+          };
+          client_values = λ i c at. let d = client_before i c at in sym (ap (λ (f : Connected K). f.port.has_value) d.2)
+              ∙ n.client_values i d.0 d.1;
+          server_values = n.server_values;
+          apart = λ i j c s at there same. let d = client_before i c at in
+              n.apart i j d.0 s d.1 there (ap (λ (f : Connected K). f.port.id) d.2 ∙ same);
+          left_clients = subst (λ (ports : List (Connected K)). HaveLeft ports p.left_clients client_senders) (sym frame.clients_alike)
+              (left_kept _ _ _ frame.client_senders_alike p.left_clients n.left_clients);
+          left_servers = left_kept _ _ _ frame.server_senders_alike p.left_servers n.left_servers;
+        }
 
     pub framed_sized : next ≤ 2 ^ 62 → ((i : ℕ) (c : ClientPart K) → slice_get clients i ≡ Some c → c.loans_made ≤ next) → IsSized after
     framed_sized fits made =

@@ -10,7 +10,7 @@ use Rattle.rr_store.specs.Sound.{IsSound, IsCounted, IsHeldOnce, IsStored, IsVac
 use Rattle.rr_store.specs.Frames.{SenderAlike, SendersAlike, SameFrame, moved}
 use Rattle.rr_store.specs.Kept.{DetailsKept}
 use Rattle.rr_store.specs.Rewrites.{Outline, SenderRewritten, SendersRewritten}
-use Rattle.rr_store.proofs.base.frames.Frames.{framed_client_ports, framed_server_ports, framed_by_value, framed_sized}
+use Rattle.rr_store.proofs.base.frames.Frames.{framed_client_ports, framed_server_ports, framed_have_ports, framed_sized}
 use Rattle.rr_store.proofs.base.frames.Kept.{framed_inserted, kept_numbered, kept_addressed}
 use Rattle.rr_store.proofs.base.hands.Stages.{handle_uses_request, handle_uses_response}
 
@@ -159,7 +159,7 @@ module _ {Q QH P PH K : Type 0} (p : Parts Q QH P PH K) (hand : Hand) (sound : I
     sized = framed_sized p hand sound p.clients client_senders server_senders p.table.entries p.next frame
         sound.sized.next_fits sound.sized.loans_made;
     vacated = rewritten_vacated;
-    have_values = framed_by_value p hand sound p.clients client_senders server_senders p.table.entries p.next frame;
+    have_ports = framed_have_ports p hand sound p.clients client_senders server_senders p.table.entries p.next frame (λ k s at. at);
     client_ports = framed_client_ports p hand sound p.clients client_senders server_senders p.table.entries p.next
         frame;
     server_ports = framed_server_ports p hand sound p.clients client_senders server_senders p.table.entries p.next

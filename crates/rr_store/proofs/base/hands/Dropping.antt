@@ -13,7 +13,7 @@ use Rattle.rr_store.specs.Frames.{moved, SameFrame}
 use Rattle.rr_store.specs.Kept.{DetailsKept}
 use Rattle.rr_store.specs.Dropping.{IsDropped}
 use Rattle.rr_store.proofs.base.hands.Stages.{loan_is_request, handle_uses_request, handle_uses_response}
-use Rattle.rr_store.proofs.base.frames.Frames.{framed_client_ports, framed_server_ports, framed_by_value, framed_sized}
+use Rattle.rr_store.proofs.base.frames.Frames.{framed_client_ports, framed_server_ports, framed_have_ports, framed_sized}
 use Rattle.rr_store.proofs.base.frames.Kept.{framed_inserted, kept_numbered, kept_addressed}
 use Rattle.rr_store.proofs.base.hands.Hands.{count-cons}
 
@@ -167,7 +167,7 @@ module _ {Q QH P PH K : Type 0} (p : Parts Q QH P PH K) (entry : HandleEntry) (h
     sized = framed_sized p (entry ∷ hand) sound p.clients client_senders server_senders p.table.entries p.next frame
         sound.sized.next_fits sound.sized.loans_made;
     vacated = vacated;
-    have_values = framed_by_value p (entry ∷ hand) sound p.clients client_senders server_senders p.table.entries p.next frame;
+    have_ports = framed_have_ports p (entry ∷ hand) sound p.clients client_senders server_senders p.table.entries p.next frame (λ k s at. at);
     client_ports = framed_client_ports p (entry ∷ hand) sound p.clients client_senders server_senders p.table.entries p.next
         frame;
     server_ports = framed_server_ports p (entry ∷ hand) sound p.clients client_senders server_senders p.table.entries p.next

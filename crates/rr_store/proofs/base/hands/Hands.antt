@@ -11,7 +11,7 @@ use Rattle.rr_maps.proofs.MapLaws.{tally-insert, tally-remove, get-insert_cases,
 use Rattle.rr_store.specs.declared.handle_entry.HandleEntry.{HandleEntry}
 use Rattle.rr_store.specs.declared.handle_entry.Stage.TheVariants as stage
 use Rattle.rr_store.specs.Parts.{ClientPart, Parts, Sender}
-use Rattle.rr_store.specs.Sound.{IsSound, Hand, handles, is_of_response, is_request_loan, is_pending, is_active_of, is_received, is_request_at, is_response_at, is_active_at, is_loan_from, request_uses, response_uses, request_details, response_details, server_place, place_of, IsAddressed, IsSized, IsVacated, HaveValues}
+use Rattle.rr_store.specs.Sound.{IsSound, Hand, handles, is_of_response, is_request_loan, is_pending, is_active_of, is_received, is_request_at, is_response_at, is_active_at, is_loan_from, request_uses, response_uses, request_details, response_details, server_place, place_of, IsAddressed, IsPorted, IsSized, IsVacated, HavePorts}
 use Rattle.rr_store.specs.Frames.{SendersAlike}
 use Rattle.rr_store.specs.Hands.{IsInsertable}
 use Rattle.std.proofs.lemmas.Bool.{cases_eq}
@@ -70,8 +70,16 @@ module _ {Q QH P PH K : Type 0} (p : Parts Q QH P PH K) where
     replaced_vacated : IsVacated p → IsVacated replaced
     replaced_vacated n = record { of_clients = n.of_clients; of_servers = n.of_servers; awaits_none = n.awaits_none }
 
-    replaced_by_value : HaveValues p → HaveValues replaced
-    replaced_by_value n = record { clients = n.clients; servers = n.servers }
+    replaced_ports : ((k : ℕ) (s : TableEntry HandleEntry) → fin_map.get entries k ≡ Some s → IsPorted p.clients p.servers s.value)
+        → HavePorts p → HavePorts replaced
+    replaced_ports handles n = record {
+      handles = handles;
+      client_values = n.client_values;
+      server_values = n.server_values;
+      apart = n.apart;
+      left_clients = n.left_clients;
+      left_servers = n.left_servers;
+    }
 
   module _ (hand : Hand) (k : ℕ) (s : TableEntry HandleEntry) (at : fin_map.get p.table.entries k ≡ Some s) (sound : IsSound p hand) where
     abbrev taken : Parts Q QH P PH K
@@ -138,7 +146,7 @@ module _ {Q QH P PH K : Type 0} (p : Parts Q QH P PH K) where
       };
       sized = replaced_sized taken.table.entries sound.sized;
       vacated = replaced_vacated taken.table.entries sound.vacated;
-      have_values = replaced_by_value taken.table.entries sound.have_values;
+      have_ports = replaced_ports taken.table.entries (λ j t e. sound.have_ports.handles j t (still j t e)) sound.have_ports;
       client_ports = sound.client_ports;
       server_ports = sound.server_ports;
     }
@@ -252,7 +260,9 @@ module _ {Q QH P PH K : Type 0} (p : Parts Q QH P PH K) where
       };
       sized = replaced_sized given.table.entries sound.sized;
       vacated = replaced_vacated given.table.entries sound.vacated;
-      have_values = replaced_by_value given.table.entries sound.have_values;
+      have_ports = replaced_ports given.table.entries (λ j t e. cases j t e
+          (λ m is. let R : TableEntry HandleEntry → Type 0 = λ t. IsPorted p.clients p.servers t.value in subst R is new.ported)
+          (λ b. sound.have_ports.handles j t b)) sound.have_ports;
       client_ports = sound.client_ports;
       server_ports = sound.server_ports;
     }

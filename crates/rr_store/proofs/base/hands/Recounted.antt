@@ -48,7 +48,7 @@ module _ {Q QH P PH K : Type 0} (p : Parts Q QH P PH K) (hand : Hand) (server se
     };
     sized = sound.sized;
     vacated = sound.vacated;
-    have_values = sound.have_values;
+    have_ports = sound.have_ports;
     client_ports = sound.client_ports;
     server_ports = sound.server_ports;
   }

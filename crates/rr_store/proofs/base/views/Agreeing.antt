@@ -6,12 +6,15 @@ use Rattle.std.proofs.lemmas.Bool.{cases_lt, eq-eqb}
 use Rattle.std.proofs.lemmas.List.{get_or_past}
 use Rattle.rr_table.specs.TableView.{TableEntry}
 use Rattle.rr_maps.proofs.MapLaws.{tally-at}
+use Rattle.rr_protocol.specs.Keys.{request_key_cmp, response_key_cmp}
+use Rattle.rr_protocol.specs.Lists.{Lists}
 use Rattle.rr_protocol.specs.State.{State}
 use Rattle.rr_protocol.proofs.KeyLaws.{request_keys_total, request_keys_exact, response_keys_total, response_keys_exact}
 use Rattle.rr_protocol.proofs.ListsLaws.{same_lists}
 use Rattle.rr_store.specs.declared.handle_entry.HandleEntry.{HandleEntry}
 use Rattle.rr_store.specs.declared.handle_entry.Stage.{Stage}
 use Rattle.rr_store.specs.declared.handle_entry.Stage.TheVariants as stage
+use Rattle.rr_store.specs.Expired.{expired_of}
 use Rattle.rr_store.specs.Parts.{Parts, Sender}
 use Rattle.rr_store.specs.Views.{no_sender, sender_of, handle_in, request_in_slot, response_in_slot, requests_at, responses_at, state_of, waiting_at}
 use Rattle.rr_store.specs.Sound.{IsCounted, Hand, is_of_request, is_of_response, has_request_at, has_response_at}
@@ -30,6 +33,11 @@ module _ {T N H : Type 0} where
             (get_or_past senders sender no_sender h),
       )))
       (cases_lt sender (length senders))
+
+-- whom receivers still have messages of is the same where the lists are
+pub same_expired : {X Y : Type 0} (clients servers : List ℕ) {a b : Lists request_key_cmp X} {c d : Lists response_key_cmp Y} → a ≡ b → c ≡ d
+    → expired_of a c clients servers ≡ expired_of b d clients servers
+same_expired clients servers requests responses = rw requests (rw responses refl)
 
 module _ {Q QH P PH K : Type 0} where
   -- the sender of a handle's message is there

@@ -14,7 +14,7 @@ use Rattle.rr_store.specs.declared.details.ResponseDetails.{ResponseDetails}
 use Rattle.rr_store.specs.Parts.{Parts, ClientPart, ServerPart, Sender}
 use Rattle.rr_store.specs.Views.{sender_of, state_of, request_in_slot, response_in_slot, marked, handle_of, requests_at, responses_at}
 use Rattle.rr_store.specs.Frames.{moved}
-use Rattle.rr_store.proofs.base.views.Agreeing.{same_handle, same_requests, same_responses, same_state}
+use Rattle.rr_store.proofs.base.views.Agreeing.{same_handle, same_requests, same_responses, same_state, same_expired}
 use Rattle.rr_store.proofs.base.lists.Replaced.{find_mapped}
 
 -- a sender without its counts of handles
@@ -103,4 +103,5 @@ module _ {Q QH P PH K : Type 0} (p : Parts Q QH P PH K) (client_senders : List (
   uncounted =
       same_state (state_of recounted) (state_of p) refl refl refl refl
       (map_values-same (handle_of recounted) (handle_of p) p.table.entries handles)
-      (same_requests recounted p requests) (same_responses recounted p responses) refl refl
+      (same_requests recounted p requests) (same_responses recounted p responses)
+      (same_expired _ _ (same_requests recounted p requests) (same_responses recounted p responses)) refl

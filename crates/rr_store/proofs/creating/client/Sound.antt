@@ -11,17 +11,18 @@ use Rattle.rr_store.specs.declared.handle_entry.HandleEntry.{HandleEntry}
 use Rattle.rr_store.specs.declared.handle_entry.Stage.{Stage}
 use Rattle.rr_store.specs.declared.handle_entry.Stage.TheVariants as stage
 use Rattle.rr_store.specs.declared.details.RequestDetails.{RequestDetails}
-use Rattle.rr_store.specs.Parts.{Parts, ClientPart, Sender}
+use Rattle.rr_store.specs.Parts.{Parts, ClientPart, Sender, ServerPart}
 use Rattle.rr_store.specs.Views.{no_request, sender_of, no_server}
-use Rattle.rr_store.specs.Sound.{IsSound, IsCounted, IsNumbered, IsAddressed, IsPlaced, IsStored, IsSized, IsVacated, IsShaped, empty_hand, handles, is_in_sender, is_of_request, is_request_loan, is_pending, is_active_of, is_received, is_received_at, request_details, response_details, request_uses, server_place, place_at}
+use Rattle.rr_store.specs.Sound.{IsSound, IsCounted, IsNumbered, IsAddressed, IsPlaced, IsStored, IsSized, IsVacated, IsShaped, empty_hand, handles, is_in_sender, is_of_request, is_request_loan, is_pending, is_active_of, is_received, is_received_at, request_details, response_details, request_uses, server_place, place_at, HavePorts}
 use Rattle.rr_store.specs.Creating.{IsNew, new_client, client_port, new_client_sender, with_client_part}
 use Rattle.rr_store.proofs.creating.NewSenders.{LooksLike, apart_added, count_added, each_added, looks_like, new_borrowed, new_slots, none_in, row_stays, rows_added, same_everywhere, same_place, same_shown, sender_before}
-use Rattle.rr_store.proofs.base.lists.Adding.{pool_fits, makes_channels}
-use Rattle.rr_store.proofs.creating.NewPort.{port_added, later_next, new_shaped}
+use Rattle.rr_store.proofs.base.lists.Adding.{pool_fits, makes_channels, given_before}
+use Rattle.rr_store.proofs.creating.NewPort.{port_added, port_stays, later_next, new_shaped, left_added}
 use Rattle.rr_protocol.specs.Limits.{worst_case_requests}
 use Rattle.rr_store.proofs.base.views.Agreeing.{request_sender}
 use Rattle.rr_store.proofs.base.hands.Stages.{loan_is_request, pending_is_request, active_is_request, received_is_response, handle_uses_request, handle_uses_response}
 use Rattle.rr_store.proofs.base.lists.Tallies.{and_none, tally-never, snoc_cases, snoc_keeps}
+use Rattle.rr_store.proofs.base.views.Counts.{listed}
 
 module _ {Q QH P PH K : Type 0} (p : Parts Q QH P PH K) (settings : ClientSettings K) (receiver : ℕ) (m : Messages Q RequestDetails QH)
     (sound : IsSound p empty_hand)
@@ -209,6 +210,32 @@ module _ {Q QH P PH K : Type 0} (p : Parts Q QH P PH K) (settings : ClientSettin
         ∙ sound.vacated.awaits_none l i there server (omega (arith, new_one)) fits;
   }
 
+  have_ports : HavePorts after
+  have_ports =
+      let n = sound.have_ports in
+      record {
+        handles = λ k s at. let h = n.handles k s at in record {
+          request_loan = λ is. port_stays (λ (c : ClientPart K). c.sender) p.clients _ s.value.sender (h.request_loan is);
+          pending = λ is. port_stays (λ (c : ClientPart K). c.sender) p.clients _ s.value.sender (h.pending is);
+          response_loan = h.response_loan;
+        };
+        client_values = λ i c at. snoc_cases p.clients (new_client p settings receiver) i c at (λ before h. n.client_values i c before)
+            (λ e is. ap (λ (c : ClientPart K). c.port.has_value) (sym is));
+        server_values = n.server_values;
+        apart = λ i j c s at there. snoc_cases p.clients (new_client p settings receiver) i c at (λ before h. n.apart i j c s before there)
+            (λ e is same. omega (
+              arith,
+              same,
+              ap (λ (c : ClientPart K). c.port.id) is,
+              given_before p.next p.limits.max_servers _ p.server_senders sound.server_ports j s.connected
+                  (listed (λ (s : ServerPart K). s.connected) p.servers j s there),
+            ));
+        left_clients = left_added (λ (c : ClientPart K). c.connected) p.next p.limits.max_clients p.clients p.client_senders
+            sound.client_ports (new_client p settings receiver) last new refl refl refl (new_slots new) new.room_is refl inside vacant few
+            p.left_clients n.left_clients;
+        left_servers = n.left_servers;
+      }
+
   -- a client was created
   pub client_sound : IsSound after empty_hand
   client_sound = record {
@@ -224,11 +251,7 @@ module _ {Q QH P PH K : Type 0} (p : Parts Q QH P PH K) (settings : ClientSettin
     stored = stored;
     sized = sized;
     vacated = vacated;
-    have_values = record {
-      clients = λ i c at. snoc_cases p.clients (new_client p settings receiver) i c at (λ before h. sound.have_values.clients i c before)
-          (λ e is. ap (λ (c : ClientPart K). c.port.has_value) (sym is));
-      servers = sound.have_values.servers;
-    };
+    have_ports = have_ports;
     client_ports = port_added (λ (c : ClientPart K). c.connected) p.next p.limits.max_clients p.clients p.client_senders sound.client_ports
         (new_client p settings receiver) last new refl refl refl (new_slots new) new.room_is refl inside vacant few;
     server_ports = later_next sound.server_ports;

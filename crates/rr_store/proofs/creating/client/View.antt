@@ -21,7 +21,7 @@ use Rattle.rr_store.specs.Sound.{IsSound, empty_hand}
 use Rattle.rr_store.specs.Creating.{IsNew, new_client, new_client_sender, with_client_part}
 use Rattle.rr_store.proofs.base.lists.Found.{found_somewhere, find_last}
 use Rattle.rr_store.proofs.creating.NewSenders.{new_queue, sender_before}
-use Rattle.rr_store.proofs.base.views.Agreeing.{request_sender, same_handle, same_requests, same_responses, same_state}
+use Rattle.rr_store.proofs.base.views.Agreeing.{request_sender, same_handle, same_requests, same_responses, same_state, same_expired}
 
 module _ {Q QH P PH K : Type 0} (p : Parts Q QH P PH K) (settings : ClientSettings K) (receiver : ℕ) (m : Messages Q RequestDetails QH)
     (sound : IsSound p empty_hand) (slots room receivers channels capacity : ℕ)
@@ -101,4 +101,5 @@ module _ {Q QH P PH K : Type 0} (p : Parts Q QH P PH K) (settings : ClientSettin
       same_state (state_of after) (with_client (state_of p) settings) refl refl
       (map-append client_of p.clients _) refl
       (map_values-same (handle_of after) (handle_of p) p.table.entries handles)
-      (same_requests after p requests) (same_responses after p responses) refl refl
+      (same_requests after p requests) (same_responses after p responses)
+      (same_expired _ _ (same_requests after p requests) (same_responses after p responses)) refl

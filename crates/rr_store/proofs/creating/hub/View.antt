@@ -12,9 +12,10 @@ use Rattle.rr_protocol.specs.Limits.{hub_refusal}
 use Rattle.rr_protocol.specs.State.{empty_hub}
 use Rattle.rr_store.specs.declared.handle_entry.HandleEntry.{HandleEntry}
 use Rattle.rr_store.specs.Parts.{Parts}
-use Rattle.rr_store.specs.Views.{state_of, handle_of, no_server}
+use Rattle.rr_store.specs.Views.{state_of, handle_of, no_server, request_lists, response_lists}
 use Rattle.rr_store.specs.Start.{start_parts}
-use Rattle.rr_store.specs.Sound.{IsSound, HasSenders, empty_hand, has_request_at, has_response_at, is_active_of}
+use Rattle.rr_store.specs.Sound.{IsSound, HasSenders, HaveLeft, empty_hand, has_request_at, has_response_at, is_active_of}
+use Rattle.rr_store.proofs.base.views.Expired.{none_expired}
 
 -- nothing stands in the map of nothing
 nothing_there : {X A : Type 0} (k : ℕ) (x : X) → fin_map.get {R = nat_cmp} fin_map.empty k ≡ Some x → A
@@ -29,7 +30,6 @@ no_ports : {T N H K : Type 0} {ports : ℕ} → HasSenders {T = T} {N = N} {H = 
 no_ports = record {
   few = omega arith;
   own = λ i c e. no_element i c e;
-  ported = λ l h. absurd (omega (arith, h));
   received = λ i c e. no_element i c e;
   owned_once = λ i j h. absurd (omega arith);
   numbered = λ i h. absurd (omega arith);
@@ -38,12 +38,20 @@ no_ports = record {
   rising = λ i j c d e. no_element i c e;
 }
 
+-- no port left
+none_left : {T N H K : Type 0} → HaveLeft {T = T} {N = N} {H = H} {K = K} [] [] []
+none_left = record {
+  own = λ i l e. no_element i l e;
+  apart = λ i j l c e. no_element i l e;
+  once = λ i j l m e. no_element i l e;
+}
+
 module _ (Q QH P PH K : Type 0) (limits : Limits) (node_id : ℕ) (h : QH) (g : PH) where
   abbrev start : Parts Q QH P PH K
   start = start_parts limits node_id h g
 
   pub start_view : state_of start ≡ empty_hub limits node_id
-  start_view = rw (map_values-empty (handle_of start)) refl
+  start_view = rw (map_values-empty (handle_of start)) (rw (none_expired (request_lists start) (response_lists start)) refl)
 
   pub start_sound : hub_refusal limits ≡ None → IsSound start empty_hand
   start_sound fits = record {
@@ -113,7 +121,14 @@ module _ (Q QH P PH K : Type 0) (limits : Limits) (node_id : ℕ) (h : QH) (g : 
       of_servers = λ l receiver channel h. (refl, refl);
       awaits_none = λ l i receiver server new fits. ne_eqb no_server server (λ e. absurd (omega (arith, e, fits)));
     };
-    have_values = record { clients = λ i c e. no_element i c e; servers = λ i c e. no_element i c e };
+    have_ports = record {
+      handles = λ k s e. nothing_there k s e;
+      client_values = λ i c e. no_element i c e;
+      server_values = λ i c e. no_element i c e;
+      apart = λ i j c s e. no_element i c e;
+      left_clients = none_left;
+      left_servers = none_left;
+    };
     client_ports = no_ports;
     server_ports = no_ports;
   }

@@ -13,16 +13,18 @@ use Rattle.rr_store.specs.declared.handle_entry.HandleEntry.{HandleEntry}
 use Rattle.rr_store.specs.declared.handle_entry.Stage.{Stage}
 use Rattle.rr_store.specs.declared.handle_entry.Stage.TheVariants as stage
 use Rattle.rr_store.specs.declared.details.ResponseDetails.{ResponseDetails}
-use Rattle.rr_store.specs.Parts.{Parts, ServerPart, Sender}
+use Rattle.rr_store.specs.Parts.{Parts, ServerPart, Sender, ClientPart}
 use Rattle.rr_store.specs.Views.{no_response, sender_of}
-use Rattle.rr_store.specs.Sound.{IsSound, IsCounted, IsHeldOnce, IsNumbered, IsAddressed, IsPlaced, IsStored, IsSized, IsVacated, IsShaped, empty_hand, handles, is_in_sender, is_of_response, is_active_of, is_response_loan, is_received, has_request_at, is_received_at, response_details, response_uses, server_place, place_at}
+use Rattle.rr_store.specs.Sound.{IsSound, IsCounted, IsHeldOnce, IsNumbered, IsAddressed, IsPlaced, IsStored, IsSized, IsVacated, IsShaped, empty_hand, handles, is_in_sender, is_of_response, is_active_of, is_response_loan, is_received, has_request_at, is_received_at, response_details, response_uses, server_place, place_at, HavePorts}
 use Rattle.rr_store.specs.Creating.{IsNew, new_server, server_port, new_server_sender, with_server_part}
 use Rattle.rr_store.proofs.base.lists.Found.{find_last}
 use Rattle.rr_store.proofs.creating.NewSenders.{LooksLike, apart_added, count_added, each_added, looks_like, new_borrowed, new_slots, none_in, row_stays, rows_added, same_place, same_sender, sender_before}
-use Rattle.rr_store.proofs.creating.NewPort.{port_added, later_next, new_shaped}
+use Rattle.rr_store.proofs.creating.NewPort.{port_added, port_stays, later_next, new_shaped, left_added}
 use Rattle.rr_store.proofs.base.views.Agreeing.{response_sender}
 use Rattle.rr_store.proofs.base.hands.Stages.{response_loan_is_response, received_is_response, handle_uses_response}
 use Rattle.rr_store.proofs.base.lists.Tallies.{and_none, tally-never, tally-same, snoc_cases, snoc_keeps}
+use Rattle.rr_store.proofs.base.lists.Adding.{given_before}
+use Rattle.rr_store.proofs.base.views.Counts.{listed}
 
 module _ {Q QH P PH K : Type 0} (p : Parts Q QH P PH K) (settings : ServerSettings K) (receiver : ℕ) (m : Messages P ResponseDetails PH)
     (sound : IsSound p empty_hand)
@@ -291,6 +293,32 @@ module _ {Q QH P PH K : Type 0} (p : Parts Q QH P PH K) (settings : ServerSettin
     awaits_none = λ l i there server new fits. sound.vacated.awaits_none l i there server (omega (arith, new)) fits;
   }
 
+  have_ports : HavePorts after
+  have_ports =
+      let n = sound.have_ports in
+      record {
+        handles = λ k s at. let h = n.handles k s at in record {
+          request_loan = h.request_loan;
+          pending = h.pending;
+          response_loan = λ is. port_stays (λ (s : ServerPart K). s.sender) p.servers _ s.value.sender (h.response_loan is);
+        };
+        client_values = n.client_values;
+        server_values = λ i s at. snoc_cases p.servers last_server i s at (λ before h. n.server_values i s before)
+            (λ e is. ap (λ (s : ServerPart K). s.port.has_value) (sym is));
+        apart = λ i j c s at there. snoc_cases p.servers last_server j s there (λ before h. n.apart i j c s at before)
+            (λ e is same. omega (
+              arith,
+              same,
+              ap (λ (s : ServerPart K). s.port.id) is,
+              given_before p.next p.limits.max_clients _ p.client_senders sound.client_ports i c.connected
+                  (listed (λ (c : ClientPart K). c.connected) p.clients i c at),
+            ));
+        left_clients = n.left_clients;
+        left_servers = left_added (λ (s : ServerPart K). s.connected) p.next p.limits.max_servers p.servers p.server_senders
+            sound.server_ports last_server last new refl refl refl (new_slots new) new.room_is refl inside vacant few
+            p.left_servers n.left_servers;
+      }
+
   -- a server was created
   pub server_sound : IsSound after empty_hand
   server_sound = record {
@@ -302,11 +330,7 @@ module _ {Q QH P PH K : Type 0} (p : Parts Q QH P PH K) (settings : ServerSettin
     stored = stored;
     sized = sized;
     vacated = vacated;
-    have_values = record {
-      clients = sound.have_values.clients;
-      servers = λ i c at. snoc_cases p.servers last_server i c at (λ before h. sound.have_values.servers i c before)
-          (λ e is. ap (λ (s : ServerPart K). s.port.has_value) (sym is));
-    };
+    have_ports = have_ports;
     client_ports = later_next sound.client_ports;
     server_ports = port_added (λ (s : ServerPart K). s.connected) p.next p.limits.max_servers p.servers p.server_senders sound.server_ports
         last_server last new refl refl refl (new_slots new) new.room_is refl inside vacant few;

@@ -21,7 +21,7 @@ use Rattle.rr_store.specs.Sound.{IsSound, empty_hand}
 use Rattle.rr_store.specs.Creating.{IsNew, new_server, new_server_sender, with_server_part}
 use Rattle.rr_store.proofs.base.lists.Found.{found_somewhere, find_last}
 use Rattle.rr_store.proofs.creating.NewSenders.{new_queue, sender_before}
-use Rattle.rr_store.proofs.base.views.Agreeing.{response_sender, same_handle, same_requests, same_responses, same_state}
+use Rattle.rr_store.proofs.base.views.Agreeing.{response_sender, same_handle, same_requests, same_responses, same_state, same_expired}
 
 -- one more element that doesn't pass
 filter_more : {X : Type 0} (p : X → Bool) (xs : List X) (y : X) → p y ≡ false → filter p (xs ++ y ∷ []) ≡ filter p xs
@@ -113,4 +113,5 @@ module _ {Q QH P PH K : Type 0} (p : Parts Q QH P PH K) (settings : ServerSettin
       same_state (state_of after) (with_server (state_of p) settings) refl refl
       refl (map-append server_of p.servers _)
       (map_values-same (handle_of after) (handle_of p) p.table.entries handles)
-      (same_requests after p requests) (same_responses after p responses) refl refl
+      (same_requests after p requests) (same_responses after p responses)
+      (same_expired _ _ (same_requests after p requests) (same_responses after p responses)) refl

@@ -20,7 +20,7 @@ use Rattle.rr_store.proofs.loaning.LoanedSender.{slot_cases, both_true, held_onc
 use Rattle.rr_store.proofs.base.senders.Counted.{counted_set}
 use Rattle.rr_store.proofs.base.lists.Replaced.{set_alike, set_cases}
 use Rattle.rr_store.proofs.base.hands.Stages.{loan_is_request, pending_is_request, handle_uses_request}
-use Rattle.rr_store.proofs.base.frames.Frames.{client_before, client_after, framed_client_ports, framed_server_ports, framed_by_value, framed_sized, senders_set, ports_set}
+use Rattle.rr_store.proofs.base.frames.Frames.{client_before, client_after, framed_client_ports, framed_server_ports, framed_have_ports, framed_sized, senders_set, ports_set}
 use Rattle.rr_store.proofs.base.frames.Kept.{framed_inserted}
 use Rattle.rr_store.proofs.base.hands.Hands.{count-cons, none_in_hand, never, senders_same, inserted_sound}
 
@@ -306,8 +306,7 @@ module _ {Q QH P PH K : Type 0} (p : Parts Q QH P PH K) (sound : IsSound p empty
         (λ _ is. omega (arith, ap (λ (d : ClientPart K). d.loans_made) is, sound.sized.loans_made index c at))
         (λ _ b. omega (arith, sound.sized.loans_made i d b)));
     vacated = vacated;
-    have_values = framed_by_value p empty_hand sound after.clients after.client_senders p.server_senders p.table.entries
-        (p.next + 1) frame;
+    have_ports = framed_have_ports p empty_hand sound after.clients after.client_senders p.server_senders p.table.entries (p.next + 1) frame (λ k s at. at);
     client_ports = framed_client_ports p empty_hand sound after.clients after.client_senders p.server_senders
         p.table.entries
         (p.next + 1) frame;
@@ -334,4 +333,12 @@ module _ {Q QH P PH K : Type 0} (p : Parts Q QH P PH K) (sound : IsSound p empty
     loans = λ server loans h. absurd (let f : stage.RequestMutUninit ≡ stage.ActiveRequest server loans = h in cc);
     received = λ h. absurd (false≢true h);
     answering = λ server loans h. absurd (let f : stage.RequestMutUninit ≡ stage.ActiveRequest server loans = h in cc);
+    ported = record {
+      request_loan = λ _.
+          let d = client_after p empty_hand sound after.clients after.client_senders p.server_senders p.table.entries (p.next + 1) frame
+          index c at in
+          (index, d.0, d.1, ap (λ (f : Connected K). f.sender) d.2);
+      pending = λ h. absurd (false≢true h);
+      response_loan = λ h. absurd (false≢true h);
+    };
   })

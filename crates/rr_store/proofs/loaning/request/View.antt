@@ -21,7 +21,7 @@ use Rattle.rr_store.specs.Parts.{Parts, ClientPart, ServerPart, Sender}
 use Rattle.rr_store.specs.Views.{no_sender, no_request, sender_of, state_of, client_of, request_in_slot, response_in_slot, request_at, handle_of, requests_at, responses_at, marked}
 use Rattle.rr_store.specs.Sound.{IsSound, empty_hand, request_uses}
 use Rattle.rr_store.specs.Loaning.{with_loan_made, with_one_loan, with_messages, loan_details, loan_held, loan_place, with_request_loan}
-use Rattle.rr_store.proofs.base.views.Agreeing.{same_handle, same_requests, same_responses, same_state}
+use Rattle.rr_store.proofs.base.views.Agreeing.{same_handle, same_requests, same_responses, same_state, same_expired}
 use Rattle.rr_store.proofs.base.lists.Replaced.{map-set_one, map_but, find_read, map_without, set_alike}
 use Rattle.rr_store.proofs.base.hands.Stages.{handle_uses_request}
 use Rattle.rr_store.proofs.base.lists.Adding.{mapped}
@@ -181,4 +181,5 @@ module _ {Q QH P PH K : Type 0} (p : Parts Q QH P PH K) (sound : IsSound p empty
   pub loan_view : state_of after ≡ with_loaned_request (state_of p) (client_of c) len slot header
   loan_view =
       same_state (state_of after) (with_loaned_request (state_of p) (client_of c) len slot header) refl refl
-      clients refl all_handles (same_requests after p requests) (same_responses after p responses) refl refl
+      clients refl all_handles (same_requests after p requests) (same_responses after p responses)
+      (same_expired _ _ (same_requests after p requests) (same_responses after p responses)) refl

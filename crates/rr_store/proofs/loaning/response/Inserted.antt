@@ -112,6 +112,11 @@ module _ {Q QH P PH K : Type 0} (p : Parts Q QH P PH K) (sound : IsSound p empty
           ap (λ (a : ResponseDetails). a.server) v ∙ b.1 ∙ same,
           sym (ap (λ (h : HandleEntry). h.sender) is) ∙ b.2 ∙ sym (ap (λ (a : ResponseDetails). a.client_sender) v),
         ));
+    ported = record {
+      request_loan = λ h. absurd (false≢true h);
+      pending = λ h. absurd (false≢true h);
+      response_loan = λ h. absurd (false≢true h);
+    };
   }
 
   abbrev counted : Parts Q QH P PH K
@@ -146,6 +151,11 @@ module _ {Q QH P PH K : Type 0} (p : Parts Q QH P PH K) (sound : IsSound p empty
     loans = λ server l h. absurd (let f : stage.ResponseMutUninit ≡ stage.ActiveRequest server l = h in cc);
     received = λ h. absurd (false≢true h);
     answering = λ server l h. absurd (let f : stage.ResponseMutUninit ≡ stage.ActiveRequest server l = h in cc);
+    ported = record {
+      request_loan = λ h. absurd (false≢true h);
+      pending = λ h. absurd (false≢true h);
+      response_loan = λ _. (index, c, at, refl);
+    };
   }
 
   -- both in the table

@@ -20,7 +20,7 @@ use Rattle.rr_store.specs.Answering.{active_entry, response_loan_held, response_
 use Rattle.rr_store.proofs.base.senders.Counted.{counted_set}
 use Rattle.rr_store.proofs.base.lists.Replaced.{set_alike}
 use Rattle.rr_store.proofs.base.hands.Stages.{handle_uses_response, response_loan_is_response, received_is_response}
-use Rattle.rr_store.proofs.base.frames.Frames.{framed_client_ports, framed_server_ports, framed_by_value, framed_sized, senders_set}
+use Rattle.rr_store.proofs.base.frames.Frames.{framed_client_ports, framed_server_ports, framed_have_ports, framed_sized, senders_set}
 use Rattle.rr_store.proofs.base.frames.Kept.{framed_inserted}
 use Rattle.rr_store.proofs.base.hands.Hands.{count-cons, one_in_hand, none_in_hand, senders_same}
 use Rattle.rr_store.proofs.base.views.Agreeing.{sender_within}
@@ -372,8 +372,7 @@ module _ {Q QH P PH K : Type 0} (p : Parts Q QH P PH K) (index : ℕ) (c : Serve
         (omega (arith, left))
         (λ i d e. omega (arith, sound.sized.loans_made i d e));
     vacated = vacated;
-    have_values = framed_by_value p hand sound p.clients p.client_senders after.server_senders p.table.entries
-        (p.next + 1) frame;
+    have_ports = framed_have_ports p hand sound p.clients p.client_senders after.server_senders p.table.entries (p.next + 1) frame (λ k s at. at);
     client_ports = framed_client_ports p hand sound p.clients p.client_senders after.server_senders p.table.entries
         (p.next + 1) frame;
     server_ports = framed_server_ports p hand sound p.clients p.client_senders after.server_senders p.table.entries

@@ -22,7 +22,7 @@ use Rattle.rr_store.specs.Views.{no_sender, no_response, sender_of, state_of, re
 use Rattle.rr_store.specs.Sound.{IsSound, IsShaped, empty_hand, response_uses}
 use Rattle.rr_store.specs.Loaning.{with_messages, with_one_loan}
 use Rattle.rr_store.specs.Answering.{active_entry, response_loan_held, response_loan_details, response_loan_place, with_response_loan}
-use Rattle.rr_store.proofs.base.views.Agreeing.{same_handle, same_responses, same_state}
+use Rattle.rr_store.proofs.base.views.Agreeing.{same_handle, same_responses, same_state, same_expired}
 use Rattle.rr_store.proofs.base.views.Counts.{listed}
 use Rattle.rr_store.proofs.base.lists.Replaced.{find_read, map_without}
 use Rattle.rr_store.proofs.base.senders.Queues.{times_queue}
@@ -184,4 +184,5 @@ module _ {Q QH P PH K : Type 0} (p : Parts Q QH P PH K) (sound : IsSound p empty
   pub response_loan_view : state_of after ≡ with_loaned_response (state_of p) n active len header
   response_loan_view =
       same_state (state_of after) (with_loaned_response (state_of p) n active len header) refl refl
-      refl refl all_handles refl (same_responses after p responses) refl refl
+      refl refl all_handles refl (same_responses after p responses)
+      (same_expired _ _ refl (same_responses after p responses)) refl

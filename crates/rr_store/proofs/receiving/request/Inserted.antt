@@ -93,4 +93,9 @@ module _ {Q QH P PH K : Type 0} (p : Parts Q QH P PH K) (sound : IsSound p empty
             );
         received = λ h. absurd (false≢true h);
         answering = λ server loans h l i u f. absurd (none_answers l i u f);
+        ported = record {
+          request_loan = λ h. absurd (false≢true h);
+          pending = λ h. absurd (false≢true h);
+          response_loan = λ h. absurd (false≢true h);
+        };
       })

@@ -12,7 +12,7 @@ use Rattle.rr_store.specs.Receiving.{queue_from}
 use Rattle.rr_store.specs.Skimming.{without_first}
 use Rattle.rr_store.specs.Sound.{IsSound, IsCounted, IsHeldOnce, IsStored, IsVacated, IsShaped, empty_hand, request_details, request_uses, server_place}
 use Rattle.rr_store.specs.Views.{no_sender, no_request, sender_of, is_marked}
-use Rattle.rr_store.proofs.base.frames.Frames.{framed_client_ports, framed_server_ports, framed_by_value, framed_sized, senders_set}
+use Rattle.rr_store.proofs.base.frames.Frames.{framed_client_ports, framed_server_ports, framed_have_ports, framed_sized, senders_set}
 use Rattle.rr_store.proofs.base.views.Counts.{listed}
 use Rattle.rr_store.proofs.base.hands.Hands.{senders_same}
 use Rattle.rr_store.proofs.base.frames.Kept.{framed_inserted, kept_numbered, kept_addressed}
@@ -182,9 +182,7 @@ module _ {Q QH P PH K : Type 0} (p : Parts Q QH P PH K) (sound : IsSound p empty
         frame
         sound.sized.next_fits sound.sized.loans_made;
     vacated = vacated;
-    have_values = framed_by_value p empty_hand sound p.clients after_skim.client_senders p.server_senders
-        p.table.entries
-        p.next frame;
+    have_ports = framed_have_ports p empty_hand sound p.clients after_skim.client_senders p.server_senders p.table.entries p.next frame (λ k s at. at);
     client_ports = framed_client_ports p empty_hand sound p.clients after_skim.client_senders p.server_senders
         p.table.entries
         p.next frame;

@@ -19,7 +19,7 @@ use Rattle.rr_store.specs.Sound.{IsSound, IsCounted, IsHeldOnce, IsStored, IsVac
 use Rattle.rr_store.specs.Views.{no_sender, no_request, sender_of, is_marked}
 use Rattle.rr_store.proofs.releasing.active.Sound.{servers_apart}
 use Rattle.rr_store.proofs.base.senders.Entries.{found_alone}
-use Rattle.rr_store.proofs.base.frames.Frames.{framed_client_ports, framed_server_ports, framed_by_value, framed_sized, senders_set}
+use Rattle.rr_store.proofs.base.frames.Frames.{framed_client_ports, framed_server_ports, framed_have_ports, framed_sized, senders_set}
 use Rattle.rr_store.proofs.base.views.Counts.{listed}
 use Rattle.rr_store.proofs.base.hands.Hands.{count-cons, none_in_hand, senders_same}
 use Rattle.rr_store.proofs.base.frames.Kept.{framed_inserted, kept_numbered, kept_addressed}
@@ -325,8 +325,7 @@ module _ {Q QH P PH K : Type 0} (p : Parts Q QH P PH K) (sound : IsSound p empty
         frame
         (omega (arith, left)) (λ i d e. omega (arith, sound.sized.loans_made i d e));
     vacated = vacated;
-    have_values = framed_by_value p empty_hand sound p.clients after.client_senders p.server_senders p.table.entries
-        (p.next + 1) frame;
+    have_ports = framed_have_ports p empty_hand sound p.clients after.client_senders p.server_senders p.table.entries (p.next + 1) frame (λ k s at. at);
     client_ports = framed_client_ports p empty_hand sound p.clients after.client_senders p.server_senders
         p.table.entries
         (p.next + 1) frame;

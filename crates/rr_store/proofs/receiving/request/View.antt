@@ -1,5 +1,5 @@
 -- What contracts see of a core after the oldest request left a queue.
-use Rattle.std.proofs.Common.{◌≡◌, ◌<◌, ◌+◌, ℕ, Bool, true, false, cond, List, [], ◌∷◌, Option, None, Some, length, map, refl, sym, ap, ◌∙◌, ⊎_elim, arith}
+use Rattle.std.proofs.Common.{◌≡◌, ◌<◌, ◌+◌, ℕ, Bool, true, false, cond, List, [], ◌∷◌, Option, None, Some, length, map, refl, sym, ap, ◌∙◌, ⊎_elim, arith, filter}
 use Rattle.std.specs.Prelude.{◌==◌, slice_get, slice_index, slice_set, drop, find}
 use Rattle.std.specs.Option.{option_map_or}
 use Rattle.std.specs.declared.cmp.Ordering.{Ordering}
@@ -16,10 +16,10 @@ use Rattle.rr_maps.proofs.MapLaws.{map_values-insert, map_values-same}
 use Rattle.rr_sender.specs.Senders.{Messages, queue_at, borrowed_at, set_two}
 use Rattle.rr_sender.proofs.EntryLaws.{at_two-set_two}
 use Rattle.rr_protocol.specs.Keys.{RequestKey, request_key, request_key_cmp}
-use Rattle.rr_protocol.specs.Lists.{at, with_at}
+use Rattle.rr_protocol.specs.Lists.{at, with_at, Lists}
 use Rattle.rr_protocol.specs.Messages.{Handle, ActiveRequest, RequestMessage}
 use Rattle.rr_protocol.specs.Receives.{with_active_request}
-use Rattle.rr_protocol.specs.Releases.{without_empty_clients, has_requests_from}
+use Rattle.rr_protocol.specs.Releases.{without_empty_clients}
 use Rattle.rr_protocol.specs.State.{State}
 use Rattle.rr_protocol.proofs.KeyLaws.{request_keys_total, request_keys_exact}
 use Rattle.rr_protocol.proofs.ListsLaws.{at-with_at, same_lists}
@@ -31,16 +31,19 @@ use Rattle.rr_store.specs.Parts.{Parts, ServerPart, Sender}
 use Rattle.rr_store.specs.Receiving.{queue_from}
 use Rattle.rr_store.specs.Skimming.{with_received_request}
 use Rattle.rr_store.specs.Sound.{IsSound, IsShaped, empty_hand, active_place}
-use Rattle.rr_store.specs.Views.{no_sender, sender_of, state_of, request_in_slot, request_at, handle_of, requests_at, waiting_at, marked}
-use Rattle.rr_store.proofs.base.views.Agreeing.{same_handle, same_state}
+use Rattle.rr_store.specs.Views.{no_sender, sender_of, state_of, request_in_slot, request_at, handle_of, requests_at, waiting_at, marked, request_lists, response_lists}
+use Rattle.rr_store.proofs.base.views.Agreeing.{same_handle, same_state, same_expired}
 use Rattle.rr_store.proofs.base.senders.Entries.{found_alone}
 use Rattle.rr_store.proofs.base.lists.Found.{found_passes, found_somewhere}
 use Rattle.rr_store.proofs.base.views.Counts.{listed}
 use Rattle.rr_store.proofs.base.views.Keyed.{at_requests}
 use Rattle.rr_store.proofs.base.lists.Replaced.{find_read, set_alike}
-use Rattle.rr_store.proofs.receiving.response.View.{find_skip, first_and_rest, nobody_left}
+use Rattle.rr_store.proofs.receiving.response.View.{find_skip, first_and_rest}
 use Rattle.rr_store.proofs.base.lists.SetTwo.{other_row}
 use Rattle.rr_store.proofs.base.senders.Numbered.{numbered_once}
+use Rattle.rr_store.proofs.base.views.Expired.{request_gone}
+use Rattle.rr_store.proofs.base.views.Left.{no_responses_to}
+use Rattle.rr_store.specs.Expired.{expired_of, requests_from}
 
 module _ {Q QH P PH K : Type 0} (p : Parts Q QH P PH K) (sound : IsSound p empty_hand) (sender : ℕ)
     (there : sender < length p.client_senders)
@@ -77,6 +80,16 @@ module _ {Q QH P PH K : Type 0} (p : Parts Q QH P PH K) (sound : IsSound p empty
       at_requests p key
       ∙ (rw the_server (rw the_sender refl))
       ∙ ap (map (request_in_slot p.spare_request_header m)) (first_and_rest (queue_at m c.receiver 0) slot first)
+
+  -- whom the server still has messages of
+  fewer_expired : {requests : Lists request_key_cmp (RequestMessage Q QH)} → requests ≡ with_at (state_of p).requests key rest
+      → expired_of requests (response_lists p) (map (λ l. l.number) p.left_clients) (map (λ l. l.number) p.left_servers)
+      ≡ with_at (state_of p).expired c.port.id (filter (requests_from (with_at (state_of p).requests key rest) c.port.id)
+      (at (state_of p).expired c.port.id))
+  fewer_expired is =
+      same_expired _ _ is refl
+      ∙ request_gone _ _ (request_lists p) (response_lists p) key (request_at p sender slot) rest queued
+      (no_responses_to p empty_hand sound index c at_c)
 
   module _ (held : List ℕ) (borrowed : List (List ℕ)) where
     abbrev fresh : Sender Q RequestDetails QH
@@ -211,9 +224,7 @@ module _ {Q QH P PH K : Type 0} (p : Parts Q QH P PH K) (sound : IsSound p empty
     pub popped_view : state_of popped ≡ popped_state
     popped_view =
         same_state (state_of popped) popped_state refl refl refl refl
-        (map_values-same (handle_of popped) (handle_of p) p.table.entries handles) requests refl
-        (sym (nobody_left c.port.id (has_requests_from (record (state_of p) { requests = with_at (state_of p).requests key rest })
-        c.port.id))) refl
+        (map_values-same (handle_of popped) (handle_of p) p.table.entries handles) requests refl (fewer_expired requests) refl
 
   -- a server received the request
   pub received_request_view : state_of (with_received_request p c.port.id sender c.receiver slot) ≡ with_active_request
@@ -222,8 +233,7 @@ module _ {Q QH P PH K : Type 0} (p : Parts Q QH P PH K) (sound : IsSound p empty
       c.port.id (request_at p sender slot)
   received_request_view =
       same_state (state_of after) _ refl refl refl refl active (requests more_held more_borrowed) refl
-      (sym (nobody_left c.port.id (has_requests_from (record (state_of p) { requests = with_at (state_of p).requests key rest })
-      c.port.id))) refl
+      (fewer_expired (requests more_held more_borrowed)) refl
     where
       more_held : List ℕ
       more_held = slice_set m.held slot (slice_index m.held slot + 1)

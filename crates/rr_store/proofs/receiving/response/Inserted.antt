@@ -102,4 +102,9 @@ received_sound p sound sender there index c at channel slot inside first =
             ∙ sym (ap (λ n. n.client) (details sender slot)),
       );
       answering = λ server loans h. absurd (let f : stage.Response ≡ stage.ActiveRequest server loans = h in cc);
+      ported = record {
+        request_loan = λ h. absurd (false≢true h);
+        pending = λ h. absurd (false≢true h);
+        response_loan = λ h. absurd (false≢true h);
+      };
     })

@@ -1,11 +1,10 @@
 -- What contracts see of a core after a response was received.
 use Rattle.std.proofs.Common.{◌≡◌, ◌<◌, ℕ, zero, suc, Bool, true, false, cond, List, [], ◌∷◌, Option, None, Some, length, get_or, map, refl, sym, ap, ◌∙◌, ⊎_elim, arith}
-use Rattle.std.specs.Prelude.{◌==◌, slice_get, slice_set, drop, find, filter}
+use Rattle.std.specs.Prelude.{◌==◌, slice_get, slice_set, drop, find}
 use Rattle.std.specs.Option.{option_map_or}
 use Rattle.std.specs.declared.cmp.Ordering.{Ordering}
 use Rattle.std.specs.declared.cmp.Ordering.TheVariants.{Less, Equal, Greater}
 use Rattle.std.specs.Ordering.{nat_cmp, eq_by_cmp, is_eq}
-use Rattle.std.specs.Cmp.{nat_cmp_total}
 use Rattle.std.specs.FinMap as fin_map
 use Rattle.std.proofs.lemmas.Bool.{cases_eq, eq-eqb, eqb-true, ne_eqb, false≢true}
 use Rattle.std.proofs.lemmas.List.{length-set}
@@ -16,19 +15,19 @@ use Rattle.rr_maps.specs.Maps.{map_values}
 use Rattle.rr_maps.proofs.MapLaws.{map_values-insert, map_values-same}
 use Rattle.rr_sender.specs.Senders.{Messages, queue_at, taken}
 use Rattle.rr_protocol.specs.Keys.{ResponseKey, response_key_cmp}
-use Rattle.rr_protocol.specs.Lists.{at, with_at, no_lists}
+use Rattle.rr_protocol.specs.Lists.{at, with_at}
 use Rattle.rr_protocol.specs.Limits.{worst_case_requests}
 use Rattle.rr_protocol.specs.Messages.{Handle, Response, ResponseMessage}
-use Rattle.rr_protocol.specs.Releases.{without_empty_servers, has_responses_from}
+use Rattle.rr_protocol.specs.Releases.{without_empty_servers}
 use Rattle.rr_protocol.proofs.KeyLaws.{response_keys_total, response_keys_exact}
-use Rattle.rr_protocol.proofs.ListsLaws.{at-no_lists, at-with_at, same_lists}
+use Rattle.rr_protocol.proofs.ListsLaws.{at-with_at, same_lists}
 use Rattle.rr_store.specs.declared.details.ResponseDetails.{ResponseDetails}
 use Rattle.rr_store.specs.Parts.{Parts, ClientPart, Sender}
-use Rattle.rr_store.specs.Views.{no_sender, sender_of, state_of, response_in_slot, response_at, handle_of, responses_at}
+use Rattle.rr_store.specs.Views.{no_sender, sender_of, state_of, response_in_slot, response_at, handle_of, responses_at, request_lists, response_lists}
 use Rattle.rr_store.specs.Sound.{IsSound, empty_hand, response_details, response_place}
 use Rattle.rr_store.specs.Loaning.{with_messages}
 use Rattle.rr_store.specs.Receiving.{queue_from, received_held, with_received_response}
-use Rattle.rr_store.proofs.base.views.Agreeing.{same_handle, same_state}
+use Rattle.rr_store.proofs.base.views.Agreeing.{same_handle, same_state, same_expired}
 use Rattle.rr_store.proofs.base.senders.Entries.{found_alone}
 use Rattle.rr_store.proofs.base.lists.Found.{found_passes, found_somewhere, find_here, find_there}
 use Rattle.rr_store.proofs.base.views.Counts.{listed}
@@ -37,6 +36,8 @@ use Rattle.rr_store.proofs.base.lists.Replaced.{find_read}
 use Rattle.rr_store.proofs.receiving.response.Sound.{shaped, placed, here_is, same_of, in_hand}
 use Rattle.rr_store.proofs.receiving.TakenSender.{queue_here, queue_there}
 use Rattle.rr_store.proofs.base.senders.Numbered.{numbered_once}
+use Rattle.rr_store.proofs.base.views.Expired.{response_gone}
+use Rattle.rr_store.proofs.base.views.Left.{no_requests_to}
 
 -- where neither the old element nor the new one passes, the same is found
 pub find_skip : {X : Type 0} (test : X → Bool) (xs : List X) (i : ℕ) (y d : X) → i < length xs → test y ≡ false
@@ -53,18 +54,6 @@ find_skip {X} test (x ∷ xs) (suc i) y d h a b = go (find_skip test xs i y d (o
 pub first_and_rest : (xs : List ℕ) (x : ℕ) → slice_get xs 0 ≡ Some x → xs ≡ x ∷ drop 1 xs
 first_and_rest [] x e = absurd (let f : None ≡ Some x = e in cc)
 first_and_rest (y ∷ xs) x e = let f : Some y ≡ Some x = e in let is : y ≡ x = cc in ap (λ z. z ∷ xs) is
-
--- where nobody left, nobody is forgotten
-pub nobody_left : (client : ℕ) (test : ℕ → Bool) → with_at {X = ℕ} (no_lists {cmp = nat_cmp}) client
-    (filter test (at {cmp = nat_cmp} no_lists client)) ≡ no_lists
-nobody_left client test =
-    ap (λ (xs : List ℕ). with_at {X = ℕ} (no_lists {cmp = nat_cmp}) client (filter test xs)) (at-no_lists nat_cmp client)
-    ∙ same_lists nat_cmp_total fin_map.nat_cmp-IsAntisymmetric (with_at (no_lists {cmp = nat_cmp}) client []) no_lists
-    (λ k. at-with_at nat_cmp_total no_lists client [] k ∙ either (eq_by_cmp nat_cmp k client) (at no_lists k) (at-no_lists nat_cmp k))
-  where
-    either : (b : Bool) (xs : List ℕ) → xs ≡ [] → cond b [] xs ≡ xs
-    either true xs e = sym e
-    either false xs e = refl
 
 module _ {Q QH P PH K : Type 0} (p : Parts Q QH P PH K) (sound : IsSound p empty_hand) (sender : ℕ)
     (there : sender < length p.server_senders)
@@ -226,5 +215,6 @@ module _ {Q QH P PH K : Type 0} (p : Parts Q QH P PH K) (sound : IsSound p empty
       { handles = fin_map.insert (state_of p).handles (response_details p sender slot).number (Response (response_at p sender slot)) }
   received_view =
       same_state (state_of after) _ refl refl refl refl handles refl responses
-      (sym (nobody_left c.port.id (has_responses_from (record (state_of p) { responses = with_at (state_of p).responses key rest })
-      c.port.id))) refl
+      (same_expired _ _ refl responses
+      ∙ response_gone _ _ (request_lists p) (response_lists p) key (response_at p sender slot) rest queued
+      (no_requests_to p empty_hand sound index c at_c)) refl

@@ -24,7 +24,7 @@ use Rattle.rr_protocol.specs.Keys.{RequestKey}
 use Rattle.rr_sender.specs.Senders.{queue_at}
 use Rattle.rr_store.specs.Releasing.{without_mark}
 use Rattle.rr_store.proofs.base.lists.Replaced.{find_read, set_alike}
-use Rattle.rr_store.proofs.base.views.Agreeing.{same_state, same_requests}
+use Rattle.rr_store.proofs.base.views.Agreeing.{same_state, same_requests, same_expired}
 use Rattle.rr_store.proofs.base.senders.GivenBack.{bare_less}
 use Rattle.rr_store.proofs.base.senders.BorrowEnded.{one_less}
 use Rattle.rr_store.proofs.base.views.Counts.{listed}
@@ -219,7 +219,7 @@ module _ {Q QH P PH K : Type 0} (p : Parts Q QH P PH K) (sound : IsSound p empty
 
   unmarked_view : state_of unmarked ≡ with_changed (state_of taken) number (without_server server)
   unmarked_view = same_state (state_of unmarked) (with_changed (state_of taken) number (without_server server)) refl refl refl refl changed
-      (same_requests unmarked taken requests) refl refl refl
+      (same_requests unmarked taken requests) refl (same_expired _ _ (same_requests unmarked taken requests) refl) refl
 
   abbrev without : State Q QH P PH K
   without = record (state_of p) { handles = fin_map.remove (state_of p).handles k }
@@ -233,7 +233,7 @@ module _ {Q QH P PH K : Type 0} (p : Parts Q QH P PH K) (sound : IsSound p empty
       release_is (state_of p) k (handle_in p (stage.ActiveRequest server loans) entry.sender entry.slot)
       (table_entry_shown p k s at ∙ ap Some seen_active)
       (server_in_use (with_changed without number (without_server server)) f.0 (server_of f.1) (listed server_of p.servers f.0 f.1 f.2)
-      (sound.have_values.servers f.0 f.1 f.2) server f.3)
+      (sound.have_ports.server_values f.0 f.1 f.2) server f.3)
 
   abbrev own : Sender Q RequestDetails QH
   own = sender_of entry.sender unmarked.client_senders

@@ -12,7 +12,7 @@ use Rattle.rr_protocol.specs.Keys.{ResponseKey, response_key_cmp}
 use Rattle.rr_protocol.specs.Limits.{worst_case_requests}
 use Rattle.rr_protocol.specs.Lists.{Lists}
 use Rattle.rr_protocol.specs.Messages.{ResponseMessage, port_of}
-use Rattle.rr_protocol.specs.Releases.{after_release, after_handle_gone, with_empty_channel, has_responses_from}
+use Rattle.rr_protocol.specs.Releases.{after_release, after_handle_gone, with_empty_channel}
 use Rattle.rr_protocol.specs.State.{State}
 use Rattle.rr_protocol.proofs.KeyLaws.{response_keys_total, response_keys_exact}
 use Rattle.rr_protocol.proofs.ListsLaws.{at-retain_keys, same_lists}
@@ -23,8 +23,8 @@ use Rattle.rr_store.specs.declared.details.ResponseDetails.{ResponseDetails}
 use Rattle.rr_store.specs.Clearing.{with_empty_queue}
 use Rattle.rr_store.specs.Parts.{Parts, ClientPart, Sender}
 use Rattle.rr_store.specs.Sound.{IsSound, empty_hand, is_of_request, request_details}
-use Rattle.rr_store.specs.Views.{sender_of, no_sender, state_of, client_of, response_in_slot, handle_in, handle_of, responses_at}
-use Rattle.rr_store.proofs.base.views.Agreeing.{same_handle, same_state}
+use Rattle.rr_store.specs.Views.{sender_of, no_sender, state_of, client_of, response_in_slot, handle_in, handle_of, responses_at, request_lists, response_lists}
+use Rattle.rr_store.proofs.base.views.Agreeing.{same_handle, same_state, same_expired}
 use Rattle.rr_store.proofs.releasing.pending.Cleared.{cleared_at, queue_here, queue_there}
 use Rattle.rr_store.proofs.base.lists.Found.{found_passes, found_somewhere}
 use Rattle.rr_store.proofs.base.senders.GivenBack.{bare_less}
@@ -32,11 +32,12 @@ use Rattle.rr_store.proofs.base.views.Counts.{listed}
 use Rattle.rr_store.proofs.base.views.Keyed.{at_responses}
 use Rattle.rr_store.proofs.releasing.pending.Sound.{taken, own, senders, server_senders, after_pending, placed, inside}
 use Rattle.rr_store.proofs.base.lists.Replaced.{find_mapped}
-use Rattle.rr_store.proofs.receiving.response.View.{nobody_left}
 use Rattle.rr_store.proofs.releasing.View.{release_is, client_in_use, removed_view, table_entry_shown}
 use Rattle.rr_store.proofs.base.hands.Stages.{handle_uses_request}
 use Rattle.rr_store.proofs.base.views.Uncounted.{uncounted}
 use Rattle.rr_store.proofs.base.senders.Numbered.{numbered_once}
+use Rattle.rr_store.proofs.base.views.Expired.{channel_gone}
+use Rattle.rr_store.proofs.base.views.Left.{no_requests_to}
 
 module _ {Q QH P PH K : Type 0} (p : Parts Q QH P PH K) (sound : IsSound p empty_hand) (k : ℕ) (s : TableEntry HandleEntry)
     (at : fin_map.get p.table.entries k ≡ Some s) (hint : Bool) (connections : ℕ)
@@ -194,7 +195,9 @@ module _ {Q QH P PH K : Type 0} (p : Parts Q QH P PH K) (sound : IsSound p empty
   emptied_view =
       same_state (state_of emptied) (with_empty_channel (state_of gone) c.port.id channel) refl refl refl refl
       (map_values-same (handle_of emptied) (handle_of gone) gone.table.entries handles)
-      refl responses (sym (nobody_left c.port.id (has_responses_from (record (state_of gone) { responses = kept }) c.port.id))) refl
+      refl responses
+      (same_expired _ _ refl responses
+      ∙ channel_gone _ _ (request_lists p) (response_lists p) c.port.id channel (no_requests_to p empty_hand sound index c there)) refl
 
   abbrev without : State Q QH P PH K
   without = record (state_of p) { handles = fin_map.remove (state_of p).handles k }
@@ -216,7 +219,7 @@ module _ {Q QH P PH K : Type 0} (p : Parts Q QH P PH K) (sound : IsSound p empty
       release_is (state_of p) k (handle_of p s) (table_entry_shown p k s at)
       (client_in_use (after_handle_gone without (handle_of p s)) index (client_of c)
       (ap (λ (t : State Q QH P PH K). slice_get t.clients index) goes ∙ listed client_of p.clients index c there)
-      (sound.have_values.clients index c there) (port_of (handle_of p s)) (sym (ap port_of handle_is ∙ its_port)))
+      (sound.have_ports.client_values index c there) (port_of (handle_of p s)) (sym (ap port_of handle_is ∙ its_port)))
       ∙ goes
 
   pub pending_view : state_of (after_pending p sound k s at hint connections pending index c there sends) ≡ after_release (state_of p) k

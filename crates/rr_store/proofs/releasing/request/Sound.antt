@@ -196,7 +196,7 @@ module _ {Q QH P PH K : Type 0} (p : Parts Q QH P PH K) (sound : IsSound p empty
       release_is (state_of p) k (handle_of p s) (table_entry_shown p k s at)
       (client_in_use (after_handle_gone without (handle_of p s)) index (client_of c)
       (ap (λ (t : State Q QH P PH K). slice_get t.clients index) stays ∙ listed client_of p.clients index c there)
-      (sound.have_values.clients index c there) (port_of (handle_of p s)) its_port)
+      (sound.have_ports.client_values index c there) (port_of (handle_of p s)) its_port)
       ∙ stays
 
   pub released_view : state_of after_loan ≡ after_release (state_of p) k

@@ -218,7 +218,7 @@ module _ {Q QH P PH K : Type 0} (p : Parts Q QH P PH K) (sound : IsSound p empty
       release_is (state_of p) k (handle_of p s) (table_entry_shown p k s at)
       (client_in_use (after_handle_gone without (handle_of p s)) index (client_of c)
       (ap (λ (t : State Q QH P PH K). slice_get t.clients index) stays ∙ listed client_of p.clients index c there)
-      (sound.have_values.clients index c there) (port_of (handle_of p s)) (named ∙ sym (port_is entry.stage entry.sender entry.slot got)))
+      (sound.have_ports.client_values index c there) (port_of (handle_of p s)) (named ∙ sym (port_is entry.stage entry.sender entry.slot got)))
       ∙ stays
 
   -- contracts see the handle go, and nothing else

@@ -12,10 +12,9 @@ use Rattle.rr_store.specs.declared.handle_entry.HandleEntry.{HandleEntry}
 use Rattle.rr_store.specs.declared.handle_entry.Stage.TheVariants as stage
 use Rattle.rr_store.specs.Ending.{IsAskedPlace}
 use Rattle.rr_store.specs.declared.details.RequestDetails.{RequestDetails}
-use Rattle.rr_store.specs.Parts.{Parts, Connected, ClientPart, ServerPart, Sender}
+use Rattle.rr_store.specs.Parts.{Parts, ClientPart, ServerPart, Sender}
 use Rattle.rr_store.specs.Views.{sender_of, no_sender}
-use Rattle.rr_store.specs.Sound.{IsSound, Hand, is_of_request, is_response_loan, is_response_at, request_uses, response_uses, response_details, server_place, place_at}
-use Rattle.rr_store.proofs.base.lists.Adding.{mapped}
+use Rattle.rr_store.specs.Sound.{HasPort, IsSound, Hand, is_of_request, is_response_loan, is_response_at, request_uses, response_uses, response_details, server_place, place_at}
 use Rattle.rr_store.proofs.base.views.Agreeing.{request_sender}
 use Rattle.rr_store.proofs.base.senders.Entries.{found_alone}
 use Rattle.rr_store.proofs.base.views.Counts.{listed}
@@ -25,26 +24,24 @@ use Rattle.rr_store.proofs.base.senders.Numbered.{numbered_once}
 
 module _ {Q QH P PH K : Type 0} (p : Parts Q QH P PH K) (hand : Hand) (sound : IsSound p hand) where
   -- the client of a sender, and that it is the one with its number
-  pub client_of_sender : (l : ℕ) → l < length p.client_senders → (i : ℕ) × (c : ClientPart K) × (slice_get p.clients i ≡ Some c)
+  pub client_of_sender : (l : ℕ) → HasPort (λ c. c.sender) p.clients l → (i : ℕ) × (c : ClientPart K) × (slice_get p.clients i ≡ Some c)
       × (c.sender ≡ l)
       × (c.port.id ≡ (sender_of l p.client_senders).owner)
       × (c.port.pool_size ≡ length (sender_of l p.client_senders).messages.held) × (find (λ d. d.port.id == c.port.id) p.clients ≡ Some c)
-  client_of_sender l within =
-      let b = sound.client_ports.ported l within in
-      let x = mapped (λ (c : ClientPart K). c.connected) p.clients b.0 b.1 b.2 in
-      let sender : x.0.sender ≡ l = ap (λ (c : Connected K). c.sender) x.2 ∙ b.3 in
-      let own = sound.client_ports.own b.0 b.1 b.2 in
-      let at_sender : sender_of b.1.sender p.client_senders ≡ sender_of l p.client_senders = ap (λ l. sender_of l p.client_senders) b.3 in (
-        b.0,
-        x.0,
-        x.1,
-        sender,
-        ap (λ (c : Connected K). c.port.id) x.2 ∙ sym own.1 ∙ ap (λ x. x.owner) at_sender,
-        ap (λ (c : Connected K). c.port.pool_size) x.2 ∙ sym own.2 ∙ ap (λ x. length x.messages.held) at_sender,
-        found_alone (λ (d : ClientPart K). d.port.id == x.0.port.id) p.clients b.0 x.0 x.1 (eq-eqb x.0.port.id x.0.port.id refl)
-            (λ j d e same. numbered_once sound.client_ports j b.0 d.connected x.0.connected
-            (listed (λ (c : ClientPart K). c.connected) p.clients j d e)
-            (listed (λ (c : ClientPart K). c.connected) p.clients b.0 x.0 x.1) (eqb-true d.port.id x.0.port.id same)),
+  client_of_sender l has =
+      let c = has.1 in
+      let here = listed (λ (c : ClientPart K). c.connected) p.clients has.0 c has.2 in
+      let own = sound.client_ports.own has.0 c.connected here in
+      let at_sender : sender_of c.sender p.client_senders ≡ sender_of l p.client_senders = ap (λ l. sender_of l p.client_senders) has.3 in (
+        has.0,
+        c,
+        has.2,
+        has.3,
+        sym own.1 ∙ ap (λ x. x.owner) at_sender,
+        sym own.2 ∙ ap (λ x. length x.messages.held) at_sender,
+        found_alone (λ (d : ClientPart K). d.port.id == c.port.id) p.clients has.0 c has.2 (eq-eqb c.port.id c.port.id refl)
+            (λ j d e same. numbered_once sound.client_ports j has.0 d.connected c.connected
+            (listed (λ (c : ClientPart K). c.connected) p.clients j d e) here (eqb-true d.port.id c.port.id same)),
       )
 
   -- a server that stands at an index is the one with its number

@@ -61,7 +61,7 @@ module _ {Q QH P PH K : Type 0} (p : Parts Q QH P PH K) (a b : HandleEntry) wher
     };
     sized = sound.sized;
     vacated = sound.vacated;
-    have_values = sound.have_values;
+    have_ports = sound.have_ports;
     client_ports = sound.client_ports;
     server_ports = sound.server_ports;
   }
@@ -206,6 +206,11 @@ module _ {Q QH P PH K : Type 0} (q : Parts Q QH P PH K) (entry : HandleEntry)
                 ∙ same,
             a.2 ∙ sym (ap (λ (m : ResponseDetails). m.client_sender) (details_same l i)),
           );
+      ported = record {
+        request_loan = λ h. absurd (false≢true h);
+        pending = λ h. absurd (false≢true h);
+        response_loan = λ h. absurd (false≢true h);
+      };
     }
 
     answered_sound : IsSound (ended (inserted q.table n t.place counted)) empty_hand

@@ -61,6 +61,6 @@ module _ {Q QH P PH K : Type 0} (p : Parts Q QH P PH K) where
         release_is (record (state_of p) { responses = waits }) k (handle_of p s) (table_entry_shown p k s at)
         (server_in_use (after_handle_gone without (handle_of p s)) index (server_of c)
         (ap (λ (t : State Q QH P PH K). slice_get t.servers index) stays ∙ listed server_of p.servers index c there)
-        (sound.have_values.servers index c there) (port_of (handle_of p s))
+        (sound.have_ports.server_values index c there) (port_of (handle_of p s))
         (sym its_server ∙ sym (port_is s.value.stage s.value.sender s.value.slot loan)))
         ∙ stays

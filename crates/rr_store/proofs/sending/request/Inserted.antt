@@ -8,7 +8,7 @@ use Rattle.rr_store.specs.declared.handle_entry.HandleEntry.{HandleEntry}
 use Rattle.rr_store.specs.declared.handle_entry.Stage.TheVariants as stage
 use Rattle.rr_store.specs.declared.details.RequestDetails.{RequestDetails}
 use Rattle.rr_store.specs.Parts.{Parts}
-use Rattle.rr_store.specs.Sound.{IsSound, empty_hand, is_request_loan, request_uses, request_details, place_of}
+use Rattle.rr_store.specs.Sound.{IsSound, empty_hand, is_request_loan, request_uses, request_details, place_of, IsPorted}
 use Rattle.rr_store.specs.Hands.{IsInsertable}
 use Rattle.rr_store.specs.Sending.{request_held, pending_held, with_request_in_queues, with_request_sent}
 use Rattle.rr_store.proofs.base.hands.Hands.{removed_sound, inserted_sound}
@@ -57,6 +57,11 @@ module _ {Q QH P PH K : Type 0} (p : Parts Q QH P PH K) (sound : IsSound p empty
     loans = λ server loans h. absurd (let f : stage.PendingResponse _ _ ≡ stage.ActiveRequest server loans = h in cc);
     received = λ h. absurd (false≢true h);
     answering = λ server loans h. absurd (let f : stage.PendingResponse _ _ ≡ stage.ActiveRequest server loans = h in cc);
+    ported = record {
+      request_loan = λ h. absurd (false≢true h);
+      pending = λ _. (subst (IsPorted p.clients p.servers) is (sound.have_ports.handles k s at)).request_loan refl;
+      response_loan = λ h. absurd (false≢true h);
+    };
   }
 
   -- the request that was sent is in the table

@@ -20,7 +20,7 @@ use Rattle.rr_store.specs.Kept.{DetailsKept}
 use Rattle.rr_store.specs.Sending.{marks_for, queued, request_held, pending_held, with_one_sent, with_request_in_queues}
 use Rattle.rr_store.proofs.base.lists.Adding.{makes_requests}
 use Rattle.rr_store.proofs.base.views.Agreeing.{sender_within}
-use Rattle.rr_store.proofs.base.frames.Frames.{framed_client_ports, framed_server_ports, framed_by_value, framed_sized, senders_set}
+use Rattle.rr_store.proofs.base.frames.Frames.{framed_client_ports, framed_server_ports, framed_have_ports, framed_sized, senders_set}
 use Rattle.rr_store.proofs.base.hands.Hands.{count-cons, one_in_hand, none_in_hand, never, senders_same}
 use Rattle.rr_store.proofs.base.frames.Kept.{framed_inserted, kept_numbered, kept_addressed}
 use Rattle.rr_store.proofs.base.senders.Counted.{counted_set}
@@ -326,8 +326,7 @@ module _ {Q QH P PH K : Type 0} (p : Parts Q QH P PH K) (sender slot connections
         p.next
         frame sound.sized.next_fits sound.sized.loans_made;
     vacated = vacated;
-    have_values = framed_by_value p (entry ∷ []) sound p.clients after.client_senders p.server_senders
-        p.table.entries p.next frame;
+    have_ports = framed_have_ports p (entry ∷ []) sound p.clients after.client_senders p.server_senders p.table.entries p.next frame (λ k s at. at);
     client_ports = framed_client_ports p (entry ∷ []) sound p.clients after.client_senders p.server_senders
         p.table.entries p.next frame;
     server_ports = framed_server_ports p (entry ∷ []) sound p.clients after.client_senders p.server_senders

@@ -21,8 +21,8 @@ use Rattle.rr_protocol.proofs.ListsLaws.{same_lists}
 use Rattle.rr_store.specs.declared.handle_entry.HandleEntry.{HandleEntry}
 use Rattle.rr_store.specs.declared.details.RequestDetails.{RequestDetails}
 use Rattle.rr_store.specs.Parts.{Parts, ServerPart, Sender}
-use Rattle.rr_store.specs.Views.{no_sender, sender_of, state_of, request_in_slot, request_at, handle_of, handle_in, requests_at, marked, waiting_at, server_of}
-use Rattle.rr_store.specs.Sound.{IsSound, IsShaped, empty_hand, is_of_request, has_request_at, request_uses}
+use Rattle.rr_store.specs.Views.{no_sender, sender_of, state_of, request_in_slot, request_at, handle_of, handle_in, requests_at, marked, waiting_at, server_of, request_lists, response_lists}
+use Rattle.rr_store.specs.Sound.{IsSound, IsShaped, empty_hand, is_of_request, has_request_at, request_uses, IsPorted}
 use Rattle.rr_store.specs.Sending.{request_held, pending_held, with_request_sent}
 use Rattle.rr_store.proofs.base.views.Agreeing.{same_handle, same_state}
 use Rattle.rr_store.proofs.base.senders.Entries.{found_alone, found_none}
@@ -35,6 +35,8 @@ use Rattle.rr_store.proofs.sending.request.Lists as lists
 use Rattle.rr_store.proofs.sending.request.Inserted as inserted
 use Rattle.rr_store.proofs.sending.request.Sound as sent
 use Rattle.rr_store.proofs.sending.request.MayAnswer.{servers_placed, places_apart, numbers_apart, waits_for_all, waits_as_before}
+use Rattle.rr_store.proofs.base.views.Expired.{expired_alike, requests_alike}
+use Rattle.rr_store.proofs.base.views.Left.{left_client_apart}
 
 module _ {Q QH P PH K : Type 0} (p : Parts Q QH P PH K) (sound : IsSound p empty_hand) (k sender slot connections : ℕ)
     (s : TableEntry HandleEntry)
@@ -137,6 +139,27 @@ module _ {Q QH P PH K : Type 0} (p : Parts Q QH P PH K) (sound : IsSound p empty
       ∙ ap (λ n. put overflow n (map says (queue_at m d.receiver 0)) message) shaped.capacity_is
       ∙ ap (λ (xs : List (RequestMessage Q QH)). put overflow p.limits.max_active_requests_per_client xs message) (sym (waits_for i d at_d))
 
+  -- what waits from another client is as it was
+  waits_elsewhere : (key : RequestKey) → (sender_of sender p.client_senders).owner ≢ key.client → requests_at after key ≡ requests_at p key
+  waits_elsewhere key n =
+      let reads : ServerPart K → Sender Q RequestDetails QH → List (RequestMessage Q QH) = λ d l. map
+      (request_in_slot p.spare_request_header l.messages) (queue_at l.messages d.receiver 0) in
+      ap (λ (o : Option (Sender Q RequestDetails QH)). option_map_or (λ d. option_map_or (reads d) o [])
+      (find (λ d. d.port.id == key.server) p.servers) [])
+      (find_skip (λ (l : Sender Q RequestDetails QH). l.owner == key.client) p.client_senders sender fresh no_sender sender_there
+      (ne_eqb (sender_of sender p.client_senders).owner key.client n) (ne_eqb (sender_of sender p.client_senders).owner key.client n))
+
+  -- the client is no one that left
+  expired : (state_of after).expired ≡ (state_of p).expired
+  expired =
+      let has = (subst (IsPorted p.clients p.servers) is (sound.have_ports.handles k s at_s)).request_loan refl in
+      expired_alike _ _ (request_lists p) (request_lists after) (response_lists p) (response_lists p)
+      (λ n i l at. requests_alike (request_lists p) (request_lists after) n l
+      (λ key _ c. at_requests after key
+      ∙ waits_elsewhere key (λ same. left_client_apart p empty_hand sound i l sender at has (same ∙ c))
+      ∙ sym (at_requests p key)))
+      (λ n i l at. refl)
+
   -- the lists that it came to, by the servers
   pub reach_is : request_reach (state_of p) message ≡ map (λ d. request_key message.client d.port.id) p.servers
   reach_is = map-map (λ d. request_key message.client d.id) server_of p.servers
@@ -148,9 +171,6 @@ module _ {Q QH P PH K : Type 0} (p : Parts Q QH P PH K) (sound : IsSound p empty
   each : (key : RequestKey) → requests_at after key ≡ at (with_request_put (state_of p) message) key
   each key = go (find (λ d. d.port.id == key.server) p.servers) refl ∙ sym (ap (λ ls. at ls key) put_is)
     where
-      reads : ServerPart K → Sender Q RequestDetails QH → List (RequestMessage Q QH)
-      reads d l = map (request_in_slot p.spare_request_header l.messages) (queue_at l.messages d.receiver 0)
-
       skips : ((i : ℕ) (d : ServerPart K) → slice_get p.servers i ≡ Some d → request_key message.client d.port.id ≢ key)
           → requests_at p key ≡ at put_lists key
       skips other = sym (lists.listed_there overflow p.limits.max_active_requests_per_client message message.client
@@ -175,15 +195,7 @@ module _ {Q QH P PH K : Type 0} (p : Parts Q QH P PH K) (sound : IsSound p empty
           (λ (d : ServerPart K). d.port.id) p.servers (state_of p).requests (numbers_apart p empty_hand sound) f.0 d f.1)
           ∙ ap (λ n. at put_lists (request_key n d.port.id)) its_owner
           ∙ ap (at put_lists) is_key)
-          (λ n. let same : requests_at after key ≡ requests_at p key =
-          ap (λ (o : Option (ServerPart K)). option_map_or (λ d. option_map_or (reads d)
-          (find (λ l. l.owner == key.client) after.client_senders) []) o []) e
-          ∙ ap (λ (o : Option (Sender Q RequestDetails QH)). option_map_or (reads d) o [])
-          (find_skip (λ (l : Sender Q RequestDetails QH). l.owner == key.client) p.client_senders sender fresh no_sender sender_there
-          (ne_eqb (sender_of sender p.client_senders).owner key.client n) (ne_eqb (sender_of sender p.client_senders).owner key.client n))
-          ∙ sym (ap (λ (o : Option (ServerPart K)). option_map_or
-          (λ d. option_map_or (reads d) (find (λ l. l.owner == key.client) p.client_senders) []) o []) e) in
-          same ∙ skips (λ i d at_d is_key. n (sym its_owner ∙ ap (λ (k : RequestKey). k.client) is_key)))
+          (λ n. waits_elsewhere key n ∙ skips (λ i d at_d is_key. n (sym its_owner ∙ ap (λ (k : RequestKey). k.client) is_key)))
           (cases_eq (sender_of sender p.client_senders).owner key.client)
 
   requests : (state_of after).requests ≡ with_request_put (state_of p) message
@@ -280,4 +292,4 @@ module _ {Q QH P PH K : Type 0} (p : Parts Q QH P PH K) (sound : IsSound p empty
         connections = n;
         servers = map (λ d. d.id) (map server_of p.servers);
       }))) counted)
-      requests refl refl refl
+      requests refl expired refl

@@ -105,7 +105,7 @@ module _ {Q QH P PH K : Type 0} (p : Parts Q QH P PH K) where
         let a = sound.addressed.answers sender slot s.value.sender s.value.slot used uses
         (sym (sound.numbered.pendings details.request s at is)) in
         let within = request_sender p hand sound.counted details.request s at of_request in
-        let x = client_of_sender p hand sound s.value.sender within in
+        let x = client_of_sender p hand sound s.value.sender ((sound.have_ports.handles details.request s at).pending is) in
         let slots : s.value.slot < length (sender_of s.value.sender p.client_senders).messages.held = held_within
         (sender_of s.value.sender p.client_senders).messages.held s.value.slot (request_held s at of_request) in (
           x.1,

@@ -177,7 +177,7 @@ module _ {Q QH P PH K : Type 0} (p : Parts Q QH P PH K) (sound : IsSound p empty
       let is = delivered_sound taken entry in_hand is_response f.sender f.slot used_once t.index t.client t.there details.channel t.inside
       has_capacity t.named refl in
       let shown = delivered_view taken entry in_hand is_response f.sender f.slot used_once t.index t.client t.there details.channel t.inside
-      has_capacity t.named refl in
+      has_capacity t.named refl (index, c, there, sends_it) in
       let lists : put_lists ≡ put_at (its_key receiver t) = ap (putting (state_of p).responses) t.reach ∙ ap put_at (key_is receiver t) in (
         subst (λ r. IsSound (with_it (Some r)) (entry ∷ [])) t.placed is,
         ap (λ r. state_of (with_it (Some r))) (sym t.placed) ∙ shown

@@ -18,7 +18,7 @@ use Rattle.rr_store.specs.Kept.{DetailsKept}
 use Rattle.rr_store.specs.Loaning.{with_messages}
 use Rattle.rr_store.specs.Delivering.{with_delivered}
 use Rattle.rr_store.proofs.base.lists.Replaced.{set_alike}
-use Rattle.rr_store.proofs.base.frames.Frames.{framed_client_ports, framed_server_ports, framed_by_value, framed_sized, senders_set}
+use Rattle.rr_store.proofs.base.frames.Frames.{framed_client_ports, framed_server_ports, framed_have_ports, framed_sized, senders_set}
 use Rattle.rr_store.proofs.base.views.Counts.{listed}
 use Rattle.rr_store.proofs.base.hands.Hands.{count-cons, senders_same}
 use Rattle.rr_store.proofs.base.frames.Kept.{framed_inserted, kept_numbered, kept_addressed}
@@ -296,9 +296,7 @@ module _ {Q QH P PH K : Type 0} (p : Parts Q QH P PH K) (entry : HandleEntry)
         frame
         sound.sized.next_fits sound.sized.loans_made;
     vacated = vacated;
-    have_values = framed_by_value p (entry ∷ []) sound p.clients p.client_senders after.server_senders p.table.entries
-        p.next
-        frame;
+    have_ports = framed_have_ports p (entry ∷ []) sound p.clients p.client_senders after.server_senders p.table.entries p.next frame (λ k s at. at);
     client_ports = framed_client_ports p (entry ∷ []) sound p.clients p.client_senders after.server_senders
         p.table.entries
         p.next frame;

@@ -21,8 +21,8 @@ use Rattle.rr_protocol.proofs.ListsLaws.{at-with_at, same_lists}
 use Rattle.rr_store.specs.declared.handle_entry.HandleEntry.{HandleEntry}
 use Rattle.rr_store.specs.declared.details.ResponseDetails.{ResponseDetails}
 use Rattle.rr_store.specs.Parts.{Parts, ClientPart, Sender}
-use Rattle.rr_store.specs.Views.{no_sender, sender_of, state_of, response_in_slot, response_at, handle_of, responses_at}
-use Rattle.rr_store.specs.Sound.{IsSound, IsShaped, is_of_response, response_uses, response_details}
+use Rattle.rr_store.specs.Views.{no_sender, sender_of, state_of, response_in_slot, response_at, handle_of, responses_at, request_lists, response_lists}
+use Rattle.rr_store.specs.Sound.{IsSound, IsShaped, is_of_response, response_uses, response_details, HasPort}
 use Rattle.rr_store.specs.Delivering.{with_delivered}
 use Rattle.rr_store.specs.Loaning.{with_messages}
 use Rattle.rr_store.proofs.base.views.Agreeing.{same_handle, same_state}
@@ -36,6 +36,8 @@ use Rattle.rr_store.proofs.sending.put.One.{queue_here, queue_there}
 use Rattle.rr_store.proofs.sending.put.Queues.{map_put}
 use Rattle.rr_store.proofs.sending.response.Queued.{client_alone, queued}
 use Rattle.rr_store.proofs.receiving.response.View.{find_skip}
+use Rattle.rr_store.proofs.base.views.Expired.{expired_alike, responses_alike}
+use Rattle.rr_store.proofs.base.views.Left.{left_server_apart}
 
 module _ {Q QH P PH K : Type 0} (p : Parts Q QH P PH K) (entry : HandleEntry)
     (sound : IsSound p (entry ∷ [])) (is_response : is_of_response entry.stage ≡ true) (there : entry.sender < length p.server_senders)
@@ -174,13 +176,25 @@ module _ {Q QH P PH K : Type 0} (p : Parts Q QH P PH K) (entry : HandleEntry)
           ∙ sym (at_responses p k)
 
   -- the list has the response, and nothing else changed
-  pub delivered_view : state_of after ≡ record (state_of p) { responses = with_at (state_of p).responses key entries }
-  delivered_view =
+  pub delivered_view : HasPort (λ s. s.sender) p.servers entry.sender
+      → state_of after ≡ record (state_of p) { responses = with_at (state_of p).responses key entries }
+  delivered_view has =
       same_state (state_of after) _ refl refl refl refl
       (map_values-same (handle_of after) (handle_of p) p.table.entries
       (λ k s e. same_handle after p s.value.stage s.value.sender s.value.slot (λ _. (refl, refl)) (λ _. says s.value.sender s.value.slot)))
-      refl responses refl refl
+      refl responses expired refl
     where
       says : (k j : ℕ) → response_at after k j ≡ response_at p k j
       says k j = same_of p entry sound is_response there some once index c at_c channel inside capacity client on_channel
           (λ x. response_in_slot p.spare_response_header x.messages j) refl k
+
+      -- the server is no one that left
+      expired : (state_of after).expired ≡ (state_of p).expired
+      expired =
+          expired_alike _ _ (request_lists p) (request_lists p) (response_lists p) (response_lists after)
+          (λ n i l at. refl)
+          (λ n i l at. responses_alike (response_lists p) (response_lists after) n l
+          (λ k s _. at_responses after k
+          ∙ waits_there k (λ is. left_server_apart p (entry ∷ []) sound i l entry.sender at has
+          (sym (ap (λ (k : ResponseKey). k.server) is) ∙ s))
+          ∙ sym (at_responses p k)))
