@@ -41,9 +41,8 @@ impl<QB: Body, QH: Default + Drop, PB: Body, PH: Default + Drop, K: Backpressure
     }
 
     /// Sends a response to its request, if that is still a pending response of a connected client, and releases the handle.
-    /// Else releases the response alone. Looks at about ten of 1,000 clients, at the senders of clients up to the right one, at
-    /// one queue, and where that is full at the connected servers up to the right one. Takes no memory. After iceoryx2's
-    /// `ResponseMut::send`.
+    /// Else releases the response alone. Looks for the request and for the active request in one place each, at one queue, and
+    /// where that is full at the connected servers up to the right one. Takes no memory. After iceoryx2's `ResponseMut::send`.
     ///
     /// # Errors
     ///

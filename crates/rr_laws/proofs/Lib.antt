@@ -66,3 +66,4 @@ pub mod SettlingServers
 pub mod SettlingWrites
 pub mod CompletingSteps
 pub mod AnswerRuleHolds
+pub mod AfterLeft

@@ -30,6 +30,6 @@ pub fn release_received_at<
 {
     let entry = store.take(number, place);
     let details = store.response_details(entry.sender, entry.slot);
-    let receiver = store.client_receiver(details.client);
+    let receiver = store.receiver_of_sender(details.client_sender);
     store.end_response_borrow(entry.sender, receiver, details.channel, entry.slot);
 }

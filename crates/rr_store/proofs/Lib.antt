@@ -6,3 +6,4 @@ pub mod writing
 pub mod receiving
 pub mod releasing
 pub mod sending
+pub mod leaving

@@ -1,5 +1,5 @@
 -- Which queue a response reaches, and what a sender has after it was put there.
-use Rattle.std.specs.Prelude.{◌<◌, ℕ, ◌==◌, Bool, false, not, ◌&&◌, if◌then◌else◌, List, [], length, find, Option, Some, None, IfSome, option_and_then, slice_index_or, slice_set}
+use Rattle.std.specs.Prelude.{◌<◌, ℕ, Bool, false, not, ◌&&◌, if◌then◌else◌, List, [], length, Option, Some, None, IfSome, option_and_then, slice_get, slice_index_or, slice_set}
 use Rattle.rr_table.specs.TableView.{TableView, value_in}
 use Rattle.rr_sender.specs.Senders.{Messages, queue_at, handed_over, is_full, put, with_queue, given_back}
 use Rattle.rr_protocol.specs.declared.settings.BackpressureAction.{BackpressureAction}
@@ -8,7 +8,7 @@ use Rattle.rr_protocol.specs.Ports.{Port}
 use Rattle.rr_store.specs.declared.handle_entry.HandleEntry.{HandleEntry}
 use Rattle.rr_store.specs.declared.details.ResponseDetails.{ResponseDetails}
 use Rattle.rr_store.specs.Loaning.{with_messages}
-use Rattle.rr_store.specs.Parts.{ClientPart, Sender, Parts}
+use Rattle.rr_store.specs.Parts.{Sender, Parts}
 use Rattle.rr_store.specs.Sound.{is_pending}
 use Rattle.rr_store.specs.Views.{sender_of}
 
@@ -17,10 +17,10 @@ abbrev pub reached_if : ℕ → Option HandleEntry → Option ℕ
 reached_if receiver None = None
 reached_if receiver (Some entry) = if is_pending entry.stage then Some receiver else None
 
--- where the client of a response is sent to, if it is connected and its request is alive
-abbrev pub reached : {K T N H : Type 0} → List (ClientPart K) → List (Sender T N H) → TableView HandleEntry → ResponseDetails → Option ℕ
-reached clients senders table details =
-    option_and_then (λ c. reached_if c.receiver (value_in table details.request (record { row = (sender_of c.sender senders).row; index = details.channel }))) (find (λ c. c.port.id == details.client) clients)
+-- where the client of a response is sent to, if its request is alive
+abbrev pub reached : {T N H : Type 0} → List (Sender T N H) → TableView HandleEntry → ResponseDetails → Option ℕ
+reached senders table details =
+    option_and_then (λ l. reached_if l.receiver (value_in table details.request (record { row = l.row; index = details.channel }))) (slice_get senders details.client_sender)
 
 module _ {T N H : Type 0} where
   -- whether the queue that is reached can take no more, and drops nothing for it

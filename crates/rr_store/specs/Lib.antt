@@ -10,6 +10,7 @@ pub mod Ports
 pub mod Frames
 pub mod Hands
 pub mod Kept
+pub mod Leaving
 pub mod Loaning
 pub mod Rewrites
 pub mod Emptying

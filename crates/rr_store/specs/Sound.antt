@@ -211,9 +211,9 @@ module _ {Q QH P PH K : Type 0} (p : Parts Q QH P PH K) where
     pub received : (k : ℕ) (s : TableEntry HandleEntry) → fin_map.get p.table.entries k ≡ Some s → is_received s.value.stage ≡ true →
         (i : ℕ) × (c : ClientPart K) × (slice_get p.clients i ≡ Some c) × (c.port.id ≡ (response_details s.value.sender s.value.slot).client)
     pub answering : (l i k server loans : ℕ) (s : TableEntry HandleEntry) → 0 < response_uses l i → fin_map.get p.table.entries k ≡ Some s → s.value.stage ≡ stage.ActiveRequest server loans → (response_details l i).active_request ≡ k →
-        ((request_details s.value.sender s.value.slot).number ≡ (response_details l i).request) × ((response_details l i).server ≡ server) × (s.value.sender ≡ (response_details l i).client_sender)
+        ((request_details s.value.sender s.value.slot).number ≡ (response_details l i).request) × ((response_details l i).server ≡ server)
 
-  -- each message says who sent it, and an entry stands where it says
+  -- each message says who sent it, a response from which sender its request came, and an entry stands where it says
   pub record IsAddressed : Type 0 where
     pub requests : (sender slot : ℕ) → 0 < request_uses sender slot → (request_details sender slot).client ≡ (sender_of sender p.client_senders).owner
     pub responses : (sender slot : ℕ) → 0 < response_uses sender slot → (response_details sender slot).server ≡ (sender_of sender p.server_senders).owner
@@ -221,7 +221,8 @@ module _ {Q QH P PH K : Type 0} (p : Parts Q QH P PH K) where
     pub actives_below : (sender slot : ℕ) → 0 < response_uses sender slot → (response_details sender slot).active_request < p.next
     pub answered_below : (sender slot : ℕ) → 0 < response_uses sender slot → (response_details sender slot).request < p.next
     pub answers : (sender slot m j : ℕ) → 0 < response_uses sender slot → 0 < request_uses m j → (request_details m j).number ≡ (response_details sender slot).request →
-        ((response_details sender slot).channel ≡ j) × ((response_details sender slot).client ≡ (sender_of m p.client_senders).owner)
+        ((response_details sender slot).channel ≡ j) × ((response_details sender slot).client ≡ (sender_of m p.client_senders).owner) × (m ≡ (response_details sender slot).client_sender)
+    pub client_senders : (sender slot i : ℕ) (c : ClientPart K) → 0 < response_uses sender slot → slice_get p.clients i ≡ Some c → c.port.id ≡ (response_details sender slot).client → c.sender ≡ (response_details sender slot).client_sender
     pub entries : (sender slot channel i : ℕ) (c : ClientPart K) → slice_get p.clients i ≡ Some c → 0 < times slot (queue_at (sender_of sender p.server_senders).messages c.receiver channel) →
         ((response_details sender slot).client ≡ c.port.id) × ((response_details sender slot).channel ≡ channel)
 

@@ -1,7 +1,6 @@
 -- A received response leaves its place, its client's count and its slot.
-use Rattle.std.proofs.Common.{◌≡◌, ◌<◌, ℕ, true, [], ◌∷◌, Some, length, refl, sym, ap, ◌∙◌, subst}
-use Rattle.std.specs.Prelude.{◌==◌, IsSome, IsSomeAnd, slice_get, slice_index, slice_index_or}
-use Rattle.std.specs.List.{position}
+use Rattle.std.proofs.Common.{◌≡◌, ◌<◌, ℕ, true, [], ◌∷◌, Some, length, map, refl, sym, ap, ◌∙◌, subst, arith}
+use Rattle.std.specs.Prelude.{◌==◌, IsSomeAnd, slice_get, slice_index, slice_index_or}
 use Rattle.std.specs.FinMap as fin_map
 use Rattle.rr_table.specs.TableView.{table_entry}
 use Rattle.rr_table.specs.declared.place.Place.{Place}
@@ -17,7 +16,6 @@ use Rattle.rr_store.specs.declared.handle_entry.HandleEntry.{HandleEntry}
 use Rattle.rr_store.specs.Changes.{with_responses, without_handle}
 use Rattle.rr_store.specs.Emptying.{PartsEmptied}
 use Rattle.rr_store.specs.Loaning.{with_messages}
-use Rattle.rr_store.specs.Order.{IsRising}
 use Rattle.rr_store.specs.Parts.{ClientPart, Parts}
 use Rattle.rr_store.specs.Reaching.{IsCore}
 use Rattle.rr_store.specs.Releasing.{borrow_ended, borrow_given_back, is_received_response}
@@ -27,8 +25,8 @@ use Rattle.rr_store.proofs.base.frames.Emptied.{emptied_sound, emptied_view}
 use Rattle.rr_store.proofs.base.senders.Emptied.{among_emptied, responses_emptied}
 use Rattle.rr_store.proofs.base.lookups.Placed.{value_there}
 use Rattle.rr_store.proofs.base.lookups.Shown.{held_within}
-use Rattle.rr_store.proofs.base.senders.Owners.{First, clients_rise, first_by}
-use Rattle.rr_store.proofs.base.senders.Ports.{of_found}
+use Rattle.rr_store.proofs.base.senders.Owners.{First, first_by}
+use Rattle.rr_store.proofs.base.views.Counts.{listed}
 use Rattle.rr_store.proofs.releasing.response.Fields.{ReceivedFound, received_found, queue_there}
 use Rattle.rr_store.proofs.releasing.response.Sound.{after_received, has_received, received_sound, received_view}
 
@@ -63,24 +61,27 @@ module _ {Q QH P PH K : Type 0} (p : Parts Q QH P PH K) (core : IsCore p) (n : �
           client.is ∙ sym (ap (λ (d : ResponseDetails). d.client) details_are)
           ∙ sym (ap (λ (h : HandleEntry). (response_details p h.sender h.slot).client) found.is)
 
-      pub client_asked : IsSome (position (λ (c : ClientPart K). c.port.id == details.client) q.clients)
+      here_listed : slice_get (map (λ (c : ClientPart K). c.connected) p.clients) client.index ≡ Some client.it.connected
+      here_listed = listed (λ (c : ClientPart K). c.connected) p.clients client.index client.it client.at
+
+      -- the client's sender is the one that the response names
+      its_sender : client.it.sender ≡ details.client_sender
+      its_sender =
+          core.sound.addressed.client_senders entry.sender entry.slot client.index client.it (omega (arith, found.slot)) client.at
+          (client.is ∙ sym (ap (λ (d : ResponseDetails). d.client) details_are))
+          ∙ ap (λ (d : ResponseDetails). d.client_sender) details_are
+
+      pub client_asked : details.client_sender < length q.client_senders
       client_asked =
-          subst (λ (q : Parts Q QH P PH K). IsSome (position (λ (c : ClientPart K). c.port.id == details.client) q.clients)) (sym gone)
-          (subst IsSome (sym client.found) refl)
+          subst (λ (q : Parts Q QH P PH K). details.client_sender < length q.client_senders) (sym gone)
+          (omega (arith, its_sender, (core.sound.client_ports.own client.index client.it.connected here_listed).0))
 
-      pub order_asked : IsRising (λ (c : ClientPart K). c.port.id) q.clients
-      order_asked =
-          subst (λ (q : Parts Q QH P PH K). IsRising (λ (c : ClientPart K). c.port.id) q.clients) (sym gone)
-          (clients_rise p empty_hand core.sound)
-
-      module _ (receiver : ℕ) (told : IsSomeAnd (position (λ (c : ClientPart K). c.port.id == details.client) q.clients)
-          (λ i. IsSomeAnd (slice_get q.clients i) (λ c. receiver ≡ c.receiver))) where
+      module _ (receiver : ℕ) (told : receiver ≡ (sender_of details.client_sender q.client_senders).receiver) where
         receiver_is : receiver ≡ client.it.receiver
         receiver_is =
-            of_found (λ (c : ClientPart K). c.port.id == details.client) p.clients client.index client.it client.found client.at
-            (λ _ c. receiver ≡ c.receiver)
-            (subst (λ (q : Parts Q QH P PH K). IsSomeAnd (position (λ (c : ClientPart K). c.port.id == details.client) q.clients)
-            (λ i. IsSomeAnd (slice_get q.clients i) (λ c. receiver ≡ c.receiver))) gone told)
+            told ∙ ap (λ (q : Parts Q QH P PH K). (sender_of details.client_sender q.client_senders).receiver) gone
+            ∙ sym (ap (λ l. (sender_of l p.client_senders).receiver) its_sender)
+            ∙ core.sound.client_ports.received client.index client.it.connected here_listed
 
         here : 0 < borrowed_at (sender_of entry.sender p.server_senders).messages receiver details.channel
         here =

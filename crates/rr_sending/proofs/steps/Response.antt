@@ -25,8 +25,7 @@ use Rattle.rr_store.specs.Emptying.{MessagesEmptied, PartsEmptied}
 use Rattle.rr_store.specs.Ending.{IsAskedPlace, IsLoanEnded, found_under}
 use Rattle.rr_store.specs.Kinds.{stage_kind}
 use Rattle.rr_store.specs.Loaning.{with_messages}
-use Rattle.rr_store.specs.Order.{IsRising}
-use Rattle.rr_store.specs.Parts.{ClientPart, ServerPart, Parts, Sender}
+use Rattle.rr_store.specs.Parts.{ServerPart, Parts, Sender}
 use Rattle.rr_store.specs.Reaching.{IsCore}
 use Rattle.rr_store.specs.Releasing.{held_once_less, is_loaned_response, without_loan}
 use Rattle.rr_store.specs.Sound.{IsSound, empty_hand, response_details, is_response_loan}
@@ -36,10 +35,9 @@ use Rattle.rr_store.proofs.base.senders.Emptied.{among_emptied, responses_emptie
 use Rattle.rr_store.proofs.base.lists.Replaced.{set_alike}
 use Rattle.rr_store.proofs.base.lookups.Placed.{value_there}
 use Rattle.rr_store.proofs.base.lookups.Shown.{held_within}
-use Rattle.rr_store.proofs.base.senders.Owners.{First, clients_rise, port_of_sender, server_receiver}
+use Rattle.rr_store.proofs.base.senders.Owners.{First, port_of_sender, server_receiver}
 use Rattle.rr_store.proofs.base.senders.Ports.{of_found}
 use Rattle.rr_store.proofs.base.senders.Stored.{stored_twice}
-use Rattle.rr_store.proofs.base.views.Counts.{listed}
 use Rattle.rr_store.proofs.querying.Connected.{of_kind}
 use Rattle.rr_store.proofs.releasing.response_loan.Fields.{ResponseLoanFound, response_loan_found, has_loan}
 use Rattle.rr_store.proofs.sending.response.Fields as fields
@@ -83,18 +81,12 @@ module _ {Q QH P PH K : Type 0} (p : Parts Q QH P PH K) (core : IsCore p) (n : �
   pub slot_asked : entry.slot < length (sender_of entry.sender p.server_senders).messages.held
   slot_asked = held_within (sender_of entry.sender p.server_senders).messages.held entry.slot found.slot
 
-  pub clients_asked : (i : ℕ) (c : ClientPart K) → slice_get p.clients i ≡ Some c → c.sender < length p.client_senders
-  clients_asked i c here = (core.sound.client_ports.own i c.connected (listed (λ (c : ClientPart K). c.connected) p.clients i c here)).0
-
-  pub order_asked : IsRising (λ (c : ClientPart K). c.port.id) p.clients
-  order_asked = clients_rise p empty_hand core.sound
-
   pub server_asked : IsSomeAnd (position (λ (s : ServerPart K). s.sender == entry.sender) p.servers) (λ i. i < length p.servers)
   server_asked =
       subst (λ o. IsSomeAnd o (λ i. i < length p.servers)) (sym server.found) (slice_get_within p.servers server.index server.it server.at)
 
   module _ (details : ResponseDetails) (are : details ≡ response_details p entry.sender entry.slot) (reach : Option ℕ)
-      (told : reach ≡ reached p.clients p.client_senders p.table details) where
+      (told : reach ≡ reached p.client_senders p.table details) where
     pub queue_asked : HasQueue (sender_of entry.sender p.server_senders).messages details.channel reach
     queue_asked = fields.queue_asked p core.sound n entry found server.index server.it server.at server.is details (sym are) reach told
 

@@ -10,3 +10,4 @@ pub mod EachOnce
 pub mod Mapped
 pub mod Rising
 pub mod Bisected
+pub mod Removed

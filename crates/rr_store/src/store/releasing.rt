@@ -145,16 +145,6 @@ impl<QB: Body, QH: Default + Drop, PB: Body, PH: Default + Drop, K: Backpressure
         release::clear_mark(&mut self.client_senders, sender, slot, receivers, receiver);
     }
 
-    /// Returns which receiver a client is.
-    #[inline(always)]
-    pub fn client_receiver(&self, client: u64) -> usize
-        requires rising { IsRising (λ c. c.port.id) self.now.clients }
-        requires found { IsSome (position (λ c. c.port.id == client) self.now.clients) }
-        ensures { IsSomeAnd (position (λ c. c.port.id == client) self.now.clients) (λ i. IsSomeAnd (slice_get self.now.clients i) (λ c. result ≡ c.receiver)) }
-    {
-        release::receiver_of(self.clients.as_slice(), client)
-    }
-
     /// Returns which receiver a server is.
     #[inline(always)]
     pub fn server_receiver(&self, server: u64) -> usize

@@ -88,15 +88,12 @@ impl<QB: Body, QH: Default + Drop, PB: Body, PH: Default + Drop, K: Backpressure
         of_request::count_sent_in(&mut self.client_senders, sender);
     }
 
-    /// Returns which receiver the client of a response is. `None` if it isn't connected, or if its request has no pending
-    /// response any more.
+    /// Returns which receiver the client of a response is. Returns `None` if its request has no pending response any more.
     #[inline(always)]
     pub fn reached_receiver(&self, details: ResponseDetails) -> Option<usize>
-        requires rising { IsRising (λ c. c.port.id) self.now.clients }
-        requires senders { (i : ℕ) (c : ClientPart K) → slice_get self.now.clients i ≡ Some c → c.sender < length self.now.client_senders }
-        ensures { result ≡ reached self.now.clients self.now.client_senders self.now.table details }
+        ensures { result ≡ reached self.now.client_senders self.now.table details }
     {
-        of_response::reached_receiver(&self.clients, &self.client_senders, &self.table, details)
+        of_response::reached_receiver(self.client_senders.as_slice(), &self.table, details)
     }
 
     /// Returns whether the queue that a response reaches is full, may not overflow, and is not passed over.

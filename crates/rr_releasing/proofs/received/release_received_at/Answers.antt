@@ -1,4 +1,4 @@
-use Rattle.rr_releasing.proofs.steps.Received.{sender_asked, slot_asked, client_asked, order_asked, queue_asked, counted_asked, core_then, view_then}
+use Rattle.rr_releasing.proofs.steps.Received.{sender_asked, slot_asked, client_asked, queue_asked, counted_asked, core_then, view_then}
 use Rattle.rr_releasing.proofs.received.release_received_at.Goals as goal
 
 pub take-entry-requires : goal.take-entry-requires
@@ -14,13 +14,8 @@ response_details-details-requires-clause-slot g c =
     slot_asked c.args.store.now c.requires.core c.args.number c.args.place _ c.take-entry.ensures.taken c.requires.kind _
     c.take-entry.ensures.gone
 
-pub client_receiver-receiver-requires-clause-rising : goal.client_receiver-receiver-requires-clause-rising
-client_receiver-receiver-requires-clause-rising g c =
-    order_asked c.args.store.now c.requires.core c.args.number c.args.place _ c.take-entry.ensures.taken c.requires.kind _
-    c.take-entry.ensures.gone _ c.response_details-details.ensures
-
-pub client_receiver-receiver-requires-clause-found : goal.client_receiver-receiver-requires-clause-found
-client_receiver-receiver-requires-clause-found g c =
+pub receiver_of_sender-receiver-requires : goal.receiver_of_sender-receiver-requires
+receiver_of_sender-receiver-requires g c =
     client_asked c.args.store.now c.requires.core c.args.number c.args.place _ c.take-entry.ensures.taken c.requires.kind _
     c.take-entry.ensures.gone _ c.response_details-details.ensures
 
@@ -32,19 +27,19 @@ end_response_borrow-requires-clause-sender g c =
 pub end_response_borrow-requires-clause-queue : goal.end_response_borrow-requires-clause-queue
 end_response_borrow-requires-clause-queue g c =
     queue_asked c.args.store.now c.requires.core c.args.number c.args.place _ c.take-entry.ensures.taken c.requires.kind _
-    c.take-entry.ensures.gone _ c.response_details-details.ensures _ c.client_receiver-receiver.ensures
+    c.take-entry.ensures.gone _ c.response_details-details.ensures _ c.receiver_of_sender-receiver.ensures
 
 pub end_response_borrow-requires-clause-counted : goal.end_response_borrow-requires-clause-counted
 end_response_borrow-requires-clause-counted g c =
     counted_asked c.args.store.now c.requires.core c.args.number c.args.place _ c.take-entry.ensures.taken c.requires.kind _
-    c.take-entry.ensures.gone _ c.response_details-details.ensures _ c.client_receiver-receiver.ensures
+    c.take-entry.ensures.gone _ c.response_details-details.ensures _ c.receiver_of_sender-receiver.ensures
 
 pub returns-clause-core : goal.returns-clause-core
 returns-clause-core g c =
     core_then c.args.store.now c.requires.core c.args.number c.args.place _ c.take-entry.ensures.taken c.requires.kind _
-    c.take-entry.ensures.gone _ c.response_details-details.ensures _ c.client_receiver-receiver.ensures _ c.end_response_borrow.ensures
+    c.take-entry.ensures.gone _ c.response_details-details.ensures _ c.receiver_of_sender-receiver.ensures _ c.end_response_borrow.ensures
 
 pub returns-clause-view : goal.returns-clause-view
 returns-clause-view g c =
     view_then c.args.store.now c.requires.core c.args.number c.args.place _ c.take-entry.ensures.taken c.requires.kind _
-    c.take-entry.ensures.gone _ c.response_details-details.ensures _ c.client_receiver-receiver.ensures _ c.end_response_borrow.ensures
+    c.take-entry.ensures.gone _ c.response_details-details.ensures _ c.receiver_of_sender-receiver.ensures _ c.end_response_borrow.ensures

@@ -1,4 +1,4 @@
-use Rattle.rr_sending.proofs.steps.Response.{sender_asked, slot_asked, loan_asked, clients_asked, order_asked, server_asked, queue_asked, refused, sender_still, queue_still, takes_still, loan_sender, loan_counted, sends, core_then}
+use Rattle.rr_sending.proofs.steps.Response.{sender_asked, slot_asked, loan_asked, server_asked, queue_asked, refused, sender_still, queue_still, takes_still, loan_sender, loan_counted, sends, core_then}
 use Rattle.rr_sending.proofs.response.send_response_at.Goals as goal
 
 pub response_details-details-requires-clause-sender : goal.response_details-details-requires-clause-sender
@@ -9,16 +9,6 @@ response_details-details-requires-clause-sender g c =
 pub response_details-details-requires-clause-slot : goal.response_details-details-requires-clause-slot
 response_details-details-requires-clause-slot g c =
     slot_asked c.args.store.now c.requires.core c.args.number c.args.place c.at-entry.result c.at-entry.ensures c.requires.kind
-    g.K.BackpressureFn.action
-
-pub reached_receiver-reach-requires-clause-rising : goal.reached_receiver-reach-requires-clause-rising
-reached_receiver-reach-requires-clause-rising g c =
-    order_asked c.args.store.now c.requires.core c.args.number c.args.place c.at-entry.result c.at-entry.ensures c.requires.kind
-    g.K.BackpressureFn.action
-
-pub reached_receiver-reach-requires-clause-senders : goal.reached_receiver-reach-requires-clause-senders
-reached_receiver-reach-requires-clause-senders g c =
-    clients_asked c.args.store.now c.requires.core c.args.number c.args.place c.at-entry.result c.at-entry.ensures c.requires.kind
     g.K.BackpressureFn.action
 
 pub is_response_refused-requires-clause-sender : goal.is_response_refused-requires-clause-sender

@@ -14,7 +14,7 @@ use Rattle.rr_store.specs.Views.{sender_of}
 use Rattle.rr_store.specs.Sound.{IsSound, IsNumbered, IsAddressed, IsPlaced, Hand, is_of_request, is_of_response, server_place, place_at, request_uses, response_uses, request_details, response_details}
 use Rattle.rr_store.specs.Frames.{moved, SameFrame}
 use Rattle.rr_store.specs.Kept.{DetailsKept}
-use Rattle.rr_store.proofs.base.frames.Frames.{client_after}
+use Rattle.rr_store.proofs.base.frames.Frames.{client_after, client_before}
 use Rattle.rr_store.proofs.base.hands.Stages.{loan_is_request, pending_is_request, received_is_response}
 
 module _ {Q QH P PH K : Type 0} (p : Parts Q QH P PH K) (hand : Hand) (sound : IsSound p hand)
@@ -112,7 +112,6 @@ module _ {Q QH P PH K : Type 0} (p : Parts Q QH P PH K) (hand : Hand) (sound : I
                 request_number s.value.sender s.value.slot (requests k s at (ap is_of_request is)) ∙ a.0
                     ∙ sym (ap (λ (n : ResponseDetails). n.request) details),
                 ap (λ (n : ResponseDetails). n.server) details ∙ a.1,
-                a.2 ∙ sym (ap (λ (n : ResponseDetails). n.client_sender) details),
               );
         }
 
@@ -154,6 +153,13 @@ module _ {Q QH P PH K : Type 0} (p : Parts Q QH P PH K) (hand : Hand) (sound : I
                 ap (λ (n : ResponseDetails). n.channel) (details l i h) ∙ a.0,
                 ap (λ (n : ResponseDetails). n.client) (details l i h) ∙ a.1
                     ∙ sym (frame.client_senders_alike.each m).owner,
+                a.2 ∙ sym (ap (λ (n : ResponseDetails). n.client_sender) (details l i h)),
               );
+          client_senders = λ l i j c h at named.
+              let d = client_before p hand sound clients client_senders server_senders p.table.entries next frame j c at in
+              ap (λ (f : Connected K). f.sender) (sym d.2)
+              ∙ n.client_senders l i j d.0 (kept.responses_used l i h) d.1
+              (ap (λ (f : Connected K). f.port.id) d.2 ∙ named ∙ ap (λ (n : ResponseDetails). n.client) (details l i h))
+              ∙ sym (ap (λ (n : ResponseDetails). n.client_sender) (details l i h));
           entries = entries;
         }

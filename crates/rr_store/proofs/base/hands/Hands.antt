@@ -51,6 +51,7 @@ module _ {Q QH P PH K : Type 0} (p : Parts Q QH P PH K) where
       actives_below = n.actives_below;
       answered_below = n.answered_below;
       answers = n.answers;
+      client_senders = n.client_senders;
       entries = n.entries;
     }
 
@@ -225,8 +226,7 @@ module _ {Q QH P PH K : Type 0} (p : Parts Q QH P PH K) where
             (λ m is. let R : TableEntry HandleEntry → Type 0 = λ t. t.value.stage ≡ stage.ActiveRequest server loans
             → (response_details p l i).active_request ≡ j →
             ((request_details p t.value.sender t.value.slot).number ≡ (response_details p l i).request)
-            × ((response_details p l i).server ≡ server)
-            × (t.value.sender ≡ (response_details p l i).client_sender) in
+            × ((response_details p l i).server ≡ server) in
             subst R is (λ h f. new.answering server loans h l i u (f ∙ sym m)))
             (λ b. n.answering l i j server loans t u b);
       };

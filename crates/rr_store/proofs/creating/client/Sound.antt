@@ -82,7 +82,6 @@ module _ {Q QH P PH K : Type 0} (p : Parts Q QH P PH K) (settings : ClientSettin
               number_kept s.value.sender s.value.slot (handle_uses_request p empty_hand sound.counted k s at (ap is_of_request is))
                   ∙ a.0,
               a.1,
-              a.2,
             );
       }
 
@@ -95,7 +94,10 @@ module _ {Q QH P PH K : Type 0} (p : Parts Q QH P PH K) (settings : ClientSettin
     actives_below = λ l i h. omega (arith, sound.addressed.actives_below l i h);
     answered_below = λ l i h. omega (arith, sound.addressed.answered_below l i h);
     answers = λ l i k j h g e. let a = sound.addressed.answers l i k j h (used_before k j g)
-        (sym (number_kept k j (used_before k j g)) ∙ e) in (a.0, a.1 ∙ sym (like.owned k j (used_before k j g)));
+        (sym (number_kept k j (used_before k j g)) ∙ e) in (a.0, a.1 ∙ sym (like.owned k j (used_before k j g)), a.2);
+    client_senders = λ l i j c h at named. snoc_cases p.clients _ j c at
+        (λ before _. sound.addressed.client_senders l i j c h before named)
+        (λ e is. absurd (omega (arith, named, ap (λ (c : ClientPart K). c.port.id) is, sound.addressed.clients_below l i h)));
     entries = λ l i channel j c at some. snoc_cases p.clients _ j c at
         (λ before h. sound.addressed.entries l i channel j c before some)
         (λ e is. absurd (omega (

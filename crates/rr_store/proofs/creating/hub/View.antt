@@ -86,6 +86,7 @@ module _ (Q QH P PH K : Type 0) (limits : Limits) (node_id : ℕ) (h : QH) (g : 
       actives_below = λ l i h. absurd (omega arith);
       answered_below = λ l i h. absurd (omega arith);
       answers = λ l i m j h. absurd (omega arith);
+      client_senders = λ l i j c h. absurd (omega arith);
       entries = λ l i channel j c e. no_element j c e;
     };
     inserted = record {

@@ -135,11 +135,7 @@ module _ {Q QH P PH K : Type 0} (p : Parts Q QH P PH K) (settings : ServerSettin
         answering = λ l i k server loans s u at is f.
             let details = details_kept l i (used_before l i u) in
             let a = n.answering l i k server loans s (used_before l i u) at is
-            (sym (ap (λ (n : ResponseDetails). n.active_request) details) ∙ f) in (
-              a.0 ∙ sym (ap (λ (n : ResponseDetails). n.request) details),
-              ap (λ (n : ResponseDetails). n.server) details ∙ a.1,
-              a.2 ∙ sym (ap (λ (n : ResponseDetails). n.client_sender) details),
-            );
+            (sym (ap (λ (n : ResponseDetails). n.active_request) details) ∙ f) in (a.0 ∙ sym (ap (λ (n : ResponseDetails). n.request) details), ap (λ (n : ResponseDetails). n.server) details ∙ a.1);
       }
 
   addressed : IsAddressed after
@@ -164,8 +160,15 @@ module _ {Q QH P PH K : Type 0} (p : Parts Q QH P PH K) (settings : ServerSettin
     );
     answers = λ l i k j h g e.
         let details = details_kept l i (used_before l i h) in
-        let a = sound.addressed.answers l i k j (used_before l i h) g (e ∙ ap (λ (n : ResponseDetails). n.request) details) in
-        (ap (λ (n : ResponseDetails). n.channel) details ∙ a.0, ap (λ (n : ResponseDetails). n.client) details ∙ a.1);
+        let a = sound.addressed.answers l i k j (used_before l i h) g (e ∙ ap (λ (n : ResponseDetails). n.request) details) in (
+          ap (λ (n : ResponseDetails). n.channel) details ∙ a.0,
+          ap (λ (n : ResponseDetails). n.client) details ∙ a.1,
+          a.2 ∙ sym (ap (λ (n : ResponseDetails). n.client_sender) details),
+        );
+    client_senders = λ l i j c h at named.
+        let details = details_kept l i (used_before l i h) in
+        sound.addressed.client_senders l i j c (used_before l i h) at (named ∙ ap (λ (n : ResponseDetails). n.client) details)
+        ∙ sym (ap (λ (n : ResponseDetails). n.client_sender) details);
     entries = λ l i channel j c at some.
         let before : 0 < times i (queue_at (sender_of l p.server_senders).messages c.receiver channel) = omega
         (arith, some, ap (times i) (like.queues l c.receiver channel)) in

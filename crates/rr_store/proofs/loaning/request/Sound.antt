@@ -200,7 +200,6 @@ module _ {Q QH P PH K : Type 0} (p : Parts Q QH P PH K) (sound : IsSound p empty
                   (handle_uses_request p empty_hand sound.counted k s e (ap is_of_request is)))
                   ∙ a.0,
               a.1,
-              a.2,
             );
       }
 
@@ -226,7 +225,11 @@ module _ {Q QH P PH K : Type 0} (p : Parts Q QH P PH K) (sound : IsSound p empty
         answered_below = λ k j h. omega (arith, n.answered_below k j h);
         answers = λ a i k j h g e. used_cases k j g
             (λ _ _ f. absurd (omega (arith, number_of f, e, n.answered_below a i h)))
-            (λ u f. let r = n.answers a i k j h u (sym (number_of f) ∙ e) in (r.0, r.1 ∙ sym (owner_kept k)));
+            (λ u f. let r = n.answers a i k j h u (sym (number_of f) ∙ e) in (r.0, r.1 ∙ sym (owner_kept k), r.2));
+        client_senders = λ l i j d h e named.
+            let b = before j d e in
+            ap (λ (f : Connected K). f.sender) (sym b.2)
+            ∙ n.client_senders l i j b.0 h b.1 (ap (λ (f : Connected K). f.port.id) b.2 ∙ named);
         entries = λ l i channel j d e some.
             let b = before j d e in
             let r = n.entries l i channel j b.0 b.1 (omega (

@@ -99,18 +99,13 @@ module _ {Q QH P PH K : Type 0} (p : Parts Q QH P PH K) (sound : IsSound p empty
         let g : stage.ActiveRequest c.port.id (loans + 1) ≡ stage.ActiveRequest server l = e in
         let same : c.port.id ≡ server = cc in
         loan_sound.used_cases taken index c at n rl rs (loans + 1) in_hand gone given slot len header free unused k j u
-        (λ _ _ v. (
-          sym (ap (λ (a : ResponseDetails). a.request) v),
-          ap (λ (a : ResponseDetails). a.server) v ∙ same,
-          sym (ap (λ (a : ResponseDetails). a.client_sender) v),
-        ))
+        (λ _ _ v. (sym (ap (λ (a : ResponseDetails). a.request) v), ap (λ (a : ResponseDetails). a.server) v ∙ same))
         (λ w v.
         let b = sound.numbered.answering k j n c.port.id loans s w here (ap (λ (h : HandleEntry). h.stage) is)
         (sym (ap (λ (a : ResponseDetails). a.active_request) v) ∙ f) in (
           sym (ap (λ (h : HandleEntry). (request_details p h.sender h.slot).number) is) ∙ b.0
               ∙ sym (ap (λ (a : ResponseDetails). a.request) v),
           ap (λ (a : ResponseDetails). a.server) v ∙ b.1 ∙ same,
-          sym (ap (λ (h : HandleEntry). h.sender) is) ∙ b.2 ∙ sym (ap (λ (a : ResponseDetails). a.client_sender) v),
         ));
     ported = record {
       request_loan = λ h. absurd (false≢true h);

@@ -11,7 +11,7 @@ use Rattle.rr_sender.specs.Senders.{Messages, times, queue_at, borrowed_at, all_
 use Rattle.rr_protocol.specs.Limits.{worst_case_requests}
 use Rattle.rr_store.specs.declared.handle_entry.HandleEntry.{HandleEntry}
 use Rattle.rr_store.specs.declared.details.ResponseDetails.{ResponseDetails}
-use Rattle.rr_store.specs.Parts.{Parts, ServerPart, Sender}
+use Rattle.rr_store.specs.Parts.{Parts, ServerPart, Sender, ClientPart}
 use Rattle.rr_store.specs.Views.{no_sender, no_response, sender_of}
 use Rattle.rr_store.specs.Sound.{IsSound, IsCounted, IsHeldOnce, IsNumbered, IsAddressed, IsStored, IsVacated, IsShaped, Hand, handles, is_request_at, is_response_at, is_active_at, is_of_response, is_request_loan, is_in_sender, is_pending, is_active_of, is_response_loan, is_loan_from, is_received, is_received_at, response_details, request_uses, response_uses}
 use Rattle.rr_store.specs.Frames.{SameFrame}
@@ -258,11 +258,7 @@ module _ {Q QH P PH K : Type 0} (p : Parts Q QH P PH K) (index : ℕ) (c : Serve
             (λ _ _ v. absurd (let g : None ≡ Some s = sym taken
             ∙ ap (fin_map.get p.table.entries) (sym (ap (λ (a : ResponseDetails). a.active_request) v) ∙ f) ∙ e in cc))
             (λ w v.
-            let b = n.answering a i k server loans s w e is (sym (ap (λ (a : ResponseDetails). a.active_request) v) ∙ f) in (
-              b.0 ∙ sym (ap (λ (a : ResponseDetails). a.request) v),
-              ap (λ (a : ResponseDetails). a.server) v ∙ b.1,
-              b.2 ∙ sym (ap (λ (a : ResponseDetails). a.client_sender) v),
-            ));
+            let b = n.answering a i k server loans s w e is (sym (ap (λ (a : ResponseDetails). a.active_request) v) ∙ f) in (b.0 ∙ sym (ap (λ (a : ResponseDetails). a.request) v), ap (λ (a : ResponseDetails). a.server) v ∙ b.1));
       }
 
   addressed : IsAddressed after
@@ -288,9 +284,21 @@ module _ {Q QH P PH K : Type 0} (p : Parts Q QH P PH K) (index : ℕ) (c : Serve
               ap (λ (n : ResponseDetails). n.channel) f ∙ sym same.1,
               ap (λ (n : ResponseDetails). n.client) f ∙ n.requests rl rs asked
                   ∙ sym (ap (λ l. (sender_of l p.client_senders).owner) same.0),
+              same.0 ∙ sym (ap (λ (n : ResponseDetails). n.client_sender) f),
             ))
-            (λ u f. let r = n.answers a i k j u g (e ∙ ap (λ (n : ResponseDetails). n.request) f) in
-            (ap (λ (n : ResponseDetails). n.channel) f ∙ r.0, ap (λ (n : ResponseDetails). n.client) f ∙ r.1));
+            (λ u f. let r = n.answers a i k j u g (e ∙ ap (λ (n : ResponseDetails). n.request) f) in (
+              ap (λ (n : ResponseDetails). n.channel) f ∙ r.0,
+              ap (λ (n : ResponseDetails). n.client) f ∙ r.1,
+              r.2 ∙ sym (ap (λ (n : ResponseDetails). n.client_sender) f),
+            ));
+        client_senders = λ k j i d h e named. used_cases k j h
+            (λ _ _ f.
+            let its = sound.client_ports.own i d.connected (listed (λ (c : ClientPart K). c.connected) p.clients i d e) in
+            sound.client_ports.owned_once d.sender rl its.0 there
+            (its.1 ∙ named ∙ ap (λ (n : ResponseDetails). n.client) f ∙ n.requests rl rs asked)
+            ∙ sym (ap (λ (n : ResponseDetails). n.client_sender) f))
+            (λ u f. n.client_senders k j i d u e (named ∙ ap (λ (n : ResponseDetails). n.client) f)
+            ∙ sym (ap (λ (n : ResponseDetails). n.client_sender) f));
         entries = λ l i channel j d e some.
             let old : 0 < times i (queue_at (sender_of l p.server_senders).messages d.receiver channel) = omega
             (arith, some, same_of (λ x. times i (queue_at x.messages d.receiver channel)) refl l) in

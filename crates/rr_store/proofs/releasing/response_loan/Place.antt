@@ -87,7 +87,7 @@ module _ {Q QH P PH K : Type 0} (q : Parts Q QH P PH K) (entry : HandleEntry)
         let r = sound.addressed.answers entry.sender entry.slot t.value.sender t.value.slot in_use uses a.0 in
         let found : slice_get q.client_senders (response_details q entry.sender entry.slot).client_sender
         ≡ Some (sender_of t.value.sender q.client_senders) =
-        ap (slice_get q.client_senders) (sym a.2)
+        ap (slice_get q.client_senders) (sym r.2)
         ∙ slice_get-get_or q.client_senders t.value.sender no_sender (request_sender q (entry ∷ []) sound.counted asked t here of_request)
         in
         let its : place ≡ record {

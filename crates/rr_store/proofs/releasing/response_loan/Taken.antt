@@ -204,7 +204,6 @@ module _ {Q QH P PH K : Type 0} (q : Parts Q QH P PH K) (entry : HandleEntry)
             a.0 ∙ sym (ap (λ (m : ResponseDetails). m.request) (details_same l i)),
             ap (λ (m : ResponseDetails). m.server) (details_same l i) ∙ a.1
                 ∙ same,
-            a.2 ∙ sym (ap (λ (m : ResponseDetails). m.client_sender) (details_same l i)),
           );
       ported = record {
         request_loan = λ h. absurd (false≢true h);

@@ -68,27 +68,27 @@ module _ {Q QH P PH K : Type 0} (p : Parts Q QH P PH K) (sound : IsSound p empty
       (sends : c.sender ≡ entry.sender) where
     -- what is asked of the queue, where its details was read
     pub queue_asked : (noted : ResponseDetails) → response_details p entry.sender entry.slot ≡ noted → (reach : Option ℕ)
-        → reach ≡ reached p.clients p.client_senders p.table noted
+        → reach ≡ reached p.client_senders p.table noted
         → HasQueue (sender_of entry.sender p.server_senders).messages noted.channel reach
     queue_asked noted same reach is =
         subst (λ o. HasQueue (sender_of entry.sender p.server_senders).messages noted.channel o) (sym is)
         (subst (λ (n : ResponseDetails). HasQueue (sender_of entry.sender p.server_senders).messages n.channel
-        (reached p.clients p.client_senders p.table n)) same (has_queue p sound k entry f index c there sends))
+        (reached p.client_senders p.table n)) same (has_queue p sound k entry f index c there sends))
 
     -- whether it is refused, by the sender that was read
     pub refused_then : (action : K → ℕ → ℕ → BackpressureAction) (noted : ResponseDetails) → response_details p entry.sender entry.slot
         ≡ noted
-        → (reach : Option ℕ) → reach ≡ reached p.clients p.client_senders p.table noted
+        → (reach : Option ℕ) → reach ≡ reached p.client_senders p.table noted
         → (m : Messages P ResponseDetails PH) → (sender_of entry.sender p.server_senders).messages ≡ m
         → is_refused_in action c.port m p.limits.enable_safe_overflow_for_responses noted reach ≡ is_response_refused action (state_of p)
         (server_of c) (response_at p entry.sender entry.slot)
     refused_then action noted same reach is m read =
         ap (λ o. is_refused_in action c.port m p.limits.enable_safe_overflow_for_responses noted o) is
         ∙ ap (λ (n : ResponseDetails). is_refused_in action c.port m p.limits.enable_safe_overflow_for_responses n
-        (reached p.clients p.client_senders p.table n)) (sym same)
+        (reached p.client_senders p.table n)) (sym same)
         ∙ ap (λ (m : Messages P ResponseDetails PH). is_refused_in action c.port m p.limits.enable_safe_overflow_for_responses
         (response_details p entry.sender entry.slot)
-        (reached p.clients p.client_senders p.table (response_details p entry.sender entry.slot)))
+        (reached p.client_senders p.table (response_details p entry.sender entry.slot)))
         (sym read)
         ∙ sym (refused_is p sound k entry f index c there sends action)
 

@@ -2,7 +2,8 @@
 use Rattle.std.proofs.Common.{◌≡◌, ◌<◌, ℕ, Bool, true, false, cond, List, [], ◌∷◌, Option, None, Some, option_map, length, refl, sym, ap, ◌∙◌, subst, ⊎_elim, arith}
 use Rattle.std.specs.Prelude.{◌==◌, ◌&&◌, is_some, option_and_then, slice_get, slice_index, find}
 use Rattle.std.specs.FinMap as fin_map
-use Rattle.std.proofs.lemmas.Bool.{false≢true, eq-eqb, eqb-true}
+use Rattle.std.proofs.lemmas.Bool.{false≢true, eq-eqb}
+use Rattle.std.proofs.lemmas.Option.{get_or_from_slice_get, slice_get-get_or}
 use Rattle.rr_table.specs.TableView.{TableEntry, kept_in, value_in}
 use Rattle.rr_table.specs.declared.place.Place.{Place}
 use Rattle.rr_table.proofs.Kept.{kept_in_own, kept_in_place}
@@ -17,15 +18,16 @@ use Rattle.rr_protocol.specs.State.{client_at}
 use Rattle.rr_store.specs.declared.handle_entry.HandleEntry.{HandleEntry}
 use Rattle.rr_store.specs.declared.handle_entry.Stage.{Stage}
 use Rattle.rr_store.specs.declared.handle_entry.Stage.TheVariants as stage
+use Rattle.rr_store.specs.declared.details.RequestDetails.{RequestDetails}
 use Rattle.rr_store.specs.declared.details.ResponseDetails.{ResponseDetails}
 use Rattle.rr_store.specs.Delivering.{reached_if, reached}
-use Rattle.rr_store.specs.Parts.{Parts, ClientPart}
-use Rattle.rr_store.specs.Views.{sender_of, state_of, client_of, handle_of, response_at}
+use Rattle.rr_store.specs.Parts.{Parts, ClientPart, Sender}
+use Rattle.rr_store.specs.Views.{no_sender, sender_of, state_of, client_of, handle_of, response_at}
 use Rattle.rr_store.specs.Sound.{IsSound, Hand, is_of_request, is_pending, has_request_at, request_uses, response_uses, response_details, own_place, place_at}
 use Rattle.rr_store.proofs.base.views.Agreeing.{request_sender}
 use Rattle.rr_store.proofs.querying.Alive.{alive_here}
 use Rattle.rr_store.proofs.releasing.response_loan.Place.{client_of_sender}
-use Rattle.rr_store.proofs.base.lists.Found.{found_passes, found_somewhere}
+use Rattle.rr_store.proofs.base.views.Counts.{listed}
 use Rattle.rr_store.proofs.base.lookups.Looking.{handle_at-state_of}
 use Rattle.rr_store.proofs.base.lists.Replaced.{find_mapped}
 use Rattle.rr_store.proofs.base.lookups.Shown.{held_within}
@@ -71,9 +73,9 @@ module _ {Q QH P PH K : Type 0} (p : Parts Q QH P PH K) where
     abbrev key : ResponseKey
     key = record { server = details.server; client = details.client; channel = details.channel }
 
-    -- where the own handle of a client's request on the channel stands
-    abbrev spot : ClientPart K → Place
-    spot c = record { row = (sender_of c.sender p.client_senders).row; index = details.channel }
+    -- where the own handle of the request stands, in a sender
+    abbrev spot : Sender Q RequestDetails QH → Place
+    spot l = record { row = l.row; index = details.channel }
 
     seen_client : client_at (state_of p) details.client ≡ option_map client_of (find (λ c. c.port.id == details.client) p.clients)
     seen_client = find_mapped client_of (λ c. c.id == details.client) p.clients
@@ -94,11 +96,20 @@ module _ {Q QH P PH K : Type 0} (p : Parts Q QH P PH K) where
           tally-at (has_request_at s.value.sender s.value.slot) p.table.entries details.request s at here,
         )
 
-    -- the request's pending response stands where it is looked for, in a sender of the client
-    pending_spot : (s : TableEntry HandleEntry) → fin_map.get p.table.entries details.request ≡ Some s → is_pending s.value.stage ≡ true
-        → (c : ClientPart K) × (find (λ c. c.port.id == details.client) p.clients ≡ Some c) × (s.place ≡ spot c)
-        × (details.channel < worst_case_requests p.limits)
-    pending_spot s at is =
+    -- the client that waits, and where its pending response stands
+    record Waits (s : TableEntry HandleEntry) : Type 0 where
+      index : ℕ
+      client : ClientPart K
+      there : slice_get p.clients index ≡ Some client
+      alone : find (λ c. c.port.id == details.client) p.clients ≡ Some client
+      named : details.client ≡ client.port.id
+      in_sender : details.client_sender < length p.client_senders
+      receives : client.receiver ≡ (sender_of details.client_sender p.client_senders).receiver
+      stands : s.place ≡ spot (sender_of details.client_sender p.client_senders)
+      inside : details.channel < worst_case_requests p.limits
+
+    waits : (s : TableEntry HandleEntry) → fin_map.get p.table.entries details.request ≡ Some s → is_pending s.value.stage ≡ true → Waits s
+    waits s at is =
         let of_request = pending_is_request s.value.stage is in
         let uses : 0 < request_uses p s.value.sender s.value.slot = handle_uses_request p hand sound.counted details.request s at of_request
         in
@@ -107,14 +118,22 @@ module _ {Q QH P PH K : Type 0} (p : Parts Q QH P PH K) where
         let within = request_sender p hand sound.counted details.request s at of_request in
         let x = client_of_sender p hand sound s.value.sender ((sound.have_ports.handles details.request s at).pending is) in
         let slots : s.value.slot < length (sender_of s.value.sender p.client_senders).messages.held = held_within
-        (sender_of s.value.sender p.client_senders).messages.held s.value.slot (request_held s at of_request) in (
-          x.1,
-          ap (λ n. find (λ (c : ClientPart K). c.port.id == n) p.clients) (a.1 ∙ sym x.4) ∙ x.6,
-          sound.inserted.placed details.request s at ∙ pending_place s.value.stage s.value.sender s.value.slot is
-              ∙ ap (λ l. record { row = (sender_of l p.client_senders).row; index = s.value.slot }) (sym x.3)
-              ∙ ap (λ j. record { row = (sender_of x.1.sender p.client_senders).row; index = j }) (sym a.0),
-          omega (arith, a.0, slots, sound.sized.channels s.value.sender within),
-        )
+        (sender_of s.value.sender p.client_senders).messages.held s.value.slot (request_held s at of_request) in
+        record {
+          index = x.0;
+          client = x.1;
+          there = x.2;
+          alone = ap (λ n. find (λ (c : ClientPart K). c.port.id == n) p.clients) (a.1 ∙ sym x.4) ∙ x.6;
+          named = a.1 ∙ sym x.4;
+          in_sender = omega (arith, within, a.2);
+          receives = sym (sound.client_ports.received x.0 x.1.connected
+              (listed (λ (c : ClientPart K). c.connected) p.clients x.0 x.1 x.2))
+              ∙ ap (λ l. (sender_of l p.client_senders).receiver) (x.3 ∙ a.2);
+          stands = sound.inserted.placed details.request s at ∙ pending_place s.value.stage s.value.sender s.value.slot is
+              ∙ ap (λ l. record { row = (sender_of l p.client_senders).row; index = s.value.slot }) a.2
+              ∙ ap (λ j. record { row = (sender_of details.client_sender p.client_senders).row; index = j }) (sym a.0);
+          inside = omega (arith, a.0, slots, sound.sized.channels s.value.sender within);
+        }
 
     -- what is there tells where the response goes
     abbrev pub Told : Option ℕ → Type 0
@@ -129,9 +148,10 @@ module _ {Q QH P PH K : Type 0} (p : Parts Q QH P PH K) where
         off true = refl
         off false = refl
 
-    by_held : (c : ClientPart K) → find (λ c. c.port.id == details.client) p.clients ≡ Some c → (o : Option HandleEntry)
-        → value_in p.table details.request (spot c) ≡ o → Told (reached_if c.receiver o)
-    by_held c found None told =
+    -- and where no pending response is found
+    none_waits : ((s : TableEntry HandleEntry) → fin_map.get p.table.entries details.request ≡ Some s → is_pending s.value.stage ≡ true → ⊥)
+        → response_reach (state_of p) (response_at p sender slot) ≡ []
+    none_waits none =
         dead (⊎_elim
         (λ n. not_alive details.request n)
         (λ f. alive_table_entry details.request f.0 f.1 ∙ not_it f.0 f.1 (is_pending f.0.value.stage) refl)
@@ -141,45 +161,49 @@ module _ {Q QH P PH K : Type 0} (p : Parts Q QH P PH K) where
             → is_pending s.value.stage ≡ b
             → is_pending s.value.stage ≡ false
         not_it s at false e = e
-        not_it s at true e =
-            let f = pending_spot s at e in
-            let same : f.0 ≡ c = let g : Some f.0 ≡ Some c = sym f.1 ∙ found in cc in
-            let kept : value_in p.table details.request (spot c) ≡ Some s.value =
-            ap (option_and_then (kept_in (spot c))) at ∙ ap (λ r. kept_in r s) (sym (f.2 ∙ ap spot same)) ∙ kept_in_own s.place s.value in
-            absurd (let no : None ≡ Some s.value = sym told ∙ kept in cc)
-    by_held c found (Some entry) told = go (is_pending entry.stage) refl
+        not_it s at true e = absurd (none s at e)
+
+    by_held : (l : Sender Q RequestDetails QH) → l ≡ sender_of details.client_sender p.client_senders → (o : Option HandleEntry)
+        → value_in p.table details.request (spot l) ≡ o → Told (reached_if l.receiver o)
+    by_held l same None told =
+        none_waits (λ s at is.
+        let kept : value_in p.table details.request (spot l) ≡ Some s.value =
+        ap (option_and_then (kept_in (spot l))) at ∙ ap (λ r. kept_in r s) (ap spot same ∙ sym (waits s at is).stands)
+        ∙ kept_in_own s.place s.value in
+        let no : None ≡ Some s.value = sym told ∙ kept in cc)
+    by_held l same (Some entry) told = go (is_pending entry.stage) refl
       where
         alive : is_alive (state_of p) details.request ≡ is_pending entry.stage
-        alive = alive_here p details.request (spot c) entry told
+        alive = alive_here p details.request (spot l) entry told
 
-        go : (b : Bool) → is_pending entry.stage ≡ b → Told (cond (is_pending entry.stage) (Some c.receiver) None)
-        go false e = subst (λ b. Told (cond b (Some c.receiver) None)) (sym e) (dead (alive ∙ e))
-        go true e = subst (λ b. Told (cond b (Some c.receiver) None)) (sym e)
+        go : (b : Bool) → is_pending entry.stage ≡ b → Told (cond (is_pending entry.stage) (Some l.receiver) None)
+        go false e = subst (λ b. Told (cond b (Some l.receiver) None)) (sym e) (dead (alive ∙ e))
+        go true e = subst (λ b. Told (cond b (Some l.receiver) None)) (sym e)
             (⊎_elim
-            (λ n. absurd (let no : None ≡ Some entry = sym (ap (option_and_then (kept_in (spot c))) n) ∙ told in cc))
+            (λ n. absurd (let no : None ≡ Some entry = sym (ap (option_and_then (kept_in (spot l))) n) ∙ told in cc))
             (λ f.
-            let kept = kept_in_place (spot c) f.0 entry (sym (ap (option_and_then (kept_in (spot c))) f.1) ∙ told) in
-            let is : is_pending f.0.value.stage ≡ true = ap (λ (h : HandleEntry). is_pending h.stage) kept.1 ∙ e in
-            let x = pending_spot f.0 f.1 is in
-            let i = found_somewhere (λ (c : ClientPart K). c.port.id == details.client) p.clients c found in
+            let kept = kept_in_place (spot l) f.0 entry (sym (ap (option_and_then (kept_in (spot l))) f.1) ∙ told) in
+            let w = waits f.0 f.1 (ap (λ (h : HandleEntry). is_pending h.stage) kept.1 ∙ e) in
             record {
-              index = i.0;
-              client = c;
-              there = i.1;
-              named = sym (eqb-true c.port.id details.client (found_passes (λ (c : ClientPart K). c.port.id == details.client) p.clients c
-                  found));
-              placed = refl;
-              inside = x.3;
-              reach = reach_is true true (ap is_some seen_client ∙ ap (λ o. is_some (option_map client_of o)) found) (alive ∙ e);
+              index = w.index;
+              client = w.client;
+              there = w.there;
+              named = w.named;
+              placed = w.receives ∙ ap (λ (l : Sender Q RequestDetails QH). l.receiver) (sym same);
+              inside = w.inside;
+              reach = reach_is true true (ap is_some seen_client ∙ ap (λ o. is_some (option_map client_of o)) w.alone) (alive ∙ e);
             })
             (none_or_some (fin_map.get p.table.entries details.request)))
 
     -- the list that is reached, if one is
-    pub told : Told (reached p.clients p.client_senders p.table details)
-    told = go (find (λ c. c.port.id == details.client) p.clients) refl
+    pub told : Told (reached p.client_senders p.table details)
+    told = go (slice_get p.client_senders details.client_sender) refl
       where
-        go : (o : Option (ClientPart K)) → find (λ c. c.port.id == details.client) p.clients ≡ o
-            → Told (option_and_then (λ c. reached_if c.receiver (value_in p.table details.request (spot c))) o)
-        go None e = reach_is false (is_alive (state_of p) details.request)
-            (ap is_some seen_client ∙ ap (λ o. is_some (option_map client_of o)) e) refl
-        go (Some c) e = by_held c e (value_in p.table details.request (spot c)) refl
+        go : (o : Option (Sender Q RequestDetails QH)) → slice_get p.client_senders details.client_sender ≡ o
+            → Told (option_and_then (λ l. reached_if l.receiver (value_in p.table details.request (spot l))) o)
+        go None e =
+            none_waits (λ s at is.
+            let no : None ≡ Some (sender_of details.client_sender p.client_senders) = sym e
+            ∙ slice_get-get_or p.client_senders details.client_sender no_sender (waits s at is).in_sender in cc)
+        go (Some l) e = by_held l (sym (get_or_from_slice_get p.client_senders details.client_sender l no_sender e))
+            (value_in p.table details.request (spot l)) refl

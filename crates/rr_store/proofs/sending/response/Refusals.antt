@@ -57,7 +57,7 @@ module _ {Q QH P PH K : Type 0} (p : Parts Q QH P PH K) (sound : IsSound p empty
   details = response_details p entry.sender entry.slot
 
   abbrev reach : Option ℕ
-  reach = reached p.clients p.client_senders p.table details
+  reach = reached p.client_senders p.table details
 
   abbrev overflow : Bool
   overflow = p.limits.enable_safe_overflow_for_responses
@@ -208,8 +208,7 @@ module _ {Q QH P PH K : Type 0} (p : Parts Q QH P PH K) (sound : IsSound p empty
       (details_as_were m overflow details.channel entry.slot reach)) entry.sender
 
   -- the parts after the response was delivered, and its handle is gone
-  pub sent_parts : (noted : ResponseDetails) → details ≡ noted → (reach_is : Option ℕ) → reach_is ≡ reached p.clients p.client_senders
-      p.table noted
+  pub sent_parts : (noted : ResponseDetails) → details ≡ noted → (reach_is : Option ℕ) → reach_is ≡ reached p.client_senders p.table noted
       → (mid senders : List (Sender P ResponseDetails PH)) (table : TableView HandleEntry)
       → mid ≡ slice_set p.server_senders entry.sender (part.with_messages (sender_of entry.sender p.server_senders)
       (delivered m overflow noted.channel entry.slot reach_is))
@@ -232,7 +231,7 @@ module _ {Q QH P PH K : Type 0} (p : Parts Q QH P PH K) (sound : IsSound p empty
       (sym same_details)
       ∙ ap (λ o. slice_set p.server_senders entry.sender (part.with_messages (sender_of entry.sender p.server_senders)
       (delivered m overflow details.channel entry.slot o)))
-      (same_reach ∙ ap (reached p.clients p.client_senders p.table) (sym same_details)) in
+      (same_reach ∙ ap (reached p.client_senders p.table) (sym same_details)) in
       let same : with_responders p senders table p.next ≡ ended q entry q_is.0 loan table =
       same_responders p (ended q entry q_is.0 loan table) senders table p.next
       (ls ∙ ap (λ (xs : List (Sender P ResponseDetails PH)). slice_set xs entry.sender

@@ -1,0 +1,4 @@
+pub mod Cleared
+pub mod PortGone
+pub mod ClientGone
+pub mod ServerGone
