@@ -35,7 +35,7 @@ left_apart {K = K} connected cs senders n left has i l sender at port same =
     (own.1 ∙ x.2 ∙ sym same ∙ sym (ap (λ l. (sender_of l senders).owner) port.3)))
 
 -- no key is filled that passes a test, where each that passes it has the empty list
-none_filled : {A X : Type 0} {cmp : A → A → Ordering} → IsTotalOrder cmp → IsAntisymmetric cmp → (t : A → Bool) (lists : Lists cmp X)
+pub none_filled : {A X : Type 0} {cmp : A → A → Ordering} → IsTotalOrder cmp → IsAntisymmetric cmp → (t : A → Bool) (lists : Lists cmp X)
     → ((key : A) → t key ≡ true → at lists key ≡ []) → list_any t (filled_keys lists) ≡ false
 none_filled o exact t lists none = go (list_any t (filled_keys lists)) refl
   where
