@@ -6,3 +6,6 @@ pub mod Lists
 pub mod Queued
 pub mod ClientLists
 pub mod ClientView
+pub mod Answered
+pub mod ServerLists
+pub mod ServerView
