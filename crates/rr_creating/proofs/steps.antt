@@ -1,3 +1,4 @@
 pub mod Making
 pub mod Client
 pub mod Server
+pub mod Rooms

@@ -1,5 +1,5 @@
 //! Creating clients.
-ghost use Rattle.std.specs.Prelude.{◌≡◌, None, IsTrue, IfOk, OnErr, OnOk};
+ghost use Rattle.std.specs.Prelude.{◌≡◌, ◌≤◌, ◌+◌, None, IsTrue, IfOk, OnErr, OnOk, length};
 ghost use Rattle.rr_slots.specs.Families.{takes_len};
 ghost use Rattle.rr_protocol.specs.Creation.{CreatesClient, client_refusal, with_client};
 ghost use Rattle.rr_store.specs.Reaching.{IsCore};
@@ -35,7 +35,7 @@ pub fn create_client<QB: Body, QH: Default + Drop, PB: Body, PH: Default + Drop,
     }
 }
 
-/// Adds a client. Returns `AllocError` if memory was refused; nothing has changed then.
+/// Adds a client. Returns `AllocError` if memory was refused; contracts see no change then.
 fn add_client<QB: Body, QH: Default + Drop, PB: Body, PH: Default + Drop, K: BackpressureFn>(
     store: &mut Store<QB, QH, PB, PH, K>,
     alloc: Global,
@@ -44,6 +44,25 @@ fn add_client<QB: Body, QH: Default + Drop, PB: Body, PH: Default + Drop, K: Bac
     requires core { IsCore store.old }
     requires len { IsTrue (takes_len QB.family settings.initial_max_slice_len) }
     requires due { client_refusal (state_of store.old) ≡ None }
+    ensures core { IsCore store.new }
+    ensures number { IfOk result (λ number. number ≡ store.old.next) }
+    ensures ok { OnOk result (state_of store.new ≡ with_client (state_of store.old) settings) }
+    ensures err { OnErr result (state_of store.new ≡ state_of store.old) }
+{
+    store.reserve_left_client()?;
+    insert_client(store, alloc, settings)
+}
+
+/// Adds a client that can leave without memory. Returns `AllocError` if memory was refused; nothing has changed then.
+fn insert_client<QB: Body, QH: Default + Drop, PB: Body, PH: Default + Drop, K: BackpressureFn>(
+    store: &mut Store<QB, QH, PB, PH, K>,
+    alloc: Global,
+    settings: ClientSettings<K>,
+) -> Result<u64, AllocError>
+    requires core { IsCore store.old }
+    requires len { IsTrue (takes_len QB.family settings.initial_max_slice_len) }
+    requires due { client_refusal (state_of store.old) ≡ None }
+    requires room { length store.old.clients + 1 + length store.old.left_clients ≤ store.old.client_room }
     ensures core { IsCore store.new }
     ensures number { IfOk result (λ number. number ≡ store.old.next) }
     ensures ok { OnOk result (state_of store.new ≡ with_client (state_of store.old) settings) }

@@ -1,5 +1,5 @@
 //! Creating servers.
-ghost use Rattle.std.specs.Prelude.{◌≡◌, None, IsTrue, IfOk, OnErr, OnOk};
+ghost use Rattle.std.specs.Prelude.{◌≡◌, ◌≤◌, ◌+◌, None, IsTrue, IfOk, OnErr, OnOk, length};
 ghost use Rattle.rr_slots.specs.Families.{takes_len};
 ghost use Rattle.rr_protocol.specs.Creation.{CreatesServer, server_refusal, with_server};
 ghost use Rattle.rr_protocol.specs.Limits.{hub_refusal, worst_case_requests};
@@ -51,7 +51,7 @@ pub fn create_server<QB: Body, QH: Default + Drop, PB: Body, PH: Default + Drop,
     }
 }
 
-/// Adds a server. Returns `AllocError` if memory was refused; nothing has changed then.
+/// Adds a server. Returns `AllocError` if memory was refused; contracts see no change then.
 fn add_server<QB: Body, QH: Default + Drop, PB: Body, PH: Default + Drop, K: BackpressureFn>(
     store: &mut Store<QB, QH, PB, PH, K>,
     alloc: Global,
@@ -60,6 +60,25 @@ fn add_server<QB: Body, QH: Default + Drop, PB: Body, PH: Default + Drop, K: Bac
     requires core { IsCore store.old }
     requires len { IsTrue (takes_len PB.family settings.initial_max_slice_len) }
     requires due { server_refusal (state_of store.old) settings ≡ None }
+    ensures core { IsCore store.new }
+    ensures number { IfOk result (λ number. number ≡ store.old.next) }
+    ensures ok { OnOk result (state_of store.new ≡ with_server (state_of store.old) settings) }
+    ensures err { OnErr result (state_of store.new ≡ state_of store.old) }
+{
+    store.reserve_left_server()?;
+    insert_server(store, alloc, settings)
+}
+
+/// Adds a server that can leave without memory. Returns `AllocError` if memory was refused; nothing has changed then.
+fn insert_server<QB: Body, QH: Default + Drop, PB: Body, PH: Default + Drop, K: BackpressureFn>(
+    store: &mut Store<QB, QH, PB, PH, K>,
+    alloc: Global,
+    settings: ServerSettings<K>,
+) -> Result<u64, AllocError>
+    requires core { IsCore store.old }
+    requires len { IsTrue (takes_len PB.family settings.initial_max_slice_len) }
+    requires due { server_refusal (state_of store.old) settings ≡ None }
+    requires room { length store.old.servers + 1 + length store.old.left_servers ≤ store.old.server_room }
     ensures core { IsCore store.new }
     ensures number { IfOk result (λ number. number ≡ store.old.next) }
     ensures ok { OnOk result (state_of store.new ≡ with_server (state_of store.old) settings) }

@@ -22,7 +22,7 @@ impl<QB: Body, QH: Default + Drop, PB: Body, PH: Default + Drop, K: Backpressure
     K,
 > {
     /// Returns what a number names: a client or a server whose value lives, or a handle. Returns `None` if it names nothing.
-    /// Walks over the ports, and finds a handle at its hint. Our own.
+    /// Finds a handle at its hint, and a port among about ten of 1,000. Our own.
     #[inline(always)]
     pub fn kind(&self, id: &HandleId) -> Option<Kind>
         ensures { result ≡ kind_at self.now id.now }

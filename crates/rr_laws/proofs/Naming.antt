@@ -3,16 +3,17 @@ use Rattle.std.proofs.Common.{◌≡◌, ℕ, Bool, true, false, ◌&&◌, eqb, 
 use Rattle.std.specs.Prelude.{◌||◌}
 use Rattle.std.specs.List.{AllByRecursion}
 use Rattle.rr_protocol.specs.Ports.{Client, Server}
-use Rattle.rr_protocol.specs.Messages.{response_key}
+use Rattle.rr_protocol.specs.Messages.{Handle, response_key}
 use Rattle.rr_protocol.specs.Queries.{kind_of, kind_at}
 use Rattle.rr_protocol.specs.Receives.{ReceivesResponse}
 use Rattle.rr_protocol.specs.State.{State, handle_at, pending_at, is_client_value, is_server_value}
-use Rattle.rr_laws.specs.Roles.{roles_of}
+use Rattle.rr_laws.specs.Roles.{role_of, roles_of}
 use Rattle.rr_laws.specs.Reached.{has_client, has_server, is_port, ResponseFits, IsReached}
 use Rattle.rr_maps.proofs.ListFacts.{any_found, any_weaker}
 use Rattle.rr_laws.proofs.Connected.{not_both}
 use Rattle.rr_laws.proofs.Counts.{and_first}
 use Rattle.rr_laws.proofs.Opening.{some_and}
+use Rattle.rr_laws.proofs.RoleLaws.{role_at}
 
 module _ {Q QH P PH K : Type 0} (s : State Q QH P PH K) where
   -- a client whose value lives is connected
@@ -46,6 +47,11 @@ module _ {Q QH P PH K : Type 0} (s : State Q QH P PH K) where
       go true server e d h = absurd (cc)
 
   module _ (fits : IsReached s) where
+    -- a handle's number names that handle
+    pub handle_named : (n : ℕ) (h : Handle Q QH P PH) → handle_at s n ≡ Some h → kind_at s n ≡ Some (kind_of h)
+    handle_named n h at =
+        kind_of_no_port n (fits.handles n (role_of h) (role_at s.handles n h at)).no_port ∙ ap (option_map kind_of) at
+
     -- the number of a response that is received names nothing before, if no handle stands under it
     pub received_names_nothing : (n number : ℕ) (new : State Q QH P PH K) → ReceivesResponse s n (Ok (Some number)) new
         → handle_at s number ≡ None → kind_at s number ≡ None

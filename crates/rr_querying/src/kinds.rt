@@ -1,6 +1,7 @@
 //! What a number names.
 ghost use Rattle.std.specs.Prelude.{◌≡◌};
 ghost use Rattle.rr_protocol.specs.Queries.{kind_at};
+ghost use Rattle.rr_store.specs.Reaching.{IsCore};
 ghost use Rattle.rr_store.specs.Views.{state_of};
 
 use rr_protocol::{BackpressureFn, Kind};
@@ -8,25 +9,26 @@ use rr_slots::Body;
 use rr_store::Store;
 use rr_table::Place;
 
-/// Returns what a number names: a client or a server whose value lives, or a handle. `None` if it names nothing.
+/// Returns what a number names: a client or a server whose value lives, or a handle. Returns `None` if it names nothing.
 ///
-/// Walks over the ports, and finds a handle at its hint. Walks over the table only if the handle doesn't stand there.
+/// Looks at the hint, then at about ten of 1,000 clients and of as many servers, and walks over the table at last.
 #[inline(always)]
 pub fn kind_of<QB: Body, QH: Default + Drop, PB: Body, PH: Default + Drop, K: BackpressureFn>(
     store: &Store<QB, QH, PB, PH, K>,
     number: u64,
     hint: Place,
 ) -> Option<Kind>
+    requires { IsCore store.now }
     ensures { result ≡ kind_at (state_of store.now) number }
 {
+    if store.is_at(number, hint) {
+        return Some(store.at(number, hint).stage.kind());
+    }
     if store.is_client_value(number) {
         return Some(Kind::Client);
     }
     if store.is_server_value(number) {
         return Some(Kind::Server);
-    }
-    if store.is_at(number, hint) {
-        return Some(store.at(number, hint).stage.kind());
     }
     match store.find(number) {
         Some(place) => Some(store.at(number, place).stage.kind()),

@@ -32,7 +32,8 @@ pub fn receive_request<
     ensures core { IsCore store.new }
     ensures receives { ReceivesRequest (state_of store.old) server result (state_of store.new) }
 {
-    let receiver = store.server_receiver(server);
+    let index = store.server_index(server);
+    let receiver = store.server_receiver(index);
     store.skim_requests(receiver);
     match store.next_request_sender(receiver) {
         Ok(Some(sender)) => {

@@ -4,3 +4,7 @@ pub mod Active
 pub mod Received
 pub mod ResponseLoan
 pub mod Any
+pub mod Released
+pub mod ClientValue
+pub mod ServerValue
+pub mod Valueless

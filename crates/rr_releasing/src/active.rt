@@ -2,18 +2,20 @@
 ghost use Rattle.std.specs.Prelude.{◌≡◌, true, IsSomeAnd};
 ghost use Rattle.rr_protocol.specs.Releases.{after_release};
 ghost use Rattle.rr_protocol.specs.State.{handle_at};
-ghost use Rattle.rr_store.specs.Releasing.{is_active_request};
+ghost use Rattle.rr_store.specs.Releasing.{IsHandleGone, is_active_request};
 ghost use Rattle.rr_store.specs.Reaching.{IsCore};
-ghost use Rattle.rr_store.specs.Views.{state_of};
+ghost use Rattle.rr_store.specs.Sound.{HasPort, IsSound, empty_hand};
+ghost use Rattle.rr_store.specs.Views.{sender_of, state_of};
 ghost use Rattle.rr_table.specs.TableView.{IsAt};
 
+use rr_leaving::leave_server_if_unused;
 use rr_protocol::BackpressureFn;
 use rr_slots::Body;
 use rr_store::Store;
 use rr_table::Place;
 
 /// Releases the active request that stands in this place: its slot is given back, its server has one less from its client,
-/// and may not answer it any more.
+/// and may not answer it any more. The server leaves if nothing else of it lives.
 #[inline(always)]
 pub fn release_active_at<
     QB: Body,
@@ -28,8 +30,29 @@ pub fn release_active_at<
     ensures core { IsCore store.new }
     ensures view { state_of store.new ≡ after_release (state_of store.old) number }
 {
+    let sender = end_active(store, number, place);
+    leave_server_if_unused(store, sender);
+}
+
+/// Takes the active request out of its place, its server's mark from the request's slot, and the slot from what the server
+/// has. Returns the server's sender.
+#[inline(always)]
+fn end_active<QB: Body, QH: Default + Drop, PB: Body, PH: Default + Drop, K: BackpressureFn>(
+    store: &mut Store<QB, QH, PB, PH, K>,
+    number: u64,
+    place: Place,
+) -> usize
+    requires core { IsCore store.old }
+    requires at { IsAt store.old.table number place }
+    requires kind { IsSomeAnd (handle_at (state_of store.old) number) (λ handle. is_active_request handle ≡ true) }
+    ensures sound { IsSound store.new empty_hand }
+    ensures port { HasPort (λ s. s.sender) store.new.servers result }
+    ensures gone { IsHandleGone (state_of store.old) number (sender_of result store.new.server_senders).owner (state_of store.new) }
+{
     let entry = store.take(number, place);
-    let receiver = store.server_receiver(entry.stage.server());
+    let index = store.server_index(entry.stage.server());
+    let receiver = store.server_receiver(index);
     store.clear_mark(entry.sender, entry.slot, receiver);
     store.end_request_borrow(entry.sender, receiver, entry.slot);
+    store.server_sender(index)
 }

@@ -3,17 +3,20 @@ ghost use Rattle.std.specs.Prelude.{◌≡◌, true, IsSomeAnd};
 ghost use Rattle.rr_protocol.specs.Releases.{after_release};
 ghost use Rattle.rr_protocol.specs.State.{handle_at};
 ghost use Rattle.rr_store.specs.Clearing.{is_pending_response};
+ghost use Rattle.rr_store.specs.Releasing.{IsHandleGone};
 ghost use Rattle.rr_store.specs.Reaching.{IsCore};
-ghost use Rattle.rr_store.specs.Views.{state_of};
+ghost use Rattle.rr_store.specs.Sound.{HasPort, IsSound, empty_hand};
+ghost use Rattle.rr_store.specs.Views.{sender_of, state_of};
 ghost use Rattle.rr_table.specs.TableView.{IsAt};
 
+use rr_leaving::leave_client_if_unused;
 use rr_protocol::BackpressureFn;
 use rr_slots::Body;
 use rr_store::Store;
 use rr_table::Place;
 
-/// Releases the pending response that stands in this place: its slot is given back, its client has one less, and the
-/// responses on its channel that were not received are dropped.
+/// Releases the pending response that stands in this place: its slot is given back, its client has one less, the responses on
+/// its channel that were not received are dropped, and the client leaves if nothing else of it lives.
 #[inline(always)]
 pub fn release_pending_at<
     QB: Body,
@@ -28,8 +31,28 @@ pub fn release_pending_at<
     ensures core { IsCore store.new }
     ensures view { state_of store.new ≡ after_release (state_of store.old) number }
 {
+    let sender = end_pending(store, number, place);
+    leave_client_if_unused(store, sender);
+}
+
+/// Takes the pending response out of its place, counts one less for its client, drops the responses on its channel, and gives
+/// its slot back. Returns the client's sender.
+#[inline(always)]
+fn end_pending<QB: Body, QH: Default + Drop, PB: Body, PH: Default + Drop, K: BackpressureFn>(
+    store: &mut Store<QB, QH, PB, PH, K>,
+    number: u64,
+    place: Place,
+) -> usize
+    requires core { IsCore store.old }
+    requires at { IsAt store.old.table number place }
+    requires kind { IsSomeAnd (handle_at (state_of store.old) number) (λ handle. is_pending_response handle ≡ true) }
+    ensures sound { IsSound store.new empty_hand }
+    ensures port { HasPort (λ c. c.sender) store.new.clients result }
+    ensures gone { IsHandleGone (state_of store.old) number (sender_of result store.new.client_senders).owner (state_of store.new) }
+{
     let entry = store.take(number, place);
     let receiver = store.end_pending(entry.sender);
     store.clear_channel(receiver, entry.slot);
     store.give_back_request(entry.sender, entry.slot);
+    entry.sender
 }

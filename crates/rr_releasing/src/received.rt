@@ -2,18 +2,20 @@
 ghost use Rattle.std.specs.Prelude.{◌≡◌, true, IsSomeAnd};
 ghost use Rattle.rr_protocol.specs.Releases.{after_release};
 ghost use Rattle.rr_protocol.specs.State.{handle_at};
-ghost use Rattle.rr_store.specs.Releasing.{is_received_response};
+ghost use Rattle.rr_store.specs.Releasing.{IsHandleGone, is_received_response};
 ghost use Rattle.rr_store.specs.Reaching.{IsCore};
-ghost use Rattle.rr_store.specs.Views.{state_of};
+ghost use Rattle.rr_store.specs.Sound.{HasPort, IsSound, empty_hand};
+ghost use Rattle.rr_store.specs.Views.{sender_of, state_of};
 ghost use Rattle.rr_table.specs.TableView.{IsAt};
 
+use rr_leaving::leave_client_if_unused;
 use rr_protocol::BackpressureFn;
 use rr_slots::Body;
 use rr_store::Store;
 use rr_table::Place;
 
-/// Releases the received response that stands in this place: its slot is given back, and its client has one less from its
-/// channel.
+/// Releases the received response that stands in this place: its slot is given back, its client has one less from its
+/// channel, and leaves if nothing else of it lives.
 #[inline(always)]
 pub fn release_received_at<
     QB: Body,
@@ -28,8 +30,28 @@ pub fn release_received_at<
     ensures core { IsCore store.new }
     ensures view { state_of store.new ≡ after_release (state_of store.old) number }
 {
+    let sender = end_received(store, number, place);
+    leave_client_if_unused(store, sender);
+}
+
+/// Takes the received response out of its place, gives its slot back, and counts one less that its client has from its
+/// channel. Returns the client's sender.
+#[inline(always)]
+fn end_received<QB: Body, QH: Default + Drop, PB: Body, PH: Default + Drop, K: BackpressureFn>(
+    store: &mut Store<QB, QH, PB, PH, K>,
+    number: u64,
+    place: Place,
+) -> usize
+    requires core { IsCore store.old }
+    requires at { IsAt store.old.table number place }
+    requires kind { IsSomeAnd (handle_at (state_of store.old) number) (λ handle. is_received_response handle ≡ true) }
+    ensures sound { IsSound store.new empty_hand }
+    ensures port { HasPort (λ c. c.sender) store.new.clients result }
+    ensures gone { IsHandleGone (state_of store.old) number (sender_of result store.new.client_senders).owner (state_of store.new) }
+{
     let entry = store.take(number, place);
     let details = store.response_details(entry.sender, entry.slot);
     let receiver = store.receiver_of_sender(details.client_sender);
     store.end_response_borrow(entry.sender, receiver, details.channel, entry.slot);
+    details.client_sender
 }

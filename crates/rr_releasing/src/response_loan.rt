@@ -2,18 +2,20 @@
 ghost use Rattle.std.specs.Prelude.{◌≡◌, true, IsSomeAnd};
 ghost use Rattle.rr_protocol.specs.Releases.{after_release};
 ghost use Rattle.rr_protocol.specs.State.{handle_at};
-ghost use Rattle.rr_store.specs.Releasing.{is_loaned_response};
+ghost use Rattle.rr_store.specs.Releasing.{IsHandleGone, is_loaned_response};
 ghost use Rattle.rr_store.specs.Reaching.{IsCore};
-ghost use Rattle.rr_store.specs.Views.{state_of};
+ghost use Rattle.rr_store.specs.Sound.{HasPort, IsSound, empty_hand};
+ghost use Rattle.rr_store.specs.Views.{sender_of, state_of};
 ghost use Rattle.rr_table.specs.TableView.{IsAt};
 
+use rr_leaving::leave_server_if_unused;
 use rr_protocol::BackpressureFn;
 use rr_slots::Body;
 use rr_store::Store;
 use rr_table::Place;
 
 /// Releases the response on loan that stands in this place: its slot is given back, its server has one less on loan, and so
-/// has its active request, if that is not released yet.
+/// has its active request, if that is not released yet. The server leaves if nothing else of it lives.
 #[inline(always)]
 pub fn release_response_loan_at<
     QB: Body,
@@ -28,9 +30,29 @@ pub fn release_response_loan_at<
     ensures core { IsCore store.new }
     ensures view { state_of store.new ≡ after_release (state_of store.old) number }
 {
+    let sender = end_response(store, number, place);
+    leave_server_if_unused(store, sender);
+}
+
+/// Takes the response on loan out of its place, gives its slot back, and counts one less for its server and for its active
+/// request, if that is not released yet. Returns the server's sender.
+#[inline(always)]
+fn end_response<QB: Body, QH: Default + Drop, PB: Body, PH: Default + Drop, K: BackpressureFn>(
+    store: &mut Store<QB, QH, PB, PH, K>,
+    number: u64,
+    place: Place,
+) -> usize
+    requires core { IsCore store.old }
+    requires at { IsAt store.old.table number place }
+    requires kind { IsSomeAnd (handle_at (state_of store.old) number) (λ handle. is_loaned_response handle ≡ true) }
+    ensures sound { IsSound store.new empty_hand }
+    ensures port { HasPort (λ s. s.sender) store.new.servers result }
+    ensures gone { IsHandleGone (state_of store.old) number (sender_of result store.new.server_senders).owner (state_of store.new) }
+{
     let entry = store.take(number, place);
     let details = store.response_details(entry.sender, entry.slot);
     store.give_back_response(entry.sender, entry.slot);
     let receiver = store.end_response_loan(entry.sender);
     store.end_loan_from(details, receiver);
+    entry.sender
 }

@@ -7,4 +7,5 @@ mod LinkLaws
 mod HeldLaws
 mod SenderLaws
 mod QueueLaws
+mod DrainedLaws
 mod HeadLaws

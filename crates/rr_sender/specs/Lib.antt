@@ -2,3 +2,4 @@ pub mod Senders
 pub mod Links
 pub mod Parts
 pub mod SenderLends
+pub mod Draining

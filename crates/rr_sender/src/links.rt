@@ -1,5 +1,6 @@
 //! The links from one port to its receivers: the queues, and what each receiver has not given back.
-ghost use Rattle.std.specs.Prelude.{◌≡◌, ℕ, ◌<◌, ◌≤◌, ◌↔◌, ◌++◌, ◌∷◌, [], All, IfOk, IsTrue, drop, length, replicate, slice_get, slice_index_or};
+ghost use Rattle.std.specs.Prelude.{◌≡◌, ℕ, ◌<◌, ◌≤◌, ◌↔◌, ◌++◌, ◌∷◌, [], All, IfOk, IsTrue, drop, length, nat_lt, replicate, slice_get, slice_index_or};
+ghost use Rattle.std.specs.List.{list_any};
 ghost use Rattle.rr_sender.specs.Senders.{at_two, is_full};
 ghost use Rattle.rr_slots.specs.Connections.{no_entries};
 
@@ -106,6 +107,16 @@ impl Links {
         link.connection.len(channel)
     }
 
+    /// How many channels a receiver has.
+    #[inline(always)]
+    pub(crate) fn channels(&self, receiver: usize) -> usize
+        requires { receiver < length self.now.queues }
+        ensures { result ≡ length (slice_index_or self.now.queues receiver []) }
+    {
+        let link = &self.links[receiver];
+        link.connection.channels()
+    }
+
     /// Whether a receiver's channel has no entry, for each of its channels. It looks at none of them.
     #[inline(always)]
     pub(crate) fn is_empty(&self, receiver: usize) -> bool
@@ -127,6 +138,15 @@ impl Links {
         link.borrowed[channel]
     }
 
+    /// Returns whether a receiver has one from some channel. Looks once at each channel.
+    pub(crate) fn has_borrowed(&self, receiver: usize) -> bool
+        requires { receiver < length self.now.borrowed }
+        ensures { result ≡ list_any (λ n. nat_lt 0 n) (slice_index_or self.now.borrowed receiver []) }
+    {
+        let link = &self.links[receiver];
+        is_any_counted(link.borrowed.as_slice())
+    }
+
     /// Sets that a receiver has so many from a channel.
     #[inline(always)]
     pub(crate) fn set_borrowed(&mut self, receiver: usize, channel: usize, count: usize)
@@ -137,6 +157,18 @@ impl Links {
         let link = &mut self.links[receiver];
         link.borrowed[channel] = count;
     }
+}
+
+/// Returns whether one of the counts is not zero.
+fn is_any_counted(counts: &[usize]) -> bool
+    ensures { result ≡ list_any (λ n. nat_lt 0 n) counts.now }
+{
+    for count in counts {
+        if *count > 0 {
+            return true;
+        }
+    }
+    false
 }
 
 /// So many links on which nothing was sent.

@@ -1,4 +1,9 @@
 pub mod Cleared
+pub mod Drained
+pub mod Expiring
+pub mod Outdated
+pub mod OutdatedAt
+pub mod Viewed
 pub mod PortGone
 pub mod ClientGone
 pub mod ServerGone
@@ -9,3 +14,10 @@ pub mod ClientView
 pub mod Answered
 pub mod ServerLists
 pub mod ServerView
+pub mod Borrowing
+pub mod InUse
+pub mod ValueGone
+pub mod ClientValue
+pub mod ClientValueView
+pub mod ServerValueView
+pub mod ServerValue

@@ -1,2 +1,3 @@
 pub mod Connected
 pub mod Alive
+pub mod Used

@@ -1,5 +1,5 @@
 -- What each call of a store changes of its parts.
-use Rattle.std.specs.Prelude.{ℕ, ◌+◌, ◌&&◌, ◌||◌, Bool, List, [], ◌∷◌, ◌++◌, length, not, if◌then◌else◌, Option, Some, None, drop, nat_le, map, slice_set}
+use Rattle.std.specs.Prelude.{ℕ, ◌+◌, ◌&&◌, ◌||◌, Bool, true, List, [], ◌∷◌, ◌++◌, length, not, if◌then◌else◌, Option, Some, None, drop, nat_le, map, slice_set}
 use Rattle.std.specs.List.{list_any}
 use Rattle.rr_table.specs.declared.place.Place.{Place}
 use Rattle.rr_table.specs.TableView.{inserted, removed, with_row}
@@ -113,7 +113,7 @@ module _ {Q QH P PH K : Type 0} (p : Parts Q QH P PH K) where
       record p {
         next = p.next + 1;
         clients = p.clients ++ record { connected = record { port = record (client_port p settings) { pool_size = slots }; sender = length p.client_senders; receiver = receiver }; loans_made = 0 } ∷ [];
-        client_senders = p.client_senders ++ record { owner = p.next; row = length p.table.rows; receiver = receiver; loans = 0; pendings = 0; may_answer = marks; messages = messages } ∷ [];
+        client_senders = p.client_senders ++ record { owner = p.next; row = length p.table.rows; receiver = receiver; has_value = true; loans = 0; pendings = 0; may_answer = marks; messages = messages } ∷ [];
         table = with_row p.table row_len;
       }
 
@@ -123,6 +123,6 @@ module _ {Q QH P PH K : Type 0} (p : Parts Q QH P PH K) where
       record p {
         next = p.next + 1;
         servers = p.servers ++ record { connected = record { port = record (server_port p settings) { pool_size = slots }; sender = length p.server_senders; receiver = receiver }; max_loaned_responses_per_request = loans; max_loaned_responses = max_loaned_responses p.limits loans } ∷ [];
-        server_senders = p.server_senders ++ record { owner = p.next; row = length p.table.rows; receiver = receiver; loans = 0; pendings = 0; may_answer = []; messages = messages } ∷ [];
+        server_senders = p.server_senders ++ record { owner = p.next; row = length p.table.rows; receiver = receiver; has_value = true; loans = 0; pendings = 0; may_answer = []; messages = messages } ∷ [];
         table = with_row p.table slots;
       }

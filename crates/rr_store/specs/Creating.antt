@@ -60,6 +60,7 @@ module _ {Q QH P PH K : Type 0} (p : Parts Q QH P PH K) where
         owner = p.next;
         row = length p.table.rows;
         receiver = receiver;
+        has_value = true;
         loans = 0;
         pendings = 0;
         may_answer = replicate ((client_port settings).pool_size * p.limits.max_servers) no_server;
@@ -91,6 +92,7 @@ module _ {Q QH P PH K : Type 0} (p : Parts Q QH P PH K) where
         owner = p.next;
         row = length p.table.rows;
         receiver = receiver;
+        has_value = true;
         loans = 0;
         pendings = 0;
         may_answer = [];

@@ -15,6 +15,7 @@ pub record SenderAlike {T N H : Type 0} (before after : Sender T N H) : Type 0 w
   pub owner : after.owner ≡ before.owner
   pub row : after.row ≡ before.row
   pub receiver : after.receiver ≡ before.receiver
+  pub has_value : after.has_value ≡ before.has_value
   pub slots : length after.messages.held ≡ length before.messages.held
   pub room : after.messages.room ≡ before.messages.room
   pub marks : length after.may_answer ≡ length before.may_answer

@@ -1,5 +1,5 @@
 -- The fields of a store as parts.
-use Rattle.std.specs.Prelude.{map}
+use Rattle.std.specs.Prelude.{map, vec_capacity}
 use Rattle.rr_store.specs.declared.store.Store.TheInside.{Inside}
 use Rattle.rr_store.specs.Parts.{Parts}
 use Rattle.rr_store.specs.Ports.{client_part, server_part, sender_part}
@@ -17,6 +17,8 @@ parts_of c =
       server_senders = map sender_part c.server_senders.items;
       left_clients = c.left_clients.items;
       left_servers = c.left_servers.items;
+      client_room = vec_capacity c.left_clients;
+      server_room = vec_capacity c.left_servers;
       table = c.table;
       spare_request_header = c.spare_request_header;
       spare_response_header = c.spare_response_header;

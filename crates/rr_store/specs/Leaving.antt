@@ -1,10 +1,29 @@
 -- What becomes of a core as a port leaves.
-use Rattle.std.specs.Prelude.{◌≡◌, ◌≤◌, ◌⊎◌, ℕ, ◌+◌, ◌-◌, ◌==◌, Bool, if◌then◌else◌, List, [], ◌∷◌, ◌++◌, filter, length, nat_lt, slice_index_or, take}
+use Rattle.std.specs.Prelude.{◌≡◌, ◌≤◌, ◌⊎◌, ℕ, ◌+◌, ◌-◌, ◌==◌, Bool, ◌||◌, if◌then◌else◌, List, [], ◌∷◌, ◌++◌, filter, length, nat_lt, slice_index_or, take, false, slice_set}
 use Rattle.std.specs.List.{list_any, remove}
 use Rattle.rr_sender.specs.Senders.{all_entries, borrowed_at, queue_at, times}
 use Rattle.rr_store.specs.declared.port.LeftPort.{LeftPort}
+use Rattle.rr_store.specs.Loaning.{with_sender_at}
 use Rattle.rr_store.specs.Parts.{ClientPart, Parts, Sender, ServerPart}
 use Rattle.rr_store.specs.Views.{sender_of}
+
+-- what is noted of a port that leaves
+abbrev pub leaving_client : {K : Type 0} → ClientPart K → LeftPort
+leaving_client c = record { number = c.port.id; sender = c.sender }
+
+abbrev pub leaving_server : {K : Type 0} → ServerPart K → LeftPort
+leaving_server s = record { number = s.port.id; sender = s.sender }
+
+-- a sender of whose port the value is gone
+abbrev pub valueless : {T N H : Type 0} → Sender T N H → Sender T N H
+valueless l = record l { has_value = false }
+
+-- a client, and a server, without its value
+abbrev pub valueless_client : {K : Type 0} → ClientPart K → ClientPart K
+valueless_client c = record c { connected = record c.connected { port = record c.port { has_value = false } } }
+
+abbrev pub valueless_server : {K : Type 0} → ServerPart K → ServerPart K
+valueless_server s = record s { connected = record s.connected { port = record s.port { has_value = false } } }
 
 -- a sender of which some queues lost all their entries, and else nothing changed
 pub record SenderCleared {T N H : Type 0} (before after : Sender T N H) : Type 0 where
@@ -45,6 +64,10 @@ pub record SendersCut {T N H : Type 0} (cut : ℕ → ℕ → Bool) (before afte
   pub rest : (sender : ℕ) → sender_of sender after ≡ record (sender_of sender before) { messages = record (sender_of sender before).messages { queues = (sender_of sender after).messages.queues } }
   pub queues : (sender receiver channel : ℕ) → queue_at (sender_of sender after).messages receiver channel ≡ (if cut sender receiver then [] else queue_at (sender_of sender before).messages receiver channel)
 
+-- whether a receiver has a message from some sender
+abbrev pub is_borrowing : {T N H : Type 0} → List (Sender T N H) → ℕ → Bool
+is_borrowing senders receiver = list_any (λ l. list_any (λ n. nat_lt 0 n) (slice_index_or l.messages.borrowed receiver [])) senders
+
 module _ {Q QH P PH K : Type 0} (p : Parts Q QH P PH K) where
   -- without the client at an index, whose sender stays for those who have its messages
   abbrev pub without_client : ℕ → ClientPart K → Parts Q QH P PH K
@@ -53,6 +76,25 @@ module _ {Q QH P PH K : Type 0} (p : Parts Q QH P PH K) where
   -- without the server at an index
   abbrev pub without_server : ℕ → ServerPart K → Parts Q QH P PH K
   without_server index s = record p { servers = remove p.servers index; left_servers = p.left_servers ++ record { number = s.port.id; sender = s.sender } ∷ [] }
+
+  -- whether a client's value lives, or it has a handle
+  abbrev pub is_client_used : ClientPart K → Bool
+  is_client_used c =
+      c.port.has_value || (nat_lt 0 (sender_of c.sender p.client_senders).loans || (nat_lt 0 (sender_of c.sender p.client_senders).pendings || is_borrowing p.server_senders c.receiver))
+
+  -- and a server's
+  abbrev pub is_server_used : ServerPart K → Bool
+  is_server_used s =
+      s.port.has_value || (nat_lt 0 (sender_of s.sender p.server_senders).loans || is_borrowing p.client_senders s.receiver)
+
+  -- with the value of the client at an index gone, and of the server at one
+  abbrev pub without_client_value : ℕ → ClientPart K → Parts Q QH P PH K
+  without_client_value index c =
+      record p { clients = slice_set p.clients index (valueless_client c); client_senders = with_sender_at p.client_senders c.sender valueless }
+
+  abbrev pub without_server_value : ℕ → ServerPart K → Parts Q QH P PH K
+  without_server_value index s =
+      record p { servers = slice_set p.servers index (valueless_server s); server_senders = with_sender_at p.server_senders s.sender valueless }
 
   -- a client has no handle, and nothing waits for it
   pub record IsUnusedClient (c : ClientPart K) : Type 0 where

@@ -28,3 +28,4 @@ pub mod Skimming
 pub mod Inside
 pub mod Reaching
 pub mod Changes
+pub mod Draining

@@ -1,5 +1,5 @@
 -- What a core keeps.
-use Rattle.std.specs.Prelude.{ℕ, List}
+use Rattle.std.specs.Prelude.{ℕ, Bool, List}
 use Rattle.rr_table.specs.TableView.{TableView}
 use Rattle.rr_sender.specs.Senders.{Messages}
 use Rattle.rr_protocol.specs.declared.limits.Limits.{Limits}
@@ -28,17 +28,18 @@ pub record ServerPart (K : Type 0) : Type 0 where
   pub max_loaned_responses_per_request : ℕ
   pub max_loaned_responses : ℕ
 
--- what a port sends from: the port's number and its index among the receivers of the other side, the row in which the handles of its messages stand, how many messages are on loan and how many responses are pending, and, by slot and receiver, which server may still answer a request
+-- what a port sends from: the port's number and its index among the receivers of the other side, the row in which the handles of its messages stand, whether the port's value lives, how many messages are on loan and how many responses are pending, and, by slot and receiver, which server may still answer a request
 pub record Sender (T N H : Type 0) : Type 0 where
   pub owner : ℕ
   pub row : ℕ
   pub receiver : ℕ
+  pub has_value : Bool
   pub loans : ℕ
   pub pendings : ℕ
   pub may_answer : List ℕ
   pub messages : Messages T N H
 
--- the whole, with the ports that left in the order in which they did
+-- the whole, with the ports that left in the order in which they did, and how many of them there is room for
 pub record Parts (Q QH P PH K : Type 0) : Type 0 where
   pub limits : Limits
   pub node_id : ℕ
@@ -49,6 +50,8 @@ pub record Parts (Q QH P PH K : Type 0) : Type 0 where
   pub server_senders : List (Sender P ResponseDetails PH)
   pub left_clients : List LeftPort
   pub left_servers : List LeftPort
+  pub client_room : ℕ
+  pub server_room : ℕ
   pub table : TableView HandleEntry
   pub spare_request_header : QH
   pub spare_response_header : PH

@@ -33,4 +33,4 @@ module _ {K : Type 0} where
 
 -- a sender
 abbrev pub sender_part : {B N H T : Type 0} → OwnedSender B N H T → Sender T N H
-sender_part l = record { owner = l.owner; row = l.row; receiver = l.receiver; loans = l.loans; pendings = l.pendings; may_answer = l.may_answer.items; messages = l.messages }
+sender_part l = record { owner = l.owner; row = l.row; receiver = l.receiver; has_value = l.has_value; loans = l.loans; pendings = l.pendings; may_answer = l.may_answer.items; messages = l.messages }

@@ -1,7 +1,10 @@
 -- What a release takes away, and from which part.
-use Rattle.std.specs.Prelude.{ℕ, ◌-◌, Bool, true, false, slice_index, slice_set}
+use Rattle.std.specs.Prelude.{◌≡◌, ℕ, Some, ◌-◌, Bool, true, false, slice_index, slice_set}
+use Rattle.std.specs.FinMap as fin_map
 use Rattle.rr_sender.specs.Senders.{Messages, borrowed_at, given_back, with_held, with_borrowed}
-use Rattle.rr_protocol.specs.Messages.{Handle, RequestMutUninit, RequestMut, ActiveRequest, ResponseMutUninit, ResponseMut, Response}
+use Rattle.rr_protocol.specs.Messages.{Handle, RequestMutUninit, RequestMut, ActiveRequest, ResponseMutUninit, ResponseMut, Response, port_of}
+use Rattle.rr_protocol.specs.Releases.{after_handle_gone}
+use Rattle.rr_protocol.specs.State.{State, handle_at}
 use Rattle.rr_store.specs.declared.handle_entry.Stage.{Stage}
 use Rattle.rr_store.specs.declared.handle_entry.Stage.TheVariants as stage
 use Rattle.rr_store.specs.Parts.{Sender}
@@ -53,3 +56,10 @@ without_mark index l = record l { may_answer = slice_set l.may_answer index no_s
 -- a sender with one message less on loan
 abbrev pub without_loan : {T N H : Type 0} → Sender T N H → Sender T N H
 without_loan l = record l { loans = l.loans - 1 }
+
+-- a handle went with all that goes with it, and whether its port leaves is still to be asked
+pub record IsHandleGone {Q QH P PH K : Type 0} (s : State Q QH P PH K) (n port : ℕ) (t : State Q QH P PH K) : Type 0 where
+  pub handle : Handle Q QH P PH
+  pub there : handle_at s n ≡ Some handle
+  pub its_port : port_of handle ≡ port
+  pub gone : t ≡ after_handle_gone (record s { handles = fin_map.remove s.handles n }) handle

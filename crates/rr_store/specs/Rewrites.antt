@@ -1,5 +1,5 @@
 -- What stays of a sender while what stands in its slots is written, or a server may not answer any more: all but the contents, the user headers and the marks.
-use Rattle.std.specs.Prelude.{◌≡◌, ◌<◌, ℕ, ◌==◌, false, List, length, slice_index_or}
+use Rattle.std.specs.Prelude.{◌≡◌, ◌<◌, ℕ, ◌==◌, Bool, false, List, length, slice_index_or}
 use Rattle.rr_store.specs.Parts.{Sender}
 use Rattle.rr_store.specs.Views.{no_server, sender_of}
 
@@ -8,6 +8,7 @@ pub record Outline (N : Type 0) : Type 0 where
   pub owner : ℕ
   pub row : ℕ
   pub receiver : ℕ
+  pub has_value : Bool
   pub loans : ℕ
   pub pendings : ℕ
   pub details : List N
@@ -20,7 +21,7 @@ pub record Outline (N : Type 0) : Type 0 where
 -- the outline of a sender
 abbrev pub outline_of : {T N H : Type 0} → Sender T N H → Outline N
 outline_of l =
-    record { owner = l.owner; row = l.row; receiver = l.receiver; loans = l.loans; pendings = l.pendings; details = l.messages.details; held = l.messages.held; queues = l.messages.queues; borrowed = l.messages.borrowed; capacity = l.messages.capacity; room = l.messages.room }
+    record { owner = l.owner; row = l.row; receiver = l.receiver; has_value = l.has_value; loans = l.loans; pendings = l.pendings; details = l.messages.details; held = l.messages.held; queues = l.messages.queues; borrowed = l.messages.borrowed; capacity = l.messages.capacity; room = l.messages.room }
 
 -- other contents and user headers, as many as before, and no server more that may answer
 pub record SenderRewritten {T N H : Type 0} (before after : Sender T N H) : Type 0 where

@@ -101,12 +101,13 @@ pub record IsShaped {T N H : Type 0} (receivers channels capacity : ℕ) (m : Me
   pub within : (r c : ℕ) → length (queue_at m r c) ≤ capacity
   pub inside : (slot : ℕ) → 0 < times slot (all_entries m.queues) → slot < length m.held
 
--- each port has a sender of its own, of the size that it says, which knows the port's receiver; and ports stand in the order in which they were created
+-- each port has a sender of its own, of the size that it says, which knows the port's receiver and whether its value lives; and ports stand in the order in which they were created
 pub record HasSenders {T N H K : Type 0} (next ports : ℕ) (connected : List (Connected K)) (senders : List (Sender T N H)) : Type 0 where
   pub few : length connected ≤ ports
   pub own : (i : ℕ) (c : Connected K) → slice_get connected i ≡ Some c →
       (c.sender < length senders) × ((sender_of c.sender senders).owner ≡ c.port.id) × (length (sender_of c.sender senders).messages.held ≡ c.port.pool_size) × ((sender_of c.sender senders).messages.room ≡ c.port.initial_max_slice_len)
   pub received : (i : ℕ) (c : Connected K) → slice_get connected i ≡ Some c → (sender_of c.sender senders).receiver ≡ c.receiver
+  pub valued : (i : ℕ) (c : Connected K) → slice_get connected i ≡ Some c → (sender_of c.sender senders).has_value ≡ c.port.has_value
   pub owned_once : (i j : ℕ) → i < length senders → j < length senders → (sender_of i senders).owner ≡ (sender_of j senders).owner → i ≡ j
   pub numbered : (i : ℕ) → i < length senders → (sender_of i senders).owner < next
   pub placed : (i : ℕ) (c : Connected K) → slice_get connected i ≡ Some c → c.receiver < ports
@@ -267,14 +268,14 @@ module _ {Q QH P PH K : Type 0} (p : Parts Q QH P PH K) where
         (queue_at (sender_of sender p.client_senders).messages receiver channel ≡ []) × (borrowed_at (sender_of sender p.client_senders).messages receiver channel ≡ 0)
     pub awaits_none : (sender slot receiver server : ℕ) → p.next ≤ server → server < no_server → is_awaited p sender slot receiver server ≡ false
 
-  -- the ports of all handles are connected, and each port value lives; no client has a server's number; and the senders of ports that left are known
+  -- the ports of all handles are connected; no client has a server's number; and the senders of ports that left are known, and there is room for those that still leave
   pub record HavePorts : Type 0 where
     pub handles : (k : ℕ) (s : TableEntry HandleEntry) → fin_map.get p.table.entries k ≡ Some s → IsPorted p.clients p.servers s.value
-    pub client_values : (i : ℕ) (c : ClientPart K) → slice_get p.clients i ≡ Some c → c.port.has_value ≡ true
-    pub server_values : (i : ℕ) (c : ServerPart K) → slice_get p.servers i ≡ Some c → c.port.has_value ≡ true
     pub apart : (i j : ℕ) (c : ClientPart K) (s : ServerPart K) → slice_get p.clients i ≡ Some c → slice_get p.servers j ≡ Some s → c.port.id ≢ s.port.id
     pub left_clients : HaveLeft (map (λ c. c.connected) p.clients) p.left_clients p.client_senders
     pub left_servers : HaveLeft (map (λ s. s.connected) p.servers) p.left_servers p.server_senders
+    pub client_room : length p.clients + length p.left_clients ≤ p.client_room
+    pub server_room : length p.servers + length p.left_servers ≤ p.server_room
 
 -- all of it
 pub record IsSound {Q QH P PH K : Type 0} (p : Parts Q QH P PH K) (hand : Hand) : Type 0 where

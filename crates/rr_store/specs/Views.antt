@@ -1,5 +1,5 @@
 -- What the parts of a core stand for.
-use Rattle.std.specs.Prelude.{ℕ, ◌+◌, ◌*◌, Bool, ◌==◌, List, [], map, filter, flat_map, find, length, slice_index_or}
+use Rattle.std.specs.Prelude.{ℕ, ◌+◌, ◌*◌, Bool, false, ◌==◌, List, [], map, filter, flat_map, find, length, slice_index_or}
 use Rattle.std.specs.List.{range_with_len}
 use Rattle.std.specs.Option.{option_map_or}
 use Rattle.rr_maps.specs.Maps.{map_values}
@@ -31,7 +31,7 @@ no_server = 18446744073709551615
 
 -- a sender that isn't there
 abbrev pub no_sender : {T N H : Type 0} → Sender T N H
-no_sender = record { owner = 0; row = 0; receiver = 0; loans = 0; pendings = 0; may_answer = []; messages = record { contents = []; details = []; user_headers = []; held = []; queues = []; borrowed = []; capacity = 0; room = 0 } }
+no_sender = record { owner = 0; row = 0; receiver = 0; has_value = false; loans = 0; pendings = 0; may_answer = []; messages = record { contents = []; details = []; user_headers = []; held = []; queues = []; borrowed = []; capacity = 0; room = 0 } }
 
 -- the content of a slot
 abbrev pub content_of : {T N H : Type 0} → H → Messages T N H → ℕ → Content T H

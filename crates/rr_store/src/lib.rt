@@ -6,6 +6,7 @@ pub mod create;
 mod details;
 mod handle_entry;
 mod handle_id;
+mod leave;
 mod loan;
 mod port;
 mod query;

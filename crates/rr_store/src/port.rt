@@ -1,5 +1,5 @@
 //! What a core keeps of its connected ports, and the senders from which ports send.
-ghost use Rattle.std.specs.Prelude.{◌≡◌, ◌==◌, ◌&&◌, ◌||◌, nat_le};
+ghost use Rattle.std.specs.Prelude.{◌≡◌, ◌==◌, ◌||◌, nat_le};
 ghost use Rattle.std.specs.List.{position};
 ghost use Rattle.rr_protocol.specs.Backpressure.{discards};
 ghost use Rattle.rr_protocol.specs.Loans.{is_too_long};
@@ -46,9 +46,9 @@ pub struct ServerPort<K: Drop> {
 pub const NO_SERVER: u64 = u64::MAX;
 
 /// What a port sends from: the port's number and its index among the receivers of the other side, the row of the table in
-/// which the handles of its messages stand, how many messages are on loan and how many responses are pending, and for each
-/// slot, and then for each receiver, the number of the server that may still answer the slot's request. A server's sender has
-/// neither pending responses nor such marks.
+/// which the handles of its messages stand, whether the port's value lives, how many messages are on loan and how many
+/// responses are pending, and for each slot, and then for each receiver, the number of the server that may still answer the
+/// slot's request. A server's sender has neither pending responses nor such marks.
 ///
 /// A mark names the server and not the receiver alone, so that one that was left over doesn't stand for a later server that is
 /// the same receiver.
@@ -57,6 +57,7 @@ pub struct OwnedSender<B: Body, N: Copy, H: Drop> {
     pub owner: u64,
     pub row: usize,
     pub receiver: usize,
+    pub has_value: bool,
     pub loans: usize,
     pub pendings: usize,
     pub may_answer: Vec<u64>,
@@ -71,13 +72,6 @@ pub struct LeftPort {
 }
 
 impl<K: Drop> Port<K> {
-    /// Whether the port has this number, and its value lives.
-    pub fn has_value_under(&self, number: u64) -> bool
-        ensures { result ≡ (self.now.id == number && self.now.has_value) }
-    {
-        self.id == number && self.has_value
-    }
-
     /// Whether a slice is longer than the port has room for, and may not get more.
     pub fn is_too_long(&self, len: usize) -> bool
         ensures { result ≡ is_too_long (connected_of self.now).port len }
@@ -121,9 +115,10 @@ impl<K: Drop> ServerPort<K> {
     }
 }
 
-/// A connected port: its number, its index as a receiver of the other side, and the sender from which it sends.
+/// A connected port: its number, its index as a receiver of the other side, the sender from which it sends, and whether its
+/// value lives.
 pub trait ConnectedPort: Drop {
-    ghost use Rattle.std.specs.Prelude.{ℕ};
+    ghost use Rattle.std.specs.Prelude.{ℕ, Bool};
 
     /// The number.
     ghost id: { Self → ℕ };
@@ -133,6 +128,9 @@ pub trait ConnectedPort: Drop {
 
     /// The sender from which it sends.
     ghost sender: { Self → ℕ };
+
+    /// Whether its value lives.
+    ghost has_value: { Self → Bool };
 
     /// The number.
     fn id(&self) -> u64
@@ -145,6 +143,10 @@ pub trait ConnectedPort: Drop {
     /// The sender from which it sends.
     fn sender(&self) -> usize
         ensures { result ≡ sender self.now };
+
+    /// Whether its value lives.
+    fn has_value(&self) -> bool
+        ensures { result ≡ has_value self.now };
 }
 
 impl<K: Drop> ConnectedPort for ClientPort<K> {
@@ -153,6 +155,8 @@ impl<K: Drop> ConnectedPort for ClientPort<K> {
     ghost sender = { λ c. c.port.sender };
 
     ghost receiver = { λ c. c.port.receiver };
+
+    ghost has_value = { λ c. c.port.has_value };
 
     fn id(&self) -> u64 {
         self.port.id
@@ -164,6 +168,10 @@ impl<K: Drop> ConnectedPort for ClientPort<K> {
 
     fn sender(&self) -> usize {
         self.port.sender
+    }
+
+    fn has_value(&self) -> bool {
+        self.port.has_value
     }
 }
 
@@ -174,6 +182,8 @@ impl<K: Drop> ConnectedPort for ServerPort<K> {
 
     ghost receiver = { λ s. s.port.receiver };
 
+    ghost has_value = { λ s. s.port.has_value };
+
     fn id(&self) -> u64 {
         self.port.id
     }
@@ -184,6 +194,10 @@ impl<K: Drop> ConnectedPort for ServerPort<K> {
 
     fn sender(&self) -> usize {
         self.port.sender
+    }
+
+    fn has_value(&self) -> bool {
+        self.port.has_value
     }
 }
 

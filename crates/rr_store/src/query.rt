@@ -1,28 +1,24 @@
 //! What a core tells of its ports and handles. No query changes it.
-ghost use Rattle.std.specs.Prelude.{◌≡◌, ℕ, ◌+◌, ◌<◌, ◌==◌, ◌&&◌, length, Some, slice_get, slice_index_or};
+ghost use Rattle.std.specs.Prelude.{◌≡◌, ℕ, ◌+◌, ◌<◌, ◌==◌, ◌&&◌, length, map, Some, slice_get, slice_index_or};
 ghost use Rattle.std.specs.List.{list_any};
+ghost use Rattle.rr_store.specs.Leaving.{is_borrowing};
+ghost use Rattle.rr_store.specs.Order.{IsRising};
+ghost use Rattle.rr_store.specs.Ports.{sender_part};
 ghost use Rattle.rr_store.specs.Views.{no_server};
 
-use crate::{ClientPort, ServerPort};
+use crate::{ConnectedPort, OwnedSender, ServerPort, index_of};
+use rr_slots::Body;
 
-/// Whether one of the clients has this number and lives by value.
+/// Returns whether one of the ports, whose numbers rise, has this number and lives by value. Looks at about ten of 1,000.
 #[inline(always)]
-pub fn is_client_value<K: Drop>(clients: &[ClientPort<K>], number: u64) -> bool
-    ensures { result ≡ list_any (λ c. c.port.id == number && c.port.has_value) clients.now }
+pub fn is_value<P: ConnectedPort>(ports: &[P], number: u64) -> bool
+    requires { IsRising P.id ports.now }
+    ensures { result ≡ list_any (λ p. P.id p == number && P.has_value p) ports.now }
 {
-    clients
-        .iter()
-        .any(|client| client.port.has_value_under(number))
-}
-
-/// Whether one of the servers has this number and lives by value.
-#[inline(always)]
-pub fn is_server_value<K: Drop>(servers: &[ServerPort<K>], number: u64) -> bool
-    ensures { result ≡ list_any (λ s. s.port.id == number && s.port.has_value) servers.now }
-{
-    servers
-        .iter()
-        .any(|server| server.port.has_value_under(number))
+    match index_of(ports, number) {
+        Some(index) => ports[index].has_value(),
+        None => false,
+    }
 }
 
 /// Whether one of the servers is marked, where the marks by receiver begin at an index.
@@ -33,6 +29,22 @@ pub fn is_any_marked<K: Drop>(servers: &[ServerPort<K>], marks: &[u64], start: u
 {
     for server in servers {
         if marks[start + server.port.receiver] == server.port.id {
+            return true;
+        }
+    }
+    false
+}
+
+/// Returns whether a receiver has a message from one of the senders. Looks at each sender and channel.
+pub fn is_borrowing<B: Body, N: Copy, H: Drop>(
+    senders: &[OwnedSender<B, N, H>],
+    receiver: usize,
+) -> bool
+    requires { (i : ℕ) (l : OwnedSender B N H B.Item) → slice_get senders.now i ≡ Some l → receiver < length l.messages.borrowed }
+    ensures { result ≡ is_borrowing (map sender_part senders.now) receiver }
+{
+    for sender in senders {
+        if sender.messages.has_borrowed(receiver) {
             return true;
         }
     }

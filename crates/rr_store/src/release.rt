@@ -32,19 +32,6 @@ pub fn clear_mark<B: Body, N: Copy, H: Drop>(
     marks[slot * receivers + receiver] = NO_SERVER;
 }
 
-/// Returns where others send to the port with a number.
-#[inline(always)]
-pub fn receiver_of<P: ConnectedPort>(ports: &[P], id: u64) -> usize
-    requires rising { IsRising P.id ports.now }
-    requires found { IsSome (position (λ p. P.id p == id) ports.now) }
-    ensures { IsSomeAnd (position (λ p. P.id p == id) ports.now) (λ i. IsSomeAnd (slice_get ports.now i) (λ p. result ≡ P.receiver p)) }
-{
-    match index_of(ports, id) {
-        Some(index) => ports[index].receiver(),
-        None => unreachable!(),
-    }
-}
-
 /// Counts one message less that a receiver has from a channel of a sender, and holds the message's slot once less.
 #[inline(always)]
 pub fn end_borrow_in<B: Body, N: Copy, H: Drop>(

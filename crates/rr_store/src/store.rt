@@ -9,11 +9,13 @@ use std::marker::Model;
 
 mod creating;
 mod handles;
+mod leaving;
 mod loaning;
 mod querying;
 mod receiving;
 mod releasing;
 mod sending;
+mod values;
 mod writing;
 
 /// All ports, handles and messages of a service. Contracts see them as parts, of which nothing is claimed: each method

@@ -1,5 +1,5 @@
 -- A client is added with a new sender.
-use Rattle.std.proofs.Common.{◌≡◌, ◌≢◌, ◌<◌, ◌+◌, ◌*◌, ◌^◌, ℕ, List, None, Some, Result, Ok, Err, length, replicate, sym, ap, ◌∙◌, subst, arith}
+use Rattle.std.proofs.Common.{◌≡◌, ◌≢◌, ◌<◌, ◌≤◌, ◌+◌, ◌*◌, ◌^◌, ℕ, List, None, Some, Result, Ok, Err, length, replicate, sym, ap, ◌∙◌, subst, arith}
 use Rattle.std.specs.Prelude.{OnErr, OnOk, slice_get}
 use Rattle.rr_sender.specs.Senders.{Messages}
 use Rattle.rr_protocol.specs.declared.limits.Limits.{Limits}
@@ -21,7 +21,8 @@ use Rattle.rr_store.proofs.creating.client.Sound.{client_sound}
 use Rattle.rr_store.proofs.creating.client.View.{client_view}
 
 module _ {Q QH P PH K : Type 0} (p : Parts Q QH P PH K) (core : IsCore p) (settings : ClientSettings K)
-    (due : client_refusal (state_of p) ≡ None) where
+    (due : client_refusal (state_of p) ≡ None)
+    (can_leave : length p.clients + 1 + length p.left_clients ≤ p.client_room) where
   -- one more client may be connected
   pub room_asked : length p.clients < p.limits.max_clients
   room_asked = fewer p due
@@ -85,7 +86,7 @@ module _ {Q QH P PH K : Type 0} (p : Parts Q QH P PH K) (core : IsCore p) (setti
         added_core = record {
           sound = subst (λ q. IsSound q empty_hand) (sym after)
               (client_sound p settings receiver messages core.sound is_new inside vacant room_asked (not_refused (state_of p) due).0
-              (omega (arith, row_is, fits)));
+              (omega (arith, row_is, fits)) can_leave);
           reached = subst (λ s. IsReached s) (sym added_view) (with_client_reached (state_of p) core.reached settings due);
           complete = subst (λ s. MessagesComplete s) (sym added_view) core.complete;
         }

@@ -1,5 +1,5 @@
 -- A server is added with a new sender.
-use Rattle.std.proofs.Common.{◌≡◌, ◌≢◌, ◌<◌, ◌+◌, ◌^◌, ℕ, false, None, Some, Result, Ok, Err, length, sym, ap, ◌∙◌, subst, arith}
+use Rattle.std.proofs.Common.{◌≡◌, ◌≢◌, ◌<◌, ◌≤◌, ◌+◌, ◌^◌, ℕ, false, None, Some, Result, Ok, Err, length, sym, ap, ◌∙◌, subst, arith}
 use Rattle.std.specs.Prelude.{OnErr, OnOk, max, slice_get}
 use Rattle.std.proofs.Math.Nat.{max_comm}
 use Rattle.std.proofs.lemmas.Bool.{leb-false}
@@ -23,7 +23,8 @@ use Rattle.rr_store.proofs.creating.server.Sound.{server_sound}
 use Rattle.rr_store.proofs.creating.server.View.{server_view}
 
 module _ {Q QH P PH K : Type 0} (p : Parts Q QH P PH K) (core : IsCore p) (settings : ServerSettings K)
-    (due : server_refusal (state_of p) settings ≡ None) where
+    (due : server_refusal (state_of p) settings ≡ None)
+    (can_leave : length p.servers + 1 + length p.left_servers ≤ p.server_room) where
   -- one more server may be connected
   pub room_asked : length p.servers < p.limits.max_servers
   room_asked = fewer_servers p settings due
@@ -103,7 +104,7 @@ module _ {Q QH P PH K : Type 0} (p : Parts Q QH P PH K) (core : IsCore p) (setti
           added_core = record {
             sound = subst (λ q. IsSound q empty_hand) (sym after)
                 (server_sound p settings receiver messages core.sound is_new inside vacant room_asked
-                (server_not_refused (state_of p) settings due).0);
+                (server_not_refused (state_of p) settings due).0 can_leave);
             reached = subst (λ s. IsReached s) (sym added_view) (with_server_reached (state_of p) core.reached settings due);
             complete = subst (λ s. MessagesComplete s) (sym added_view) core.complete;
           }

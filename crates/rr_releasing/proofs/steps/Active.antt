@@ -7,12 +7,7 @@ use Rattle.std.proofs.lemmas.Bool.{eq-eqb, eqb-true}
 use Rattle.rr_table.specs.TableView.{table_entry}
 use Rattle.rr_table.specs.declared.place.Place.{Place}
 use Rattle.rr_sender.specs.Senders.{borrowed_at}
-use Rattle.rr_protocol.specs.Releases.{after_release}
 use Rattle.rr_protocol.specs.State.{handle_at}
-use Rattle.rr_laws.specs.Complete.{MessagesComplete}
-use Rattle.rr_laws.specs.Reached.{IsReached}
-use Rattle.rr_laws.proofs.CompleteReleases.{after_release_complete}
-use Rattle.rr_laws.proofs.Leaving.{after_release_reached}
 use Rattle.rr_store.specs.declared.handle_entry.HandleEntry.{HandleEntry}
 use Rattle.rr_store.specs.Changes.{with_client_sender_at, with_requests, without_handle}
 use Rattle.rr_store.specs.Emptying.{PartsEmptied}
@@ -20,8 +15,8 @@ use Rattle.rr_store.specs.Loaning.{with_messages}
 use Rattle.rr_store.specs.Order.{IsRising}
 use Rattle.rr_store.specs.Parts.{ServerPart, Sender, Parts}
 use Rattle.rr_store.specs.Reaching.{IsCore}
-use Rattle.rr_store.specs.Releasing.{borrow_ended, borrow_given_back, is_active_request, server_of_stage, without_mark}
-use Rattle.rr_store.specs.Sound.{IsSound, empty_hand, server_place}
+use Rattle.rr_store.specs.Releasing.{IsHandleGone, borrow_ended, borrow_given_back, is_active_request, server_of_stage, without_mark}
+use Rattle.rr_store.specs.Sound.{HasPort, IsSound, empty_hand, server_place}
 use Rattle.rr_store.specs.Views.{no_sender, sender_of, state_of}
 use Rattle.rr_store.proofs.base.frames.Emptied.{emptied_sound, emptied_view}
 use Rattle.rr_store.proofs.base.senders.Emptied.{among_emptied, requests_emptied}
@@ -31,12 +26,14 @@ use Rattle.rr_store.proofs.base.lists.Replaced.{set_alike}
 use Rattle.rr_store.proofs.base.lookups.Placed.{value_there}
 use Rattle.rr_store.proofs.base.lookups.Shown.{held_within}
 use Rattle.rr_store.proofs.base.senders.Owners.{First, first_by, servers_rise}
-use Rattle.rr_store.proofs.base.senders.Ports.{of_found}
+use Rattle.rr_store.proofs.base.senders.Ports.{of_found, told_at}
 use Rattle.rr_store.proofs.releasing.active.Fields.{ActiveFound, active_found}
+use Rattle.rr_store.proofs.base.views.Counts.{listed}
 use Rattle.rr_store.proofs.querying.Connected.{mark_within}
 use Rattle.rr_store.proofs.releasing.active.Sound.{after_active, active_sound, server_placed, server_is}
 use Rattle.rr_store.proofs.releasing.active.View.{active_view}
 use Rattle.rr_store.proofs.releasing.response.Fields.{queue_there}
+use Rattle.rr_store.proofs.releasing.View.{gone_as}
 
 module _ {Q QH P PH K : Type 0} (p : Parts Q QH P PH K) (core : IsCore p) (n : ℕ) (place : Place) (entry : HandleEntry)
     (taken : fin_map.get p.table.entries n ≡ Some (table_entry place entry))
@@ -63,14 +60,20 @@ module _ {Q QH P PH K : Type 0} (p : Parts Q QH P PH K) (core : IsCore p) (n : �
         subst (λ (q : Parts Q QH P PH K). IsRising (λ (s : ServerPart K). s.port.id) q.servers) (sym gone)
         (servers_rise p empty_hand core.sound)
 
-    module _ (receiver : ℕ) (told : IsSomeAnd (position (λ (s : ServerPart K). s.port.id == number) q.servers)
-        (λ i. IsSomeAnd (slice_get q.servers i) (λ s. receiver ≡ s.receiver))) where
+    -- the one that is told of at the index where it was found
+    it_is : (index : ℕ) → position (λ (s : ServerPart K). s.port.id == number) q.servers ≡ Some index → (r : Parts Q QH P PH K)
+        → r.servers ≡ p.servers → (R : ServerPart K → Type 0) → IsSomeAnd (slice_get r.servers index) R → R server.it
+    it_is index found_at r same R told =
+        of_found (λ (s : ServerPart K). s.port.id == number) p.servers server.index server.it server.found server.at (λ _ s. R s)
+        (told_at (λ (s : ServerPart K). s.port.id == number) p.servers R index
+        (ap (λ (q : Parts Q QH P PH K). position (λ (s : ServerPart K). s.port.id == number) q.servers) (sym gone) ∙ found_at)
+        (subst (λ ss. IsSomeAnd (slice_get ss index) R) same told))
+
+    module _ (index : ℕ) (found_at : position (λ (s : ServerPart K). s.port.id == number) q.servers ≡ Some index)
+        (receiver : ℕ) (told : IsSomeAnd (slice_get q.servers index) (λ s. receiver ≡ s.receiver)) where
       receiver_is : receiver ≡ its
       receiver_is =
-          let here = of_found (λ (s : ServerPart K). s.port.id == number) p.servers server.index server.it server.found server.at
-          (λ _ s. receiver ≡ s.receiver)
-          (subst (λ (q : Parts Q QH P PH K). IsSomeAnd (position (λ (s : ServerPart K). s.port.id == number) q.servers)
-          (λ i. IsSomeAnd (slice_get q.servers i) (λ s. receiver ≡ s.receiver))) gone told) in
+          let here = it_is index found_at q (ap (λ (q : Parts Q QH P PH K). q.servers) gone) (λ s. receiver ≡ s.receiver) told in
           let same = server_is p core.sound found.server found.receiver server.index server.it server.at
           ∙ eq-eqb server.it.port.id found.server (server.is ∙ named ∙ found.of_stage) in
           here ∙ sym (eqb-true _ _ same)
@@ -167,13 +170,32 @@ module _ {Q QH P PH K : Type 0} (p : Parts Q QH P PH K) (core : IsCore p) (n : �
               (with_messages l (borrow_given_back l.messages its 0 entry.slot))
               (record { rest = refl; messages = among_emptied (entry.slot ∷ []) (borrow_ended l.messages its 0 entry.slot) })
 
-          pub view_then : state_of t ≡ after_release (state_of p) n
-          view_then = ap state_of after_is ∙ emptied_view before after emptied empty_hand before_sound ∙ ap state_of before_is
-              ∙ active_view p core.sound n found.table_entry found.at found.server found.loans found.active
+          pub sound_then : IsSound t empty_hand
+          sound_then = subst (λ q. IsSound q empty_hand) (sym after_is) (emptied_sound before after emptied empty_hand before_sound)
 
-          pub core_then : IsCore t
-          core_then = record {
-            sound = subst (λ q. IsSound q empty_hand) (sym after_is) (emptied_sound before after emptied empty_hand before_sound);
-            reached = subst (λ s. IsReached s) (sym view_then) (after_release_reached (state_of p) n core.reached);
-            complete = subst (λ s. MessagesComplete s) (sym view_then) (after_release_complete (state_of p) n core.complete);
-          }
+          module _ (sender : ℕ) (its : IsSomeAnd (slice_get t.servers index) (λ s. sender ≡ s.sender)) where
+            sender_is : sender ≡ server.it.sender
+            sender_is = it_is index found_at t (ap (λ (q : Parts Q QH P PH K). q.servers) after_is) (λ s. sender ≡ s.sender) its
+
+            -- the server is as it was
+            owner_is : (sender_of sender t.server_senders).owner ≡ found.server
+            owner_is =
+                ap (λ (q : Parts Q QH P PH K). (sender_of sender q.server_senders).owner) after_is
+                ∙ ap (λ l. (sender_of l p.server_senders).owner) sender_is
+                ∙ (core.sound.server_ports.own server.index server.it.connected
+                (listed (λ (s : ServerPart K). s.connected) p.servers server.index server.it server.at)).1
+                ∙ server.is ∙ named ∙ found.of_stage
+
+            pub port_then : HasPort (λ (s : ServerPart K). s.sender) t.servers sender
+            port_then = subst (λ (q : Parts Q QH P PH K). HasPort (λ (s : ServerPart K). s.sender) q.servers sender) (sym after_is)
+                (server.index, server.it, server.at, sym sender_is)
+
+            -- contracts see the handle go
+            pub gone_then : IsHandleGone (state_of p) n (sender_of sender t.server_senders).owner (state_of t)
+            gone_then =
+                subst (λ port. IsHandleGone (state_of p) n port (state_of t)) (sym owner_is)
+                (gone_as (state_of p)
+                (state_of (after_active p core.sound n found.table_entry found.at found.server found.loans found.active))
+                (state_of t) n found.server
+                (active_view p core.sound n found.table_entry found.at found.server found.loans found.active)
+                (ap state_of after_is ∙ emptied_view before after emptied empty_hand before_sound ∙ ap state_of before_is))

@@ -6,12 +6,7 @@ use Rattle.std.proofs.lemmas.List.{length-set}
 use Rattle.rr_table.specs.TableView.{table_entry}
 use Rattle.rr_table.specs.declared.place.Place.{Place}
 use Rattle.rr_sender.specs.Senders.{queue_at, with_queue, given_back}
-use Rattle.rr_protocol.specs.Releases.{after_release}
 use Rattle.rr_protocol.specs.State.{handle_at}
-use Rattle.rr_laws.specs.Complete.{MessagesComplete}
-use Rattle.rr_laws.specs.Reached.{IsReached}
-use Rattle.rr_laws.proofs.CompleteReleases.{after_release_complete}
-use Rattle.rr_laws.proofs.Leaving.{after_release_reached}
 use Rattle.rr_store.specs.declared.details.RequestDetails.{RequestDetails}
 use Rattle.rr_store.specs.declared.handle_entry.HandleEntry.{HandleEntry}
 use Rattle.rr_store.specs.Changes.{with_channel_cleared, with_client_sender_at, with_requests, without_handle}
@@ -21,19 +16,20 @@ use Rattle.rr_store.specs.Emptying.{PartsEmptied}
 use Rattle.rr_store.specs.Parts.{ClientPart, Parts, Sender}
 use Rattle.rr_store.specs.Reaching.{IsCore}
 use Rattle.rr_store.specs.Receiving.{Reaches}
-use Rattle.rr_store.specs.Releasing.{held_once_less}
-use Rattle.rr_store.specs.Sound.{IsSound, empty_hand}
+use Rattle.rr_store.specs.Releasing.{IsHandleGone, held_once_less}
+use Rattle.rr_store.specs.Sound.{HasPort, IsSound, empty_hand}
 use Rattle.rr_store.specs.Views.{no_sender, sender_of, state_of}
 use Rattle.rr_store.proofs.base.frames.Emptied.{emptied_sound, emptied_view}
 use Rattle.rr_store.proofs.base.senders.Emptied.{among_emptied, each_emptied, one_emptied}
 use Rattle.rr_store.proofs.base.lists.Replaced.{set_alike}
 use Rattle.rr_store.proofs.base.lookups.Placed.{value_there}
-use Rattle.rr_store.proofs.base.senders.Owners.{First, client_receiver, port_of_sender}
+use Rattle.rr_store.proofs.base.senders.Owners.{First, client_receiver, port_of_sender, client_owner}
 use Rattle.rr_store.proofs.base.senders.Stored.{stored_twice}
 use Rattle.rr_store.proofs.receiving.response.Refusals.{reaches}
 use Rattle.rr_store.proofs.releasing.pending.Fields.{PendingFound, pending_found}
 use Rattle.rr_store.proofs.releasing.pending.Sound.{after_pending, has_pending, inside, pending_sound}
 use Rattle.rr_store.proofs.releasing.pending.View.{pending_view}
+use Rattle.rr_store.proofs.releasing.View.{gone_as}
 
 module _ {Q QH P PH K : Type 0} (p : Parts Q QH P PH K) (core : IsCore p) (n : ℕ) (place : Place) (entry : HandleEntry)
     (taken : fin_map.get p.table.entries n ≡ Some (table_entry place entry))
@@ -160,14 +156,27 @@ module _ {Q QH P PH K : Type 0} (p : Parts Q QH P PH K) (core : IsCore p) (n : �
                 p.server_senders;
           }
 
-          pub view_then : state_of t ≡ after_release (state_of p) n
-          view_then = ap state_of after_is ∙ emptied_view before after emptied empty_hand before_sound ∙ ap state_of before_is
-              ∙ pending_view p core.sound n found.table_entry found.at found.hint found.connections found.pending client.index client.it
-              client.at sends
+          -- the client is as it was
+          owner_is : (sender_of entry.sender t.client_senders).owner ≡ client.it.port.id
+          owner_is = ap (λ (q : Parts Q QH P PH K). (sender_of entry.sender q.client_senders).owner) after_is
+              ∙ set_alike p.client_senders entry.sender left no_sender (λ l. l.owner) refl entry.sender
+              ∙ client_owner p empty_hand core.sound entry.sender client
 
-          pub core_then : IsCore t
-          core_then = record {
-            sound = subst (λ q. IsSound q empty_hand) (sym after_is) (emptied_sound before after emptied empty_hand before_sound);
-            reached = subst (λ s. IsReached s) (sym view_then) (after_release_reached (state_of p) n core.reached);
-            complete = subst (λ s. MessagesComplete s) (sym view_then) (after_release_complete (state_of p) n core.complete);
-          }
+          pub port_then : HasPort (λ (c : ClientPart K). c.sender) t.clients entry.sender
+          port_then = subst (λ (q : Parts Q QH P PH K). HasPort (λ (c : ClientPart K). c.sender) q.clients entry.sender) (sym after_is)
+              (client.index, client.it, client.at, client.is)
+
+          pub sound_then : IsSound t empty_hand
+          sound_then = subst (λ q. IsSound q empty_hand) (sym after_is) (emptied_sound before after emptied empty_hand before_sound)
+
+          -- contracts see the handle go
+          pub gone_then : IsHandleGone (state_of p) n (sender_of entry.sender t.client_senders).owner (state_of t)
+          gone_then =
+              subst (λ port. IsHandleGone (state_of p) n port (state_of t)) (sym owner_is)
+              (gone_as (state_of p)
+              (state_of (after_pending p core.sound n found.table_entry found.at found.hint found.connections found.pending client.index
+              client.it client.at sends))
+              (state_of t) n client.it.port.id
+              (pending_view p core.sound n found.table_entry found.at found.hint found.connections found.pending client.index client.it
+              client.at sends)
+              (ap state_of after_is ∙ emptied_view before after emptied empty_hand before_sound ∙ ap state_of before_is))

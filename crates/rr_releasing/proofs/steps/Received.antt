@@ -5,12 +5,7 @@ use Rattle.std.specs.FinMap as fin_map
 use Rattle.rr_table.specs.TableView.{table_entry}
 use Rattle.rr_table.specs.declared.place.Place.{Place}
 use Rattle.rr_sender.specs.Senders.{borrowed_at}
-use Rattle.rr_protocol.specs.Releases.{after_release}
 use Rattle.rr_protocol.specs.State.{handle_at}
-use Rattle.rr_laws.specs.Complete.{MessagesComplete}
-use Rattle.rr_laws.specs.Reached.{IsReached}
-use Rattle.rr_laws.proofs.CompleteReleases.{after_release_complete}
-use Rattle.rr_laws.proofs.Leaving.{after_release_reached}
 use Rattle.rr_store.specs.declared.details.ResponseDetails.{ResponseDetails}
 use Rattle.rr_store.specs.declared.handle_entry.HandleEntry.{HandleEntry}
 use Rattle.rr_store.specs.Changes.{with_responses, without_handle}
@@ -18,8 +13,8 @@ use Rattle.rr_store.specs.Emptying.{PartsEmptied}
 use Rattle.rr_store.specs.Loaning.{with_messages}
 use Rattle.rr_store.specs.Parts.{ClientPart, Parts}
 use Rattle.rr_store.specs.Reaching.{IsCore}
-use Rattle.rr_store.specs.Releasing.{borrow_ended, borrow_given_back, is_received_response}
-use Rattle.rr_store.specs.Sound.{IsSound, empty_hand, response_details}
+use Rattle.rr_store.specs.Releasing.{IsHandleGone, borrow_ended, borrow_given_back, is_received_response}
+use Rattle.rr_store.specs.Sound.{HasPort, IsSound, empty_hand, response_details}
 use Rattle.rr_store.specs.Views.{sender_of, state_of}
 use Rattle.rr_store.proofs.base.frames.Emptied.{emptied_sound, emptied_view}
 use Rattle.rr_store.proofs.base.senders.Emptied.{among_emptied, responses_emptied}
@@ -29,6 +24,7 @@ use Rattle.rr_store.proofs.base.senders.Owners.{First, first_by}
 use Rattle.rr_store.proofs.base.views.Counts.{listed}
 use Rattle.rr_store.proofs.releasing.response.Fields.{ReceivedFound, received_found, queue_there}
 use Rattle.rr_store.proofs.releasing.response.Sound.{after_received, has_received, received_sound, received_view}
+use Rattle.rr_store.proofs.releasing.View.{gone_as}
 
 module _ {Q QH P PH K : Type 0} (p : Parts Q QH P PH K) (core : IsCore p) (n : ℕ) (place : Place) (entry : HandleEntry)
     (taken : fin_map.get p.table.entries n ≡ Some (table_entry place entry))
@@ -149,13 +145,25 @@ module _ {Q QH P PH K : Type 0} (p : Parts Q QH P PH K) (core : IsCore p) (n : �
                 messages = among_emptied (entry.slot ∷ []) (borrow_ended l.messages client.it.receiver its_channel entry.slot);
               })
 
-          pub view_then : state_of t ≡ after_release (state_of p) n
-          view_then = ap state_of after_is ∙ emptied_view before after emptied empty_hand before_sound ∙ ap state_of before_is
-              ∙ received_view p core.sound n found.table_entry found.at found.got client.index client.it client.at its_client
+          -- the client is as it was
+          owner_is : (sender_of details.client_sender t.client_senders).owner ≡ client.it.port.id
+          owner_is = ap (λ (q : Parts Q QH P PH K). (sender_of details.client_sender q.client_senders).owner) after_is
+              ∙ ap (λ l. (sender_of l p.client_senders).owner) (sym its_sender)
+              ∙ (core.sound.client_ports.own client.index client.it.connected here_listed).1
 
-          pub core_then : IsCore t
-          core_then = record {
-            sound = subst (λ q. IsSound q empty_hand) (sym after_is) (emptied_sound before after emptied empty_hand before_sound);
-            reached = subst (λ s. IsReached s) (sym view_then) (after_release_reached (state_of p) n core.reached);
-            complete = subst (λ s. MessagesComplete s) (sym view_then) (after_release_complete (state_of p) n core.complete);
-          }
+          pub port_then : HasPort (λ (c : ClientPart K). c.sender) t.clients details.client_sender
+          port_then = subst (λ (q : Parts Q QH P PH K). HasPort (λ (c : ClientPart K). c.sender) q.clients details.client_sender)
+              (sym after_is) (client.index, client.it, client.at, its_sender)
+
+          pub sound_then : IsSound t empty_hand
+          sound_then = subst (λ q. IsSound q empty_hand) (sym after_is) (emptied_sound before after emptied empty_hand before_sound)
+
+          -- contracts see the handle go
+          pub gone_then : IsHandleGone (state_of p) n (sender_of details.client_sender t.client_senders).owner (state_of t)
+          gone_then =
+              subst (λ port. IsHandleGone (state_of p) n port (state_of t)) (sym owner_is)
+              (gone_as (state_of p)
+              (state_of (after_received p core.sound n found.table_entry found.at found.got client.index client.it client.at its_client))
+              (state_of t) n client.it.port.id
+              (received_view p core.sound n found.table_entry found.at found.got client.index client.it client.at its_client)
+              (ap state_of after_is ∙ emptied_view before after emptied empty_hand before_sound ∙ ap state_of before_is))

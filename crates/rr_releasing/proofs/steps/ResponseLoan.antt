@@ -5,12 +5,7 @@ use Rattle.std.specs.FinMap as fin_map
 use Rattle.std.proofs.lemmas.List.{length-set}
 use Rattle.rr_table.specs.TableView.{table_entry}
 use Rattle.rr_table.specs.declared.place.Place.{Place}
-use Rattle.rr_protocol.specs.Releases.{after_release}
 use Rattle.rr_protocol.specs.State.{handle_at}
-use Rattle.rr_laws.specs.Complete.{MessagesComplete}
-use Rattle.rr_laws.specs.Reached.{IsReached}
-use Rattle.rr_laws.proofs.CompleteReleases.{after_release_complete}
-use Rattle.rr_laws.proofs.Leaving.{after_release_reached}
 use Rattle.rr_sender.specs.Senders.{given_back}
 use Rattle.rr_store.specs.declared.details.ResponseDetails.{ResponseDetails}
 use Rattle.rr_store.specs.declared.handle_entry.HandleEntry.{HandleEntry}
@@ -20,17 +15,18 @@ use Rattle.rr_store.specs.Emptying.{PartsEmptied}
 use Rattle.rr_store.specs.Ending.{IsAskedPlace, IsLoanEnded, found_under}
 use Rattle.rr_store.specs.Parts.{ServerPart, Parts, Sender}
 use Rattle.rr_store.specs.Reaching.{IsCore}
-use Rattle.rr_store.specs.Releasing.{held_once_less, is_loaned_response, without_loan}
-use Rattle.rr_store.specs.Sound.{IsSound, empty_hand, response_details, is_response_loan}
+use Rattle.rr_store.specs.Releasing.{IsHandleGone, held_once_less, is_loaned_response, without_loan}
+use Rattle.rr_store.specs.Sound.{HasPort, IsSound, empty_hand, response_details, is_response_loan}
 use Rattle.rr_store.specs.Views.{no_sender, sender_of, state_of}
 use Rattle.rr_store.proofs.base.frames.Emptied.{emptied_sound, emptied_view}
 use Rattle.rr_store.proofs.base.senders.Emptied.{among_emptied, responses_emptied}
 use Rattle.rr_store.proofs.base.lists.Replaced.{set_alike}
 use Rattle.rr_store.proofs.base.lookups.Placed.{value_there}
 use Rattle.rr_store.proofs.base.lookups.Shown.{held_within}
-use Rattle.rr_store.proofs.base.senders.Owners.{First, port_of_sender, server_receiver}
+use Rattle.rr_store.proofs.base.senders.Owners.{First, port_of_sender, server_receiver, server_owner}
 use Rattle.rr_store.proofs.base.senders.Stored.{stored_twice}
 use Rattle.rr_store.proofs.releasing.response_loan.Fields.{ResponseLoanFound, response_loan_found, has_loan, response_loan_parts}
+use Rattle.rr_store.proofs.releasing.View.{gone_as}
 
 module _ {Q QH P PH K : Type 0} (p : Parts Q QH P PH K) (core : IsCore p) (n : ℕ) (place : Place) (entry : HandleEntry)
     (taken : fin_map.get p.table.entries n ≡ Some (table_entry place entry))
@@ -115,7 +111,7 @@ module _ {Q QH P PH K : Type 0} (p : Parts Q QH P PH K) (core : IsCore p) (n : �
             server_senders = slice_set p.server_senders entry.sender (without_loan given);
           }
 
-          both : IsSound before empty_hand × (state_of before ≡ after_release (state_of p) n)
+          both : IsSound before empty_hand × IsHandleGone (state_of p) n server.it.port.id (state_of before)
           both =
               response_loan_parts p core.sound n entry found server.index server.it server.at server.is details details_are
               before.server_senders t.table refl ended.0
@@ -129,14 +125,23 @@ module _ {Q QH P PH K : Type 0} (p : Parts Q QH P PH K) (core : IsCore p) (n : �
           emptied = responses_emptied (record (without_handle p n) { table = t.table }) p.server_senders entry.sender (without_loan given)
               (without_loan left) (record { rest = refl; messages = among_emptied (entry.slot ∷ []) given.messages })
 
-          pub view_then : state_of t ≡ after_release (state_of p) n
-          view_then = ap state_of t_is
-              ∙ emptied_view before (record loan_ended { table = t.table }) emptied empty_hand both.0 ∙ both.1
+          -- the server is as it was
+          owner_is : (sender_of entry.sender t.server_senders).owner ≡ server.it.port.id
+          owner_is = ap (λ (q : Parts Q QH P PH K). (sender_of entry.sender q.server_senders).owner) t_is
+              ∙ set_alike p.server_senders entry.sender (without_loan left) no_sender (λ l. l.owner) refl entry.sender
+              ∙ server_owner p empty_hand core.sound entry.sender server
 
-          pub core_then : IsCore t
-          core_then = record {
-            sound = subst (λ q. IsSound q empty_hand) (sym t_is)
-                (emptied_sound before (record loan_ended { table = t.table }) emptied empty_hand both.0);
-            reached = subst (λ s. IsReached s) (sym view_then) (after_release_reached (state_of p) n core.reached);
-            complete = subst (λ s. MessagesComplete s) (sym view_then) (after_release_complete (state_of p) n core.complete);
-          }
+          pub port_then : HasPort (λ (s : ServerPart K). s.sender) t.servers entry.sender
+          port_then = subst (λ (q : Parts Q QH P PH K). HasPort (λ (s : ServerPart K). s.sender) q.servers entry.sender) (sym t_is)
+              (server.index, server.it, server.at, server.is)
+
+          pub sound_then : IsSound t empty_hand
+          sound_then = subst (λ q. IsSound q empty_hand) (sym t_is)
+              (emptied_sound before (record loan_ended { table = t.table }) emptied empty_hand both.0)
+
+          -- contracts see the handle go
+          pub gone_then : IsHandleGone (state_of p) n (sender_of entry.sender t.server_senders).owner (state_of t)
+          gone_then =
+              subst (λ port. IsHandleGone (state_of p) n port (state_of t)) (sym owner_is)
+              (gone_as (state_of p) (state_of before) (state_of t) n server.it.port.id both.1
+              (ap state_of t_is ∙ emptied_view before (record loan_ended { table = t.table }) emptied empty_hand both.0))

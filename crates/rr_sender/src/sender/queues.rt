@@ -1,5 +1,7 @@
 //! The queues to each receiver.
-ghost use Rattle.std.specs.Prelude.{◌≡◌, ◌+◌, ◌-◌, ◌<◌, ◌≤◌, ◌^◌, ◌↔◌, ◌++◌, ◌∷◌, [], All, IfSome, IsTrue, Some, drop, length, slice_get, slice_index, slice_index_or};
+ghost use Rattle.std.specs.Prelude.{◌≡◌, ◌==◌, ◌+◌, ◌-◌, ◌<◌, ◌≤◌, ◌^◌, ◌↔◌, ◌++◌, ◌∷◌, [], All, IfSome, IsTrue, Some, drop, length, nat_lt, slice_get, slice_index, slice_index_or};
+ghost use Rattle.std.specs.List.{list_any};
+ghost use Rattle.rr_sender.specs.Draining.{MessagesDrained};
 ghost use Rattle.rr_sender.specs.Senders.{borrowed_at, first_dropped, handed_over, is_full, put_into, queue_at, queue_cleared, taken, uses, with_borrowed, with_held, with_queue};
 
 use crate::sender::Sender;
@@ -141,6 +143,26 @@ impl<B: Body, N: Copy, H: Drop> Sender<B, N, H> {
         }
     }
 
+    /// Drops each entry of each queue to a receiver, one step a channel and an entry. None of them holds its slot any more, and
+    /// what stands in a slot is dropped with the last use.
+    pub fn clear_receiver(&mut self, receiver: usize)
+        requires { receiver < length self.old.queues }
+        ensures { MessagesDrained (λ r. r == receiver) self.old self.new }
+    {
+        for channel in 0..self.channels(receiver) {
+            self.clear_queue(receiver, channel);
+        }
+    }
+
+    /// How many channels a receiver has.
+    #[inline(always)]
+    fn channels(&self, receiver: usize) -> usize
+        requires { receiver < length self.now.queues }
+        ensures { result ≡ length (slice_index_or self.now.queues receiver []) }
+    {
+        self.links.channels(receiver)
+    }
+
     /// How many entries a queue has.
     #[inline(always)]
     fn len(&self, receiver: usize, channel: usize) -> usize
@@ -189,6 +211,14 @@ impl<B: Body, N: Copy, H: Drop> Sender<B, N, H> {
         ensures { result ≡ borrowed_at self.now receiver channel }
     {
         self.links.borrowed(receiver, channel)
+    }
+
+    /// Returns whether a receiver has a message from some channel that it has not given back. Looks once at each channel.
+    pub fn has_borrowed(&self, receiver: usize) -> bool
+        requires { receiver < length self.now.borrowed }
+        ensures { result ≡ list_any (λ n. nat_lt 0 n) (slice_index_or self.now.borrowed receiver []) }
+    {
+        self.links.has_borrowed(receiver)
     }
 
     /// A receiver has one less from a channel. Its handle on the slot is given back by `give_back`.

@@ -12,9 +12,9 @@ use Rattle.rr_protocol.specs.declared.error.SendError.{SendError}
 use Rattle.rr_protocol.specs.declared.kind.Kind.{Kind}
 use Rattle.rr_protocol.specs.declared.settings.BackpressureAction.{BackpressureAction}
 use Rattle.rr_protocol.specs.Queries.{kind_at}
-use Rattle.rr_protocol.specs.Releases.{after_release}
+use Rattle.rr_protocol.specs.Releases.{after_release, without_unused_port}
 use Rattle.rr_protocol.specs.Sends.{is_response_refused, with_response_put}
-use Rattle.rr_protocol.specs.State.{IsResponseMutAnd, handle_at}
+use Rattle.rr_protocol.specs.State.{State, IsResponseMutAnd, handle_at}
 use Rattle.rr_laws.proofs.CompleteCalls.{sends_response_complete}
 use Rattle.rr_laws.proofs.Sending.{sends_response_reached}
 use Rattle.rr_store.specs.declared.details.ResponseDetails.{ResponseDetails}
@@ -27,21 +27,22 @@ use Rattle.rr_store.specs.Kinds.{stage_kind}
 use Rattle.rr_store.specs.Loaning.{with_messages}
 use Rattle.rr_store.specs.Parts.{ServerPart, Parts, Sender}
 use Rattle.rr_store.specs.Reaching.{IsCore}
-use Rattle.rr_store.specs.Releasing.{held_once_less, is_loaned_response, without_loan}
-use Rattle.rr_store.specs.Sound.{IsSound, empty_hand, response_details, is_response_loan}
+use Rattle.rr_store.specs.Releasing.{IsHandleGone, held_once_less, is_loaned_response, without_loan}
+use Rattle.rr_store.specs.Sound.{HasPort, IsSound, empty_hand, response_details, is_response_loan}
 use Rattle.rr_store.specs.Views.{no_sender, response_at, sender_of, server_of, state_of}
 use Rattle.rr_store.proofs.base.frames.Emptied.{emptied_sound, emptied_view}
 use Rattle.rr_store.proofs.base.senders.Emptied.{among_emptied, responses_emptied}
 use Rattle.rr_store.proofs.base.lists.Replaced.{set_alike}
 use Rattle.rr_store.proofs.base.lookups.Placed.{value_there}
 use Rattle.rr_store.proofs.base.lookups.Shown.{held_within}
-use Rattle.rr_store.proofs.base.senders.Owners.{First, port_of_sender, server_receiver}
+use Rattle.rr_store.proofs.base.senders.Owners.{First, port_of_sender, server_receiver, server_owner}
 use Rattle.rr_store.proofs.base.senders.Ports.{of_found}
 use Rattle.rr_store.proofs.base.senders.Stored.{stored_twice}
 use Rattle.rr_store.proofs.querying.Connected.{of_kind}
 use Rattle.rr_store.proofs.releasing.response_loan.Fields.{ResponseLoanFound, response_loan_found, has_loan}
 use Rattle.rr_store.proofs.sending.response.Fields as fields
 use Rattle.rr_store.proofs.sending.response.Refusals.{has_capacity, sent_parts}
+use Rattle.rr_store.proofs.releasing.View.{gone_as, release_from}
 
 module _ {Q QH P PH K : Type 0} (p : Parts Q QH P PH K) (core : IsCore p) (n : ℕ) (place : Place) (entry : HandleEntry)
     (at : fin_map.get p.table.entries n ≡ Some (table_entry place entry)) (kind : kind_at (state_of p) n ≡ Some Kind.ResponseMut)
@@ -194,12 +195,13 @@ module _ {Q QH P PH K : Type 0} (p : Parts Q QH P PH K) (core : IsCore p) (n : �
                 server_senders = slice_set mid entry.sender (held_less (sender_of entry.sender mid));
               }
 
-              both : IsSound before empty_hand
-                  × (state_of before
-                  ≡ after_release (record (state_of p) {
-                    responses = with_response_put (state_of p)
-                        (response_at p entry.sender entry.slot);
-                  }) n)
+              -- what contracts see of the queues
+              abbrev delivered_state : State Q QH P PH K
+              delivered_state = record (state_of p) {
+                responses = with_response_put (state_of p) (response_at p entry.sender entry.slot);
+              }
+
+              both : IsSound before empty_hand × IsHandleGone delivered_state n server.it.port.id (state_of before)
               both =
                   sent_parts p core.sound n entry found server.index server.it server.at server.is details (sym are) reach told
                   mid before.server_senders t.table refl refl ended.0
@@ -218,18 +220,43 @@ module _ {Q QH P PH K : Type 0} (p : Parts Q QH P PH K) (core : IsCore p) (n : �
                   (responses_emptied after p.server_senders entry.sender (held_less put) (without_loan fresh)
                   (record { rest = refl; messages = handed_emptied reach }))
 
-              pub sends : r ≡ false → IsResponseMutAnd (state_of p) n (λ server message.
-                  (is_response_refused action (state_of p) server message ≡ false)
-                  × (state_of t ≡ after_release (record (state_of p) { responses = with_response_put (state_of p) message }) n))
-              sends is =
-                  fields.of_sent p core.sound n entry found server.index server.it server.at server.is
-                  (λ s j server message. (is_response_refused action s server message ≡ false)
-                  × (state_of t ≡ after_release (record s { responses = with_response_put s message }) j)) value kind_is
-                  (sym refused_is ∙ is, ap state_of t_is ∙ emptied_view before after emptied empty_hand both.0 ∙ both.1) (state_of p) n refl refl
+              -- the server is as it was
+              owner_is : (sender_of entry.sender t.server_senders).owner ≡ server.it.port.id
+              owner_is = ap (λ (q : Parts Q QH P PH K). (sender_of entry.sender q.server_senders).owner) t_is
+                  ∙ set_alike p.server_senders entry.sender (without_loan fresh) no_sender (λ l. l.owner) refl entry.sender
+                  ∙ server_owner p empty_hand core.sound entry.sender server
 
-              pub core_then : r ≡ false → IsCore t
-              core_then is = record {
-                sound = subst (λ q. IsSound q empty_hand) (sym t_is) (emptied_sound before after emptied empty_hand both.0);
-                reached = sends_response_reached (state_of p) core.reached n {U = ℕ} action (Ok 0) (state_of t) (sends is);
-                complete = sends_response_complete (state_of p) core.complete {U = ℕ} n action (Ok 0) (state_of t) (sends is);
-              }
+              pub port_then : HasPort (λ (s : ServerPart K). s.sender) t.servers entry.sender
+              port_then = subst (λ (q : Parts Q QH P PH K). HasPort (λ (s : ServerPart K). s.sender) q.servers entry.sender) (sym t_is)
+                  (server.index, server.it, server.at, server.is)
+
+              pub sound_then : IsSound t empty_hand
+              sound_then = subst (λ q. IsSound q empty_hand) (sym t_is) (emptied_sound before after emptied empty_hand both.0)
+
+              -- contracts see the handle go
+              gone_then : IsHandleGone delivered_state n (sender_of entry.sender t.server_senders).owner (state_of t)
+              gone_then =
+                  subst (λ port. IsHandleGone delivered_state n port (state_of t)) (sym owner_is)
+                  (gone_as delivered_state (state_of before) (state_of t) n server.it.port.id both.1
+                  (ap state_of t_is ∙ emptied_view before after emptied empty_hand both.0))
+
+              module _ (w : Parts Q QH P PH K)
+                  (left : state_of w ≡ without_unused_port (state_of t) (sender_of entry.sender t.server_senders).owner) where
+                pub sends : r ≡ false → IsResponseMutAnd (state_of p) n (λ server message.
+                    (is_response_refused action (state_of p) server message ≡ false)
+                    × (state_of w ≡ after_release (record (state_of p) { responses = with_response_put (state_of p) message }) n))
+                sends is =
+                    fields.of_sent p core.sound n entry found server.index server.it server.at server.is
+                    (λ s j server message. (is_response_refused action s server message ≡ false)
+                    × (state_of w ≡ after_release (record s { responses = with_response_put s message }) j)) value kind_is (
+                      sym refused_is ∙ is,
+                      left ∙ sym (release_from delivered_state (state_of t) n
+                          (sender_of entry.sender t.server_senders).owner gone_then),
+                    ) (state_of p) n refl refl
+
+                pub core_then : IsSound w empty_hand → r ≡ false → IsCore w
+                core_then sound is = record {
+                  sound = sound;
+                  reached = sends_response_reached (state_of p) core.reached n {U = ℕ} action (Ok 0) (state_of w) (sends is);
+                  complete = sends_response_complete (state_of p) core.complete {U = ℕ} n action (Ok 0) (state_of w) (sends is);
+                }

@@ -2,3 +2,4 @@ pub mod Frames
 pub mod Kept
 pub mod Rewrites
 pub mod Emptied
+pub mod Roomier

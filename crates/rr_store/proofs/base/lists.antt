@@ -11,3 +11,4 @@ pub mod Mapped
 pub mod Rising
 pub mod Bisected
 pub mod Removed
+pub mod Alone

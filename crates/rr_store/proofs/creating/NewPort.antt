@@ -52,6 +52,7 @@ later_next n = record {
   few = n.few;
   own = n.own;
   received = n.received;
+  valued = n.valued;
   owned_once = n.owned_once;
   numbered = λ i h. omega (arith, n.numbered i h);
   placed = n.placed;
@@ -65,7 +66,8 @@ module _ {T N H K C : Type 0} (connected : C → Connected K) (next ports : ℕ)
     (its_sender : (connected port).sender ≡ length senders) (its_id : (connected port).port.id ≡ next) (owned : last.owner ≡ next)
     (slots_are : length last.messages.held ≡ (connected port).port.pool_size)
     (room_is : last.messages.room ≡ (connected port).port.initial_max_slice_len)
-    (receiver_is : last.receiver ≡ (connected port).receiver) (inside : (connected port).receiver < ports)
+    (receiver_is : last.receiver ≡ (connected port).receiver) (value_is : last.has_value ≡ (connected port).port.has_value)
+    (inside : (connected port).receiver < ports)
     (vacant : (i : ℕ) (c : C) → slice_get cs i ≡ Some c → (connected c).receiver ≢ (connected port).receiver) (few : length cs < ports)
   where
     -- a port of the longer list is one of the list's, or the new one
@@ -120,6 +122,13 @@ module _ {T N H K C : Type 0} (connected : C → Connected K) (next ports : ℕ)
               let Knows : Connected K → Type 0 = λ c. (sender_of c.sender (senders ++ last ∷ [])).receiver ≡ c.receiver in
               subst Knows is (ap (λ l. (sender_of l (senders ++ last ∷ [])).receiver) its_sender
               ∙ ap (λ (x : Sender T N H). x.receiver) (sender_last senders last) ∙ receiver_is));
+          valued = λ i c at. connected_cases i c at
+              (λ before h. ap (λ (x : Sender T N H). x.has_value) (sender_before senders last c.sender (n.own i c before).0)
+              ∙ n.valued i c before)
+              (λ end is.
+              let Knows : Connected K → Type 0 = λ c. (sender_of c.sender (senders ++ last ∷ [])).has_value ≡ c.port.has_value in
+              subst Knows is (ap (λ l. (sender_of l (senders ++ last ∷ [])).has_value) its_sender
+              ∙ ap (λ (x : Sender T N H). x.has_value) (sender_last senders last) ∙ value_is));
           owned_once = apart_added senders last (λ x. x.owner) (λ l h. omega (arith, n.numbered l h, owned)) n.owned_once;
           numbered = each_added senders last (λ _ x. x.owner < next + 1) (λ l h. omega (arith, n.numbered l h)) (omega (arith, owned));
           placed = λ i c at. connected_cases i c at (λ before h. n.placed i c before)

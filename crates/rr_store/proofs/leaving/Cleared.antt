@@ -73,6 +73,7 @@ module _ {T N H : Type 0} (before after : Sender T N H) (cleared : SenderCleared
     owner = ap (λ (l : Sender T N H). l.owner) cleared.rest;
     row = ap (λ (l : Sender T N H). l.row) cleared.rest;
     receiver = ap (λ (l : Sender T N H). l.receiver) cleared.rest;
+    has_value = ap (λ (l : Sender T N H). l.has_value) cleared.rest;
     slots = slots;
     room = ap (λ (l : Sender T N H). l.messages.room) cleared.rest;
     marks = ap (λ (l : Sender T N H). length l.may_answer) cleared.rest;

@@ -1,8 +1,10 @@
 -- What is true of a core stays true as a client goes of which nothing is in use.
-use Rattle.std.proofs.Common.{◌≡◌, ◌≢◌, ◌<◌, ℕ, true, Some, length, map, refl, sym, ap, ◌∙◌, ⊎_elim, arith}
+use Rattle.std.proofs.Common.{◌≡◌, ◌≢◌, ◌<◌, ℕ, true, [], ◌∷◌, Some, length, map, refl, sym, ap, ◌∙◌, ⊎_elim, arith}
 use Rattle.std.specs.Prelude.{slice_get}
 use Rattle.std.specs.FinMap as fin_map
 use Rattle.std.proofs.lemmas.Bool.{cases_eq, eq-eqb}
+use Rattle.std.proofs.lemmas.List.{length-append}
+use Rattle.std.proofs.lemmas.List.Edits.{length-remove}
 use Rattle.std.proofs.lemmas.Option.{slice_get_within}
 use Rattle.rr_maps.proofs.MapLaws.{tally-at}
 use Rattle.rr_table.specs.TableView.{TableEntry}
@@ -125,12 +127,17 @@ module _ {Q QH P PH K : Type 0} (p : Parts Q QH P PH K) (sound : IsSound p empty
       pending = λ is. stays s.value.sender (no_pending k s at is) (h.pending is);
       response_loan = h.response_loan;
     };
-    client_values = λ i d at. let s = was i d at in n.client_values s.place d s.at;
-    server_values = n.server_values;
     apart = λ i j d s at there. let t = was i d at in n.apart t.place j d s t.at there;
     left_clients = port_left (λ (c : ClientPart K). c.connected) p.next p.limits.max_clients p.clients p.client_senders sound.client_ports
         index c here p.left_clients n.left_clients;
     left_servers = n.left_servers;
+    client_room = omega (
+      arith,
+      n.client_room,
+      length-remove p.clients index (slice_get_within p.clients index c at_c),
+      length-append p.left_clients (record { number = c.port.id; sender = c.sender } ∷ []),
+    );
+    server_room = n.server_room;
   }
 
   -- the core stays sound

@@ -26,6 +26,7 @@ module _ {T N H K : Type 0} (next ports : ℕ) (cs : List (Connected K)) (sender
     few = omega (arith, n.few, length-remove cs index within);
     own = λ i c at. let s = was i c at in n.own s.place c s.at;
     received = λ i c at. let s = was i c at in n.received s.place c s.at;
+    valued = λ i c at. let s = was i c at in n.valued s.place c s.at;
     owned_once = n.owned_once;
     numbered = n.numbered;
     placed = λ i c at. let s = was i c at in n.placed s.place c s.at;

@@ -1,9 +1,11 @@
 -- What is true of a core stays true as a server goes of which nothing is in use.
-use Rattle.std.proofs.Common.{◌≡◌, ◌≢◌, ◌<◌, ◌+◌, ◌*◌, ℕ, true, [], Option, None, Some, find, length, map, refl, sym, ap, ◌∙◌, ⊎_elim, arith}
+use Rattle.std.proofs.Common.{◌≡◌, ◌≢◌, ◌<◌, ◌+◌, ◌*◌, ℕ, true, [], ◌∷◌, Option, None, Some, find, length, map, refl, sym, ap, ◌∙◌, ⊎_elim, arith}
 use Rattle.std.specs.Prelude.{◌==◌, slice_get}
 use Rattle.std.specs.Option.{option_map_or}
 use Rattle.std.specs.FinMap as fin_map
 use Rattle.std.proofs.lemmas.Bool.{cases_eq, eq-eqb, eqb-true, false≢true}
+use Rattle.std.proofs.lemmas.List.{length-append}
+use Rattle.std.proofs.lemmas.List.Edits.{length-remove}
 use Rattle.std.proofs.lemmas.Option.{slice_get_within}
 use Rattle.rr_maps.proofs.MapLaws.{tally-at}
 use Rattle.rr_table.specs.TableView.{TableEntry}
@@ -227,12 +229,17 @@ module _ {Q QH P PH K : Type 0} (p : Parts Q QH P PH K) (sound : IsSound p empty
       pending = h.pending;
       response_loan = λ is. stays t.value.sender (no_loan k t at is) (h.response_loan is);
     };
-    client_values = n.client_values;
-    server_values = λ i d at. let t = was i d at in n.server_values t.place d t.at;
     apart = λ i j c d at there. let t = was j d there in n.apart i t.place c d at t.at;
     left_clients = n.left_clients;
     left_servers = port_left (λ (s : ServerPart K). s.connected) p.next p.limits.max_servers p.servers p.server_senders sound.server_ports
         index s here p.left_servers n.left_servers;
+    client_room = n.client_room;
+    server_room = omega (
+      arith,
+      n.server_room,
+      length-remove p.servers index (slice_get_within p.servers index s at_s),
+      length-append p.left_servers (record { number = s.port.id; sender = s.sender } ∷ []),
+    );
   }
 
   -- the core stays sound

@@ -1,5 +1,5 @@
 //! What the creation of a store and of ports changes.
-ghost use Rattle.std.specs.Prelude.{◌≡◌, ◌≢◌, ◌<◌, ◌+◌, ◌^◌, ℕ, None, Some, IfOk, OnErr, OnOk, length, slice_get};
+ghost use Rattle.std.specs.Prelude.{◌≡◌, ◌≢◌, ◌<◌, ◌≤◌, ◌+◌, ◌^◌, ℕ, None, Some, IfOk, OnErr, OnOk, length, slice_get};
 ghost use Rattle.rr_protocol.specs.Creation.{client_refusal, server_refusal};
 ghost use Rattle.rr_protocol.specs.Limits.{hub_refusal, max_loaned_responses};
 ghost use Rattle.rr_store.specs.Changes.{with_new_client, with_new_server};
@@ -102,6 +102,26 @@ impl<QB: Body, QH: Default + Drop, PB: Body, PH: Default + Drop, K: Backpressure
         ensures vacant { (i : ℕ) (s : ServerPart K) → slice_get self.now.servers i ≡ Some s → s.receiver ≢ result }
     {
         create::free_receiver(self.servers.as_slice(), self.limits.max_servers)
+    }
+
+    /// Gets room for one more client among those that left, so that it can leave without memory. Returns `AllocError` if
+    /// memory was refused; the store has as much room as before then.
+    pub fn reserve_left_client(&mut self) -> Result<(), AllocError>
+        ensures rest { self.new ≡ record self.old { client_room = self.new.client_room } }
+        ensures more { self.old.client_room ≤ self.new.client_room }
+        ensures room { OnOk result (length self.old.clients + 1 + length self.old.left_clients ≤ self.new.client_room) }
+    {
+        self.left_clients.reserve(self.clients.len() + 1)
+    }
+
+    /// Gets room for one more server among those that left, so that it can leave without memory. Returns `AllocError` if
+    /// memory was refused; the store has as much room as before then.
+    pub fn reserve_left_server(&mut self) -> Result<(), AllocError>
+        ensures rest { self.new ≡ record self.old { server_room = self.new.server_room } }
+        ensures more { self.old.server_room ≤ self.new.server_room }
+        ensures room { OnOk result (length self.old.servers + 1 + length self.old.left_servers ≤ self.new.server_room) }
+    {
+        self.left_servers.reserve(self.servers.len() + 1)
     }
 
     /// Adds a client with so many slots under the next number, which it returns. Returns `AllocError` if memory was refused;

@@ -1,10 +1,12 @@
 //! What a query reads.
-ghost use Rattle.std.specs.Prelude.{◌≡◌, ◌≤◌, ◌<◌, ◌+◌, ◌*◌, ℕ, [], Some, length, nat_lt, option_map, slice_get, slice_index_or};
+ghost use Rattle.std.specs.Prelude.{◌≡◌, ◌≤◌, ◌<◌, ◌+◌, ◌*◌, ℕ, [], IsSomeAnd, Some, length, nat_lt, option_map, slice_get, slice_index_or};
 ghost use Rattle.std.specs.FinMap as fin_map;
 ghost use Rattle.rr_slots.specs.Pools.{written};
 ghost use Rattle.rr_table.specs.TableView.{value_in};
 ghost use Rattle.rr_sender.specs.Senders.{content_at};
 ghost use Rattle.rr_protocol.specs.State.{is_client_value, is_server_value};
+ghost use Rattle.rr_store.specs.Leaving.{is_client_used, is_server_used};
+ghost use Rattle.rr_store.specs.Order.{IsRising};
 ghost use Rattle.rr_store.specs.Parts.{ServerPart};
 ghost use Rattle.rr_store.specs.Sound.{own_place};
 ghost use Rattle.rr_store.specs.Views.{sender_of, state_of, waiting_at};
@@ -22,20 +24,52 @@ impl<QB: Body, QH: Default + Drop, PB: Body, PH: Default + Drop, K: Backpressure
     PH,
     K,
 > {
-    /// Returns whether a client has this number and lives by value.
+    /// Returns whether a client has this number and lives by value. Looks at about ten of 1,000.
     #[inline(always)]
     pub fn is_client_value(&self, number: u64) -> bool
+        requires { IsRising (λ c. c.port.id) self.now.clients }
         ensures { result ≡ is_client_value (state_of self.now) number }
     {
-        query::is_client_value(self.clients.as_slice(), number)
+        query::is_value(self.clients.as_slice(), number)
     }
 
-    /// Returns whether a server has this number and lives by value.
+    /// Returns whether a server has this number and lives by value. Looks at about ten of 1,000.
     #[inline(always)]
     pub fn is_server_value(&self, number: u64) -> bool
+        requires { IsRising (λ s. s.port.id) self.now.servers }
         ensures { result ≡ is_server_value (state_of self.now) number }
     {
-        query::is_server_value(self.servers.as_slice(), number)
+        query::is_value(self.servers.as_slice(), number)
+    }
+
+    /// Returns whether the value of the client at an index lives, or it has a handle. Looks at each server's sender and channel.
+    #[cold]
+    pub fn is_client_used(&self, index: usize) -> bool
+        requires index { IsSomeAnd (slice_get self.now.clients index) (λ c. c.sender < length self.now.client_senders) }
+        requires receivers { IsSomeAnd (slice_get self.now.clients index) (λ c. (l : ℕ) → l < length self.now.server_senders → c.receiver < length (sender_of l self.now.server_senders).messages.borrowed) }
+        ensures { IsSomeAnd (slice_get self.now.clients index) (λ c. result ≡ is_client_used self.now c) }
+    {
+        let port = &self.clients[index].port;
+        let sender = &self.client_senders[port.sender];
+        if port.has_value || sender.loans > 0 || sender.pendings > 0 {
+            return true;
+        }
+        query::is_borrowing(self.server_senders.as_slice(), port.receiver)
+    }
+
+    /// Returns whether the value of the server at an index lives, or it has a handle. Looks at each client's sender.
+    #[cold]
+    pub fn is_server_used(&self, index: usize) -> bool
+        requires index { IsSomeAnd (slice_get self.now.servers index) (λ s. s.sender < length self.now.server_senders) }
+        requires receivers { IsSomeAnd (slice_get self.now.servers index) (λ s. (l : ℕ) → l < length self.now.client_senders → s.receiver < length (sender_of l self.now.client_senders).messages.borrowed) }
+        ensures { IsSomeAnd (slice_get self.now.servers index) (λ s. result ≡ is_server_used self.now s) }
+    {
+        let port = &self.servers[index].port;
+        let sender = &self.server_senders[port.sender];
+        if port.has_value || sender.loans > 0 {
+            return true;
+        }
+        query::is_borrowing(self.client_senders.as_slice(), port.receiver)
     }
 
     /// Returns where a handle stands, or `None` if it stands nowhere. Walks over the table.

@@ -145,14 +145,13 @@ impl<QB: Body, QH: Default + Drop, PB: Body, PH: Default + Drop, K: Backpressure
         release::clear_mark(&mut self.client_senders, sender, slot, receivers, receiver);
     }
 
-    /// Returns which receiver a server is.
+    /// Returns which receiver the server at an index is.
     #[inline(always)]
-    pub fn server_receiver(&self, server: u64) -> usize
-        requires rising { IsRising (λ s. s.port.id) self.now.servers }
-        requires found { IsSome (position (λ s. s.port.id == server) self.now.servers) }
-        ensures { IsSomeAnd (position (λ s. s.port.id == server) self.now.servers) (λ i. IsSomeAnd (slice_get self.now.servers i) (λ s. result ≡ s.receiver)) }
+    pub fn server_receiver(&self, index: usize) -> usize
+        requires { index < length self.now.servers }
+        ensures { IsSomeAnd (slice_get self.now.servers index) (λ s. result ≡ s.receiver) }
     {
-        release::receiver_of(self.servers.as_slice(), server)
+        self.servers[index].port.receiver
     }
 
     /// Counts one response less on loan from the active request of a response, if that is not released yet. `receiver` is the

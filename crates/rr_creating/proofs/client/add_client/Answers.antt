@@ -1,26 +1,30 @@
-use Rattle.rr_creating.proofs.steps.Client.{room_asked, next_asked, hub_asked, core_then, ok_then}
+use Rattle.std.proofs.Common.{◌≡◌}
+use Rattle.rr_protocol.specs.Creation.{with_client}
+use Rattle.rr_store.specs.Views.{state_of}
+use Rattle.rr_creating.proofs.steps.Rooms.{client_room_core, client_room_view, err_after, in_any_case, ok_after}
 use Rattle.rr_creating.proofs.client.add_client.Goals as goal
 
-pub worst_case_requests-requires : goal.worst_case_requests-requires
-worst_case_requests-requires g c =
-    hub_asked c.args.store.now c.requires.core c.args.settings c.requires.due _ c.limits-limits.ensures
+pub returns-in_err-reserve_left_client-clause-core : goal.returns-in_err-reserve_left_client-clause-core
+returns-in_err-reserve_left_client-clause-core g c =
+    client_room_core c.args.store.now c.requires.core c.reserve_left_client.new.self c.reserve_left_client.ensures.rest c.reserve_left_client.ensures.more
 
-pub free_client_receiver-receiver-requires : goal.free_client_receiver-receiver-requires
-free_client_receiver-receiver-requires g c = room_asked c.args.store.now c.requires.core c.args.settings c.requires.due
+pub returns-in_err-reserve_left_client-clause-err : goal.returns-in_err-reserve_left_client-clause-err
+returns-in_err-reserve_left_client-clause-err g c =
+    in_any_case (state_of c.reserve_left_client.new.self ≡ state_of c.args.store.now) c.from_residual.result
+    (client_room_view c.args.store.now c.requires.core c.reserve_left_client.new.self c.reserve_left_client.ensures.rest)
 
-pub add_client-requires : goal.add_client-requires
-add_client-requires g c = next_asked c.args.store.now c.requires.core c.args.settings c.requires.due
-
-pub returns-clause-core : goal.returns-clause-core
-returns-clause-core g c =
-    core_then c.args.store.now c.requires.core c.args.settings c.requires.due _ c.limits-limits.ensures _ c.worst_case_requests.ensures _
-    c.pool_size-slots.ensures _ c.free_client_receiver-receiver.ensures.inside c.free_client_receiver-receiver.ensures.vacant _
-    c.in_ok-client.ensures.messages _ c.in_ok-client.ensures.marks _ c.in_ok-client.ensures.row c.in_ok-client.ensures.fits _ _
-    c.add_client.ensures.ok c.add_client.ensures.err
+pub insert_client-requires-clause-core : goal.insert_client-requires-clause-core
+insert_client-requires-clause-core g c =
+    client_room_core c.args.store.now c.requires.core c.reserve_left_client.new.self c.reserve_left_client.ensures.rest c.reserve_left_client.ensures.more
 
 pub returns-clause-ok : goal.returns-clause-ok
 returns-clause-ok g c =
-    ok_then c.args.store.now c.requires.core c.args.settings c.requires.due _ c.limits-limits.ensures _ c.worst_case_requests.ensures _
-    c.pool_size-slots.ensures _ c.free_client_receiver-receiver.ensures.inside c.free_client_receiver-receiver.ensures.vacant _
-    c.in_ok-client.ensures.messages _ c.in_ok-client.ensures.marks _ c.in_ok-client.ensures.row c.in_ok-client.ensures.fits _ _
-    c.add_client.ensures.ok
+    ok_after c.args.store.now c.requires.core c.reserve_left_client.new.self
+    (client_room_view c.args.store.now c.requires.core c.reserve_left_client.new.self c.reserve_left_client.ensures.rest)
+    c.insert_client.new.store (λ s. with_client s c.args.settings) c.insert_client.result c.insert_client.ensures.ok
+
+pub returns-clause-err : goal.returns-clause-err
+returns-clause-err g c =
+    err_after c.args.store.now c.requires.core c.reserve_left_client.new.self
+    (client_room_view c.args.store.now c.requires.core c.reserve_left_client.new.self c.reserve_left_client.ensures.rest)
+    c.insert_client.new.store c.insert_client.result c.insert_client.ensures.err

@@ -1,39 +1,30 @@
-use Rattle.rr_creating.proofs.steps.Server.{room_asked, next_asked, clients_asked, hub_asked, counts_asked, loans_asked, core_then, ok_then}
+use Rattle.std.proofs.Common.{◌≡◌}
+use Rattle.rr_protocol.specs.Creation.{with_server}
+use Rattle.rr_store.specs.Views.{state_of}
+use Rattle.rr_creating.proofs.steps.Rooms.{server_room_core, server_room_view, err_after, in_any_case, ok_after}
 use Rattle.rr_creating.proofs.server.add_server.Goals as goal
 
-pub worst_case_responses-requires-clause-hub : goal.worst_case_responses-requires-clause-hub
-worst_case_responses-requires-clause-hub g c =
-    hub_asked c.args.store.now c.requires.core c.args.settings c.requires.due _ c.limits-limits.ensures
+pub returns-in_err-reserve_left_server-clause-core : goal.returns-in_err-reserve_left_server-clause-core
+returns-in_err-reserve_left_server-clause-core g c =
+    server_room_core c.args.store.now c.requires.core c.reserve_left_server.new.self c.reserve_left_server.ensures.rest c.reserve_left_server.ensures.more
 
-pub worst_case_responses-requires-clause-counts : goal.worst_case_responses-requires-clause-counts
-worst_case_responses-requires-clause-counts g c =
-    counts_asked c.args.store.now c.requires.core c.args.settings c.requires.due _ c.limits-limits.ensures _ c.max-loans.ensures
+pub returns-in_err-reserve_left_server-clause-err : goal.returns-in_err-reserve_left_server-clause-err
+returns-in_err-reserve_left_server-clause-err g c =
+    in_any_case (state_of c.reserve_left_server.new.self ≡ state_of c.args.store.now) c.from_residual.result
+    (server_room_view c.args.store.now c.requires.core c.reserve_left_server.new.self c.reserve_left_server.ensures.rest)
 
-pub free_server_receiver-receiver-requires : goal.free_server_receiver-receiver-requires
-free_server_receiver-receiver-requires g c = room_asked c.args.store.now c.requires.core c.args.settings c.requires.due
-
-pub server_messages-requires-clause-hub : goal.server_messages-requires-clause-hub
-server_messages-requires-clause-hub g c =
-    hub_asked c.args.store.now c.requires.core c.args.settings c.requires.due _ c.limits-limits.ensures
-
-pub add_server-requires-clause-clients : goal.add_server-requires-clause-clients
-add_server-requires-clause-clients g c = clients_asked c.args.store.now c.requires.core c.args.settings c.requires.due
-
-pub add_server-requires-clause-loans : goal.add_server-requires-clause-loans
-add_server-requires-clause-loans g c =
-    loans_asked c.args.store.now c.requires.core c.args.settings c.requires.due _ c.limits-limits.ensures _ c.max-loans.ensures
-
-pub add_server-requires-clause-next : goal.add_server-requires-clause-next
-add_server-requires-clause-next g c = next_asked c.args.store.now c.requires.core c.args.settings c.requires.due
-
-pub returns-clause-core : goal.returns-clause-core
-returns-clause-core g c =
-    core_then c.args.store.now c.requires.core c.args.settings c.requires.due _ c.limits-limits.ensures _ c.max-loans.ensures _
-    c.worst_case_responses.ensures _ c.pool_size-slots.ensures _ c.free_server_receiver-receiver.ensures.inside
-    c.free_server_receiver-receiver.ensures.vacant _ c.in_ok-messages.ensures _ _ c.add_server.ensures.ok c.add_server.ensures.err
+pub insert_server-requires-clause-core : goal.insert_server-requires-clause-core
+insert_server-requires-clause-core g c =
+    server_room_core c.args.store.now c.requires.core c.reserve_left_server.new.self c.reserve_left_server.ensures.rest c.reserve_left_server.ensures.more
 
 pub returns-clause-ok : goal.returns-clause-ok
 returns-clause-ok g c =
-    ok_then c.args.store.now c.requires.core c.args.settings c.requires.due _ c.limits-limits.ensures _ c.max-loans.ensures _
-    c.worst_case_responses.ensures _ c.pool_size-slots.ensures _ c.free_server_receiver-receiver.ensures.inside
-    c.free_server_receiver-receiver.ensures.vacant _ c.in_ok-messages.ensures _ _ c.add_server.ensures.ok
+    ok_after c.args.store.now c.requires.core c.reserve_left_server.new.self
+    (server_room_view c.args.store.now c.requires.core c.reserve_left_server.new.self c.reserve_left_server.ensures.rest)
+    c.insert_server.new.store (λ s. with_server s c.args.settings) c.insert_server.result c.insert_server.ensures.ok
+
+pub returns-clause-err : goal.returns-clause-err
+returns-clause-err g c =
+    err_after c.args.store.now c.requires.core c.reserve_left_server.new.self
+    (server_room_view c.args.store.now c.requires.core c.reserve_left_server.new.self c.reserve_left_server.ensures.rest)
+    c.insert_server.new.store c.insert_server.result c.insert_server.ensures.err

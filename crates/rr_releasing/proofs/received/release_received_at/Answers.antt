@@ -1,45 +1,12 @@
-use Rattle.rr_releasing.proofs.steps.Received.{sender_asked, slot_asked, client_asked, queue_asked, counted_asked, core_then, view_then}
+use Rattle.rr_releasing.proofs.steps.Released.{core_then, view_then}
 use Rattle.rr_releasing.proofs.received.release_received_at.Goals as goal
-
-pub take-entry-requires : goal.take-entry-requires
-take-entry-requires g c = c.requires.at
-
-pub response_details-details-requires-clause-sender : goal.response_details-details-requires-clause-sender
-response_details-details-requires-clause-sender g c =
-    sender_asked c.args.store.now c.requires.core c.args.number c.args.place _ c.take-entry.ensures.taken c.requires.kind _
-    c.take-entry.ensures.gone
-
-pub response_details-details-requires-clause-slot : goal.response_details-details-requires-clause-slot
-response_details-details-requires-clause-slot g c =
-    slot_asked c.args.store.now c.requires.core c.args.number c.args.place _ c.take-entry.ensures.taken c.requires.kind _
-    c.take-entry.ensures.gone
-
-pub receiver_of_sender-receiver-requires : goal.receiver_of_sender-receiver-requires
-receiver_of_sender-receiver-requires g c =
-    client_asked c.args.store.now c.requires.core c.args.number c.args.place _ c.take-entry.ensures.taken c.requires.kind _
-    c.take-entry.ensures.gone _ c.response_details-details.ensures
-
-pub end_response_borrow-requires-clause-sender : goal.end_response_borrow-requires-clause-sender
-end_response_borrow-requires-clause-sender g c =
-    sender_asked c.args.store.now c.requires.core c.args.number c.args.place _ c.take-entry.ensures.taken c.requires.kind _
-    c.take-entry.ensures.gone
-
-pub end_response_borrow-requires-clause-queue : goal.end_response_borrow-requires-clause-queue
-end_response_borrow-requires-clause-queue g c =
-    queue_asked c.args.store.now c.requires.core c.args.number c.args.place _ c.take-entry.ensures.taken c.requires.kind _
-    c.take-entry.ensures.gone _ c.response_details-details.ensures _ c.receiver_of_sender-receiver.ensures
-
-pub end_response_borrow-requires-clause-counted : goal.end_response_borrow-requires-clause-counted
-end_response_borrow-requires-clause-counted g c =
-    counted_asked c.args.store.now c.requires.core c.args.number c.args.place _ c.take-entry.ensures.taken c.requires.kind _
-    c.take-entry.ensures.gone _ c.response_details-details.ensures _ c.receiver_of_sender-receiver.ensures
 
 pub returns-clause-core : goal.returns-clause-core
 returns-clause-core g c =
-    core_then c.args.store.now c.requires.core c.args.number c.args.place _ c.take-entry.ensures.taken c.requires.kind _
-    c.take-entry.ensures.gone _ c.response_details-details.ensures _ c.receiver_of_sender-receiver.ensures _ c.end_response_borrow.ensures
+    core_then c.args.store.now c.requires.core c.args.number _ c.end_received-sender.new.store c.end_received-sender.ensures.gone
+    c.leave_client_if_unused.new.store c.leave_client_if_unused.ensures.view c.leave_client_if_unused.ensures.sound
 
 pub returns-clause-view : goal.returns-clause-view
 returns-clause-view g c =
-    view_then c.args.store.now c.requires.core c.args.number c.args.place _ c.take-entry.ensures.taken c.requires.kind _
-    c.take-entry.ensures.gone _ c.response_details-details.ensures _ c.receiver_of_sender-receiver.ensures _ c.end_response_borrow.ensures
+    view_then c.args.store.now c.requires.core c.args.number _ c.end_received-sender.new.store c.end_received-sender.ensures.gone
+    c.leave_client_if_unused.new.store c.leave_client_if_unused.ensures.view

@@ -1,49 +1,12 @@
-use Rattle.rr_releasing.proofs.steps.ResponseLoan.{sender_asked, slot_asked, held_asked, sender_still, loan_asked, core_then, view_then}
+use Rattle.rr_releasing.proofs.steps.Released.{core_then, view_then}
 use Rattle.rr_releasing.proofs.response_loan.release_response_loan_at.Goals as goal
-
-pub take-entry-requires : goal.take-entry-requires
-take-entry-requires g c = c.requires.at
-
-pub response_details-details-requires-clause-sender : goal.response_details-details-requires-clause-sender
-response_details-details-requires-clause-sender g c =
-    sender_asked c.args.store.now c.requires.core c.args.number c.args.place _ c.take-entry.ensures.taken c.requires.kind _
-    c.take-entry.ensures.gone
-
-pub response_details-details-requires-clause-slot : goal.response_details-details-requires-clause-slot
-response_details-details-requires-clause-slot g c =
-    slot_asked c.args.store.now c.requires.core c.args.number c.args.place _ c.take-entry.ensures.taken c.requires.kind _
-    c.take-entry.ensures.gone
-
-pub give_back_response-requires-clause-sender : goal.give_back_response-requires-clause-sender
-give_back_response-requires-clause-sender g c =
-    sender_asked c.args.store.now c.requires.core c.args.number c.args.place _ c.take-entry.ensures.taken c.requires.kind _
-    c.take-entry.ensures.gone
-
-pub give_back_response-requires-clause-held : goal.give_back_response-requires-clause-held
-give_back_response-requires-clause-held g c =
-    held_asked c.args.store.now c.requires.core c.args.number c.args.place _ c.take-entry.ensures.taken c.requires.kind _
-    c.take-entry.ensures.gone
-
-pub end_response_loan-receiver-requires-clause-sender : goal.end_response_loan-receiver-requires-clause-sender
-end_response_loan-receiver-requires-clause-sender g c =
-    sender_still c.args.store.now c.requires.core c.args.number c.args.place _ c.take-entry.ensures.taken c.requires.kind _
-    c.take-entry.ensures.gone _ c.response_details-details.ensures _ c.give_back_response.ensures
-
-pub end_response_loan-receiver-requires-clause-counted : goal.end_response_loan-receiver-requires-clause-counted
-end_response_loan-receiver-requires-clause-counted g c =
-    loan_asked c.args.store.now c.requires.core c.args.number c.args.place _ c.take-entry.ensures.taken c.requires.kind _
-    c.take-entry.ensures.gone _ c.response_details-details.ensures _ c.give_back_response.ensures
 
 pub returns-clause-core : goal.returns-clause-core
 returns-clause-core g c =
-    core_then c.args.store.now c.requires.core c.args.number c.args.place _ c.take-entry.ensures.taken c.requires.kind _
-    c.take-entry.ensures.gone _ c.response_details-details.ensures _ c.give_back_response.ensures _ _
-    c.end_response_loan-receiver.ensures.receiver c.end_response_loan-receiver.ensures.counted _ c.end_loan_from.ensures.rest
-    c.end_loan_from.ensures.ended
+    core_then c.args.store.now c.requires.core c.args.number _ c.end_response-sender.new.store c.end_response-sender.ensures.gone
+    c.leave_server_if_unused.new.store c.leave_server_if_unused.ensures.view c.leave_server_if_unused.ensures.sound
 
 pub returns-clause-view : goal.returns-clause-view
 returns-clause-view g c =
-    view_then c.args.store.now c.requires.core c.args.number c.args.place _ c.take-entry.ensures.taken c.requires.kind _
-    c.take-entry.ensures.gone _ c.response_details-details.ensures _ c.give_back_response.ensures _ _
-    c.end_response_loan-receiver.ensures.receiver c.end_response_loan-receiver.ensures.counted _ c.end_loan_from.ensures.rest
-    c.end_loan_from.ensures.ended
+    view_then c.args.store.now c.requires.core c.args.number _ c.end_response-sender.new.store c.end_response-sender.ensures.gone
+    c.leave_server_if_unused.new.store c.leave_server_if_unused.ensures.view

@@ -1,4 +1,4 @@
-use Rattle.rr_sending.proofs.steps.Response.{sender_asked, slot_asked, loan_asked, server_asked, queue_asked, refused, sender_still, queue_still, takes_still, loan_sender, loan_counted, sends, core_then}
+use Rattle.rr_sending.proofs.steps.Response.{sender_asked, slot_asked, loan_asked, server_asked, queue_asked, refused, sender_still, queue_still, takes_still, loan_sender, loan_counted, sends, core_then, port_then, sound_then}
 use Rattle.rr_sending.proofs.response.send_response_at.Goals as goal
 
 pub response_details-details-requires-clause-sender : goal.response_details-details-requires-clause-sender
@@ -79,18 +79,32 @@ end_response_loan-receiver-requires-clause-counted g c =
     g.K.BackpressureFn.action _ c.response_details-details.ensures _ c.reached_receiver-reach.ensures _ c.is_response_refused.ensures _
     c.take.ensures.gone _ c.hand_over_response.ensures
 
+pub leave_server_if_unused-requires-clause-sound : goal.leave_server_if_unused-requires-clause-sound
+leave_server_if_unused-requires-clause-sound g c =
+    sound_then c.args.store.now c.requires.core c.args.number c.args.place c.at-entry.result c.at-entry.ensures c.requires.kind
+    g.K.BackpressureFn.action _ c.response_details-details.ensures _ c.reached_receiver-reach.ensures _ c.is_response_refused.ensures _
+    c.take.ensures.gone _ c.hand_over_response.ensures _ _ c.end_response_loan-receiver.ensures.receiver
+    c.end_response_loan-receiver.ensures.counted _ c.end_loan_from.ensures.rest c.end_loan_from.ensures.ended
+
+pub leave_server_if_unused-requires-clause-port : goal.leave_server_if_unused-requires-clause-port
+leave_server_if_unused-requires-clause-port g c =
+    port_then c.args.store.now c.requires.core c.args.number c.args.place c.at-entry.result c.at-entry.ensures c.requires.kind
+    g.K.BackpressureFn.action _ c.response_details-details.ensures _ c.reached_receiver-reach.ensures _ c.is_response_refused.ensures _
+    c.take.ensures.gone _ c.hand_over_response.ensures _ _ c.end_response_loan-receiver.ensures.receiver
+    c.end_response_loan-receiver.ensures.counted _ c.end_loan_from.ensures.rest c.end_loan_from.ensures.ended
+
 pub returns-clause-core : goal.returns-clause-core
 returns-clause-core g c =
     core_then c.args.store.now c.requires.core c.args.number c.args.place c.at-entry.result c.at-entry.ensures c.requires.kind
     g.K.BackpressureFn.action _ c.response_details-details.ensures _ c.reached_receiver-reach.ensures _ c.is_response_refused.ensures _
     c.take.ensures.gone _ c.hand_over_response.ensures _ _ c.end_response_loan-receiver.ensures.receiver
-    c.end_response_loan-receiver.ensures.counted _ c.end_loan_from.ensures.rest c.end_loan_from.ensures.ended
-    c.if-is_response_refused.false
+    c.end_response_loan-receiver.ensures.counted c.end_loan_from.new.self c.end_loan_from.ensures.rest c.end_loan_from.ensures.ended
+    c.leave_server_if_unused.new.store c.leave_server_if_unused.ensures.view c.leave_server_if_unused.ensures.sound c.if-is_response_refused.false
 
 pub returns-clause-sends : goal.returns-clause-sends
 returns-clause-sends g c =
     sends c.args.store.now c.requires.core c.args.number c.args.place c.at-entry.result c.at-entry.ensures c.requires.kind
     g.K.BackpressureFn.action _ c.response_details-details.ensures _ c.reached_receiver-reach.ensures _ c.is_response_refused.ensures _
     c.take.ensures.gone _ c.hand_over_response.ensures _ _ c.end_response_loan-receiver.ensures.receiver
-    c.end_response_loan-receiver.ensures.counted _ c.end_loan_from.ensures.rest c.end_loan_from.ensures.ended
-    c.if-is_response_refused.false
+    c.end_response_loan-receiver.ensures.counted c.end_loan_from.new.self c.end_loan_from.ensures.rest c.end_loan_from.ensures.ended
+    c.leave_server_if_unused.new.store c.leave_server_if_unused.ensures.view c.if-is_response_refused.false

@@ -14,7 +14,7 @@ use Rattle.rr_store.specs.Views.{sender_of, no_sender}
 use Rattle.rr_store.specs.Sound.{IsSound, IsSized, HavePorts, HaveLeft, HasPort, HasSenders, Hand}
 use Rattle.rr_store.specs.Frames.{SenderAlike, SendersAlike, moved, SameFrame}
 use Rattle.std.proofs.lemmas.Bool.{cases_eq, cases_lt}
-use Rattle.std.proofs.lemmas.List.{get_or-set_same, get_or-set_other, length-set}
+use Rattle.std.proofs.lemmas.List.{get_or-set_same, get_or-set_other, length-map, length-set}
 use Rattle.std.proofs.lemmas.Option.{get_or_from_slice_get}
 use Rattle.rr_store.proofs.base.lists.Adding.{mapped}
 use Rattle.rr_store.proofs.base.lists.Replaced.{set_past, map-set_alike}
@@ -36,6 +36,7 @@ module _ {T N H K : Type 0} (ports : List (Connected K)) (senders others : List 
         let is = same.each c.sender in
         (omega (arith, o.0, same.many), is.owner ∙ o.1, is.slots ∙ o.2, is.room ∙ o.3);
     received = λ i c at. (same.each c.sender).receiver ∙ has.received i c at;
+    valued = λ i c at. (same.each c.sender).has_value ∙ has.valued i c at;
     owned_once = λ i j h g e. has.owned_once i j (omega (arith, h, same.many)) (omega (arith, g, same.many))
         (sym (same.each i).owner ∙ e ∙ (same.each j).owner);
     numbered = λ i h. omega (arith, has.numbered i (omega (arith, h, same.many)), (same.each i).owner, le);
@@ -63,7 +64,7 @@ module _ {T N H : Type 0} (senders : List (Sender T N H)) (l : ℕ) (sender : Se
       same : (k : ℕ) → sender_of k (slice_set senders l sender) ≡ sender_of k senders
           → SenderAlike (sender_of k senders) (sender_of k (slice_set senders l sender))
       same k e = let R : Sender T N H → Type 0 = SenderAlike (sender_of k senders) in
-          subst R (sym e) (record { owner = refl; row = refl; receiver = refl; slots = refl; room = refl; marks = refl; shaped = λ r c n h. h })
+          subst R (sym e) (record { owner = refl; row = refl; receiver = refl; has_value = refl; slots = refl; room = refl; marks = refl; shaped = λ r c n h. h })
 
       at_it : (k : ℕ) → k ≡ l → l < length senders → SenderAlike (sender_of k senders) (sender_of k (slice_set senders l sender))
       at_it k e h =
@@ -122,14 +123,19 @@ module _ {Q QH P PH K : Type 0} (p : Parts Q QH P PH K) (hand : Hand) (sound : I
             pending = λ is. stays s.value.sender (h.pending is);
             response_loan = h.response_loan;
           };
-          client_values = λ i c at. let d = client_before i c at in sym (ap (λ (f : Connected K). f.port.has_value) d.2)
-              ∙ n.client_values i d.0 d.1;
-          server_values = n.server_values;
           apart = λ i j c s at there same. let d = client_before i c at in
               n.apart i j d.0 s d.1 there (ap (λ (f : Connected K). f.port.id) d.2 ∙ same);
           left_clients = subst (λ (ports : List (Connected K)). HaveLeft ports p.left_clients client_senders) (sym frame.clients_alike)
               (left_kept _ _ _ frame.client_senders_alike p.left_clients n.left_clients);
           left_servers = left_kept _ _ _ frame.server_senders_alike p.left_servers n.left_servers;
+          client_room = omega (
+            arith,
+            n.client_room,
+            length-map clients (λ (c : ClientPart K). c.connected),
+            length-map p.clients (λ (c : ClientPart K). c.connected),
+            ap length frame.clients_alike,
+          );
+          server_room = n.server_room;
         }
 
     pub framed_sized : next ≤ 2 ^ 62 → ((i : ℕ) (c : ClientPart K) → slice_get clients i ≡ Some c → c.loans_made ≤ next) → IsSized after

@@ -21,6 +21,7 @@ module _ {T N H : Type 0} where
     owner = ap (λ (o : Outline N). o.owner) r.outline;
     row = ap (λ (o : Outline N). o.row) r.outline;
     receiver = ap (λ (o : Outline N). o.receiver) r.outline;
+    has_value = ap (λ (o : Outline N). o.has_value) r.outline;
     slots = ap (λ (o : Outline N). length o.held) r.outline;
     room = ap (λ (o : Outline N). o.room) r.outline;
     marks = r.marks;

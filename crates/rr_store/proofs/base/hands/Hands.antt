@@ -35,7 +35,7 @@ never false = refl
 -- senders are alike to themselves
 pub senders_same : {T N H : Type 0} (senders : List (Sender T N H)) → SendersAlike senders senders
 senders_same senders = record
-    { many = refl; each = λ l. record { owner = refl; row = refl; receiver = refl; slots = refl; room = refl; marks = refl; shaped = λ r c k h. h } }
+    { many = refl; each = λ l. record { owner = refl; row = refl; receiver = refl; has_value = refl; slots = refl; room = refl; marks = refl; shaped = λ r c k h. h } }
 
 module _ {Q QH P PH K : Type 0} (p : Parts Q QH P PH K) where
   -- what is true whatever handles stand in the table
@@ -75,11 +75,11 @@ module _ {Q QH P PH K : Type 0} (p : Parts Q QH P PH K) where
         → HavePorts p → HavePorts replaced
     replaced_ports handles n = record {
       handles = handles;
-      client_values = n.client_values;
-      server_values = n.server_values;
       apart = n.apart;
       left_clients = n.left_clients;
       left_servers = n.left_servers;
+      client_room = n.client_room;
+      server_room = n.server_room;
     }
 
   module _ (hand : Hand) (k : ℕ) (s : TableEntry HandleEntry) (at : fin_map.get p.table.entries k ≡ Some s) (sound : IsSound p hand) where

@@ -55,6 +55,7 @@ module _ {T N H : Type 0} (senders : List (Sender T N H)) (sender slot : ℕ) (b
       owner = refl;
       row = refl;
       receiver = refl;
+      has_value = refl;
       slots = as_many;
       room = refl;
       marks = refl;

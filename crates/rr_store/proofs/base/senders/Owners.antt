@@ -45,6 +45,19 @@ module _ {Q QH P PH K : Type 0} (p : Parts Q QH P PH K) (hand : Hand) (sound : I
       ap (λ l. (sender_of l p.server_senders).receiver) (sym f.is)
       ∙ sound.server_ports.received f.index f.it.connected (listed (λ (s : ServerPart K). s.connected) p.servers f.index f.it f.at)
 
+  -- and its number
+  pub client_owner : (l : ℕ) (f : First (λ (c : ClientPart K). c.sender) (λ (c : ClientPart K). c.sender == l) p.clients l)
+      → (sender_of l p.client_senders).owner ≡ f.it.port.id
+  client_owner l f =
+      ap (λ l. (sender_of l p.client_senders).owner) (sym f.is)
+      ∙ (sound.client_ports.own f.index f.it.connected (listed (λ (c : ClientPart K). c.connected) p.clients f.index f.it f.at)).1
+
+  pub server_owner : (l : ℕ) (f : First (λ (s : ServerPart K). s.sender) (λ (s : ServerPart K). s.sender == l) p.servers l)
+      → (sender_of l p.server_senders).owner ≡ f.it.port.id
+  server_owner l f =
+      ap (λ l. (sender_of l p.server_senders).owner) (sym f.is)
+      ∙ (sound.server_ports.own f.index f.it.connected (listed (λ (s : ServerPart K). s.connected) p.servers f.index f.it f.at)).1
+
   -- ports stand in the order of their numbers
   pub clients_rise : IsRising (λ (c : ClientPart K). c.port.id) p.clients
   clients_rise = rising_unmapped (λ (c : ClientPart K). c.connected) (λ (c : Connected K). c.port.id) p.clients sound.client_ports.rising

@@ -34,6 +34,15 @@ module _ {X : Type 0} (test : X → Bool) (items : List X) where
       go None e = absurd (false≢true (sym (found_none test items (standing_nowhere test items e) j x at) ∙ is))
       go (Some i) e = (i, e, standing test items i e)
 
+  -- what is told of the port at the index where it was found is told of the one that is found
+  pub told_at : (R : X → Type 0) (i : ℕ) → position test items ≡ Some i → IsSomeAnd (slice_get items i) R
+      → IsSomeAnd (position test items) (λ j. IsSomeAnd (slice_get items j) R)
+  told_at R i found told = subst (λ o. IsSomeAnd o (λ j. IsSomeAnd (slice_get items j) R)) (sym found) told
+
+  -- which is within the list
+  pub found_within : (i : ℕ) → position test items ≡ Some i → i < length items
+  found_within i found = let s = standing test items i found in slice_get_within items i s.it s.at
+
   -- what is true of each port is true of the one that is found
   pub of_each : (R : X → Type 0) → IsSomeAnd (position test items) (λ i. i < length items) → ((x : X) → R x)
       → IsSomeAnd (position test items) (λ i. IsSomeAnd (slice_get items i) R)

@@ -69,7 +69,7 @@ module _ {Q QH P PH K : Type 0} (p : Parts Q QH P PH K) where
 
     module _ (i : ℕ) (c : ClientPart K) (at : slice_get p.clients i ≡ Some c) where
       -- a request is the client's if it stands in the client's sender
-      owned : (k : ℕ) (s : TableEntry HandleEntry) → fin_map.get p.table.entries k ≡ Some s → is_of_request s.value.stage ≡ true
+      pub owned : (k : ℕ) (s : TableEntry HandleEntry) → fin_map.get p.table.entries k ≡ Some s → is_of_request s.value.stage ≡ true
           → ((sound_of.request_details p s.value.sender s.value.slot).client == c.port.id) ≡ (s.value.sender == c.sender)
       owned k s e is =
           ap (λ n. n == c.port.id) (sound.addressed.requests s.value.sender s.value.slot
@@ -101,7 +101,7 @@ module _ {Q QH P PH K : Type 0} (p : Parts Q QH P PH K) where
 
     module _ (i : ℕ) (c : ServerPart K) (at : slice_get p.servers i ≡ Some c) where
       -- a response is the server's if it stands in the server's sender
-      answered_by : (k : ℕ) (s : TableEntry HandleEntry) → fin_map.get p.table.entries k ≡ Some s → is_of_response s.value.stage ≡ true
+      pub answered_by : (k : ℕ) (s : TableEntry HandleEntry) → fin_map.get p.table.entries k ≡ Some s → is_of_response s.value.stage ≡ true
           → ((sound_of.response_details p s.value.sender s.value.slot).server == c.port.id) ≡ (s.value.sender == c.sender)
       answered_by k s e is =
           ap (λ n. n == c.port.id) (sound.addressed.responses s.value.sender s.value.slot

@@ -1,9 +1,9 @@
 -- What is true of a core stays true as a client is created.
-use Rattle.std.proofs.Common.{◌≡◌, ◌≢◌, ◌<◌, ◌≤◌, ◌+◌, ◌*◌, ◌^◌, ℕ, Bool, true, Some, length, get_or, refl, sym, ap, ◌∙◌, arith}
+use Rattle.std.proofs.Common.{[], ◌∷◌, ◌≡◌, ◌≢◌, ◌<◌, ◌≤◌, ◌+◌, ◌*◌, ◌^◌, ℕ, Bool, true, Some, length, get_or, refl, sym, ap, ◌∙◌, arith}
 use Rattle.std.specs.Prelude.{◌==◌, slice_get}
 use Rattle.std.specs.FinMap as fin_map
 use Rattle.std.proofs.lemmas.Bool.{eqb-true, and_parts}
-use Rattle.std.proofs.lemmas.List.{length-replicate}
+use Rattle.std.proofs.lemmas.List.{length-append, length-replicate}
 use Rattle.rr_table.specs.TableView.{TableEntry}
 use Rattle.rr_sender.specs.Senders.{Messages, times, queue_at, borrowed_at}
 use Rattle.rr_protocol.specs.declared.settings.ClientSettings.{ClientSettings}
@@ -32,7 +32,8 @@ module _ {Q QH P PH K : Type 0} (p : Parts Q QH P PH K) (settings : ClientSettin
     (vacant : (i : ℕ) (c : ClientPart K) → slice_get p.clients i ≡ Some c → c.receiver ≢ receiver)
     (few : length p.clients < p.limits.max_clients)
     (left : p.next < 2 ^ 62)
-    (fits : (p.limits.max_servers + 1) * (client_port p settings).pool_size < 2 ^ 64) where
+    (fits : (p.limits.max_servers + 1) * (client_port p settings).pool_size < 2 ^ 64)
+    (can_leave : length p.clients + 1 + length p.left_clients ≤ p.client_room) where
   abbrev after : Parts Q QH P PH K
   after = with_client_part p settings receiver m
 
@@ -221,9 +222,6 @@ module _ {Q QH P PH K : Type 0} (p : Parts Q QH P PH K) (settings : ClientSettin
           pending = λ is. port_stays (λ (c : ClientPart K). c.sender) p.clients _ s.value.sender (h.pending is);
           response_loan = h.response_loan;
         };
-        client_values = λ i c at. snoc_cases p.clients (new_client p settings receiver) i c at (λ before h. n.client_values i c before)
-            (λ e is. ap (λ (c : ClientPart K). c.port.has_value) (sym is));
-        server_values = n.server_values;
         apart = λ i j c s at there. snoc_cases p.clients (new_client p settings receiver) i c at (λ before h. n.apart i j c s before there)
             (λ e is same. omega (
               arith,
@@ -233,9 +231,11 @@ module _ {Q QH P PH K : Type 0} (p : Parts Q QH P PH K) (settings : ClientSettin
                   (listed (λ (s : ServerPart K). s.connected) p.servers j s there),
             ));
         left_clients = left_added (λ (c : ClientPart K). c.connected) p.next p.limits.max_clients p.clients p.client_senders
-            sound.client_ports (new_client p settings receiver) last new refl refl refl (new_slots new) new.room_is refl inside vacant few
+            sound.client_ports (new_client p settings receiver) last new refl refl refl (new_slots new) new.room_is refl refl inside vacant few
             p.left_clients n.left_clients;
         left_servers = n.left_servers;
+        client_room = omega (arith, can_leave, length-append p.clients (new_client p settings receiver ∷ []));
+        server_room = n.server_room;
       }
 
   -- a client was created
@@ -255,6 +255,6 @@ module _ {Q QH P PH K : Type 0} (p : Parts Q QH P PH K) (settings : ClientSettin
     vacated = vacated;
     have_ports = have_ports;
     client_ports = port_added (λ (c : ClientPart K). c.connected) p.next p.limits.max_clients p.clients p.client_senders sound.client_ports
-        (new_client p settings receiver) last new refl refl refl (new_slots new) new.room_is refl inside vacant few;
+        (new_client p settings receiver) last new refl refl refl (new_slots new) new.room_is refl refl inside vacant few;
     server_ports = later_next sound.server_ports;
   }

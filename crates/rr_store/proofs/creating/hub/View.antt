@@ -31,6 +31,7 @@ no_ports = record {
   few = omega arith;
   own = λ i c e. no_element i c e;
   received = λ i c e. no_element i c e;
+  valued = λ i c e. no_element i c e;
   owned_once = λ i j h. absurd (omega arith);
   numbered = λ i h. absurd (omega arith);
   placed = λ i c e. no_element i c e;
@@ -124,11 +125,11 @@ module _ (Q QH P PH K : Type 0) (limits : Limits) (node_id : ℕ) (h : QH) (g : 
     };
     have_ports = record {
       handles = λ k s e. nothing_there k s e;
-      client_values = λ i c e. no_element i c e;
-      server_values = λ i c e. no_element i c e;
       apart = λ i j c s e. no_element i c e;
       left_clients = none_left;
       left_servers = none_left;
+      client_room = omega arith;
+      server_room = omega arith;
     };
     client_ports = no_ports;
     server_ports = no_ports;

@@ -1,8 +1,9 @@
 -- What is true of a core stays true as a server is created.
-use Rattle.std.proofs.Common.{◌≡◌, ◌≢◌, ◌<◌, ◌+◌, ◌*◌, ◌^◌, ℕ, Bool, true, false, cond, Option, None, Some, find, length, get_or, refl, sym, ap, ◌∙◌, subst, arith}
+use Rattle.std.proofs.Common.{[], ◌∷◌, ◌≡◌, ◌≢◌, ◌<◌, ◌+◌, ◌*◌, ◌^◌, ℕ, ◌≤◌, Bool, true, false, cond, Option, None, Some, find, length, get_or, refl, sym, ap, ◌∙◌, subst, arith}
 use Rattle.std.specs.Prelude.{◌==◌, ◌&&◌, slice_get}
 use Rattle.std.specs.Option.{option_map_or, option_or}
 use Rattle.std.specs.FinMap as fin_map
+use Rattle.std.proofs.lemmas.List.{length-append}
 use Rattle.std.proofs.lemmas.Bool.{eqb-true, eq-eqb, and_parts}
 use Rattle.rr_maps.specs.Maps.{tally}
 use Rattle.rr_table.specs.TableView.{TableEntry}
@@ -33,7 +34,8 @@ module _ {Q QH P PH K : Type 0} (p : Parts Q QH P PH K) (settings : ServerSettin
     (inside : receiver < p.limits.max_servers)
     (vacant : (i : ℕ) (s : ServerPart K) → slice_get p.servers i ≡ Some s → s.receiver ≢ receiver)
     (few : length p.servers < p.limits.max_servers)
-    (left : p.next < 2 ^ 62) where
+    (left : p.next < 2 ^ 62)
+    (can_leave : length p.servers + 1 + length p.left_servers ≤ p.server_room) where
   abbrev after : Parts Q QH P PH K
   after = with_server_part p settings receiver m
 
@@ -305,9 +307,6 @@ module _ {Q QH P PH K : Type 0} (p : Parts Q QH P PH K) (settings : ServerSettin
           pending = h.pending;
           response_loan = λ is. port_stays (λ (s : ServerPart K). s.sender) p.servers _ s.value.sender (h.response_loan is);
         };
-        client_values = n.client_values;
-        server_values = λ i s at. snoc_cases p.servers last_server i s at (λ before h. n.server_values i s before)
-            (λ e is. ap (λ (s : ServerPart K). s.port.has_value) (sym is));
         apart = λ i j c s at there. snoc_cases p.servers last_server j s there (λ before h. n.apart i j c s at before)
             (λ e is same. omega (
               arith,
@@ -318,8 +317,10 @@ module _ {Q QH P PH K : Type 0} (p : Parts Q QH P PH K) (settings : ServerSettin
             ));
         left_clients = n.left_clients;
         left_servers = left_added (λ (s : ServerPart K). s.connected) p.next p.limits.max_servers p.servers p.server_senders
-            sound.server_ports last_server last new refl refl refl (new_slots new) new.room_is refl inside vacant few
+            sound.server_ports last_server last new refl refl refl (new_slots new) new.room_is refl refl inside vacant few
             p.left_servers n.left_servers;
+        client_room = n.client_room;
+        server_room = omega (arith, can_leave, length-append p.servers (last_server ∷ []));
       }
 
   -- a server was created
@@ -336,5 +337,5 @@ module _ {Q QH P PH K : Type 0} (p : Parts Q QH P PH K) (settings : ServerSettin
     have_ports = have_ports;
     client_ports = later_next sound.client_ports;
     server_ports = port_added (λ (s : ServerPart K). s.connected) p.next p.limits.max_servers p.servers p.server_senders sound.server_ports
-        last_server last new refl refl refl (new_slots new) new.room_is refl inside vacant few;
+        last_server last new refl refl refl (new_slots new) new.room_is refl refl inside vacant few;
   }

@@ -63,7 +63,7 @@ module _ {Q QH P PH K : Type 0} (p : Parts Q QH P PH K) (sound : IsSound p empty
   frame = record {
     clients_alike = refl;
     client_senders_alike = senders_set p.client_senders sender fresh
-        (record { owner = refl; row = refl; receiver = refl; slots = refl; room = refl; marks = refl; shaped = shape });
+        (record { owner = refl; row = refl; receiver = refl; has_value = refl; slots = refl; room = refl; marks = refl; shaped = shape });
     server_senders_alike = senders_same p.server_senders;
     numbers = omega arith;
   }

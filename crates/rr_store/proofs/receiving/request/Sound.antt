@@ -87,6 +87,7 @@ module _ {Q QH P PH K : Type 0} (p : Parts Q QH P PH K) (sound : IsSound p empty
           owner = refl;
           row = refl;
           receiver = refl;
+          has_value = refl;
           slots = length-set m.held slot _;
           room = refl;
           marks = refl;

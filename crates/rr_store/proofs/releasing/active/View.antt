@@ -7,7 +7,7 @@ use Rattle.std.proofs.lemmas.Bool.{cases_eq, eq-eqb, ne_eqb}
 use Rattle.rr_table.specs.TableView.{TableEntry, removed}
 use Rattle.rr_maps.proofs.MapLaws.{get-map_values, get-remove_cases, map_values-same, map_values-but}
 use Rattle.rr_protocol.specs.Messages.{Handle, RequestMessage, RequestMutUninit, RequestMut, PendingResponse, ActiveRequest}
-use Rattle.rr_protocol.specs.Releases.{after_release, without_server}
+use Rattle.rr_protocol.specs.Releases.{without_server}
 use Rattle.rr_protocol.specs.State.{State, with_changed}
 use Rattle.rr_store.specs.declared.handle_entry.HandleEntry.{HandleEntry}
 use Rattle.rr_store.specs.declared.handle_entry.Stage.{Stage}
@@ -22,14 +22,14 @@ use Rattle.rr_store.proofs.releasing.request.Sound.{request_there}
 use Rattle.rr_store.proofs.base.senders.Marks.{marked_then}
 use Rattle.rr_protocol.specs.Keys.{RequestKey}
 use Rattle.rr_sender.specs.Senders.{queue_at}
-use Rattle.rr_store.specs.Releasing.{without_mark}
+use Rattle.rr_store.specs.Releasing.{IsHandleGone, without_mark}
 use Rattle.rr_store.proofs.base.lists.Replaced.{find_read, set_alike}
 use Rattle.rr_store.proofs.base.views.Agreeing.{same_state, same_requests, same_expired}
 use Rattle.rr_store.proofs.base.senders.GivenBack.{bare_less}
 use Rattle.rr_store.proofs.base.senders.BorrowEnded.{one_less}
 use Rattle.rr_store.proofs.base.views.Counts.{listed}
 use Rattle.rr_store.proofs.releasing.active.MayAnswer.{mark_of, filter_same, filter_twice}
-use Rattle.rr_store.proofs.releasing.View.{release_is, server_in_use, removed_view, table_entry_shown}
+use Rattle.rr_store.proofs.releasing.View.{removed_view, table_entry_shown}
 use Rattle.rr_store.proofs.base.hands.Stages.{pending_is_request, handle_uses_request}
 use Rattle.rr_store.specs.Views.{no_sender, sender_of, request_in_slot, requests_at}
 use Rattle.rr_store.proofs.base.views.Uncounted.{uncounted}
@@ -227,20 +227,16 @@ module _ {Q QH P PH K : Type 0} (p : Parts Q QH P PH K) (sound : IsSound p empty
   seen_active : handle_of p s ≡ handle_in p (stage.ActiveRequest server loans) entry.sender entry.slot
   seen_active = ap (λ (g : Stage). handle_in p g entry.sender entry.slot) is
 
-  active_is : after_release (state_of p) k ≡ with_changed without number (without_server server)
-  active_is =
-      let f = server_placed p sound server within in
-      release_is (state_of p) k (handle_in p (stage.ActiveRequest server loans) entry.sender entry.slot)
-      (table_entry_shown p k s at ∙ ap Some seen_active)
-      (server_in_use (with_changed without number (without_server server)) f.0 (server_of f.1) (listed server_of p.servers f.0 f.1 f.2)
-      (sound.have_ports.server_values f.0 f.1 f.2) server f.3)
-
   abbrev own : Sender Q RequestDetails QH
   own = sender_of entry.sender unmarked.client_senders
 
   -- contracts see the handle go, and that the request's pending response doesn't wait for the server any more
-  pub active_view : state_of (after_active p sound k s at server loans is) ≡ after_release (state_of p) k
-  active_view =
-      uncounted unmarked (senders p sound k s at server loans is) p.server_senders
-      (bare_less unmarked.client_senders entry.sender entry.slot (one_less own.messages.borrowed receiver 0) own.loans own.pendings) refl
-      ∙ unmarked_view ∙ ap (λ t. with_changed t number (without_server server)) (removed_view p k) ∙ sym active_is
+  pub active_view : IsHandleGone (state_of p) k server (state_of (after_active p sound k s at server loans is))
+  active_view = record {
+    handle = handle_in p (stage.ActiveRequest server loans) entry.sender entry.slot;
+    there = table_entry_shown p k s at ∙ ap Some seen_active;
+    its_port = refl;
+    gone = uncounted unmarked (senders p sound k s at server loans is) p.server_senders
+        (bare_less unmarked.client_senders entry.sender entry.slot (one_less own.messages.borrowed receiver 0) own.loans own.pendings) refl
+        ∙ unmarked_view ∙ ap (λ t. with_changed t number (without_server server)) (removed_view p k);
+  }

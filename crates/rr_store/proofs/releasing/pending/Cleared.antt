@@ -108,6 +108,7 @@ module _ {T N H : Type 0} (senders : List (Sender T N H)) (receivers channels ca
     owner = refl;
     row = refl;
     receiver = refl;
+    has_value = refl;
     slots = refl;
     room = refl;
     marks = refl;

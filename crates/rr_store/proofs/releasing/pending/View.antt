@@ -12,7 +12,7 @@ use Rattle.rr_protocol.specs.Keys.{ResponseKey, response_key_cmp}
 use Rattle.rr_protocol.specs.Limits.{worst_case_requests}
 use Rattle.rr_protocol.specs.Lists.{Lists}
 use Rattle.rr_protocol.specs.Messages.{ResponseMessage, port_of}
-use Rattle.rr_protocol.specs.Releases.{after_release, after_handle_gone, with_empty_channel}
+use Rattle.rr_protocol.specs.Releases.{after_handle_gone, with_empty_channel}
 use Rattle.rr_protocol.specs.State.{State}
 use Rattle.rr_protocol.proofs.KeyLaws.{response_keys_total, response_keys_exact}
 use Rattle.rr_protocol.proofs.ListsLaws.{at-retain_keys, same_lists}
@@ -23,6 +23,7 @@ use Rattle.rr_store.specs.declared.details.ResponseDetails.{ResponseDetails}
 use Rattle.rr_store.specs.Clearing.{with_empty_queue}
 use Rattle.rr_store.specs.Parts.{Parts, ClientPart, Sender}
 use Rattle.rr_store.specs.Sound.{IsSound, empty_hand, is_of_request, request_details}
+use Rattle.rr_store.specs.Releasing.{IsHandleGone}
 use Rattle.rr_store.specs.Views.{sender_of, no_sender, state_of, client_of, response_in_slot, handle_in, handle_of, responses_at, request_lists, response_lists}
 use Rattle.rr_store.proofs.base.views.Agreeing.{same_handle, same_state, same_expired}
 use Rattle.rr_store.proofs.releasing.pending.Cleared.{cleared_at, queue_here, queue_there}
@@ -32,7 +33,7 @@ use Rattle.rr_store.proofs.base.views.Counts.{listed}
 use Rattle.rr_store.proofs.base.views.Keyed.{at_responses}
 use Rattle.rr_store.proofs.releasing.pending.Sound.{taken, own, senders, server_senders, after_pending, placed, inside}
 use Rattle.rr_store.proofs.base.lists.Replaced.{find_mapped}
-use Rattle.rr_store.proofs.releasing.View.{release_is, client_in_use, removed_view, table_entry_shown}
+use Rattle.rr_store.proofs.releasing.View.{removed_view, table_entry_shown}
 use Rattle.rr_store.proofs.base.hands.Stages.{handle_uses_request}
 use Rattle.rr_store.proofs.base.views.Uncounted.{uncounted}
 use Rattle.rr_store.proofs.base.senders.Numbered.{numbered_once}
@@ -214,17 +215,15 @@ module _ {Q QH P PH K : Type 0} (p : Parts Q QH P PH K) (sound : IsSound p empty
   goes : after_handle_gone without (handle_of p s) ≡ with_empty_channel without c.port.id channel
   goes = ap (after_handle_gone without) handle_is ∙ ap (λ n. with_empty_channel without n channel) its_port
 
-  released_is : after_release (state_of p) k ≡ with_empty_channel without c.port.id channel
-  released_is =
-      release_is (state_of p) k (handle_of p s) (table_entry_shown p k s at)
-      (client_in_use (after_handle_gone without (handle_of p s)) index (client_of c)
-      (ap (λ (t : State Q QH P PH K). slice_get t.clients index) goes ∙ listed client_of p.clients index c there)
-      (sound.have_ports.client_values index c there) (port_of (handle_of p s)) (sym (ap port_of handle_is ∙ its_port)))
-      ∙ goes
-
-  pub pending_view : state_of (after_pending p sound k s at hint connections pending index c there sends) ≡ after_release (state_of p) k
+  pub pending_view : IsHandleGone (state_of p) k c.port.id
+      (state_of (after_pending p sound k s at hint connections pending index c there sends))
   pending_view =
       let its = own p sound k s at hint connections pending index c there sends in
-      uncounted emptied (senders p sound k s at hint connections pending index c there sends) emptied.server_senders
-      (bare_less p.client_senders s.value.sender channel its.messages.borrowed its.loans (its.pendings - 1)) refl
-      ∙ emptied_view ∙ ap (λ t. with_empty_channel t c.port.id channel) (removed_view p k) ∙ sym released_is
+      record {
+        handle = handle_of p s;
+        there = table_entry_shown p k s at;
+        its_port = ap port_of handle_is ∙ its_port;
+        gone = uncounted emptied (senders p sound k s at hint connections pending index c there sends) emptied.server_senders
+            (bare_less p.client_senders s.value.sender channel its.messages.borrowed its.loans (its.pendings - 1)) refl
+            ∙ emptied_view ∙ ap (λ t. with_empty_channel t c.port.id channel) (removed_view p k) ∙ sym goes;
+      }

@@ -8,13 +8,14 @@ use Rattle.rr_table.specs.TableView.{TableEntry, removed}
 use Rattle.rr_maps.proofs.MapLaws.{tally-at}
 use Rattle.rr_sender.specs.Senders.{borrowed_at}
 use Rattle.rr_protocol.specs.Messages.{port_of}
-use Rattle.rr_protocol.specs.Releases.{after_release, after_handle_gone}
+use Rattle.rr_protocol.specs.Releases.{after_handle_gone}
 use Rattle.rr_protocol.specs.State.{State}
 use Rattle.rr_store.specs.declared.handle_entry.HandleEntry.{HandleEntry}
 use Rattle.rr_store.specs.declared.handle_entry.Stage.{Stage}
 use Rattle.rr_store.specs.declared.handle_entry.Stage.TheVariants as stage
 use Rattle.rr_store.specs.declared.details.RequestDetails.{RequestDetails}
 use Rattle.rr_store.specs.Parts.{Parts, ClientPart, Sender}
+use Rattle.rr_store.specs.Releasing.{IsHandleGone}
 use Rattle.rr_store.specs.Views.{sender_of, state_of, client_of, handle_in, handle_of}
 use Rattle.rr_store.specs.Sound.{IsSound, empty_hand, is_of_request, is_of_response, is_request_loan, is_pending, is_active_of, is_response_loan, is_received, is_in_sender, has_request_at, request_details, response_details, server_place}
 use Rattle.rr_store.specs.Frames.{moved}
@@ -24,7 +25,7 @@ use Rattle.rr_store.proofs.base.hands.Dropping.{dropped_sound}
 use Rattle.rr_store.proofs.base.senders.GivenBack.{less, senders_less, less_senders, same_of, held_less, bare_less, count_less}
 use Rattle.rr_store.proofs.base.views.Counts.{listed}
 use Rattle.rr_store.proofs.base.hands.Hands.{count-cons, senders_same, removed_sound}
-use Rattle.rr_store.proofs.releasing.View.{release_is, client_in_use, removed_view, table_entry_shown}
+use Rattle.rr_store.proofs.releasing.View.{removed_view, table_entry_shown}
 use Rattle.rr_store.proofs.base.hands.Stages.{loan_is_request, handle_uses_request}
 use Rattle.rr_store.proofs.base.views.Uncounted.{uncounted}
 
@@ -190,17 +191,12 @@ module _ {Q QH P PH K : Type 0} (p : Parts Q QH P PH K) (sound : IsSound p empty
       (loan_is_request entry.stage loan)))
       ∙ sym (port_is entry.stage entry.sender entry.slot loan)
 
-  released_is : after_release (state_of p) k ≡ without
-  released_is =
-      let stays = gone_alone without entry.stage entry.sender entry.slot loan in
-      release_is (state_of p) k (handle_of p s) (table_entry_shown p k s at)
-      (client_in_use (after_handle_gone without (handle_of p s)) index (client_of c)
-      (ap (λ (t : State Q QH P PH K). slice_get t.clients index) stays ∙ listed client_of p.clients index c there)
-      (sound.have_ports.client_values index c there) (port_of (handle_of p s)) its_port)
-      ∙ stays
-
-  pub released_view : state_of after_loan ≡ after_release (state_of p) k
-  released_view =
-      uncounted taken senders p.server_senders
-      (bare_less p.client_senders entry.sender entry.slot own.messages.borrowed (own.loans - 1) own.pendings) refl
-      ∙ removed_view p k ∙ sym released_is
+  pub released_view : IsHandleGone (state_of p) k c.port.id (state_of after_loan)
+  released_view = record {
+    handle = handle_of p s;
+    there = table_entry_shown p k s at;
+    its_port = sym its_port;
+    gone = uncounted taken senders p.server_senders
+        (bare_less p.client_senders entry.sender entry.slot own.messages.borrowed (own.loans - 1) own.pendings) refl
+        ∙ removed_view p k ∙ sym (gone_alone without entry.stage entry.sender entry.slot loan);
+  }

@@ -8,13 +8,14 @@ use Rattle.rr_table.specs.TableView.{TableEntry, removed}
 use Rattle.rr_maps.proofs.MapLaws.{tally-at}
 use Rattle.rr_sender.specs.Senders.{times, all_entries, queue_at, borrowed_at}
 use Rattle.rr_protocol.specs.Messages.{port_of}
-use Rattle.rr_protocol.specs.Releases.{after_release, after_handle_gone}
+use Rattle.rr_protocol.specs.Releases.{after_handle_gone}
 use Rattle.rr_protocol.specs.State.{State}
 use Rattle.rr_store.specs.declared.handle_entry.HandleEntry.{HandleEntry}
 use Rattle.rr_store.specs.declared.handle_entry.Stage.{Stage}
 use Rattle.rr_store.specs.declared.handle_entry.Stage.TheVariants as stage
 use Rattle.rr_store.specs.declared.details.ResponseDetails.{ResponseDetails}
 use Rattle.rr_store.specs.Parts.{Parts, ClientPart, Sender}
+use Rattle.rr_store.specs.Releasing.{IsHandleGone}
 use Rattle.rr_store.specs.Views.{sender_of, state_of, client_of, handle_in, handle_of}
 use Rattle.rr_store.specs.Sound.{IsSound, empty_hand, is_of_request, is_of_response, is_request_loan, is_pending, is_active_of, is_response_loan, is_received, is_received_at, has_response_at, response_details}
 use Rattle.rr_store.specs.Frames.{moved}
@@ -25,7 +26,7 @@ use Rattle.rr_store.proofs.base.hands.Dropping.{dropped_sound}
 use Rattle.rr_store.proofs.base.senders.GivenBack.{less, senders_less, less_senders, same_of, held_less, bare_less, count_less}
 use Rattle.rr_store.proofs.base.views.Counts.{listed}
 use Rattle.rr_store.proofs.base.hands.Hands.{count-cons, senders_same, removed_sound}
-use Rattle.rr_store.proofs.releasing.View.{release_is, client_in_use, removed_view, table_entry_shown}
+use Rattle.rr_store.proofs.releasing.View.{removed_view, table_entry_shown}
 use Rattle.rr_store.proofs.releasing.request.Sound.{unmarked}
 use Rattle.rr_store.proofs.base.hands.Stages.{received_is_response}
 use Rattle.rr_store.proofs.base.views.Uncounted.{uncounted}
@@ -212,18 +213,13 @@ module _ {Q QH P PH K : Type 0} (p : Parts Q QH P PH K) (sound : IsSound p empty
   abbrev without : State Q QH P PH K
   without = record (state_of p) { handles = fin_map.remove (state_of p).handles k }
 
-  received_is : after_release (state_of p) k ≡ without
-  received_is =
-      let stays = gone_alone without entry.stage entry.sender entry.slot got in
-      release_is (state_of p) k (handle_of p s) (table_entry_shown p k s at)
-      (client_in_use (after_handle_gone without (handle_of p s)) index (client_of c)
-      (ap (λ (t : State Q QH P PH K). slice_get t.clients index) stays ∙ listed client_of p.clients index c there)
-      (sound.have_ports.client_values index c there) (port_of (handle_of p s)) (named ∙ sym (port_is entry.stage entry.sender entry.slot got)))
-      ∙ stays
-
   -- contracts see the handle go, and nothing else
-  pub received_view : state_of after_received ≡ after_release (state_of p) k
-  received_view =
-      uncounted taken p.client_senders senders refl
-      (bare_less p.server_senders entry.sender entry.slot borrowed own.loans own.pendings)
-      ∙ removed_view p k ∙ sym received_is
+  pub received_view : IsHandleGone (state_of p) k c.port.id (state_of after_received)
+  received_view = record {
+    handle = handle_of p s;
+    there = table_entry_shown p k s at;
+    its_port = port_is entry.stage entry.sender entry.slot got ∙ sym named;
+    gone = uncounted taken p.client_senders senders refl
+        (bare_less p.server_senders entry.sender entry.slot borrowed own.loans own.pendings)
+        ∙ removed_view p k ∙ sym (gone_alone without entry.stage entry.sender entry.slot got);
+  }

@@ -6,7 +6,6 @@ use Rattle.std.proofs.lemmas.Bool.{eq-eqb}
 use Rattle.rr_maps.specs.Maps.{mark}
 use Rattle.rr_table.specs.TableView.{TableEntry, TableView, removed, value_at}
 use Rattle.rr_table.specs.declared.place.Place.{Place}
-use Rattle.rr_protocol.specs.Releases.{after_release}
 use Rattle.rr_protocol.specs.State.{State, handle_at}
 use Rattle.rr_store.specs.declared.handle_entry.HandleEntry.{HandleEntry}
 use Rattle.rr_store.specs.declared.handle_entry.Stage.{Stage}
@@ -17,14 +16,14 @@ use Rattle.rr_store.specs.Loaning as part
 use Rattle.rr_store.specs.Parts.{ServerPart, Sender, Parts}
 use Rattle.rr_store.specs.Views.{sender_of, handle_in, state_of}
 use Rattle.rr_store.specs.Sound.{IsSound, empty_hand, is_in_sender, is_response_loan, response_details}
-use Rattle.rr_store.specs.Releasing.{is_loaned_response, held_once_less, without_loan}
+use Rattle.rr_store.specs.Releasing.{IsHandleGone, is_loaned_response, held_once_less, without_loan}
 use Rattle.rr_store.proofs.base.lists.Adding.{with_responders, same_responders}
 use Rattle.rr_store.proofs.releasing.response_loan.View.{response_loan_gone}
 use Rattle.rr_store.proofs.releasing.response_loan.Place.{asked_right}
 use Rattle.rr_store.proofs.releasing.response_loan.Taken.{ended, ended_well}
 use Rattle.rr_store.proofs.base.hands.Hands.{count-cons, removed_sound}
 use Rattle.rr_store.proofs.base.lookups.Looking.{table_entry_under}
-use Rattle.rr_store.proofs.releasing.View.{removed_view}
+use Rattle.rr_store.proofs.releasing.View.{gone_as, removed_view}
 use Rattle.rr_store.proofs.releasing.request.Fields.{of_handle}
 use Rattle.rr_store.proofs.releasing.response.Sound.{response_there}
 use Rattle.rr_store.proofs.base.hands.Stages.{response_loan_is_response}
@@ -98,7 +97,7 @@ module _ {Q QH P PH K : Type 0} (p : Parts Q QH P PH K) where
         → (place : Option Place) → IfSome place (IsAskedPlace p.client_senders details c.receiver)
         → IsLoanEnded details.active_request (found_under (removed p.table k) details.active_request place) (removed p.table k) table
         → IsSound (with_responders p senders table p.next) empty_hand
-        × (state_of (with_responders p senders table p.next) ≡ after_release (state_of p) k)
+        × IsHandleGone (state_of p) k c.port.id (state_of (with_responders p senders table p.next))
     response_loan_parts details noted senders table ls place asked told =
         let R : ResponseDetails → Type 0 = λ n. IfSome place (IsAskedPlace p.client_senders n c.receiver)
         × IsLoanEnded n.active_request (found_under (removed p.table k) n.active_request place) (removed p.table k) table in
@@ -109,9 +108,10 @@ module _ {Q QH P PH K : Type 0} (p : Parts Q QH P PH K) where
         let same : with_responders p senders table p.next ≡ ended taken entry taken_sound loan_is table =
         same_responders p (ended taken entry taken_sound loan_is table) senders table p.next ls refl refl refl
         in
-        let gone : after_release (state_of p) k ≡ record (state_of p) { handles = fin_map.remove (state_of p).handles k } =
-        response_loan_gone p sound k f.table_entry f.at f.loan index c there (sends ∙ sym (ap (λ (h : HandleEntry). h.sender) f.is))
+        let without : State Q QH P PH K = record (state_of p) { handles = fin_map.remove (state_of p).handles k } in
+        let gone : IsHandleGone (state_of p) k c.port.id without = response_loan_gone p sound k f.table_entry f.at f.loan index c there (sends ∙ sym (ap (λ (h : HandleEntry). h.sender) f.is))
         (state_of p).responses in (
           subst (λ q. IsSound q empty_hand) (sym same) e.0,
-          ap state_of same ∙ e.1 ∙ removed_view p k ∙ sym gone,
+          gone_as (state_of p) without (state_of (with_responders p senders table p.next)) k c.port.id gone
+              (ap state_of same ∙ e.1 ∙ removed_view p k),
         )

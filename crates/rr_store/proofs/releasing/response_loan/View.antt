@@ -7,16 +7,17 @@ use Rattle.rr_table.specs.TableView.{TableEntry}
 use Rattle.rr_protocol.specs.Keys.{response_key_cmp}
 use Rattle.rr_protocol.specs.Lists.{Lists}
 use Rattle.rr_protocol.specs.Messages.{ResponseMessage, port_of}
-use Rattle.rr_protocol.specs.Releases.{after_release, after_handle_gone}
+use Rattle.rr_protocol.specs.Releases.{after_handle_gone}
 use Rattle.rr_protocol.specs.State.{State}
 use Rattle.rr_store.specs.declared.handle_entry.HandleEntry.{HandleEntry}
 use Rattle.rr_store.specs.declared.handle_entry.Stage.{Stage}
 use Rattle.rr_store.specs.declared.handle_entry.Stage.TheVariants as stage
 use Rattle.rr_store.specs.Parts.{Parts, ServerPart}
+use Rattle.rr_store.specs.Releasing.{IsHandleGone}
 use Rattle.rr_store.specs.Views.{sender_of, state_of, server_of, handle_in, handle_of}
 use Rattle.rr_store.specs.Sound.{IsSound, empty_hand, is_response_loan, response_details}
 use Rattle.rr_store.proofs.base.views.Counts.{listed}
-use Rattle.rr_store.proofs.releasing.View.{release_is, server_in_use, table_entry_shown}
+use Rattle.rr_store.proofs.releasing.View.{table_entry_shown}
 use Rattle.rr_store.proofs.base.hands.Stages.{response_loan_is_response, handle_uses_response}
 
 module _ {Q QH P PH K : Type 0} (p : Parts Q QH P PH K) where
@@ -53,14 +54,13 @@ module _ {Q QH P PH K : Type 0} (p : Parts Q QH P PH K) where
 
     -- whatever waits, nothing else changes
     pub response_loan_gone : (waits : Lists response_key_cmp (ResponseMessage P PH))
-        → after_release (record (state_of p) { responses = waits }) k
-        ≡ record (state_of p) { handles = fin_map.remove (state_of p).handles k; responses = waits }
+        → IsHandleGone (record (state_of p) { responses = waits }) k c.port.id
+        (record (state_of p) { handles = fin_map.remove (state_of p).handles k; responses = waits })
     response_loan_gone waits =
         let without : State Q QH P PH K = record (state_of p) { handles = fin_map.remove (state_of p).handles k; responses = waits } in
-        let stays = gone_alone without s.value.stage s.value.sender s.value.slot loan in
-        release_is (record (state_of p) { responses = waits }) k (handle_of p s) (table_entry_shown p k s at)
-        (server_in_use (after_handle_gone without (handle_of p s)) index (server_of c)
-        (ap (λ (t : State Q QH P PH K). slice_get t.servers index) stays ∙ listed server_of p.servers index c there)
-        (sound.have_ports.server_values index c there) (port_of (handle_of p s))
-        (sym its_server ∙ sym (port_is s.value.stage s.value.sender s.value.slot loan)))
-        ∙ stays
+        record {
+          handle = handle_of p s;
+          there = table_entry_shown p k s at;
+          its_port = port_is s.value.stage s.value.sender s.value.slot loan ∙ its_server;
+          gone = sym (gone_alone without s.value.stage s.value.sender s.value.slot loan);
+        }

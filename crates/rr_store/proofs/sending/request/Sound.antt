@@ -87,6 +87,7 @@ module _ {Q QH P PH K : Type 0} (p : Parts Q QH P PH K) (sender slot connections
       owner = refl;
       row = refl;
       receiver = refl;
+      has_value = refl;
       slots = refl;
       room = refl;
       marks = as_many_marks (sender_of sender p.client_senders).may_answer (marks_for p.limits.max_servers slot p.servers);

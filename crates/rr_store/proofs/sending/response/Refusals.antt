@@ -3,6 +3,7 @@ use Rattle.std.proofs.Common.{◌≡◌, ◌<◌, ℕ, Bool, true, false, List, 
 use Rattle.std.specs.Prelude.{◌&&◌, ◌||◌, not, IfSome, slice_get, slice_set, fold}
 use Rattle.std.specs.List.{list_any}
 use Rattle.std.proofs.lemmas.List.{length-map, set-get_or}
+use Rattle.std.specs.FinMap as fin_map
 use Rattle.rr_table.specs.TableView.{TableView, removed}
 use Rattle.rr_table.specs.declared.place.Place.{Place}
 use Rattle.rr_sender.specs.Senders.{Messages, queue_at}
@@ -12,7 +13,6 @@ use Rattle.rr_protocol.specs.Keys.{ResponseKey, response_key_cmp}
 use Rattle.rr_protocol.specs.Limits.{worst_case_requests}
 use Rattle.rr_protocol.specs.Lists.{Lists, at, with_at}
 use Rattle.rr_protocol.specs.Messages.{ResponseMessage}
-use Rattle.rr_protocol.specs.Releases.{after_release}
 use Rattle.rr_protocol.specs.Sends as sends
 use Rattle.rr_protocol.specs.State.{State}
 use Rattle.rr_store.specs.declared.handle_entry.HandleEntry.{HandleEntry}
@@ -21,7 +21,7 @@ use Rattle.rr_store.specs.Delivering.{HasQueue, delivered, is_refused_in, reache
 use Rattle.rr_store.specs.Ending.{IsAskedPlace, IsLoanEnded, found_under}
 use Rattle.rr_store.specs.Loaning as part
 use Rattle.rr_store.specs.Parts.{Parts, ClientPart, ServerPart, Sender}
-use Rattle.rr_store.specs.Releasing.{held_once_less, without_loan}
+use Rattle.rr_store.specs.Releasing.{IsHandleGone, held_once_less, without_loan}
 use Rattle.rr_store.specs.Sound.{IsSound, IsShaped, empty_hand, is_response_loan, response_details, response_uses}
 use Rattle.rr_store.specs.Views.{no_sender, no_response, sender_of, state_of, server_of, response_in_slot, response_at}
 use Rattle.rr_store.proofs.base.lists.Adding.{some_responses, with_responders, same_responders}
@@ -35,7 +35,7 @@ use Rattle.rr_store.proofs.base.views.Counts.{listed}
 use Rattle.rr_store.proofs.base.lists.Replaced.{set_alike}
 use Rattle.rr_store.proofs.sending.response.Queued.{queued}
 use Rattle.rr_store.proofs.sending.response.Reached.{Reach, Told, told}
-use Rattle.rr_store.proofs.releasing.View.{removed_view}
+use Rattle.rr_store.proofs.releasing.View.{gone_as, removed_view}
 use Rattle.rr_store.proofs.base.hands.Stages.{response_loan_is_response, handle_uses_response}
 
 -- what is delivered changes queues alone
@@ -217,7 +217,7 @@ module _ {Q QH P PH K : Type 0} (p : Parts Q QH P PH K) (sound : IsSound p empty
       → (place : Option Place) → IfSome place (IsAskedPlace p.client_senders noted c.receiver)
       → IsLoanEnded noted.active_request (found_under (removed p.table k) noted.active_request place) (removed p.table k) table
       → IsSound (with_responders p senders table p.next) empty_hand
-      × (state_of (with_responders p senders table p.next) ≡ after_release (record (state_of p) { responses = put_lists }) k)
+      × IsHandleGone (record (state_of p) { responses = put_lists }) k c.port.id (state_of (with_responders p senders table p.next))
   sent_parts noted same_details reach_is same_reach mid senders table ms ls place asked ended_so =
       let R : ResponseDetails → Type 0 = λ n. IfSome place (IsAskedPlace p.client_senders n c.receiver)
       × IsLoanEnded n.active_request (found_under (removed p.table k) n.active_request place) (removed p.table k) table in
@@ -241,5 +241,8 @@ module _ {Q QH P PH K : Type 0} (p : Parts Q QH P PH K) (sound : IsSound p empty
       let gone = response_loan_gone p sound k f.table_entry f.at f.loan index c there
       (sends_it ∙ sym (ap (λ (h : HandleEntry). h.sender) f.is)) put_lists in (
         subst (λ q. IsSound q empty_hand) (sym same) e.0,
-        ap state_of same ∙ e.1 ∙ q_is.1 ∙ ap (λ (s : State Q QH P PH K). record s { responses = put_lists }) (removed_view p k) ∙ sym gone,
+        gone_as (record (state_of p) { responses = put_lists })
+            (record (state_of p) { handles = fin_map.remove (state_of p).handles k; responses = put_lists })
+            (state_of (with_responders p senders table p.next)) k c.port.id gone
+            (ap state_of same ∙ e.1 ∙ q_is.1 ∙ ap (λ (s : State Q QH P PH K). record s { responses = put_lists }) (removed_view p k)),
       )

@@ -66,6 +66,7 @@ module _ {Q QH P PH K : Type 0} (p : Parts Q QH P PH K) (entry : HandleEntry)
           owner = refl;
           row = refl;
           receiver = refl;
+          has_value = refl;
           slots = refl;
           room = refl;
           marks = refl;

@@ -1,0 +1,61 @@
+-- Room for one more port among those that left.
+use Rattle.std.proofs.Common.{◌≡◌, ◌≤◌, ◌+◌, ℕ, Result, Ok, Err, length, sym, ap, ◌∙◌, subst, arith}
+use Rattle.std.specs.Prelude.{OnErr, OnOk}
+use Rattle.rr_protocol.specs.State.{State}
+use Rattle.rr_store.specs.Parts.{Parts}
+use Rattle.rr_store.specs.Reaching.{IsCore}
+use Rattle.rr_store.specs.Views.{state_of}
+use Rattle.rr_store.proofs.base.frames.Roomier.{roomier_core}
+
+-- what is true in any case is true where there was an error
+pub in_any_case : {X E : Type 0} (A : Type 0) (result : Result X E) → A → OnErr result A
+in_any_case A (Ok x) a = tt
+in_any_case A (Err error) a = a
+
+module _ {Q QH P PH K : Type 0} (p : Parts Q QH P PH K) (core : IsCore p) (q : Parts Q QH P PH K) where
+  module _ (same : state_of q ≡ state_of p) (t : Parts Q QH P PH K) where
+    -- what a call does of which nothing was seen before it
+    pub ok_after : {X E : Type 0} (change : State Q QH P PH K → State Q QH P PH K) (result : Result X E)
+        → OnOk result (state_of t ≡ change (state_of q)) → OnOk result (state_of t ≡ change (state_of p))
+    ok_after change (Ok x) is = is ∙ ap change same
+    ok_after change (Err error) is = tt
+
+    pub err_after : {X E : Type 0} (result : Result X E) → OnErr result (t ≡ q) → OnErr result (state_of t ≡ state_of p)
+    err_after (Ok x) is = tt
+    err_after (Err error) is = ap state_of is ∙ same
+
+  module _ (rest : q ≡ record p { client_room = q.client_room }) where
+    -- contracts see the same
+    pub client_room_view : state_of q ≡ state_of p
+    client_room_view = ap state_of rest
+
+    -- it is a core
+    pub client_room_core : p.client_room ≤ q.client_room → IsCore q
+    client_room_core more = subst IsCore (sym rest) (roomier_core p q.client_room p.server_room more (omega arith) core)
+
+    -- one more client can leave
+    pub client_room_asked : length p.clients + 1 + length p.left_clients ≤ q.client_room → length q.clients + 1 + length q.left_clients ≤ q.client_room
+    client_room_asked room = omega (
+      arith,
+      room,
+      ap (λ (r : Parts Q QH P PH K). length r.clients) rest,
+      ap (λ (r : Parts Q QH P PH K). length r.left_clients) rest,
+    )
+
+  module _ (rest : q ≡ record p { server_room = q.server_room }) where
+    -- contracts see the same
+    pub server_room_view : state_of q ≡ state_of p
+    server_room_view = ap state_of rest
+
+    -- it is a core
+    pub server_room_core : p.server_room ≤ q.server_room → IsCore q
+    server_room_core more = subst IsCore (sym rest) (roomier_core p p.client_room q.server_room (omega arith) more core)
+
+    -- one more server can leave
+    pub server_room_asked : length p.servers + 1 + length p.left_servers ≤ q.server_room → length q.servers + 1 + length q.left_servers ≤ q.server_room
+    server_room_asked room = omega (
+      arith,
+      room,
+      ap (λ (r : Parts Q QH P PH K). length r.servers) rest,
+      ap (λ (r : Parts Q QH P PH K). length r.left_servers) rest,
+    )

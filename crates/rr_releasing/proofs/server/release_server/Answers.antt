@@ -1,0 +1,14 @@
+use Rattle.rr_releasing.proofs.steps.Valueless.{server_core, server_view}
+use Rattle.rr_releasing.proofs.server.release_server.Goals as goal
+
+pub returns-clause-core : goal.returns-clause-core
+returns-clause-core g c =
+    server_core c.args.store.now c.requires.core c.args.server c.requires.kind c.end_server_value-sender.new.store
+    c.end_server_value-sender.ensures.gone _ c.end_server_value-sender.ensures.owner c.leave_server_if_unused.new.store
+    c.leave_server_if_unused.ensures.view c.leave_server_if_unused.ensures.sound
+
+pub returns-clause-view : goal.returns-clause-view
+returns-clause-view g c =
+    server_view c.args.store.now c.requires.core c.args.server c.requires.kind c.end_server_value-sender.new.store
+    c.end_server_value-sender.ensures.gone _ c.end_server_value-sender.ensures.owner c.leave_server_if_unused.new.store
+    c.leave_server_if_unused.ensures.view

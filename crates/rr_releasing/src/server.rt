@@ -1,0 +1,48 @@
+//! Releases of servers by their values.
+ghost use Rattle.std.specs.Prelude.{◌≡◌, Some};
+ghost use Rattle.rr_protocol.specs.declared.kind.Kind.TheVariants as kind;
+ghost use Rattle.rr_protocol.specs.Queries.{kind_at};
+ghost use Rattle.rr_protocol.specs.Releases.{after_release, without_port_value};
+ghost use Rattle.rr_store.specs.Reaching.{IsCore};
+ghost use Rattle.rr_store.specs.Sound.{HasPort, IsSound, empty_hand};
+ghost use Rattle.rr_store.specs.Views.{sender_of, state_of};
+
+use rr_leaving::leave_server_if_unused;
+use rr_protocol::BackpressureFn;
+use rr_slots::Body;
+use rr_store::Store;
+
+/// Releases the value of a server, which leaves if it has no handle.
+pub fn release_server<
+    QB: Body,
+    QH: Default + Drop,
+    PB: Body,
+    PH: Default + Drop,
+    K: BackpressureFn,
+>(store: &mut Store<QB, QH, PB, PH, K>, server: u64)
+    requires core { IsCore store.old }
+    requires kind { kind_at (state_of store.old) server ≡ Some kind.Server }
+    ensures core { IsCore store.new }
+    ensures view { state_of store.new ≡ after_release (state_of store.old) server }
+{
+    let sender = end_server_value(store, server);
+    leave_server_if_unused(store, sender);
+}
+
+/// Notes that the value of a server is gone, and returns the sender of the server.
+fn end_server_value<QB: Body, QH: Default + Drop, PB: Body, PH: Default + Drop, K: BackpressureFn>(
+    store: &mut Store<QB, QH, PB, PH, K>,
+    server: u64,
+) -> usize
+    requires core { IsCore store.old }
+    requires kind { kind_at (state_of store.old) server ≡ Some kind.Server }
+    ensures sound { IsSound store.new empty_hand }
+    ensures port { HasPort (λ s. s.sender) store.new.servers result }
+    ensures owner { (sender_of result store.new.server_senders).owner ≡ server }
+    ensures gone { state_of store.new ≡ without_port_value (state_of store.old) server }
+{
+    let index = store.server_index(server);
+    let sender = store.server_sender(index);
+    store.end_server_value(index);
+    sender
+}

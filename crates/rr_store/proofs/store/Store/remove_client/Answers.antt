@@ -1,0 +1,26 @@
+use Rattle.std.proofs.Common.{◌≡◌, map, Option, None, Some, List, [], ◌∷◌, ◌++◌, ap, ◌∙◌}
+use Rattle.std.specs.Prelude.{IsSomeAnd}
+use Rattle.rr_store.proofs.base.lists.Removed.{map-remove}
+use Rattle.rr_store.specs.declared.port.LeftPort.{LeftPort}
+use Rattle.rr_store.specs.Inside.{parts_of}
+use Rattle.rr_store.specs.Leaving.{leaving_client, without_client}
+use Rattle.rr_store.specs.Ports.{client_part}
+use Rattle.rr_store.proofs.store.Store.remove_client.Goals as goal
+
+-- what is the same for each that was told of is so for the one that is there
+some_then : {X Y : Type 0} {y : Y} (o : Option X) (f : X → Y) (R : X → Type 0) → ((x : X) → R x → y ≡ f x) → IsSomeAnd o R
+    → IsSomeAnd o (λ x. y ≡ f x)
+some_then None f R each told = told
+some_then (Some x) f R each told = each x told
+
+pub returns : goal.returns
+returns g c =
+    let p = parts_of c.self.inside in
+    let left = c.leaving_client-left.result in
+    rw (← c.self.view_is) (some_then _ (without_client p c.args.index) (λ x. left ≡ leaving_client x)
+    (λ x e k. record p {
+      clients = (ap (map client_part) c.remove.ensures.items ∙ map-remove client_part c.self.inside.clients.items c.args.index) k;
+      left_clients = (c.push_reserved.ensures.items ∙ ap (λ (l : LeftPort). p.left_clients ++ l ∷ []) e) k;
+      client_room = c.push_reserved.ensures.capacity k;
+    })
+    (rw (← c.self.view_is) at c.leaving_client-left.ensures))
