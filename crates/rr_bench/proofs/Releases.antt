@@ -1,21 +1,22 @@
--- What numbers name after the release of a handle.
+-- What numbers name after a release.
 use Rattle.std.proofs.Common.{◌≡◌, ◌≢◌, ℕ, ◌-◌, ◌^◌, Bool, true, false, cond, not, List, [], ◌∷◌, map, Option, Some, None, option_map, refl, sym, ap, ◌∙◌, subst}
 use Rattle.std.specs.Prelude.{◌&&◌, ◌||◌, ◌==◌, filter, fold, is_some}
 use Rattle.std.specs.List.{list_any}
 use Rattle.std.specs.Option.{option_map_or}
 use Rattle.std.specs.FinMap as fin_map
 use Rattle.std.specs.FinMap.{get}
+use Rattle.std.proofs.lemmas.Bool.{eqb-true, ne_eqb}
 use Rattle.rr_maps.proofs.MapLaws.{get-remove_other}
 use Rattle.rr_protocol.proofs.HandleLaws.{get-map_handles}
 use Rattle.rr_protocol.specs.declared.kind.Kind.{Kind}
 use Rattle.rr_protocol.specs.Messages.{Handle, RequestMutUninit, RequestMut, PendingResponse, ActiveRequest, ResponseMutUninit, ResponseMut, Response, port_of}
-use Rattle.rr_protocol.specs.Ports.{Client, Server}
+use Rattle.rr_protocol.specs.Ports.{Client, Port, Server}
 use Rattle.rr_protocol.specs.State.{State, client_at, handle_at, is_client_value, is_server_value, numbers_left}
 use Rattle.rr_protocol.specs.Queries.{kind_of, kind_at}
 use Rattle.rr_protocol.specs.Counts.{is_in_use}
-use Rattle.rr_protocol.specs.Releases.{after_release, after_handle_gone, without_unused_port, without_port_value, after_client_left, after_server_left, without_server, with_expired_client, with_expired_server, map_handles, has_requests_from, has_responses_from}
+use Rattle.rr_protocol.specs.Releases.{after_release, after_handle_gone, without_unused_port, without_port_value, after_client_left, after_server_left, without_server, with_expired_client, with_expired_server, without_value, map_handles, has_requests_from, has_responses_from}
 use Rattle.rr_bench.specs.Kinds.{KeepsOtherKinds}
-use Rattle.rr_bench.proofs.Numbers.{SameHandles, handle_no_port, some_handle, keeps_others, changed_same, same_kind, same_state, same_then}
+use Rattle.rr_bench.proofs.Numbers.{SameHandles, handle_no_port, some_handle, keeps_others, changed_same, same_answers, same_kind, same_state, same_then}
 
 module _ {Q QH P PH : Type 0} where
   -- a handle's kind stays as a server leaves
@@ -123,6 +124,31 @@ module _ {C : Type 0} (is : ℕ → C → Bool) (lives : C → Bool) (n gone : �
           ∙ sym (ap (λ b. b || list_any (λ d. is n d && lives d) cs) (and_false (is n c) (lives c) (or_first (lives c) _ e)))
       go rest false e = ap (λ b. (is n c && lives c) || b) (rest e)
 
+-- a number's port value lives as before, where the value under another number is gone
+module _ {C K : Type 0} (port : C → Port K) (with_port : C → Port K → C) (is_port : (c : C) (p : Port K) → port (with_port c p) ≡ p)
+    (gone n : ℕ) (other : n ≢ gone) where
+  value_of_one : (c : C) → ((port (with_port c (without_value gone (port c)))).id == n && (port (with_port c (without_value gone (port c)))).has_value)
+      ≡ ((port c).id == n && (port c).has_value)
+  value_of_one c =
+      ap (λ (p : Port K). p.id == n && p.has_value) (is_port c (without_value gone (port c))) ∙ go ((port c).id == gone) refl
+    where
+      go : (b : Bool) → ((port c).id == gone) ≡ b
+          → ((cond b (record (port c) { has_value = false }) (port c)).id == n && (cond b (record (port c) { has_value = false }) (port c)).has_value)
+          ≡ ((port c).id == n && (port c).has_value)
+      go false e = refl
+      go true e =
+          let not_it : ((port c).id == n) ≡ false = ne_eqb (port c).id n (λ same. other (sym same ∙ eqb-true (port c).id gone e)) in
+          ap (λ b. b && false) not_it ∙ sym (ap (λ b. b && (port c).has_value) not_it)
+
+  value_of_other : (cs : List C)
+      → list_any (λ c. (port c).id == n && (port c).has_value) (map (λ c. with_port c (without_value gone (port c))) cs)
+      ≡ list_any (λ c. (port c).id == n && (port c).has_value) cs
+  value_of_other [] = refl
+  value_of_other (c ∷ cs) =
+      ap (λ b. b || list_any (λ d. (port d).id == n && (port d).has_value) (map (λ d. with_port d (without_value gone (port d))) cs))
+      (value_of_one c)
+      ∙ ap (λ b. ((port c).id == n && (port c).has_value) || b) (value_of_other cs)
+
 module _ {Q QH P PH K : Type 0} where
   client_left_keeps : (s : State Q QH P PH K) (port : ℕ) → is_client_value s port ≡ false → KeepsEach s (after_client_left s port)
   client_left_keeps s port none =
@@ -187,6 +213,41 @@ module _ {Q QH P PH K : Type 0} where
       (each_then _ (after_handle_gone (record s { handles = fin_map.remove s.handles n }) h) _
       (gone_keeps (record s { handles = fin_map.remove s.handles n }) h)
       (unused_keeps (after_handle_gone (record s { handles = fin_map.remove s.handles n }) h) (port_of h))))
+
+  -- the release of a port's value
+  value_keeps : (s : State Q QH P PH K) (n : ℕ) → KeepsAllBut n s (without_unused_port (without_port_value s n) n)
+  value_keeps s n =
+      but_then n s (without_port_value s n) _
+      (record {
+        kinds = λ i other.
+            same_answers s (without_port_value s n) i
+            (value_of_other (λ (c : Client K). c.port) (λ c port. record c { port = port }) (λ c port. refl) n i other s.clients)
+            (value_of_other (λ (c : Server K). c.port) (λ c port. record c { port = port }) (λ c port. refl) n i other s.servers)
+            refl;
+        next = refl;
+      })
+      (unused_keeps (without_port_value s n) n)
+
+  number_keeps : (s : State Q QH P PH K) (n : ℕ) (o : Option (Handle Q QH P PH)) → handle_at s n ≡ o → KeepsAllBut n s (after_release s n)
+  number_keeps s n (Some h) at = release_keeps s n h at
+  number_keeps s n None at =
+      subst
+      (λ o. KeepsAllBut n s
+      (option_map_or
+      (λ handle. without_unused_port (after_handle_gone (record s { handles = fin_map.remove s.handles n }) handle) (port_of handle))
+      o (without_unused_port (without_port_value s n) n)))
+      (sym at) (value_keeps s n)
+
+  -- the release of a client
+  module _ (old new : State Q QH P PH K) (n : ℕ) (is : kind_at old n ≡ Some Kind.Client) (released : new ≡ after_release old n) where
+    client_keeps : KeepsAllBut n old new
+    client_keeps = subst (KeepsAllBut n old) (sym released) (number_keeps old n (handle_at old n) refl)
+
+    pub client_others : KeepsOtherKinds Kind.Client old new
+    client_others = keeps_others n Kind.Client old new is client_keeps.kinds
+
+    pub client_numbers : numbers_left new ≡ numbers_left old
+    client_numbers = ap (λ i. 2 ^ 62 - i) client_keeps.next
 
   -- the release of a handle of some kind
   module _ (k : Kind) (client : Kind.Client ≢ k) (server : Kind.Server ≢ k) (old new : State Q QH P PH K) (n : ℕ)

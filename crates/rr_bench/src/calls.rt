@@ -7,7 +7,7 @@ mod requests;
 mod responses;
 
 pub use create::{create_client, create_server};
-pub use release::{release_active, release_pending, release_response};
+pub use release::{release_active, release_client, release_pending, release_response};
 pub use requests::{
     finish_request, init_request, loan_request, push_request, receive_request, request_body,
     send_request,

@@ -7,7 +7,9 @@ ghost use Rattle.rr_protocol.specs.declared.kind.Kind.TheVariants as kind;
 ghost use Rattle.rr_bench.specs.Kinds.{Names, AreServers, HasPorts, KeepsPorts};
 
 use crate::calls;
+use crate::payload::Payload;
 use crate::shapes::Shape;
+use crate::trip::round_trip;
 use crate::trip_error::TripError;
 use rr_hub::Core;
 use rr_protocol::{
@@ -68,10 +70,46 @@ fn server(len: usize) -> ServerSettings<Refuses>
     }
 }
 
+/// Creates a client, which makes one round trip with the server and leaves.
+fn pass<T: Payload, B: Body<Item = T>>(
+    core: &mut Bodies<B>,
+    server: u64,
+    len: usize,
+) -> anyhow::Result<()>
+    requires server { Names core.old server kind.Server }
+    requires len { IsTrue (takes_len B.family len) }
+    ensures { IfOk result (λ _. Names core.new server kind.Server) }
+{
+    let client = calls::create_client(core, client(len))?;
+    if core.numbers_left() < 3 {
+        return Err(TripError::NoNumbersLeft.into());
+    }
+    round_trip(core, client, server, len, 0)?;
+    calls::release_client(core, client);
+    Ok(())
+}
+
+/// Lets clients come one after another, make a round trip with the server and leave.
+fn let_pass<T: Payload, B: Body<Item = T>>(
+    core: &mut Bodies<B>,
+    server: u64,
+    shape: &Shape,
+) -> anyhow::Result<()>
+    requires server { Names core.old server kind.Server }
+    requires len { IsTrue (takes_len B.family shape.now.len) }
+    ensures { IfOk result (λ _. Names core.new server kind.Server) }
+{
+    for _ in 0..shape.passed {
+        pass(core, server, shape.len)?;
+    }
+    Ok(())
+}
+
 /// Creates as many clients as the shape has, and returns the one in the middle.
 fn make_clients<B: Body>(core: &mut Bodies<B>, shape: &Shape) -> anyhow::Result<u64>
     requires { IsTrue (takes_len B.family shape.now.len) }
-    ensures { IfOk result (λ number. Names core.new number kind.Client) }
+    ensures client { IfOk result (λ number. Names core.new number kind.Client) }
+    ensures ports { KeepsPorts core.old core.new }
 {
     let half = shape.limits.max_clients / 2;
     for _ in 0..half {
@@ -116,14 +154,19 @@ fn hold<B: Body>(core: &mut Bodies<B>, client: u64, shape: &Shape) -> anyhow::Re
     Ok(())
 }
 
-/// Creates a hub with as many ports as the shape has. The client stands in the middle of the clients, and holds its loans.
-pub fn make_hub<B: Body>(alloc: Global, shape: &Shape) -> anyhow::Result<Hub<B>>
+/// Creates a hub with as many ports as the shape has, after those that only pass. The client stands in the middle of the
+/// clients, and holds its loans.
+pub fn make_hub<T: Payload, B: Body<Item = T>>(
+    alloc: Global,
+    shape: &Shape,
+) -> anyhow::Result<Hub<B>>
     requires { IsTrue (takes_len B.family shape.now.len) }
     ensures { IfOk result (λ hub. HasPorts hub.core hub.client hub.server hub.onlookers.items) }
 {
     let mut core: Bodies<B> = Core::new(alloc, shape.limits, UniqueNodeId(7))?;
-    let client = make_clients(&mut core, shape)?;
     let server = calls::create_server(&mut core, server(shape.len))?;
+    let_pass(&mut core, server, shape)?;
+    let client = make_clients(&mut core, shape)?;
     let onlookers = make_servers(&mut core, alloc, shape)?;
     hold(&mut core, client, shape)?;
     Ok(Hub {

@@ -13,7 +13,7 @@ use std::env;
 use std::process::ExitCode;
 
 /// What the program takes.
-const USAGE: &str = "usage: rr_bench [time | grow | count N]";
+const USAGE: &str = "usage: rr_bench [time | grow | count N [CLIENTS]]";
 
 fn main(rt: HostRuntime) -> anyhow::Result<ExitCode> {
     let mut words = Vec::new(rt.alloc());
@@ -21,11 +21,14 @@ fn main(rt: HostRuntime) -> anyhow::Result<ExitCode> {
         words.push(word)?;
     }
     let mut words = words.iter().map(|word| word.as_str());
-    match (words.next(), words.next(), words.next()) {
-        (None, _, _) => rows::check_all(&rt)?,
-        (Some("time"), None, _) => rows::time(&rt)?,
-        (Some("grow"), None, _) => rows::grow(&rt)?,
-        (Some("count"), Some(count), None) => rows::count(&rt, count.parse()?)?,
+    match (words.next(), words.next(), words.next(), words.next()) {
+        (None, ..) => rows::check_all(&rt)?,
+        (Some("time"), None, ..) => rows::time(&rt)?,
+        (Some("grow"), None, ..) => rows::grow(&rt)?,
+        (Some("count"), Some(count), None, _) => rows::count(&rt, count.parse()?, 0)?,
+        (Some("count"), Some(count), Some(clients), None) => {
+            rows::count(&rt, count.parse()?, clients.parse()?)?;
+        }
         _ => {
             eprintln!(rt; "{USAGE}")?;
             return Ok(ExitCode::from(2));

@@ -8,8 +8,8 @@ ghost use Rattle.rr_bench.specs.Kinds.{HasPorts};
 use crate::hub::{Hub, make_hub};
 use crate::payload::Payload;
 use crate::shapes::{
-    self, CLIENTS, HANDLES, LARGE, LARGE_SLICE, PAGE, PAGE_SLICE, PAIR, POOLS, SERVERS, SLICE,
-    Shape,
+    self, CLIENTS, HANDLES, LARGE, LARGE_SLICE, PAGE, PAGE_SLICE, PAIR, PASSED, POOLS, SERVERS,
+    SLICE, Shape,
 };
 use crate::trip::{look, round_trip};
 use crate::trip_error::TripError;
@@ -126,6 +126,7 @@ pub fn check_all(rt: &HostRuntime) -> anyhow::Result<()> {
     check::<u64, SliceBody<u64>>(rt, &LARGE_SLICE)?;
     check::<u64, Option<u64>>(rt, &POOLS)?;
     check::<u64, Option<u64>>(rt, &HANDLES)?;
+    check::<u64, Option<u64>>(rt, &PASSED)?;
     check::<u64, Option<u64>>(rt, &SERVERS)?;
     check::<u64, Option<u64>>(rt, &CLIENTS)
 }
@@ -152,17 +153,19 @@ pub fn time(rt: &HostRuntime) -> anyhow::Result<()> {
 pub fn grow(rt: &HostRuntime) -> anyhow::Result<()> {
     sample::<u64, Option<u64>>(rt, &POOLS)?;
     sample::<u64, Option<u64>>(rt, &HANDLES)?;
+    sample::<u64, Option<u64>>(rt, &PASSED)?;
     sample::<u64, Option<u64>>(rt, &SERVERS)?;
     sample::<u64, Option<u64>>(rt, &CLIENTS)
 }
 
-/// Makes so many round trips of 8 bytes and prints their sum.
+/// Makes so many round trips of 8 bytes, after so many clients came and left, and prints their sum.
 ///
 /// # Errors
 ///
 /// If one was refused, or the output fails.
-pub fn count(rt: &HostRuntime, count: u64) -> anyhow::Result<()> {
-    let mut hub: Hub<Option<u64>> = make_hub(rt.alloc(), &PAIR)?;
+pub fn count(rt: &HostRuntime, count: u64, passed: u64) -> anyhow::Result<()> {
+    let shape = Shape { passed, ..PAIR };
+    let mut hub: Hub<Option<u64>> = make_hub(rt.alloc(), &shape)?;
     let sum = trips(&mut hub, 1, count)?;
     println!(rt; "{sum}")?;
     Ok(())

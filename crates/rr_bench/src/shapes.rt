@@ -9,6 +9,8 @@ pub struct Shape {
     pub name: &'static str,
     /// The limits. As many clients and servers are connected as they allow.
     pub limits: Limits,
+    /// The clients that came, made one round trip and left before the others came.
+    pub passed: u64,
     /// The requests that the client has on loan all the time.
     pub held: usize,
     /// The elements of a message.
@@ -38,6 +40,7 @@ const LIMITS: Limits = Limits {
 pub const PAIR: Shape = Shape {
     name: "core",
     limits: LIMITS,
+    passed: 0,
     held: 0,
     len: 1,
     bytes: 8,
@@ -48,6 +51,7 @@ pub const PAIR: Shape = Shape {
 pub const PAGE: Shape = Shape {
     name: "core",
     limits: LIMITS,
+    passed: 0,
     held: 0,
     len: 1,
     bytes: 4_096,
@@ -58,6 +62,7 @@ pub const PAGE: Shape = Shape {
 pub const LARGE: Shape = Shape {
     name: "core",
     limits: LIMITS,
+    passed: 0,
     held: 0,
     len: 1,
     bytes: 65_536,
@@ -68,6 +73,7 @@ pub const LARGE: Shape = Shape {
 pub const SLICE: Shape = Shape {
     name: "core-slice",
     limits: LIMITS,
+    passed: 0,
     held: 0,
     len: 1,
     bytes: 8,
@@ -78,6 +84,7 @@ pub const SLICE: Shape = Shape {
 pub const PAGE_SLICE: Shape = Shape {
     name: "core-slice",
     limits: LIMITS,
+    passed: 0,
     held: 0,
     len: 512,
     bytes: 4_096,
@@ -88,6 +95,7 @@ pub const PAGE_SLICE: Shape = Shape {
 pub const LARGE_SLICE: Shape = Shape {
     name: "core-slice",
     limits: LIMITS,
+    passed: 0,
     held: 0,
     len: 8_192,
     bytes: 65_536,
@@ -114,6 +122,13 @@ pub const HANDLES: Shape = Shape {
         ..LIMITS
     },
     held: 1_000,
+    ..PAIR
+};
+
+/// 1,000 clients that came, made one round trip each and left.
+pub const PASSED: Shape = Shape {
+    name: "core-passed",
+    passed: 1_000,
     ..PAIR
 };
 

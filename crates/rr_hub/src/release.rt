@@ -1,4 +1,4 @@
-//! Releases of handles.
+//! Releases of ports and of handles.
 ghost use Rattle.std.specs.Prelude.{◌≡◌, ◌⊎◌, IsSome, Some};
 ghost use Rattle.rr_protocol.specs.declared.kind.Kind.TheVariants as kind;
 ghost use Rattle.rr_protocol.specs.Queries.{kind_at};
@@ -8,8 +8,8 @@ ghost use Rattle.rr_protocol.specs.State.{handle_at};
 use crate::state::Core;
 use rr_protocol::BackpressureFn;
 use rr_releasing::{
-    release_active_at, release_at, release_pending_at, release_received_at, release_request_at,
-    release_response_loan_at,
+    release_active_at, release_at, release_client, release_pending_at, release_received_at,
+    release_request_at, release_response_loan_at, release_server,
 };
 use rr_slots::Body;
 use rr_store::HandleId;
@@ -21,7 +21,30 @@ impl<QB: Body, QH: Default + Drop, PB: Body, PH: Default + Drop, K: Backpressure
     PH,
     K,
 > {
-    /// Releases a handle of any kind. Its message is gone with the last handle and entry of it.
+    /// Releases a client. Its number names nothing any more. The client stays connected as long as one of its handles lives, and
+    /// leaves with the last of them: what waits for it is dropped, and what it sent and no server received goes to the end of each
+    /// server's list of expired connections, whose oldest gives way if it is full. A server keeps such requests only with
+    /// fire-and-forget. Takes no memory. After the drop of iceoryx2's `Client`.
+    pub fn release_client(&mut self, client: u64)
+        requires { kind_at self.old client ≡ Some kind.Client }
+        ensures { self.new ≡ after_release self.old client }
+    {
+        release_client(&mut self.parts, client);
+    }
+
+    /// Releases a server. Its number names nothing any more. The server stays connected as long as one of its handles lives, and
+    /// leaves with the last of them: what waits for it is dropped, and what it sent and no client received goes to the end of each
+    /// client's list of expired connections, whose oldest gives way if it is full. Takes no memory. After the drop of iceoryx2's
+    /// `Server`.
+    pub fn release_server(&mut self, server: u64)
+        requires { kind_at self.old server ≡ Some kind.Server }
+        ensures { self.new ≡ after_release self.old server }
+    {
+        release_server(&mut self.parts, server);
+    }
+
+    /// Releases a handle of any kind. Its message is gone with the last handle and entry of it. A port whose value was released
+    /// leaves with its last handle.
     ///
     /// A request or response on loan is never sent then. With a pending response go the responses on its channel that were not
     /// received, and nobody waits for the request any more. An active request's server will not answer it any more, but for

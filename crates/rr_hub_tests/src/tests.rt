@@ -8,8 +8,8 @@ ghost use Rattle.std.specs.Prelude.{◌≡◌};
 use rr_hub::{Core, HandleId};
 use rr_protocol::{
     AllocationStrategy, BackpressureAction, BackpressureFn, BackpressureInfo, BackpressureStrategy,
-    ClientCreateError, ClientSettings, HubCreateError, Limits, ServerCreateError, ServerSettings,
-    UniqueNodeId,
+    ClientCreateError, ClientSettings, HubCreateError, Kind, Limits, ServerCreateError,
+    ServerSettings, UniqueNodeId,
 };
 use rr_table::Place;
 use std::alloc::Global;
@@ -131,4 +131,38 @@ fn connected(alloc: Global) -> Result<TypedCore, Fail> {
     core.create_client(client())?;
     core.create_server(server())?;
     Ok(core)
+}
+
+/// Releases a port. Returns whether the number names one.
+fn release_port(core: &mut TypedCore, number: u64) -> bool {
+    match core.kind(&HandleId::new(number, SOMEWHERE)) {
+        Some(Kind::Client) => {
+            core.release_client(number);
+            true
+        }
+        Some(Kind::Server) => {
+            core.release_server(number);
+            true
+        }
+        _ => false,
+    }
+}
+
+/// Releases each port of a core twice, and creates a server in the place of the one that left. Returns which releases there
+/// were, and the server's number.
+fn released(alloc: Global) -> Result<([bool; 4], u64), Fail> {
+    let mut core = connected(alloc)?;
+    let releases = [
+        release_port(&mut core, 0),
+        release_port(&mut core, 0),
+        release_port(&mut core, 1),
+        release_port(&mut core, 1),
+    ];
+    Ok((releases, core.create_server(server())?))
+}
+
+#[test]
+fn a_port_is_released_once_and_its_place_is_free(rt: HostRuntime) -> Result<(), Fail> {
+    assert!(rt; released(rt.alloc())? == ([true, false, true, false], 2));
+    Ok(())
 }

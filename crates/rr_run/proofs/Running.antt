@@ -24,11 +24,11 @@ module _ {T H K : Type 0} (action : K → ℕ → ℕ → BackpressureAction) (I
     pub commands_are : commands ≡ done ++ rest
     pub replies_are : after ≡ before ++ given
     pub run : Run action IsDefaultElement IsDefaultHeader family old done given new
-    pub offered : AreOffered action IsDefaultElement IsDefaultHeader family new rest
+    pub offered : AreOffered rest
 
   -- none was at first
   pub run_starts : (old : State T H T H K) (commands : List (Command T H K)) (before : List (Reply T H))
-      → AreOffered action IsDefaultElement IsDefaultHeader family old commands →
+      → AreOffered commands →
       IsRunning old old commands commands before before
   run_starts old commands before offered = record {
     done = [];
@@ -42,7 +42,7 @@ module _ {T H K : Type 0} (action : K → ℕ → ℕ → BackpressureAction) (I
   module _ (old mid : State T H T H K) (commands : List (Command T H K)) (command : Command T H K) (rest : List (Command T H K))
       (before after : List (Reply T H)) (r : IsRunning old mid commands (command ∷ rest) before after) where
     -- the next one can be
-    pub next_offered : IsOffered mid command
+    pub next_offered : IsOffered command
     next_offered = r.offered.0
 
     -- and then it was
@@ -55,7 +55,7 @@ module _ {T H K : Type 0} (action : K → ℕ → ℕ → BackpressureAction) (I
       commands_are = r.commands_are ∙ sym (append_assoc r.done (command ∷ []) rest);
       replies_are = ap (λ rs. rs ++ reply ∷ []) r.replies_are ∙ append_assoc before r.given (reply ∷ []);
       run = run_then_step action IsDefaultElement IsDefaultHeader family r.done r.given old mid new command reply r.run step;
-      offered = r.offered.1 reply new step;
+      offered = r.offered.1;
     }
 
   -- at last all were

@@ -77,12 +77,10 @@ impl<T: Copy + Default, B: Body<Item = T>, H: Copy + Default, K: BackpressureFn>
         self.core.kind(&self.hints.id_of(number))
     }
 
-    /// Returns whether `apply` takes a command: one of those that it names, and no release of a port's value.
-    ///
-    /// Our own.
-    pub fn offers(&self, command: &Command<T, H, K>) -> bool
-        ensures yes { IsTrue result → IsOffered self.now command.now }
-        ensures no { IsOffered self.now command.now → IsTrue result }
+    /// Returns whether `apply` takes a command: one of those that it names. Our own.
+    pub fn offers(command: &Command<T, H, K>) -> bool
+        ensures yes { IsTrue result → IsOffered command.now }
+        ensures no { IsOffered command.now → IsTrue result }
     {
         match command {
             Command::CreateClient(_)
@@ -94,23 +92,20 @@ impl<T: Copy + Default, B: Body<Item = T>, H: Copy + Default, K: BackpressureFn>
             | Command::Send(_)
             | Command::Receive(_)
             | Command::Payload(_)
-            | Command::IsConnected(_) => true,
-            Command::Release(number) => match self.kind(*number) {
-                Some(Kind::Client | Kind::Server) => false,
-                _ => true,
-            },
+            | Command::IsConnected(_)
+            | Command::Release(_) => true,
             _ => false,
         }
     }
 
     /// Carries out a command, and returns its reply.
     ///
-    /// So far it takes creations, loans, copies, pushes, `AssumeInit`, sends, receives, payloads, `IsConnected`, and releases
-    /// of handles. A refusal leaves everything as it was; it is the first that holds, in this order: `Unknown`,
+    /// So far it takes creations, loans, copies, pushes, `AssumeInit`, sends, receives, payloads, `IsConnected`, and releases.
+    /// A refusal leaves everything as it was; it is the first that holds, in this order: `Unknown`,
     /// `WrongKind`, `NumbersExhausted`, `Incomplete`. Beside the memory that the call itself takes, a hint may be kept for
     /// each handle. Our own: iceoryx2 has the calls alone.
     pub fn apply(&mut self, command: Command<T, H, K>) -> Reply<T, H>
-        requires { IsOffered self.old command }
+        requires { IsOffered command }
         ensures { Step K.action T.is_default H.is_default B.family self.old command result self.new }
     {
         match command {
@@ -157,7 +152,7 @@ impl<T: Copy + Default, B: Body<Item = T>, H: Copy + Default, K: BackpressureFn>
         commands: Vec<Command<T, H, K>>,
         replies: &mut Vec<Reply<T, H>>,
     ) -> Result<(), AllocError>
-        requires { AreOffered K.action T.is_default H.is_default B.family self.old commands.items }
+        requires { AreOffered commands.items }
         ensures runs { RunsAppending K.action T.is_default H.is_default B.family self.old commands.items replies.old.items result self.new replies.new.items }
         ensures answer_rule { GoesOn K.action T.is_default H.is_default B.family self.old commands.items replies.old.items result self.new replies.new.items }
     {

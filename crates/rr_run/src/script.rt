@@ -121,7 +121,7 @@ fn carry_out<R: BufRead + Drop, W: Write>(
     command: ScriptCommand,
     output: &mut W,
 ) -> Result<(), Stop> {
-    if !runner.offers(&command) {
+    if !ScriptRunner::offers(&command) {
         return Err(lines.bad_line());
     }
     match replies_to(alloc, runner, command) {
@@ -136,7 +136,7 @@ fn replies_to(
     runner: &mut ScriptRunner,
     command: ScriptCommand,
 ) -> Result<Vec<Reply<u64, u64>>, AllocError>
-    requires { IsOffered runner.old command }
+    requires { IsOffered command }
 {
     let commands = vec![in alloc; command]?;
     let mut replies = Vec::new(alloc);

@@ -1,6 +1,8 @@
 //! Scripts with their replies, and a runner at work.
 mod faults;
+mod leaving;
 mod lines;
+mod orders;
 mod pools;
 mod queues;
 mod rows;

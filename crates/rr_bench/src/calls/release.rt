@@ -1,4 +1,4 @@
-//! Releases of handles.
+//! Releases of clients and of handles.
 ghost use Rattle.std.specs.Prelude.{◌≡◌};
 ghost use Rattle.rr_protocol.specs.declared.kind.Kind.TheVariants as kind;
 ghost use Rattle.rr_protocol.specs.Releases.{after_release};
@@ -8,6 +8,17 @@ ghost use Rattle.rr_bench.specs.Kinds.{Names, KeepsOtherKinds};
 use crate::hub::Bodies;
 use rr_hub::HandleId;
 use rr_slots::Body;
+
+/// Releases a client.
+#[tactic(auto, unfolding(crate::specs::Kinds::Names))]
+pub fn release_client<B: Body>(core: &mut Bodies<B>, client: u64)
+    requires { Names core.old client kind.Client }
+    ensures releases { core.new ≡ after_release core.old client }
+    ensures others { KeepsOtherKinds kind.Client core.old core.new }
+    ensures numbers { numbers_left core.new ≡ numbers_left core.old }
+{
+    core.release_client(client);
+}
 
 /// Releases an active request.
 #[inline(always)]

@@ -53,9 +53,8 @@ const BAD_LINES: [BadLine; 8] = [
         output: "",
         fault: "bad line 1\n",
     },
-    // A port can't be released yet.
     BadLine {
-        input: "hub typed 2 1 2 2 2 1 - 1 1\r\nclient discard 1 static -\r\ndrop 0\r\n",
+        input: "hub typed 2 1 2 2 2 1 - 1 1\r\nclient discard 1 static -\r\ndrop -1\r\n",
         output: "done\ncreated 0\n",
         fault: "bad line 3\n",
     },

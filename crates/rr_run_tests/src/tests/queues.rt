@@ -115,7 +115,7 @@ fn a_full_queue_gives_way_or_refuses(rt: HostRuntime) {
 /// Answers to requests that were released, or whose active request was.
 const LATE_ANSWERS: [Row; 5] = [
     Row {
-        name: "an action to a released request is lost",
+        name: "an answer to a released request is lost",
         start: PORTS,
         lines: "\
 copy 0 123 -> pending 2 1
@@ -129,7 +129,7 @@ recv 6 -> none
 ",
     },
     Row {
-        name: "an action does not reach the next request on its channel",
+        name: "an answer does not reach the next request on its channel",
         start: HUB,
         lines: "\
 client discard 1 static 1 -> created 0
@@ -147,7 +147,7 @@ recv 5 -> none
 ",
     },
     Row {
-        name: "an action does not take the place of the next request's",
+        name: "an answer does not take the place of the next request's",
         start: "hub typed 2 1 2 2 1 1 - 1 1 -> done\n",
         lines: "\
 client discard 1 static 1 -> created 0
@@ -176,7 +176,7 @@ data 8 -> data 79
 ",
     },
     Row {
-        name: "an action outlives its active request",
+        name: "an answer outlives its active request",
         start: PORTS,
         lines: "\
 copy 0 1 -> pending 2 1

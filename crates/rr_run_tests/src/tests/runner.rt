@@ -74,7 +74,7 @@ fn server(handler: Option<AtPortTwo>) -> ServerSettings<AtPortTwo> {
 
 /// Carries out a command, if the runner takes it.
 fn reply_to(runner: &mut TypedRunner, command: TypedCommand) -> Option<Reply<u64, u64>> {
-    if runner.offers(&command) {
+    if TypedRunner::offers(&command) {
         Some(runner.apply(command))
     } else {
         None
