@@ -2,6 +2,7 @@
 ghost use Rattle.std.specs.Prelude.{◌≡◌, ◌≤◌, ◌+◌, None, IsTrue, IfOk, OnErr, OnOk, length};
 ghost use Rattle.rr_slots.specs.Families.{takes_len};
 ghost use Rattle.rr_protocol.specs.Creation.{CreatesClient, client_refusal, with_client};
+ghost use Rattle.rr_store.specs.Creating.{senders_after};
 ghost use Rattle.rr_store.specs.Reaching.{IsCore};
 ghost use Rattle.rr_store.specs.Views.{state_of};
 
@@ -53,7 +54,8 @@ fn add_client<QB: Body, QH: Default + Drop, PB: Body, PH: Default + Drop, K: Bac
     insert_client(store, alloc, settings)
 }
 
-/// Adds a client that can leave without memory. Returns `AllocError` if memory was refused; nothing has changed then.
+/// Adds a client that can leave without memory, with the sender of one that left if nothing uses it any more. Returns
+/// `AllocError` if memory was refused; nothing has changed then.
 fn insert_client<QB: Body, QH: Default + Drop, PB: Body, PH: Default + Drop, K: BackpressureFn>(
     store: &mut Store<QB, QH, PB, PH, K>,
     alloc: Global,
@@ -65,6 +67,7 @@ fn insert_client<QB: Body, QH: Default + Drop, PB: Body, PH: Default + Drop, K: 
     requires room { length store.old.clients + 1 + length store.old.left_clients ≤ store.old.client_room }
     ensures core { IsCore store.new }
     ensures number { IfOk result (λ number. number ≡ store.old.next) }
+    ensures senders { OnOk result (length store.new.client_senders ≡ senders_after store.old.client_senders store.old.left_clients) }
     ensures ok { OnOk result (state_of store.new ≡ with_client (state_of store.old) settings) }
     ensures err { OnErr result (store.new ≡ store.old) }
 {
@@ -72,5 +75,8 @@ fn insert_client<QB: Body, QH: Default + Drop, PB: Body, PH: Default + Drop, K: 
     let slots = pool_size(worst_case_requests(&limits), settings.pool);
     let receiver = store.free_client_receiver();
     let client = client_store(alloc, &limits, slots, settings.initial_max_slice_len)?;
-    store.add_client(alloc, settings, slots, receiver, client)
+    match store.idle_client() {
+        Some(index) => store.add_client_again(alloc, settings, slots, receiver, index, client),
+        None => store.add_client(alloc, settings, slots, receiver, client),
+    }
 }

@@ -3,7 +3,7 @@ ghost use Rattle.std.specs.Prelude.{◌≡◌, ◌≤◌, ◌+◌, None, IsTrue,
 ghost use Rattle.rr_slots.specs.Families.{takes_len};
 ghost use Rattle.rr_protocol.specs.Creation.{CreatesServer, server_refusal, with_server};
 ghost use Rattle.rr_protocol.specs.Limits.{hub_refusal, worst_case_requests};
-ghost use Rattle.rr_store.specs.Creating.{IsNew};
+ghost use Rattle.rr_store.specs.Creating.{IsNew, senders_after};
 ghost use Rattle.rr_store.specs.Reaching.{IsCore};
 ghost use Rattle.rr_store.specs.Views.{no_response, state_of};
 
@@ -69,7 +69,8 @@ fn add_server<QB: Body, QH: Default + Drop, PB: Body, PH: Default + Drop, K: Bac
     insert_server(store, alloc, settings)
 }
 
-/// Adds a server that can leave without memory. Returns `AllocError` if memory was refused; nothing has changed then.
+/// Adds a server that can leave without memory, with the sender of one that left if nothing uses it any more. Returns
+/// `AllocError` if memory was refused; nothing has changed then.
 fn insert_server<QB: Body, QH: Default + Drop, PB: Body, PH: Default + Drop, K: BackpressureFn>(
     store: &mut Store<QB, QH, PB, PH, K>,
     alloc: Global,
@@ -81,6 +82,7 @@ fn insert_server<QB: Body, QH: Default + Drop, PB: Body, PH: Default + Drop, K: 
     requires room { length store.old.servers + 1 + length store.old.left_servers ≤ store.old.server_room }
     ensures core { IsCore store.new }
     ensures number { IfOk result (λ number. number ≡ store.old.next) }
+    ensures senders { OnOk result (length store.new.server_senders ≡ senders_after store.old.server_senders store.old.left_servers) }
     ensures ok { OnOk result (state_of store.new ≡ with_server (state_of store.old) settings) }
     ensures err { OnErr result (store.new ≡ store.old) }
 {
@@ -89,7 +91,12 @@ fn insert_server<QB: Body, QH: Default + Drop, PB: Body, PH: Default + Drop, K: 
     let slots = pool_size(worst_case_responses(&limits, loans), settings.pool);
     let receiver = store.free_server_receiver();
     let messages = server_messages(alloc, &limits, slots, settings.initial_max_slice_len)?;
-    store.add_server(alloc, settings, loans, slots, receiver, messages)
+    match store.idle_server() {
+        Some(index) => store.add_server_again(
+            alloc, settings, loans, slots, receiver, index, messages,
+        ),
+        None => store.add_server(alloc, settings, loans, slots, receiver, messages),
+    }
 }
 
 /// Makes what a server sends from: `slots` slots, each with room for `room` elements, a length that the body's family takes.

@@ -4,6 +4,8 @@ use Rattle.std.specs.FinMap as fin_map
 use Rattle.rr_table.specs.TableView.{IsInside, IsVacant, TableView}
 use Rattle.rr_table.specs.declared.place.Place.{Place}
 use Rattle.rr_store.specs.declared.handle_entry.HandleEntry.{HandleEntry}
+use Rattle.rr_store.specs.declared.port.LeftPort.{LeftPort}
+use Rattle.rr_store.specs.Creating.{left_at}
 use Rattle.rr_store.specs.Parts.{Sender}
 use Rattle.rr_store.specs.Receiving.{borrowed_from, queue_from}
 use Rattle.rr_store.specs.Views.{sender_of}
@@ -21,3 +23,9 @@ pub record CanTake {T N H : Type 0} (senders : List (Sender T N H)) (sender rece
       × (channel < length (slice_index_or (sender_of sender senders).messages.queues receiver []))
   pub entry : 0 < length (queue_from senders receiver channel sender)
   pub fits : borrowed_from senders receiver channel sender + 1 < 2 ^ 64
+
+-- a port can send from the sender of a port that left, which stands at an index: the sender is there, and has a row
+pub record CanTakeOver {T N H : Type 0} (senders : List (Sender T N H)) (left : List LeftPort) (rows : List ℕ) (index : ℕ) : Type 0 where
+  pub listed : index < length left
+  pub there : (left_at index left).sender < length senders
+  pub row : (sender_of (left_at index left).sender senders).row < length rows

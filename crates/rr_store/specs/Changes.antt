@@ -1,8 +1,8 @@
 -- What each call of a store changes of its parts.
 use Rattle.std.specs.Prelude.{ℕ, ◌+◌, ◌&&◌, ◌||◌, Bool, true, List, [], ◌∷◌, ◌++◌, length, not, if◌then◌else◌, Option, Some, None, drop, nat_le, map, slice_set}
-use Rattle.std.specs.List.{list_any}
+use Rattle.std.specs.List.{list_any, remove}
 use Rattle.rr_table.specs.declared.place.Place.{Place}
-use Rattle.rr_table.specs.TableView.{inserted, removed, with_row}
+use Rattle.rr_table.specs.TableView.{TableView, inserted, removed, with_row}
 use Rattle.rr_sender.specs.Senders.{Messages, queue_at, taken}
 use Rattle.rr_protocol.specs.Backpressure.{discards}
 use Rattle.rr_protocol.specs.declared.settings.BackpressureAction.{BackpressureAction}
@@ -17,7 +17,7 @@ use Rattle.rr_store.specs.declared.details.RequestDetails.{RequestDetails}
 use Rattle.rr_store.specs.declared.details.ResponseDetails.{ResponseDetails}
 use Rattle.rr_store.specs.declared.handle_entry.HandleEntry.{HandleEntry}
 use Rattle.rr_store.specs.Clearing.{channel_cleared}
-use Rattle.rr_store.specs.Creating.{client_port, server_port}
+use Rattle.rr_store.specs.Creating.{client_port, left_at, server_port}
 use Rattle.rr_store.specs.Loaning.{with_messages, with_sender_at}
 use Rattle.rr_store.specs.Parts.{Parts, ClientPart, ServerPart, Sender}
 use Rattle.rr_store.specs.Sending.{after_queued, is_blocked_at}
@@ -125,4 +125,28 @@ module _ {Q QH P PH K : Type 0} (p : Parts Q QH P PH K) where
         servers = p.servers ++ record { connected = record { port = record (server_port p settings) { pool_size = slots }; sender = length p.server_senders; receiver = receiver }; max_loaned_responses_per_request = loans; max_loaned_responses = max_loaned_responses p.limits loans } ∷ [];
         server_senders = p.server_senders ++ record { owner = p.next; row = length p.table.rows; receiver = receiver; has_value = true; loans = 0; pendings = 0; may_answer = []; messages = messages } ∷ [];
         table = with_row p.table slots;
+      }
+
+  -- with a client under the next number that sends from the sender of the client that left as the one at an index
+  abbrev pub with_client_again : ClientSettings K → ℕ → ℕ → Messages Q RequestDetails QH → List ℕ → ℕ → TableView HandleEntry → Parts Q QH P PH K
+  with_client_again settings slots receiver messages marks index table =
+      let sender = (left_at index p.left_clients).sender in
+      record p {
+        next = p.next + 1;
+        clients = p.clients ++ record { connected = record { port = record (client_port p settings) { pool_size = slots }; sender = sender; receiver = receiver }; loans_made = 0 } ∷ [];
+        client_senders = slice_set p.client_senders sender (record { owner = p.next; row = (sender_of sender p.client_senders).row; receiver = receiver; has_value = true; loans = 0; pendings = 0; may_answer = marks; messages = messages });
+        left_clients = remove p.left_clients index;
+        table = table;
+      }
+
+  -- with a server under the next number that sends from the sender of the server that left as the one at an index
+  abbrev pub with_server_again : ServerSettings K → ℕ → ℕ → ℕ → Messages P ResponseDetails PH → ℕ → TableView HandleEntry → Parts Q QH P PH K
+  with_server_again settings loans slots receiver messages index table =
+      let sender = (left_at index p.left_servers).sender in
+      record p {
+        next = p.next + 1;
+        servers = p.servers ++ record { connected = record { port = record (server_port p settings) { pool_size = slots }; sender = sender; receiver = receiver }; max_loaned_responses_per_request = loans; max_loaned_responses = max_loaned_responses p.limits loans } ∷ [];
+        server_senders = slice_set p.server_senders sender (record { owner = p.next; row = (sender_of sender p.server_senders).row; receiver = receiver; has_value = true; loans = 0; pendings = 0; may_answer = []; messages = messages });
+        left_servers = remove p.left_servers index;
+        table = table;
       }

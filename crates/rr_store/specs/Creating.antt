@@ -1,7 +1,7 @@
 -- The parts of a core after a port was created.
-use Rattle.std.specs.Prelude.{◌≡◌, ℕ, ◌+◌, ◌*◌, true, [], ◌∷◌, ◌++◌, length, replicate}
-use Rattle.rr_table.specs.TableView.{with_row}
-use Rattle.rr_sender.specs.Senders.{Messages}
+use Rattle.std.specs.Prelude.{◌≡◌, ◌==◌, ℕ, ◌+◌, ◌*◌, Bool, true, Option, List, [], ◌∷◌, ◌++◌, length, replicate, slice_index_or, slice_set, if◌then◌else◌, is_some}
+use Rattle.std.specs.List.{position, remove}
+use Rattle.rr_sender.specs.Senders.{Messages, used_count}
 use Rattle.rr_protocol.specs.declared.settings.ClientSettings.{ClientSettings}
 use Rattle.rr_protocol.specs.declared.settings.ServerSettings.{ServerSettings}
 use Rattle.rr_protocol.specs.Limits.{worst_case_requests, max_loaned_responses, worst_case_responses}
@@ -9,8 +9,9 @@ use Rattle.rr_protocol.specs.Ports.{Port}
 use Rattle.rr_protocol.specs.Creation.{pool_size_of, loans_of}
 use Rattle.rr_store.specs.declared.details.RequestDetails.{RequestDetails}
 use Rattle.rr_store.specs.declared.details.ResponseDetails.{ResponseDetails}
+use Rattle.rr_store.specs.declared.port.LeftPort.{LeftPort}
 use Rattle.rr_store.specs.Parts.{Parts, ClientPart, ServerPart, Sender}
-use Rattle.rr_store.specs.Views.{no_server}
+use Rattle.rr_store.specs.Views.{no_server, sender_of}
 
 -- a sender from which nothing was sent
 pub record IsNew {T N H : Type 0} (slots room receivers channels capacity : ℕ) (detail : N) (m : Messages T N H) : Type 0 where
@@ -22,6 +23,43 @@ pub record IsNew {T N H : Type 0} (slots room receivers channels capacity : ℕ)
   pub borrowed : m.borrowed ≡ replicate receivers (replicate channels 0)
   pub capacity_is : m.capacity ≡ capacity
   pub room_is : m.room ≡ room
+
+-- where the sender of a new port stands: its index and its row; and the senders, the ports that left and the rows then
+pub record Site (T N H : Type 0) : Type 0 where
+  pub sender : ℕ
+  pub row : ℕ
+  pub senders : List (Sender T N H)
+  pub left : List LeftPort
+  pub rows : List ℕ
+
+-- a port that left, at an index
+abbrev pub left_at : ℕ → List LeftPort → LeftPort
+left_at index left = slice_index_or left index (record { number = 0; sender = 0 })
+
+-- whether nothing uses a sender
+abbrev pub is_idle : {T N H : Type 0} → Sender T N H → Bool
+is_idle l = used_count l.messages == 0
+
+module _ {T N H : Type 0} (senders : List (Sender T N H)) (left : List LeftPort) where
+  -- which of the ports that left is the first whose sender nothing uses
+  abbrev pub idle_left : Option ℕ
+  idle_left = position (λ l. is_idle (sender_of l.sender senders)) left
+
+  -- how many senders there are after a creation: one more, if none of a port that left could be taken
+  abbrev pub senders_after : ℕ
+  senders_after = if is_some idle_left then length senders else length senders + 1
+
+  -- a new sender, with a row of so many places, behind all others
+  abbrev pub last_site : List ℕ → ℕ → Sender T N H → Site T N H
+  last_site rows row_len new =
+      record { sender = length senders; row = length rows; senders = senders ++ new ∷ []; left = left; rows = rows ++ row_len ∷ [] }
+
+  -- and in the place of a port that left, which has the same row
+  abbrev pub left_site : List ℕ → ℕ → (ℕ → Sender T N H) → ℕ → Site T N H
+  left_site rows row_len new index =
+      let sender = (left_at index left).sender in
+      let row = (sender_of sender senders).row in
+      record { sender = sender; row = row; senders = slice_set senders sender (new row); left = remove left index; rows = slice_set rows row row_len }
 
 module _ {Q QH P PH K : Type 0} (p : Parts Q QH P PH K) where
   -- the port of a client with these settings, and of a server
@@ -49,16 +87,17 @@ module _ {Q QH P PH K : Type 0} (p : Parts Q QH P PH K) where
         has_value = true;
       }
 
-  -- a client that is this receiver, and the sender from which it sends
-  abbrev pub new_client : ClientSettings K → ℕ → ClientPart K
-  new_client settings receiver =
-      record { connected = record { port = client_port settings; sender = length p.client_senders; receiver = receiver }; loans_made = 0 }
+  -- a client that sends from a sender, and is this receiver
+  abbrev pub new_client : ClientSettings K → ℕ → ℕ → ClientPart K
+  new_client settings sender receiver =
+      record { connected = record { port = client_port settings; sender = sender; receiver = receiver }; loans_made = 0 }
 
-  abbrev pub new_client_sender : ClientSettings K → ℕ → Messages Q RequestDetails QH → Sender Q RequestDetails QH
-  new_client_sender settings receiver messages =
+  -- the new sender of a client, with this row
+  abbrev pub new_client_sender : ClientSettings K → ℕ → ℕ → Messages Q RequestDetails QH → Sender Q RequestDetails QH
+  new_client_sender settings row receiver messages =
       record {
         owner = p.next;
-        row = length p.table.rows;
+        row = row;
         receiver = receiver;
         has_value = true;
         loans = 0;
@@ -67,30 +106,48 @@ module _ {Q QH P PH K : Type 0} (p : Parts Q QH P PH K) where
         messages = messages;
       }
 
-  -- a client sends from a new sender, and is this receiver
-  abbrev pub with_client_part : ClientSettings K → ℕ → Messages Q RequestDetails QH → Parts Q QH P PH K
-  with_client_part settings receiver messages =
+  -- how many places the row of a client has
+  abbrev pub client_row_len : ClientSettings K → ℕ
+  client_row_len settings = (p.limits.max_servers + 1) * (client_port settings).pool_size
+
+  -- a client that is this receiver sends from a new sender in this site
+  abbrev pub with_client_part : ClientSettings K → ℕ → Site Q RequestDetails QH → Parts Q QH P PH K
+  with_client_part settings receiver site =
       record p {
         next = p.next + 1;
-        clients = p.clients ++ new_client settings receiver ∷ [];
-        client_senders = p.client_senders ++ new_client_sender settings receiver messages ∷ [];
-        table = with_row p.table ((p.limits.max_servers + 1) * (client_port settings).pool_size);
+        clients = p.clients ++ new_client settings site.sender receiver ∷ [];
+        client_senders = site.senders;
+        left_clients = site.left;
+        table = record p.table { rows = site.rows };
       }
 
-  -- a server that is this receiver, and the sender from which it sends
-  abbrev pub new_server : ServerSettings K → ℕ → ServerPart K
-  new_server settings receiver =
+  -- the site behind all senders
+  abbrev pub last_client_site : ClientSettings K → ℕ → Messages Q RequestDetails QH → Site Q RequestDetails QH
+  last_client_site settings receiver messages =
+      last_site p.client_senders p.left_clients p.table.rows (client_row_len settings)
+      (new_client_sender settings (length p.table.rows) receiver messages)
+
+  -- the site of the client that left as the one at an index
+  abbrev pub left_client_site : ClientSettings K → ℕ → Messages Q RequestDetails QH → ℕ → Site Q RequestDetails QH
+  left_client_site settings receiver messages index =
+      left_site p.client_senders p.left_clients p.table.rows (client_row_len settings)
+      (λ row. new_client_sender settings row receiver messages) index
+
+  -- a server that sends from a sender, and is this receiver
+  abbrev pub new_server : ServerSettings K → ℕ → ℕ → ServerPart K
+  new_server settings sender receiver =
       record {
-        connected = record { port = server_port settings; sender = length p.server_senders; receiver = receiver };
+        connected = record { port = server_port settings; sender = sender; receiver = receiver };
         max_loaned_responses_per_request = loans_of settings;
         max_loaned_responses = max_loaned_responses p.limits (loans_of settings);
       }
 
-  abbrev pub new_server_sender : ℕ → Messages P ResponseDetails PH → Sender P ResponseDetails PH
-  new_server_sender receiver messages =
+  -- the new sender of a server, with this row
+  abbrev pub new_server_sender : ℕ → ℕ → Messages P ResponseDetails PH → Sender P ResponseDetails PH
+  new_server_sender row receiver messages =
       record {
         owner = p.next;
-        row = length p.table.rows;
+        row = row;
         receiver = receiver;
         has_value = true;
         loans = 0;
@@ -99,12 +156,25 @@ module _ {Q QH P PH K : Type 0} (p : Parts Q QH P PH K) where
         messages = messages;
       }
 
-  -- a server does
-  abbrev pub with_server_part : ServerSettings K → ℕ → Messages P ResponseDetails PH → Parts Q QH P PH K
-  with_server_part settings receiver messages =
+  -- a server that is this receiver sends from a new sender in this site
+  abbrev pub with_server_part : ServerSettings K → ℕ → Site P ResponseDetails PH → Parts Q QH P PH K
+  with_server_part settings receiver site =
       record p {
         next = p.next + 1;
-        servers = p.servers ++ new_server settings receiver ∷ [];
-        server_senders = p.server_senders ++ new_server_sender receiver messages ∷ [];
-        table = with_row p.table (server_port settings).pool_size;
+        servers = p.servers ++ new_server settings site.sender receiver ∷ [];
+        server_senders = site.senders;
+        left_servers = site.left;
+        table = record p.table { rows = site.rows };
       }
+
+  -- the site behind all senders
+  abbrev pub last_server_site : ServerSettings K → ℕ → Messages P ResponseDetails PH → Site P ResponseDetails PH
+  last_server_site settings receiver messages =
+      last_site p.server_senders p.left_servers p.table.rows (server_port settings).pool_size
+      (new_server_sender (length p.table.rows) receiver messages)
+
+  -- the site of the server that left as the one at an index
+  abbrev pub left_server_site : ServerSettings K → ℕ → Messages P ResponseDetails PH → ℕ → Site P ResponseDetails PH
+  left_server_site settings receiver messages index =
+      left_site p.server_senders p.left_servers p.table.rows (server_port settings).pool_size
+      (λ row. new_server_sender row receiver messages) index

@@ -1,16 +1,18 @@
 //! Creating ports.
-ghost use Rattle.std.specs.Prelude.{◌≡◌, ◌≢◌, ℕ, ◌+◌, ◌*◌, ◌^◌, ◌<◌, ◌++◌, ◌∷◌, [], None, Some, length, replicate, true, if◌then◌else◌, is_ok, IsTrue, IfOk, slice_get, ◌==◌};
+ghost use Rattle.std.specs.Prelude.{◌≡◌, ◌≢◌, ℕ, ◌+◌, ◌*◌, ◌^◌, ◌<◌, ◌++◌, ◌∷◌, [], None, Some, length, map, replicate, true, if◌then◌else◌, is_ok, IsTrue, IfOk, OnErr, OnOk, slice_get, slice_set, ◌==◌};
 ghost use Rattle.rr_slots.specs.Families.{takes_len};
-ghost use Rattle.rr_table.specs.TableView.{with_row};
+ghost use Rattle.rr_table.specs.TableView.{IsRenewed, with_row};
 ghost use Rattle.rr_protocol.specs.Creation.{pool_size_of};
 ghost use Rattle.rr_protocol.specs.Limits.{hub_refusal, worst_case_requests};
 ghost use Rattle.std.specs.List.{list_any};
-ghost use Rattle.rr_store.specs.Creating.{IsNew};
-ghost use Rattle.rr_store.specs.Ports.{connected_of};
-ghost use Rattle.rr_store.specs.Views.{no_request, no_server};
+ghost use Rattle.rr_store.specs.Creating.{IsNew, idle_left, is_idle};
+ghost use Rattle.rr_store.specs.Draining.{AreThere};
+ghost use Rattle.rr_store.specs.Ports.{connected_of, sender_part};
+ghost use Rattle.rr_store.specs.Views.{no_request, no_server, sender_of};
 
 use crate::{
-    ClientPort, ConnectedPort, HandleEntry, NO_SERVER, OwnedSender, Port, RequestDetails, Stage,
+    ClientPort, ConnectedPort, HandleEntry, LeftPort, NO_SERVER, OwnedSender, Port, RequestDetails,
+    Stage,
 };
 use rr_protocol::{ClientSettings, Limits};
 use rr_sender::{Sender, SenderSize};
@@ -165,6 +167,100 @@ pub fn insert_port<P: ConnectedPort, B: Body, N: Copy, H: Drop>(
     });
     ports.push_reserved(port);
     Ok(())
+}
+
+/// Adds a port that sends from a sender that is there, which becomes a new one, and makes its row anew for its messages. Returns
+/// `AllocError` if memory was refused; the lists and the table are unchanged then.
+pub fn insert_port_again<P: ConnectedPort, B: Body, N: Copy, H: Drop>(
+    alloc: Global,
+    ports: &mut Vec<P>,
+    senders: &mut Vec<OwnedSender<B, N, H>>,
+    table: &mut Table<HandleEntry>,
+    port: P,
+    messages: Sender<B, N, H>,
+    may_answer: Vec<u64>,
+    row_len: usize,
+) -> Result<(), AllocError>
+    requires sender { P.sender port < length senders.old.items }
+    requires row { (sender_of (P.sender port) (map sender_part senders.old.items)).row < length table.old.rows }
+    ensures ports { ports.new.items ≡ (if is_ok result then ports.old.items ++ port ∷ [] else ports.old.items) }
+    ensures senders { map sender_part senders.new.items ≡ (if is_ok result then slice_set (map sender_part senders.old.items) (P.sender port) (record { owner = P.id port; row = (sender_of (P.sender port) (map sender_part senders.old.items)).row; receiver = P.receiver port; has_value = true; loans = 0; pendings = 0; may_answer = may_answer.items; messages = messages }) else map sender_part senders.old.items) }
+    ensures renewed { OnOk result (IsRenewed (sender_of (P.sender port) (map sender_part senders.old.items)).row row_len table.old table.new) }
+    ensures unchanged { OnErr result (table.new ≡ table.old) }
+{
+    ports.reserve(1)?;
+    let sender = port.sender();
+    let row = senders[sender].row;
+    table.renew_row(alloc, row, row_len, NO_HANDLE)?;
+    senders[sender] = OwnedSender {
+        owner: port.id(),
+        row,
+        receiver: port.receiver(),
+        has_value: true,
+        loans: 0,
+        pendings: 0,
+        may_answer,
+        messages,
+    };
+    ports.push_reserved(port);
+    Ok(())
+}
+
+/// Adds a client with its store, which sends from a sender that is there. Returns `AllocError` if memory was refused; the lists
+/// and the table are unchanged then.
+pub fn insert_client_again<B: Body, H: Default + Drop, K: Drop>(
+    alloc: Global,
+    clients: &mut Vec<ClientPort<K>>,
+    senders: &mut Vec<OwnedSender<B, RequestDetails, H>>,
+    table: &mut Table<HandleEntry>,
+    port: Port<K>,
+    store: ClientStore<B, H>,
+) -> Result<(), AllocError>
+    requires sender { port.sender < length senders.old.items }
+    requires row { (sender_of port.sender (map sender_part senders.old.items)).row < length table.old.rows }
+    ensures clients { clients.new.items ≡ (if is_ok result then clients.old.items ++ record { port = port; loans_made = 0 } ∷ [] else clients.old.items) }
+    ensures senders { map sender_part senders.new.items ≡ (if is_ok result then slice_set (map sender_part senders.old.items) port.sender (record { owner = port.id; row = (sender_of port.sender (map sender_part senders.old.items)).row; receiver = port.receiver; has_value = true; loans = 0; pendings = 0; may_answer = store.marks.items; messages = store.messages }) else map sender_part senders.old.items) }
+    ensures renewed { OnOk result (IsRenewed (sender_of port.sender (map sender_part senders.old.items)).row store.row_len table.old table.new) }
+    ensures unchanged { OnErr result (table.new ≡ table.old) }
+{
+    let ClientStore {
+        messages,
+        marks,
+        row_len,
+    } = store;
+    let client = ClientPort {
+        port,
+        loans_made: 0,
+    };
+    insert_port_again(
+        alloc, clients, senders, table, client, messages, marks, row_len,
+    )
+}
+
+/// Returns whether nothing uses a sender: no handle and no entry holds one of its slots.
+#[inline(always)]
+fn is_idle<B: Body, N: Copy, H: Drop>(senders: &[OwnedSender<B, N, H>], sender: usize) -> bool
+    requires { sender < length senders.now }
+    ensures { result ≡ is_idle (sender_of sender (map sender_part senders.now)) }
+{
+    let messages = &senders[sender].messages;
+    messages.free_slots() == messages.slots()
+}
+
+/// Returns which of the ports that left is the first whose sender nothing uses. Looks at each of them once.
+pub fn idle_left<B: Body, N: Copy, H: Drop>(
+    senders: &[OwnedSender<B, N, H>],
+    left: &[LeftPort],
+) -> Option<usize>
+    requires { AreThere (map sender_part senders.now) left.now }
+    ensures { result ≡ idle_left (map sender_part senders.now) left.now }
+{
+    for (index, port) in left.iter().enumerate() {
+        if is_idle(senders, port.sender) {
+            return Some(index);
+        }
+    }
+    None
 }
 
 /// A client's port.

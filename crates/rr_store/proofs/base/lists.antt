@@ -1,4 +1,5 @@
 pub mod Found
+pub mod Positions
 pub mod Tallies
 pub mod Pigeons
 pub mod Adding

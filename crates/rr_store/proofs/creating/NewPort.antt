@@ -1,5 +1,5 @@
 -- The ports of one side and their senders, with one more port that sends from a new sender.
-use Rattle.std.proofs.Common.{◌≡◌, ◌≢◌, ◌<◌, ◌+◌, ℕ, List, [], ◌∷◌, ◌++◌, Option, None, Some, option_map, length, get_or, map, replicate, sym, ap, ◌∙◌, subst, arith, refl}
+use Rattle.std.proofs.Common.{◌≡◌, ◌≢◌, ◌<◌, ◌≤◌, ◌+◌, ℕ, List, [], ◌∷◌, ◌++◌, Option, None, Some, option_map, length, get_or, map, replicate, sym, ap, ◌∙◌, subst, arith, refl}
 use Rattle.std.specs.Prelude.{slice_get}
 use Rattle.std.proofs.lemmas.List.{length-append, length-map, length-replicate, map-append, get_or-replicate}
 use Rattle.std.proofs.lemmas.Option.{slice_get-map}
@@ -10,7 +10,7 @@ use Rattle.rr_store.specs.Parts.{Connected, Sender}
 use Rattle.rr_store.specs.Views.{sender_of}
 use Rattle.rr_store.specs.Sound.{HasPort, HasSenders, HaveLeft, IsShaped}
 use Rattle.rr_store.specs.Creating.{IsNew}
-use Rattle.rr_store.proofs.creating.NewSenders.{sender_before, sender_last, each_added, apart_added, new_queue, new_slots}
+use Rattle.rr_store.proofs.creating.NewSenders.{IsPut, each_added, apart_added, new_queue, new_slots}
 use Rattle.rr_store.proofs.base.lists.Adding.{given_before}
 use Rattle.rr_store.proofs.base.lists.Tallies.{snoc_cases, snoc_keeps}
 
@@ -60,10 +60,19 @@ later_next n = record {
   rising = n.rising;
 }
 
-module _ {T N H K C : Type 0} (connected : C → Connected K) (next ports : ℕ) (cs : List C) (senders : List (Sender T N H))
-    (n : HasSenders next ports (map connected cs) senders) (port : C) (last : Sender T N H)
+-- of ports that left those are still listed that don't send from a sender, each once
+pub record AreKept (sender : ℕ) (left after : List LeftPort) : Type 0 where
+  pub were : (i : ℕ) (l : LeftPort) → slice_get after i ≡ Some l → (j : ℕ) × (slice_get left j ≡ Some l)
+  pub apart : (i : ℕ) (l : LeftPort) → slice_get after i ≡ Some l → l.sender ≢ sender
+  pub once : (i j : ℕ) (l m : LeftPort) → slice_get after i ≡ Some l → slice_get after j ≡ Some m → l.sender ≡ m.sender → i ≡ j
+  pub fewer : length after ≤ length left
+
+module _ {T N H K C : Type 0} (connected : C → Connected K) (next ports : ℕ) (cs : List C) {senders after : List (Sender T N H)}
+    (n : HasSenders next ports (map connected cs) senders) (port : C)
+    {index : ℕ} {last : Sender T N H} (put : IsPut index last senders after)
     {slots room receivers channels capacity : ℕ} {details : N} (new : IsNew slots room receivers channels capacity details last.messages)
-    (its_sender : (connected port).sender ≡ length senders) (its_id : (connected port).port.id ≡ next) (owned : last.owner ≡ next)
+    (alone : (i : ℕ) (c : Connected K) → slice_get (map connected cs) i ≡ Some c → c.sender ≢ index)
+    (its_sender : (connected port).sender ≡ index) (its_id : (connected port).port.id ≡ next) (owned : last.owner ≡ next)
     (slots_are : length last.messages.held ≡ (connected port).port.pool_size)
     (room_is : last.messages.room ≡ (connected port).port.initial_max_slice_len)
     (receiver_is : last.receiver ≡ (connected port).receiver) (value_is : last.has_value ≡ (connected port).port.has_value)
@@ -90,47 +99,51 @@ module _ {T N H K C : Type 0} (connected : C → Connected K) (next ports : ℕ)
         go (Some x) e f = let is : Some (connected x) ≡ Some c = f in let also : connected x ≡ c = cc in
             vacant i x e (ap (λ (c : Connected K). c.receiver) also ∙ same)
 
+    -- the sender of a port that was there is as it was
+    kept_sender : (i : ℕ) (c : Connected K) → slice_get (map connected cs) i ≡ Some c
+        → sender_of c.sender after ≡ sender_of c.sender senders
+    kept_sender i c at = put.others c.sender (alone i c at)
+
+    -- and the new port has the new one
+    new_sender : sender_of (connected port).sender after ≡ last
+    new_sender = ap (λ l. sender_of l after) its_sender ∙ put.here
+
     -- each port has a sender of its own
-    pub port_added : HasSenders (next + 1) ports (map connected (cs ++ port ∷ [])) (senders ++ last ∷ [])
+    pub port_added : HasSenders (next + 1) ports (map connected (cs ++ port ∷ [])) after
     port_added =
         record {
           few = omega (arith, few, length-map (cs ++ port ∷ []) connected, length-append cs (port ∷ []));
           own = λ i c at. connected_cases i c at
               (λ before h. let o = n.own i c before in
-              let e = sender_before senders last c.sender o.0 in (
-                omega (arith, o.0, length-append senders (last ∷ [])),
+              let e = kept_sender i c before in (
+                put.stay c.sender o.0,
                 ap (λ (x : Sender T N H). x.owner) e ∙ o.1,
                 ap (λ (x : Sender T N H). length x.messages.held) e ∙ o.2,
                 ap (λ (x : Sender T N H). x.messages.room) e ∙ o.3,
               ))
               (λ end is.
-              let IsOwn : Connected K → Type 0 = λ c. (c.sender < length (senders ++ last ∷ []))
-              × ((sender_of c.sender (senders ++ last ∷ [])).owner ≡ c.port.id)
-              × (length (sender_of c.sender (senders ++ last ∷ [])).messages.held ≡ c.port.pool_size)
-              × ((sender_of c.sender (senders ++ last ∷ [])).messages.room ≡ c.port.initial_max_slice_len) in
-              let e = ap (λ l. sender_of l (senders ++ last ∷ [])) its_sender ∙ sender_last senders last in
+              let IsOwn : Connected K → Type 0 = λ c. (c.sender < length after)
+              × ((sender_of c.sender after).owner ≡ c.port.id)
+              × (length (sender_of c.sender after).messages.held ≡ c.port.pool_size)
+              × ((sender_of c.sender after).messages.room ≡ c.port.initial_max_slice_len) in
               subst IsOwn is (
-                omega (arith, its_sender, length-append senders (last ∷ [])),
-                ap (λ (x : Sender T N H). x.owner) e ∙ owned ∙ sym its_id,
-                ap (λ (x : Sender T N H). length x.messages.held) e ∙ slots_are,
-                ap (λ (x : Sender T N H). x.messages.room) e ∙ room_is,
+                omega (arith, its_sender, put.there),
+                ap (λ (x : Sender T N H). x.owner) new_sender ∙ owned ∙ sym its_id,
+                ap (λ (x : Sender T N H). length x.messages.held) new_sender ∙ slots_are,
+                ap (λ (x : Sender T N H). x.messages.room) new_sender ∙ room_is,
               ));
           received = λ i c at. connected_cases i c at
-              (λ before h. ap (λ (x : Sender T N H). x.receiver) (sender_before senders last c.sender (n.own i c before).0)
-              ∙ n.received i c before)
+              (λ before h. ap (λ (x : Sender T N H). x.receiver) (kept_sender i c before) ∙ n.received i c before)
               (λ end is.
-              let Knows : Connected K → Type 0 = λ c. (sender_of c.sender (senders ++ last ∷ [])).receiver ≡ c.receiver in
-              subst Knows is (ap (λ l. (sender_of l (senders ++ last ∷ [])).receiver) its_sender
-              ∙ ap (λ (x : Sender T N H). x.receiver) (sender_last senders last) ∙ receiver_is));
+              let Knows : Connected K → Type 0 = λ c. (sender_of c.sender after).receiver ≡ c.receiver in
+              subst Knows is (ap (λ (x : Sender T N H). x.receiver) new_sender ∙ receiver_is));
           valued = λ i c at. connected_cases i c at
-              (λ before h. ap (λ (x : Sender T N H). x.has_value) (sender_before senders last c.sender (n.own i c before).0)
-              ∙ n.valued i c before)
+              (λ before h. ap (λ (x : Sender T N H). x.has_value) (kept_sender i c before) ∙ n.valued i c before)
               (λ end is.
-              let Knows : Connected K → Type 0 = λ c. (sender_of c.sender (senders ++ last ∷ [])).has_value ≡ c.port.has_value in
-              subst Knows is (ap (λ l. (sender_of l (senders ++ last ∷ [])).has_value) its_sender
-              ∙ ap (λ (x : Sender T N H). x.has_value) (sender_last senders last) ∙ value_is));
-          owned_once = apart_added senders last (λ x. x.owner) (λ l h. omega (arith, n.numbered l h, owned)) n.owned_once;
-          numbered = each_added senders last (λ _ x. x.owner < next + 1) (λ l h. omega (arith, n.numbered l h)) (omega (arith, owned));
+              let Knows : Connected K → Type 0 = λ c. (sender_of c.sender after).has_value ≡ c.port.has_value in
+              subst Knows is (ap (λ (x : Sender T N H). x.has_value) new_sender ∙ value_is));
+          owned_once = apart_added put (λ x. x.owner) (λ l _ h same. omega (arith, n.numbered l h, owned, same)) n.owned_once;
+          numbered = each_added put (λ _ x. x.owner < next + 1) (λ l h. omega (arith, n.numbered l h)) (omega (arith, owned));
           placed = λ i c at. connected_cases i c at (λ before h. n.placed i c before)
               (λ end is. omega (arith, inside, ap (λ (c : Connected K). c.receiver) is));
           receivers_once = λ i j c d at there same. connected_cases i c at
@@ -154,15 +167,19 @@ module _ {T N H K C : Type 0} (connected : C → Connected K) (next ports : ℕ)
               (λ too also. absurd (omega (arith, less, end, too))));
         }
 
-    -- the senders of ports that left are as they were
-    pub left_added : (left : List LeftPort) → HaveLeft (map connected cs) left senders
-        → HaveLeft (map connected (cs ++ port ∷ [])) left (senders ++ last ∷ [])
-    left_added left has = record {
-      own = λ i l at. let o = has.own i l at in (
-        omega (arith, o.0, length-append senders (last ∷ [])),
-        ap (λ (x : Sender T N H). x.owner) (sender_before senders last l.sender o.0) ∙ o.1,
-      );
-      apart = λ i j l c at there. connected_cases j c there (λ before h. has.apart i j l c at before)
-          (λ end is same. omega (arith, (has.own i l at).0, same, its_sender, ap (λ (c : Connected K). c.sender) is));
-      once = has.once;
+    -- the senders of ports that are still listed as left are as they were
+    pub left_added : {left left_after : List LeftPort} → AreKept index left left_after → HaveLeft (map connected cs) left senders
+        → HaveLeft (map connected (cs ++ port ∷ [])) left_after after
+    left_added kept has = record {
+      own = λ i l at.
+          let was = kept.were i l at in
+          let o = has.own was.0 l was.1 in (
+            put.stay l.sender o.0,
+            ap (λ (x : Sender T N H). x.owner) (put.others l.sender (kept.apart i l at)) ∙ o.1,
+          );
+      apart = λ i j l c at there.
+          let was = kept.were i l at in
+          connected_cases j c there (λ before h. has.apart was.0 j l c was.1 before)
+          (λ end is same. kept.apart i l at (same ∙ ap (λ (c : Connected K). c.sender) (sym is) ∙ its_sender));
+      once = kept.once;
     }

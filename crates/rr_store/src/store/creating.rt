@@ -2,14 +2,18 @@
 ghost use Rattle.std.specs.Prelude.{◌≡◌, ◌≢◌, ◌<◌, ◌≤◌, ◌+◌, ◌^◌, ℕ, None, Some, IfOk, OnErr, OnOk, length, slice_get};
 ghost use Rattle.rr_protocol.specs.Creation.{client_refusal, server_refusal};
 ghost use Rattle.rr_protocol.specs.Limits.{hub_refusal, max_loaned_responses};
-ghost use Rattle.rr_store.specs.Changes.{with_new_client, with_new_server};
+ghost use Rattle.rr_table.specs.TableView.{IsRenewed};
+ghost use Rattle.rr_store.specs.Asked.{CanTakeOver};
+ghost use Rattle.rr_store.specs.Changes.{with_client_again, with_new_client, with_new_server, with_server_again};
+ghost use Rattle.rr_store.specs.Creating.{idle_left, left_at};
+ghost use Rattle.rr_store.specs.Draining.{AreThere};
 ghost use Rattle.rr_store.specs.Parts.{ClientPart, ServerPart};
 ghost use Rattle.rr_store.specs.Start.{start_parts};
-ghost use Rattle.rr_store.specs.Views.{state_of};
+ghost use Rattle.rr_store.specs.Views.{sender_of, state_of};
 
 use crate::create::{ClientStore, server as of_server};
 use crate::store::Store;
-use crate::{ResponseDetails, ServerPort, create};
+use crate::{ResponseDetails, create};
 use rr_protocol::{
     BackpressureFn, ClientCreateError, ClientSettings, Limits, ServerCreateError, ServerSettings,
     UniqueNodeId,
@@ -124,6 +128,22 @@ impl<QB: Body, QH: Default + Drop, PB: Body, PH: Default + Drop, K: Backpressure
         self.left_servers.reserve(self.servers.len() + 1)
     }
 
+    /// Returns which of the clients that left is the first whose sender nothing uses. Looks at each of them once.
+    pub fn idle_client(&self) -> Option<usize>
+        requires { AreThere self.now.client_senders self.now.left_clients }
+        ensures { result ≡ idle_left self.now.client_senders self.now.left_clients }
+    {
+        create::idle_left(self.client_senders.as_slice(), self.left_clients.as_slice())
+    }
+
+    /// Returns which of the servers that left is the first whose sender nothing uses. Looks at each of them once.
+    pub fn idle_server(&self) -> Option<usize>
+        requires { AreThere self.now.server_senders self.now.left_servers }
+        ensures { result ≡ idle_left self.now.server_senders self.now.left_servers }
+    {
+        create::idle_left(self.server_senders.as_slice(), self.left_servers.as_slice())
+    }
+
     /// Adds a client with so many slots under the next number, which it returns. Returns `AllocError` if memory was refused;
     /// nothing has changed then.
     pub fn add_client(
@@ -154,6 +174,41 @@ impl<QB: Body, QH: Default + Drop, PB: Body, PH: Default + Drop, K: Backpressure
         Ok(number)
     }
 
+    /// Adds a client as `add_client` does, which sends from the sender of the client that left as the one at an index: that
+    /// sender becomes a new one, and that client is no longer noted. Returns `AllocError` if memory was refused; nothing has
+    /// changed then.
+    pub fn add_client_again(
+        &mut self,
+        alloc: Global,
+        settings: ClientSettings<K>,
+        slots: usize,
+        receiver: usize,
+        index: usize,
+        client: ClientStore<QB, QH>,
+    ) -> Result<u64, AllocError>
+        requires next { self.old.next + 1 < 2 ^ 64 }
+        requires left { CanTakeOver self.old.client_senders self.old.left_clients self.old.table.rows index }
+        ensures number { IfOk result (λ number. number ≡ self.old.next) }
+        ensures ok { OnOk result (self.new ≡ with_client_again self.old settings slots receiver client.messages client.marks.items index self.new.table) }
+        ensures table { OnOk result (IsRenewed (sender_of (left_at index self.old.left_clients).sender self.old.client_senders).row client.row_len self.old.table self.new.table) }
+        ensures err { OnErr result (self.new ≡ self.old) }
+    {
+        let number = self.next;
+        let sender = self.left_clients[index].sender;
+        let port = create::client_port(number, settings, slots, sender, receiver);
+        create::insert_client_again(
+            alloc,
+            &mut self.clients,
+            &mut self.client_senders,
+            &mut self.table,
+            port,
+            client,
+        )?;
+        self.left_clients.remove(index);
+        self.next = number + 1;
+        Ok(number)
+    }
+
     /// Adds a server with so many slots, and so many responses on loan for each request, under the next number, which it
     /// returns. Returns `AllocError` if memory was refused; nothing has changed then.
     pub fn add_server(
@@ -174,14 +229,8 @@ impl<QB: Body, QH: Default + Drop, PB: Body, PH: Default + Drop, K: Backpressure
     {
         let number = self.next;
         let sender = self.server_senders.len();
-        let max_loaned_responses = loans
-            * self.limits.max_active_requests_per_client
-            * self.limits.max_clients;
-        let server = ServerPort {
-            port: of_server::server_port(number, settings, slots, sender, receiver),
-            max_loaned_responses_per_request: loans,
-            max_loaned_responses,
-        };
+        let limits = &self.limits;
+        let server = of_server::server(limits, number, settings, loans, slots, sender, receiver);
         create::insert_port(
             alloc,
             &mut self.servers,
@@ -192,6 +241,46 @@ impl<QB: Body, QH: Default + Drop, PB: Body, PH: Default + Drop, K: Backpressure
             Vec::new(alloc),
             slots,
         )?;
+        self.next = number + 1;
+        Ok(number)
+    }
+    /// Adds a server as `add_server` does, which sends from the sender of the server that left as the one at an index: that
+    /// sender becomes a new one, and that server is no longer noted. Returns `AllocError` if memory was refused; nothing has
+    /// changed then.
+    pub fn add_server_again(
+        &mut self,
+        alloc: Global,
+        settings: ServerSettings<K>,
+        loans: usize,
+        slots: usize,
+        receiver: usize,
+        index: usize,
+        messages: Sender<PB, ResponseDetails, PH>,
+    ) -> Result<u64, AllocError>
+        requires next { self.old.next + 1 < 2 ^ 64 }
+        requires clients { 0 < self.old.limits.max_clients }
+        requires loans { max_loaned_responses self.old.limits loans < 2 ^ 64 }
+        requires left { CanTakeOver self.old.server_senders self.old.left_servers self.old.table.rows index }
+        ensures number { IfOk result (λ number. number ≡ self.old.next) }
+        ensures ok { OnOk result (self.new ≡ with_server_again self.old settings loans slots receiver messages index self.new.table) }
+        ensures table { OnOk result (IsRenewed (sender_of (left_at index self.old.left_servers).sender self.old.server_senders).row slots self.old.table self.new.table) }
+        ensures err { OnErr result (self.new ≡ self.old) }
+    {
+        let number = self.next;
+        let sender = self.left_servers[index].sender;
+        let limits = &self.limits;
+        let server = of_server::server(limits, number, settings, loans, slots, sender, receiver);
+        create::insert_port_again(
+            alloc,
+            &mut self.servers,
+            &mut self.server_senders,
+            &mut self.table,
+            server,
+            messages,
+            Vec::new(alloc),
+            slots,
+        )?;
+        self.left_servers.remove(index);
         self.next = number + 1;
         Ok(number)
     }

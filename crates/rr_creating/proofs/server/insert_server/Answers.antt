@@ -1,4 +1,7 @@
-use Rattle.rr_creating.proofs.steps.Server.{room_asked, next_asked, clients_asked, hub_asked, counts_asked, loans_asked, core_then, ok_then}
+use Rattle.std.proofs.Common.{length, ap, ◌∙◌}
+use Rattle.rr_store.specs.Parts.{Parts}
+use Rattle.rr_creating.proofs.steps.Server.{room_asked, next_asked, clients_asked, hub_asked, counts_asked, loans_asked, there_asked, left_asked, core_again, core_then, ok_again, ok_then}
+use Rattle.rr_creating.proofs.steps.Rooms.{as_many, one_more, then_ok}
 use Rattle.rr_creating.proofs.server.insert_server.Goals as goal
 
 pub worst_case_responses-requires-clause-hub : goal.worst_case_responses-requires-clause-hub
@@ -26,14 +29,62 @@ add_server-requires-clause-loans g c =
 pub add_server-requires-clause-next : goal.add_server-requires-clause-next
 add_server-requires-clause-next g c = next_asked c.args.store.now c.requires.core c.args.settings c.requires.due c.requires.room
 
-pub returns-clause-core : goal.returns-clause-core
-returns-clause-core g c =
+pub idle_server-requires : goal.idle_server-requires
+idle_server-requires g c = there_asked c.args.store.now c.requires.core c.args.settings c.requires.due c.requires.room
+
+pub add_server_again-requires-clause-clients : goal.add_server_again-requires-clause-clients
+add_server_again-requires-clause-clients g c = clients_asked c.args.store.now c.requires.core c.args.settings c.requires.due c.requires.room
+
+pub add_server_again-requires-clause-loans : goal.add_server_again-requires-clause-loans
+add_server_again-requires-clause-loans g c =
+    loans_asked c.args.store.now c.requires.core c.args.settings c.requires.due c.requires.room _ c.limits-limits.ensures _ c.max-loans.ensures
+
+pub add_server_again-requires-clause-next : goal.add_server_again-requires-clause-next
+add_server_again-requires-clause-next g c = next_asked c.args.store.now c.requires.core c.args.settings c.requires.due c.requires.room
+
+pub add_server_again-requires-clause-left : goal.add_server_again-requires-clause-left
+add_server_again-requires-clause-left g c =
+    left_asked c.args.store.now c.requires.core c.args.settings c.requires.due c.requires.room c.in-Some.index c.in-Some.ensures
+
+pub returns-in-Some-clause-core : goal.returns-in-Some-clause-core
+returns-in-Some-clause-core g c =
+    core_again c.args.store.now c.requires.core c.args.settings c.requires.due c.requires.room _ c.limits-limits.ensures _ c.max-loans.ensures _
+    c.worst_case_responses.ensures _ c.pool_size-slots.ensures _ c.free_server_receiver-receiver.ensures.inside
+    c.free_server_receiver-receiver.ensures.vacant _ c.in_ok-messages.ensures c.in-Some.index
+    c.in-Some.ensures c.add_server_again.new.self c.add_server_again.result c.add_server_again.ensures.ok c.add_server_again.ensures.table
+    c.add_server_again.ensures.err
+
+pub returns-in-Some-clause-ok : goal.returns-in-Some-clause-ok
+returns-in-Some-clause-ok g c =
+    ok_again c.args.store.now c.requires.core c.args.settings c.requires.due c.requires.room _ c.limits-limits.ensures _ c.max-loans.ensures _
+    c.worst_case_responses.ensures _ c.pool_size-slots.ensures _ c.free_server_receiver-receiver.ensures.inside
+    c.free_server_receiver-receiver.ensures.vacant _ c.in_ok-messages.ensures c.in-Some.index
+    c.in-Some.ensures c.add_server_again.new.self c.add_server_again.result c.add_server_again.ensures.ok c.add_server_again.ensures.table
+
+pub returns-in-None-clause-core : goal.returns-in-None-clause-core
+returns-in-None-clause-core g c =
     core_then c.args.store.now c.requires.core c.args.settings c.requires.due c.requires.room _ c.limits-limits.ensures _ c.max-loans.ensures _
     c.worst_case_responses.ensures _ c.pool_size-slots.ensures _ c.free_server_receiver-receiver.ensures.inside
-    c.free_server_receiver-receiver.ensures.vacant _ c.in_ok-messages.ensures _ _ c.add_server.ensures.ok c.add_server.ensures.err
+    c.free_server_receiver-receiver.ensures.vacant _ c.in_ok-messages.ensures c.add_server.new.self
+    c.add_server.result c.add_server.ensures.ok c.add_server.ensures.err
 
-pub returns-clause-ok : goal.returns-clause-ok
-returns-clause-ok g c =
+pub returns-in-None-clause-ok : goal.returns-in-None-clause-ok
+returns-in-None-clause-ok g c =
     ok_then c.args.store.now c.requires.core c.args.settings c.requires.due c.requires.room _ c.limits-limits.ensures _ c.max-loans.ensures _
     c.worst_case_responses.ensures _ c.pool_size-slots.ensures _ c.free_server_receiver-receiver.ensures.inside
-    c.free_server_receiver-receiver.ensures.vacant _ c.in_ok-messages.ensures _ _ c.add_server.ensures.ok
+    c.free_server_receiver-receiver.ensures.vacant _ c.in_ok-messages.ensures c.add_server.new.self
+    c.add_server.result c.add_server.ensures.ok
+
+pub returns-in-Some-clause-senders : goal.returns-in-Some-clause-senders
+returns-in-Some-clause-senders g c =
+    let p = c.args.store.now in
+    then_ok c.add_server_again.result
+    (λ added. ap (λ (q : Parts _ _ _ _ _). length q.server_senders) added
+    ∙ as_many p.server_senders p.left_servers c.in-Some.index _ _ c.in-Some.ensures) c.add_server_again.ensures.ok
+
+pub returns-in-None-clause-senders : goal.returns-in-None-clause-senders
+returns-in-None-clause-senders g c =
+    let p = c.args.store.now in
+    then_ok c.add_server.result
+    (λ added. ap (λ (q : Parts _ _ _ _ _). length q.server_senders) added
+    ∙ one_more p.server_senders p.left_servers _ c.in-None.ensures) c.add_server.ensures.ok

@@ -106,11 +106,11 @@ pub not_zero : (n : ℕ) → (n == 0) ≡ false → 0 < n
 not_zero n h = ⊎_elim (λ l. l) (λ l. absurd (false≢true (sym h ∙ eq-eqb n 0 (omega (arith, l))))) (cases_lt 0 n)
 
 -- of two tests that both fail, the one and the other
-left_off : (a b : Bool) → (a || b) ≡ false → a ≡ false
+pub left_off : (a b : Bool) → (a || b) ≡ false → a ≡ false
 left_off false b e = refl
 left_off true b e = absurd (false≢true (sym e))
 
-right_off : (a b : Bool) → (a || b) ≡ false → b ≡ false
+pub right_off : (a b : Bool) → (a || b) ≡ false → b ≡ false
 right_off false b e = e
 right_off true b e = absurd (false≢true (sym e))
 

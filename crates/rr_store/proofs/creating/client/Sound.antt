@@ -1,8 +1,8 @@
 -- What is true of a core stays true as a client is created.
-use Rattle.std.proofs.Common.{[], ◌∷◌, ◌≡◌, ◌≢◌, ◌<◌, ◌≤◌, ◌+◌, ◌*◌, ◌^◌, ℕ, Bool, true, Some, length, get_or, refl, sym, ap, ◌∙◌, arith}
+use Rattle.std.proofs.Common.{[], ◌∷◌, ◌≡◌, ◌≢◌, ◌<◌, ◌≤◌, ◌+◌, ◌*◌, ◌^◌, ℕ, Bool, true, Some, length, map, refl, sym, ap, ◌∙◌, arith}
 use Rattle.std.specs.Prelude.{◌==◌, slice_get}
 use Rattle.std.specs.FinMap as fin_map
-use Rattle.std.proofs.lemmas.Bool.{eqb-true, and_parts}
+use Rattle.std.proofs.lemmas.Bool.{eqb-true, and_parts, ne_eqb}
 use Rattle.std.proofs.lemmas.List.{length-append, length-replicate}
 use Rattle.rr_table.specs.TableView.{TableEntry}
 use Rattle.rr_sender.specs.Senders.{Messages, times, queue_at, borrowed_at}
@@ -12,36 +12,46 @@ use Rattle.rr_store.specs.declared.handle_entry.Stage.{Stage}
 use Rattle.rr_store.specs.declared.handle_entry.Stage.TheVariants as stage
 use Rattle.rr_store.specs.declared.details.RequestDetails.{RequestDetails}
 use Rattle.rr_store.specs.Parts.{Parts, ClientPart, Sender, ServerPart}
-use Rattle.rr_store.specs.Views.{no_request, sender_of, no_server}
+use Rattle.rr_store.specs.Views.{is_marked, no_request, sender_of, no_server}
 use Rattle.rr_store.specs.Sound.{IsSound, IsCounted, IsNumbered, IsAddressed, IsPlaced, IsStored, IsSized, IsVacated, IsShaped, empty_hand, handles, is_in_sender, is_of_request, is_request_loan, is_pending, is_active_of, is_received, is_received_at, request_details, response_details, request_uses, server_place, place_at, HavePorts}
-use Rattle.rr_store.specs.Creating.{IsNew, new_client, client_port, new_client_sender, with_client_part}
-use Rattle.rr_store.proofs.creating.NewSenders.{LooksLike, apart_added, count_added, each_added, looks_like, new_borrowed, new_slots, none_in, row_stays, rows_added, same_everywhere, same_place, same_shown, sender_before}
+use Rattle.rr_store.specs.Creating.{IsNew, Site, client_row_len, new_client, client_port, new_client_sender, with_client_part}
+use Rattle.rr_store.proofs.creating.NewSenders.{IsPut, LooksLike, apart_added, count_added, each_added, each_other, looks_like, new_borrowed, new_slots, none_in, row_stays, rows_added, same_everywhere, same_place, sender_cases, vacant_added}
+use Rattle.rr_store.proofs.creating.Sites.{IsSited, request_elsewhere}
 use Rattle.rr_store.proofs.base.lists.Adding.{pool_fits, makes_channels, given_before}
 use Rattle.rr_store.proofs.creating.NewPort.{port_added, port_stays, later_next, new_shaped, left_added}
 use Rattle.rr_protocol.specs.Limits.{worst_case_requests}
-use Rattle.rr_store.proofs.base.views.Agreeing.{request_sender}
 use Rattle.rr_store.proofs.base.hands.Stages.{loan_is_request, pending_is_request, active_is_request, received_is_response, handle_uses_request, handle_uses_response}
 use Rattle.rr_store.proofs.base.lists.Tallies.{and_none, tally-never, snoc_cases, snoc_keeps}
 use Rattle.rr_store.proofs.base.views.Counts.{listed}
 
 module _ {Q QH P PH K : Type 0} (p : Parts Q QH P PH K) (settings : ClientSettings K) (receiver : ℕ) (m : Messages Q RequestDetails QH)
+    (site : Site Q RequestDetails QH)
     (sound : IsSound p empty_hand)
+    (sited : IsSited (map (λ (c : ClientPart K). c.connected) p.clients) p.left_clients p.client_senders p.server_senders p.table.rows
+    (client_row_len p settings) (new_client_sender p settings site.row receiver m) site)
     (new : IsNew (client_port p settings).pool_size settings.initial_max_slice_len p.limits.max_servers 1
     p.limits.max_active_requests_per_client no_request m)
     (inside : receiver < p.limits.max_clients)
     (vacant : (i : ℕ) (c : ClientPart K) → slice_get p.clients i ≡ Some c → c.receiver ≢ receiver)
     (few : length p.clients < p.limits.max_clients)
     (left : p.next < 2 ^ 62)
-    (fits : (p.limits.max_servers + 1) * (client_port p settings).pool_size < 2 ^ 64)
+    (fits : client_row_len p settings < 2 ^ 64)
     (can_leave : length p.clients + 1 + length p.left_clients ≤ p.client_room) where
   abbrev after : Parts Q QH P PH K
-  after = with_client_part p settings receiver m
+  after = with_client_part p settings receiver site
 
   abbrev last : Sender Q RequestDetails QH
-  last = new_client_sender p settings receiver m
+  last = new_client_sender p settings site.row receiver m
+
+  -- the client that sends from it
+  abbrev client : ClientPart K
+  client = new_client p settings site.sender receiver
+
+  put : IsPut site.sender last p.client_senders site.senders
+  put = sited.put
 
   like : LooksLike p.client_senders after.client_senders
-  like = looks_like p.client_senders last new
+  like = looks_like put new
 
   -- the details of a used request is as before
   details_kept : (l i : ℕ) → 0 < request_uses p l i → request_details after l i ≡ request_details p l i
@@ -109,10 +119,15 @@ module _ {Q QH P PH K : Type 0} (p : Parts Q QH P PH K) (settings : ClientSettin
         )));
   }
 
+  -- no request is of the new sender
+  elsewhere : (k : ℕ) (s : TableEntry HandleEntry) → fin_map.get p.table.entries k ≡ Some s → is_of_request s.value.stage ≡ true
+      → s.value.sender ≢ site.sender
+  elsewhere = request_elsewhere p sound.counted site.sender put.idle
+
   -- a request stands in the row of a sender that was there
   in_its_sender : (k : ℕ) (s : TableEntry HandleEntry) → fin_map.get p.table.entries k ≡ Some s → is_of_request s.value.stage ≡ true
       → sender_of s.value.sender after.client_senders ≡ sender_of s.value.sender p.client_senders
-  in_its_sender k s at is = sender_before p.client_senders last s.value.sender (request_sender p empty_hand sound.counted k s at is)
+  in_its_sender k s at is = put.others s.value.sender (elsewhere k s at is)
 
   -- a handle's place follows from the same row
   place_kept : (k : ℕ) (s : TableEntry HandleEntry) → fin_map.get p.table.entries k ≡ Some s → (g : Stage) → s.value.stage ≡ g
@@ -133,35 +148,34 @@ module _ {Q QH P PH K : Type 0} (p : Parts Q QH P PH K) (settings : ClientSettin
       let n = sound.inserted in
       record {
         placed = λ k s at. n.placed k s at ∙ sym (place_kept k s at s.value.stage refl);
-        client_rows = rows_added p.client_senders last new (λ slots. (p.limits.max_servers + 1) * slots) p.table.rows refl n.client_rows;
-        server_rows = λ l h. row_stays p.table.rows _ _ _ (n.server_rows l h);
-        client_rows_apart = apart_added p.client_senders last (λ x. x.row) (λ l h. (n.client_rows l h).0) n.client_rows_apart;
+        client_rows = rows_added put new (λ slots. (p.limits.max_servers + 1) * slots) sited.rowed sited.rows_apart n.client_rows;
+        server_rows = λ l h. row_stays sited.rowed _ _ (sited.other_rows l h) (n.server_rows l h);
+        client_rows_apart = apart_added put (λ x. x.row) sited.rows_apart n.client_rows_apart;
         server_rows_apart = n.server_rows_apart;
-        rows_apart = λ l k h g. each_added p.client_senders last (λ _ x. x.row ≢ (sender_of k p.server_senders).row)
-            (λ l before. n.rows_apart l k before g) (λ same. absurd (omega (arith, (n.server_rows k g).0, same))) l h;
+        rows_apart = λ l k h g. each_other put (λ _ x. x.row ≢ (sender_of k p.server_senders).row)
+            (λ l _ before. n.rows_apart l k before g) (λ same. sited.other_rows k g (sym same)) l h;
         active_servers = n.active_servers;
       }
 
   -- no handle is in the new sender
   none_last : (test : Stage → Bool) → ((g : Stage) → test g ≡ true → is_of_request g ≡ true)
-      → handles p (is_in_sender test (length p.client_senders)) empty_hand ≡ 0
+      → handles p (is_in_sender test site.sender) empty_hand ≡ 0
   none_last test of_request = omega (
     arith,
-    none_in p.table.entries (length p.client_senders) test
-        (λ k s at is. request_sender p empty_hand sound.counted k s at (of_request s.value.stage is)),
+    none_in p.table.entries site.sender test (λ k s at is. elsewhere k s at (of_request s.value.stage is)),
   )
 
   stored : IsStored after empty_hand
   stored =
       let n = sound.stored in
       record {
-        request_loans = count_added p.client_senders last (λ x. x.loans) (λ l. handles p (is_in_sender is_request_loan l) empty_hand)
+        request_loans = count_added put (λ x. x.loans) (λ l. handles p (is_in_sender is_request_loan l) empty_hand)
             refl (none_last is_request_loan loan_is_request) n.request_loans;
-        pendings = count_added p.client_senders last (λ x. x.pendings) (λ l. handles p (is_in_sender is_pending l) empty_hand)
+        pendings = count_added put (λ x. x.pendings) (λ l. handles p (is_in_sender is_pending l) empty_hand)
             refl (none_last is_pending pending_is_request) n.pendings;
         response_loans = n.response_loans;
         active_loans = n.active_loans;
-        borrowed_requests = λ l server. count_added p.client_senders last (λ x. borrowed_at x.messages (server_place p server) 0)
+        borrowed_requests = λ l server. count_added put (λ x. borrowed_at x.messages (server_place p server) 0)
             (λ l. handles p (is_in_sender (is_active_of server) l) empty_hand) (new_borrowed m new (server_place p server) 0)
             (none_last (is_active_of server) (active_is_request server)) (λ l h. n.borrowed_requests l server h) l;
         borrowed_responses = λ l i channel c h at. snoc_cases p.clients _ i c at
@@ -186,31 +200,35 @@ module _ {Q QH P PH K : Type 0} (p : Parts Q QH P PH K) (settings : ClientSettin
       let slots_are = new_slots new in
       record {
         limits_fit = n.limits_fit;
-        client_senders = each_added p.client_senders last (λ _ x. IsShaped p.limits.max_servers 1
+        client_senders = each_added put (λ _ x. IsShaped p.limits.max_servers 1
             p.limits.max_active_requests_per_client x.messages) n.client_senders (new_shaped new);
         server_senders = n.server_senders;
-        marks = each_added p.client_senders last (λ _ x. length x.may_answer ≡ length x.messages.held * p.limits.max_servers) n.marks
+        marks = each_added put (λ _ x. length x.may_answer ≡ length x.messages.held * p.limits.max_servers) n.marks
             (length-replicate ((client_port p settings).pool_size * p.limits.max_servers) no_server
             ∙ ap (λ n. n * p.limits.max_servers) (sym slots_are));
         next_fits = omega (arith, left);
-        channels = each_added p.client_senders last (λ _ x. length x.messages.held ≤ worst_case_requests p.limits) n.channels
+        channels = each_added put (λ _ x. length x.messages.held ≤ worst_case_requests p.limits) n.channels
             (omega (arith, slots_are, pool_fits (worst_case_requests p.limits) settings.pool (makes_channels p.limits n.limits_fit)));
-        loans_made = λ i c at. snoc_cases p.clients (new_client p settings receiver) i c at
+        loans_made = λ i c at. snoc_cases p.clients client i c at
             (λ before h. omega (arith, n.loans_made i c before)) (λ e is. omega (arith, ap (λ (c : ClientPart K). c.loans_made) is));
         most_loans = n.most_loans;
-        rows_fit = each_added p.client_senders last (λ _ x. (p.limits.max_servers + 1) * length x.messages.held < 2 ^ 64) n.rows_fit
+        rows_fit = each_added put (λ _ x. (p.limits.max_servers + 1) * length x.messages.held < 2 ^ 64) n.rows_fit
             (omega (arith, ap (λ k. (p.limits.max_servers + 1) * k) slots_are, fits));
       }
 
   vacated : IsVacated after
   vacated = record {
     of_clients = λ l there channel none. sound.vacated.of_clients l there channel (λ i c e. none i c (snoc_keeps p.clients _ i c e));
-    of_servers = λ l there channel none.
-        let n = sound.vacated.of_servers l there channel none in (like.queues l there channel ∙ n.0, like.borrowed l there channel ∙ n.1);
-    awaits_none = λ l i there server new_one fits. ap (λ k. k == server)
-        (same_shown p.client_senders last (λ x. get_or x.may_answer (i * p.limits.max_servers + there) no_server)
-        (same_everywhere ((client_port p settings).pool_size * p.limits.max_servers) (i * p.limits.max_servers + there) no_server) l)
-        ∙ sound.vacated.awaits_none l i there server (omega (arith, new_one)) fits;
+    of_servers = λ l there channel none. vacant_added put new there channel
+        (λ l. sound.vacated.of_servers l there channel none) l;
+    awaits_none = λ l i there server fresh fits.
+        let shown : Sender Q RequestDetails QH → Bool = λ x. is_marked p.limits.max_servers x.may_answer i there server in
+        sender_cases put l
+        (λ n e. ap shown e ∙ sound.vacated.awaits_none l i there server (omega (arith, fresh)) fits)
+        (λ e at. ap shown at
+        ∙ ap (λ k. k == server) (same_everywhere ((client_port p settings).pool_size * p.limits.max_servers)
+        (i * p.limits.max_servers + there) no_server)
+        ∙ ne_eqb no_server server (λ same. omega (arith, same, fits)));
   }
 
   have_ports : HavePorts after
@@ -222,7 +240,7 @@ module _ {Q QH P PH K : Type 0} (p : Parts Q QH P PH K) (settings : ClientSettin
           pending = λ is. port_stays (λ (c : ClientPart K). c.sender) p.clients _ s.value.sender (h.pending is);
           response_loan = h.response_loan;
         };
-        apart = λ i j c s at there. snoc_cases p.clients (new_client p settings receiver) i c at (λ before h. n.apart i j c s before there)
+        apart = λ i j c s at there. snoc_cases p.clients client i c at (λ before h. n.apart i j c s before there)
             (λ e is same. omega (
               arith,
               same,
@@ -230,11 +248,10 @@ module _ {Q QH P PH K : Type 0} (p : Parts Q QH P PH K) (settings : ClientSettin
               given_before p.next p.limits.max_servers _ p.server_senders sound.server_ports j s.connected
                   (listed (λ (s : ServerPart K). s.connected) p.servers j s there),
             ));
-        left_clients = left_added (λ (c : ClientPart K). c.connected) p.next p.limits.max_clients p.clients p.client_senders
-            sound.client_ports (new_client p settings receiver) last new refl refl refl (new_slots new) new.room_is refl refl inside vacant few
-            p.left_clients n.left_clients;
+        left_clients = left_added (λ (c : ClientPart K). c.connected) p.next p.limits.max_clients p.clients sound.client_ports
+            client put new sited.ports refl refl refl (new_slots new) new.room_is refl refl inside vacant few sited.kept n.left_clients;
         left_servers = n.left_servers;
-        client_room = omega (arith, can_leave, length-append p.clients (new_client p settings receiver ∷ []));
+        client_room = omega (arith, can_leave, sited.kept.fewer, length-append p.clients (client ∷ []));
         server_room = n.server_room;
       }
 
@@ -254,7 +271,7 @@ module _ {Q QH P PH K : Type 0} (p : Parts Q QH P PH K) (settings : ClientSettin
     sized = sized;
     vacated = vacated;
     have_ports = have_ports;
-    client_ports = port_added (λ (c : ClientPart K). c.connected) p.next p.limits.max_clients p.clients p.client_senders sound.client_ports
-        (new_client p settings receiver) last new refl refl refl (new_slots new) new.room_is refl refl inside vacant few;
+    client_ports = port_added (λ (c : ClientPart K). c.connected) p.next p.limits.max_clients p.clients sound.client_ports client put new
+        sited.ports refl refl refl (new_slots new) new.room_is refl refl inside vacant few;
     server_ports = later_next sound.server_ports;
   }

@@ -1,6 +1,6 @@
 -- What contracts see of a core after a client was created.
-use Rattle.std.proofs.Common.{◌≡◌, ◌≢◌, ℕ, Bool, true, false, cond, List, [], Option, None, Some, find, map, refl, sym, ap, ◌∙◌}
-use Rattle.std.specs.Prelude.{◌==◌, slice_get}
+use Rattle.std.proofs.Common.{◌≡◌, ◌≢◌, ℕ, Bool, true, false, cond, List, [], Option, None, Some, find, map, refl, sym, ap, ◌∙◌, arith}
+use Rattle.std.specs.Prelude.{◌==◌, filter, slice_get}
 use Rattle.std.specs.Option.{option_map_or, option_or}
 use Rattle.std.specs.FinMap as fin_map
 use Rattle.std.proofs.lemmas.Option.{get_or_from_slice_get}
@@ -16,55 +16,58 @@ use Rattle.rr_store.specs.declared.handle_entry.HandleEntry.{HandleEntry}
 use Rattle.rr_store.specs.declared.details.RequestDetails.{RequestDetails}
 use Rattle.rr_store.specs.declared.details.ResponseDetails.{ResponseDetails}
 use Rattle.rr_store.specs.Parts.{Parts, ClientPart, ServerPart, Sender}
-use Rattle.rr_store.specs.Views.{no_sender, no_request, sender_of, client_of, handle_of, request_in_slot, response_in_slot, requests_at, responses_at, state_of, marked}
+use Rattle.rr_store.specs.Views.{no_sender, no_request, sender_of, client_of, handle_of, request_in_slot, request_lists, response_in_slot, response_lists, requests_at, responses_at, state_of, marked}
 use Rattle.rr_store.specs.Sound.{IsSound, empty_hand}
-use Rattle.rr_store.specs.Creating.{IsNew, new_client, new_client_sender, with_client_part}
+use Rattle.rr_store.specs.Creating.{IsNew, Site, new_client, new_client_sender, with_client_part}
+use Rattle.rr_store.specs.Expired.{requests_from}
 use Rattle.rr_store.proofs.base.lists.Found.{found_somewhere, find_last}
-use Rattle.rr_store.proofs.creating.NewSenders.{new_queue, sender_before}
-use Rattle.rr_store.proofs.base.views.Agreeing.{request_sender, same_handle, same_requests, same_responses, same_state, same_expired}
+use Rattle.rr_store.proofs.creating.IdleLeft.{IsOwnedOnce, read_put, same_left_clients}
+use Rattle.rr_store.proofs.creating.NewSenders.{IsPut, apart_added, new_queue}
+use Rattle.rr_store.proofs.creating.Sites.{request_elsewhere}
+use Rattle.rr_store.proofs.base.views.Agreeing.{same_handle, same_requests, same_responses, same_state, same_expired}
 
 module _ {Q QH P PH K : Type 0} (p : Parts Q QH P PH K) (settings : ClientSettings K) (receiver : ℕ) (m : Messages Q RequestDetails QH)
-    (sound : IsSound p empty_hand) (slots room receivers channels capacity : ℕ)
+    (site : Site Q RequestDetails QH) (sound : IsSound p empty_hand) (slots room receivers channels capacity : ℕ)
     (new : IsNew slots room receivers channels capacity no_request m)
-    (vacant : (i : ℕ) (c : ClientPart K) → slice_get p.clients i ≡ Some c → c.receiver ≢ receiver) where
+    (vacant : (i : ℕ) (c : ClientPart K) → slice_get p.clients i ≡ Some c → c.receiver ≢ receiver)
+    (put : IsPut site.sender (new_client_sender p settings site.row receiver m) p.client_senders site.senders)
+    (unlisted : (n : ℕ) → filter (requests_from (request_lists p) n) (map (λ l. l.number) site.left)
+    ≡ filter (requests_from (request_lists p) n) (map (λ l. l.number) p.left_clients)) where
   abbrev after : Parts Q QH P PH K
-  after = with_client_part p settings receiver m
+  after = with_client_part p settings receiver site
 
   -- the handles show what they did
   handles : (k : ℕ) (s : TableEntry HandleEntry) → fin_map.get p.table.entries k ≡ Some s → handle_of after s ≡ handle_of p s
   handles k s at =
       same_handle after p s.value.stage s.value.sender s.value.slot
       (λ is.
-      let within = request_sender p empty_hand sound.counted k s at is in (
-        ap (λ (l : Sender Q RequestDetails QH). request_in_slot p.spare_request_header l.messages s.value.slot)
-            (sender_before p.client_senders _ s.value.sender within),
-        ap (λ (l : Sender Q RequestDetails QH). marked p.limits.max_servers p.servers l.may_answer s.value.slot)
-            (sender_before p.client_senders _ s.value.sender within),
+      let kept = put.others s.value.sender (request_elsewhere p sound.counted site.sender put.idle k s at is) in (
+        ap (λ (l : Sender Q RequestDetails QH). request_in_slot p.spare_request_header l.messages s.value.slot) kept,
+        ap (λ (l : Sender Q RequestDetails QH). marked p.limits.max_servers p.servers l.may_answer s.value.slot) kept,
       ))
       (λ is. refl)
 
-  -- no request waits in the new sender
-  requests : (key : RequestKey) → requests_at after key ≡ requests_at p key
-  requests key =
-      ap (λ o. option_map_or (λ (s : ServerPart K). option_map_or
-      (λ (l : Sender Q RequestDetails QH). shown l s) o []) (find (λ s. s.port.id == key.server) p.servers)
-      []) (find_last (λ (l : Sender Q RequestDetails QH). l.owner == key.client) p.client_senders _)
-      ∙ go (find (λ s. s.port.id == key.server) p.servers) (find (λ l. l.owner == key.client) p.client_senders) (p.next == key.client)
-    where
-      shown : Sender Q RequestDetails QH → ServerPart K → List (RequestMessage Q QH)
-      shown l s = map (request_in_slot p.spare_request_header l.messages) (queue_at l.messages s.receiver 0)
+  -- no two senders have one number
+  owned_once : IsOwnedOnce site.senders
+  owned_once = apart_added put (λ l. l.owner) (λ l _ h same. omega (arith, sound.client_ports.numbered l h, same))
+      sound.client_ports.owned_once
 
-      go : (server : Option (ServerPart K)) (sender : Option (Sender Q RequestDetails QH)) (b : Bool)
-          → option_map_or (λ s. option_map_or
-          (λ l. map (request_in_slot p.spare_request_header l.messages) (queue_at l.messages s.receiver 0))
-          (option_or sender (cond b (Some (new_client_sender p settings receiver m)) None)) []) server []
-          ≡ option_map_or (λ s. option_map_or
-          (λ l. map (request_in_slot p.spare_request_header l.messages) (queue_at l.messages s.receiver 0))
-          sender []) server []
-      go None sender b = refl
-      go (Some s) (Some l) b = refl
-      go (Some s) None true = ap (map (request_in_slot p.spare_request_header m)) (new_queue m new s.receiver 0)
-      go (Some s) None false = refl
+  -- no request waits in the new sender, and none waited in the one before it
+  requests : (key : RequestKey) → requests_at after key ≡ requests_at p key
+  requests key = go (find (λ s. s.port.id == key.server) p.servers)
+    where
+      shown : ServerPart K → Sender Q RequestDetails QH → List (RequestMessage Q QH)
+      shown s l = map (request_in_slot p.spare_request_header l.messages) (queue_at l.messages s.receiver 0)
+
+      go : (server : Option (ServerPart K))
+          → option_map_or (λ s. option_map_or (shown s) (find (λ l. l.owner == key.client) site.senders) []) server []
+          ≡ option_map_or (λ s. option_map_or (shown s) (find (λ l. l.owner == key.client) p.client_senders) []) server []
+      go None = refl
+      go (Some s) = read_put put sound.client_ports.owned_once owned_once (shown s) []
+          (ap (map (request_in_slot p.spare_request_header m)) (new_queue m new s.receiver 0))
+          (ap (map (request_in_slot p.spare_request_header (sender_of site.sender p.client_senders).messages))
+          (put.idle.queues s.receiver 0))
+          key.client
 
   -- no response waits for the new client
   responses : (key : ResponseKey) → responses_at after key ≡ responses_at p key
@@ -81,7 +84,7 @@ module _ {Q QH P PH K : Type 0} (p : Parts Q QH P PH K) (settings : ClientSettin
           → find (λ l. l.owner == key.server) p.server_senders ≡ sender
           → option_map_or (λ c. option_map_or (λ l. map (response_in_slot p.spare_response_header l.messages)
           (queue_at l.messages c.receiver key.channel)) sender []) (option_or client
-          (cond b (Some (new_client p settings receiver)) None)) []
+          (cond b (Some (new_client p settings site.sender receiver)) None)) []
           ≡ option_map_or (λ c. option_map_or (λ l. map (response_in_slot p.spare_response_header l.messages)
           (queue_at l.messages c.receiver key.channel)) sender []) client []
       go (Some c) sender b e = refl
@@ -102,4 +105,5 @@ module _ {Q QH P PH K : Type 0} (p : Parts Q QH P PH K) (settings : ClientSettin
       (map-append client_of p.clients _) refl
       (map_values-same (handle_of after) (handle_of p) p.table.entries handles)
       (same_requests after p requests) (same_responses after p responses)
-      (same_expired _ _ (same_requests after p requests) (same_responses after p responses)) refl
+      (same_expired _ _ (same_requests after p requests) (same_responses after p responses)
+      ∙ same_left_clients (request_lists p) (response_lists p) _ _ _ unlisted) refl

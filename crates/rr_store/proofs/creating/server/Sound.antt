@@ -1,5 +1,5 @@
 -- What is true of a core stays true as a server is created.
-use Rattle.std.proofs.Common.{[], ◌∷◌, ◌≡◌, ◌≢◌, ◌<◌, ◌+◌, ◌*◌, ◌^◌, ℕ, ◌≤◌, Bool, true, false, cond, Option, None, Some, find, length, get_or, refl, sym, ap, ◌∙◌, subst, arith}
+use Rattle.std.proofs.Common.{[], ◌∷◌, ◌≡◌, ◌≢◌, ◌<◌, ◌+◌, ◌*◌, ◌^◌, ℕ, ◌≤◌, Bool, true, false, cond, Option, None, Some, find, length, map, get_or, refl, sym, ap, ◌∙◌, subst, arith}
 use Rattle.std.specs.Prelude.{◌==◌, ◌&&◌, slice_get}
 use Rattle.std.specs.Option.{option_map_or, option_or}
 use Rattle.std.specs.FinMap as fin_map
@@ -17,18 +17,21 @@ use Rattle.rr_store.specs.declared.details.ResponseDetails.{ResponseDetails}
 use Rattle.rr_store.specs.Parts.{Parts, ServerPart, Sender, ClientPart}
 use Rattle.rr_store.specs.Views.{no_response, sender_of}
 use Rattle.rr_store.specs.Sound.{IsSound, IsCounted, IsHeldOnce, IsNumbered, IsAddressed, IsPlaced, IsStored, IsSized, IsVacated, IsShaped, empty_hand, handles, is_in_sender, is_of_response, is_active_of, is_response_loan, is_received, has_request_at, is_received_at, response_details, response_uses, server_place, place_at, HavePorts}
-use Rattle.rr_store.specs.Creating.{IsNew, new_server, server_port, new_server_sender, with_server_part}
+use Rattle.rr_store.specs.Creating.{IsNew, Site, new_server, server_port, new_server_sender, with_server_part}
 use Rattle.rr_store.proofs.base.lists.Found.{find_last}
-use Rattle.rr_store.proofs.creating.NewSenders.{LooksLike, apart_added, count_added, each_added, looks_like, new_borrowed, new_slots, none_in, row_stays, rows_added, same_place, same_sender, sender_before}
+use Rattle.rr_store.proofs.creating.NewSenders.{IsPut, LooksLike, apart_added, count_added, each_added, each_other, looks_like, new_borrowed, new_slots, none_in, row_stays, rows_added, same_place, same_sender, vacant_added}
+use Rattle.rr_store.proofs.creating.Sites.{IsSited, response_elsewhere}
 use Rattle.rr_store.proofs.creating.NewPort.{port_added, port_stays, later_next, new_shaped, left_added}
-use Rattle.rr_store.proofs.base.views.Agreeing.{response_sender}
 use Rattle.rr_store.proofs.base.hands.Stages.{response_loan_is_response, received_is_response, handle_uses_response}
 use Rattle.rr_store.proofs.base.lists.Tallies.{and_none, tally-never, tally-same, snoc_cases, snoc_keeps}
 use Rattle.rr_store.proofs.base.lists.Adding.{given_before}
 use Rattle.rr_store.proofs.base.views.Counts.{listed}
 
 module _ {Q QH P PH K : Type 0} (p : Parts Q QH P PH K) (settings : ServerSettings K) (receiver : ℕ) (m : Messages P ResponseDetails PH)
+    (site : Site P ResponseDetails PH)
     (sound : IsSound p empty_hand)
+    (sited : IsSited (map (λ (s : ServerPart K). s.connected) p.servers) p.left_servers p.server_senders p.client_senders p.table.rows
+    (server_port p settings).pool_size (new_server_sender p site.row receiver m) site)
     (new : IsNew (server_port p settings).pool_size settings.initial_max_slice_len p.limits.max_clients
     (worst_case_requests p.limits) p.limits.max_response_buffer_size no_response m)
     (inside : receiver < p.limits.max_servers)
@@ -37,16 +40,19 @@ module _ {Q QH P PH K : Type 0} (p : Parts Q QH P PH K) (settings : ServerSettin
     (left : p.next < 2 ^ 62)
     (can_leave : length p.servers + 1 + length p.left_servers ≤ p.server_room) where
   abbrev after : Parts Q QH P PH K
-  after = with_server_part p settings receiver m
+  after = with_server_part p settings receiver site
 
   abbrev last_server : ServerPart K
-  last_server = new_server p settings receiver
+  last_server = new_server p settings site.sender receiver
 
   abbrev last : Sender P ResponseDetails PH
-  last = new_server_sender p receiver m
+  last = new_server_sender p site.row receiver m
+
+  put : IsPut site.sender last p.server_senders site.senders
+  put = sited.put
 
   like : LooksLike p.server_senders after.server_senders
-  like = looks_like p.server_senders last new
+  like = looks_like put new
 
   -- a server is sent to where it was, or is the new one, which was not sent to before
   place_cases : {Z : Type 0} (server : ℕ) → (server_place after server ≡ server_place p server → Z)
@@ -177,14 +183,20 @@ module _ {Q QH P PH K : Type 0} (p : Parts Q QH P PH K) (settings : ServerSettin
         let there = sound.addressed.entries l i channel j c at before in
         let details : response_details after l i ≡ response_details p l i = ap
         (λ (x : Sender P ResponseDetails PH). get_or x.messages.details i no_response)
-        (same_sender p.server_senders last (λ x. times i (queue_at x.messages c.receiver channel)) refl l before) in
+        (same_sender put (λ x. times i (queue_at x.messages c.receiver channel)) (ap (times i) (put.idle.queues c.receiver channel)) l
+        before) in
         (ap (λ (n : ResponseDetails). n.client) details ∙ there.0, ap (λ (n : ResponseDetails). n.channel) details ∙ there.1);
   }
+
+  -- no response is of the new sender
+  elsewhere : (k : ℕ) (s : TableEntry HandleEntry) → fin_map.get p.table.entries k ≡ Some s → is_of_response s.value.stage ≡ true
+      → s.value.sender ≢ site.sender
+  elsewhere = response_elsewhere p sound.counted site.sender put.idle
 
   -- a response stands in the row of a sender that was there
   in_its_sender : (k : ℕ) (s : TableEntry HandleEntry) → fin_map.get p.table.entries k ≡ Some s → is_of_response s.value.stage ≡ true
       → sender_of s.value.sender after.server_senders ≡ sender_of s.value.sender p.server_senders
-  in_its_sender k s at is = sender_before p.server_senders last s.value.sender (response_sender p empty_hand sound.counted k s at is)
+  in_its_sender k s at is = put.others s.value.sender (elsewhere k s at is)
 
   -- a handle's place follows from the same row
   place_kept : (k : ℕ) (s : TableEntry HandleEntry) → fin_map.get p.table.entries k ≡ Some s → (g : Stage) → s.value.stage ≡ g
@@ -205,12 +217,12 @@ module _ {Q QH P PH K : Type 0} (p : Parts Q QH P PH K) (settings : ServerSettin
       let n = sound.inserted in
       record {
         placed = λ k s at. n.placed k s at ∙ sym (place_kept k s at s.value.stage refl);
-        client_rows = λ l h. row_stays p.table.rows _ _ _ (n.client_rows l h);
-        server_rows = rows_added p.server_senders last new (λ slots. slots) p.table.rows refl n.server_rows;
+        client_rows = λ l h. row_stays sited.rowed _ _ (sited.other_rows l h) (n.client_rows l h);
+        server_rows = rows_added put new (λ slots. slots) sited.rowed sited.rows_apart n.server_rows;
         client_rows_apart = n.client_rows_apart;
-        server_rows_apart = apart_added p.server_senders last (λ x. x.row) (λ l h. (n.server_rows l h).0) n.server_rows_apart;
-        rows_apart = λ l k h. each_added p.server_senders last (λ _ x. (sender_of l p.client_senders).row ≢ x.row)
-            (λ k before. n.rows_apart l k h before) (λ same. absurd (omega (arith, (n.client_rows l h).0, same))) k;
+        server_rows_apart = apart_added put (λ x. x.row) sited.rows_apart n.server_rows_apart;
+        rows_apart = λ l k h. each_other put (λ _ x. (sender_of l p.client_senders).row ≢ x.row)
+            (λ k _ before. n.rows_apart l k h before) (sited.other_rows l h) k;
         active_servers = λ k server s at is. omega (arith, n.active_servers k server s at is, active_kept k server s at is);
       }
 
@@ -235,11 +247,11 @@ module _ {Q QH P PH K : Type 0} (p : Parts Q QH P PH K) (settings : ServerSettin
       record {
         request_loans = n.request_loans;
         pendings = n.pendings;
-        response_loans = count_added p.server_senders last (λ x. x.loans) (λ l. handles p (is_in_sender is_response_loan l) empty_hand)
+        response_loans = count_added put (λ x. x.loans) (λ l. handles p (is_in_sender is_response_loan l) empty_hand)
             refl (omega (
               arith,
-              none_in p.table.entries (length p.server_senders) is_response_loan (λ k s at is. response_sender p
-                  empty_hand sound.counted k s at (response_loan_is_response s.value.stage is)),
+              none_in p.table.entries site.sender is_response_loan
+                  (λ k s at is. elsewhere k s at (response_loan_is_response s.value.stage is)),
             )) n.response_loans;
         active_loans = λ k server loans s at is. n.active_loans k server loans s at is
             ∙ ap (λ n. n + 0) (sym (noted_alike is_response_loan response_loan_is_response (λ s details. details.active_request == k)));
@@ -250,19 +262,15 @@ module _ {Q QH P PH K : Type 0} (p : Parts Q QH P PH K) (settings : ServerSettin
             ∙ sym (tally-never p.table.entries (λ s. is_active_of server s.value.stage && s.value.sender == l)
             (λ k s at t. none_active server far k s at (and_parts (is_active_of server s.value.stage) _ t).0))
             ∙ and_none _);
-        borrowed_responses = λ l i channel c h at. count_added p.server_senders last (λ x. borrowed_at x.messages c.receiver channel)
+        borrowed_responses = λ l i channel c h at. count_added put (λ x. borrowed_at x.messages c.receiver channel)
             (λ l. handles p (is_received_at p l c.port.id channel) empty_hand) (new_borrowed m new c.receiver channel)
             (omega (
               arith,
-              tally-never p.table.entries (λ s. is_received_at p (length p.server_senders) c.port.id channel s.value)
+              tally-never p.table.entries (λ s. is_received_at p site.sender c.port.id channel s.value)
                   (λ k s there t.
                   let received = and_parts (is_received s.value.stage) _ t in
-                  let here = and_parts (s.value.sender == length p.server_senders) _ received.1 in
-                  omega (
-                    arith,
-                    eqb-true s.value.sender (length p.server_senders) here.0,
-                    response_sender p empty_hand sound.counted k s there (received_is_response s.value.stage received.0),
-                  )),
+                  let here = and_parts (s.value.sender == site.sender) _ received.1 in
+                  elsewhere k s there (received_is_response s.value.stage received.0) (eqb-true s.value.sender site.sender here.0)),
             ))
             (λ l before. n.borrowed_responses l i channel c before at) l h
             ∙ ap (λ n. n + 0) (sym (noted_alike is_received received_is_response
@@ -276,7 +284,7 @@ module _ {Q QH P PH K : Type 0} (p : Parts Q QH P PH K) (settings : ServerSettin
       record {
         limits_fit = n.limits_fit;
         client_senders = n.client_senders;
-        server_senders = each_added p.server_senders last (λ _ x. IsShaped p.limits.max_clients (worst_case_requests p.limits)
+        server_senders = each_added put (λ _ x. IsShaped p.limits.max_clients (worst_case_requests p.limits)
             p.limits.max_response_buffer_size x.messages) n.server_senders (new_shaped new);
         marks = n.marks;
         next_fits = omega (arith, left);
@@ -292,8 +300,8 @@ module _ {Q QH P PH K : Type 0} (p : Parts Q QH P PH K) (settings : ServerSettin
 
   vacated : IsVacated after
   vacated = record {
-    of_clients = λ l there channel none.
-        let n = sound.vacated.of_clients l there channel none in (like.queues l there channel ∙ n.0, like.borrowed l there channel ∙ n.1);
+    of_clients = λ l there channel none. vacant_added put new there channel
+        (λ l. sound.vacated.of_clients l there channel none) l;
     of_servers = λ l there channel none. sound.vacated.of_servers l there channel (λ i s e. none i s (snoc_keeps p.servers _ i s e));
     awaits_none = λ l i there server new fits. sound.vacated.awaits_none l i there server (omega (arith, new)) fits;
   }
@@ -316,11 +324,11 @@ module _ {Q QH P PH K : Type 0} (p : Parts Q QH P PH K) (settings : ServerSettin
                   (listed (λ (c : ClientPart K). c.connected) p.clients i c at),
             ));
         left_clients = n.left_clients;
-        left_servers = left_added (λ (s : ServerPart K). s.connected) p.next p.limits.max_servers p.servers p.server_senders
-            sound.server_ports last_server last new refl refl refl (new_slots new) new.room_is refl refl inside vacant few
-            p.left_servers n.left_servers;
+        left_servers = left_added (λ (s : ServerPart K). s.connected) p.next p.limits.max_servers p.servers sound.server_ports
+            last_server put new sited.ports refl refl refl (new_slots new) new.room_is refl refl inside vacant few sited.kept
+            n.left_servers;
         client_room = n.client_room;
-        server_room = omega (arith, can_leave, length-append p.servers (last_server ∷ []));
+        server_room = omega (arith, can_leave, sited.kept.fewer, length-append p.servers (last_server ∷ []));
       }
 
   -- a server was created
@@ -336,6 +344,6 @@ module _ {Q QH P PH K : Type 0} (p : Parts Q QH P PH K) (settings : ServerSettin
     vacated = vacated;
     have_ports = have_ports;
     client_ports = later_next sound.client_ports;
-    server_ports = port_added (λ (s : ServerPart K). s.connected) p.next p.limits.max_servers p.servers p.server_senders sound.server_ports
-        last_server last new refl refl refl (new_slots new) new.room_is refl refl inside vacant few;
+    server_ports = port_added (λ (s : ServerPart K). s.connected) p.next p.limits.max_servers p.servers sound.server_ports last_server put
+        new sited.ports refl refl refl (new_slots new) new.room_is refl refl inside vacant few;
   }

@@ -16,12 +16,15 @@ use Rattle.rr_store.specs.declared.handle_entry.HandleEntry.{HandleEntry}
 use Rattle.rr_store.specs.declared.details.RequestDetails.{RequestDetails}
 use Rattle.rr_store.specs.declared.details.ResponseDetails.{ResponseDetails}
 use Rattle.rr_store.specs.Parts.{Parts, ClientPart, ServerPart, Sender}
-use Rattle.rr_store.specs.Views.{no_sender, no_response, sender_of, server_of, handle_of, request_in_slot, response_in_slot, requests_at, responses_at, is_awaited, waiting_at, state_of}
+use Rattle.rr_store.specs.Views.{no_sender, no_response, sender_of, server_of, handle_of, request_in_slot, request_lists, response_in_slot, response_lists, requests_at, responses_at, is_awaited, waiting_at, state_of}
 use Rattle.rr_store.specs.Sound.{IsSound, empty_hand}
-use Rattle.rr_store.specs.Creating.{IsNew, new_server, new_server_sender, with_server_part}
+use Rattle.rr_store.specs.Creating.{IsNew, Site, new_server, new_server_sender, with_server_part}
+use Rattle.rr_store.specs.Expired.{responses_from}
 use Rattle.rr_store.proofs.base.lists.Found.{found_somewhere, find_last}
-use Rattle.rr_store.proofs.creating.NewSenders.{new_queue, sender_before}
-use Rattle.rr_store.proofs.base.views.Agreeing.{response_sender, same_handle, same_requests, same_responses, same_state, same_expired}
+use Rattle.rr_store.proofs.creating.IdleLeft.{IsOwnedOnce, read_put, same_left_servers}
+use Rattle.rr_store.proofs.creating.NewSenders.{IsPut, apart_added, new_queue}
+use Rattle.rr_store.proofs.creating.Sites.{response_elsewhere}
+use Rattle.rr_store.proofs.base.views.Agreeing.{same_handle, same_requests, same_responses, same_state, same_expired}
 
 -- one more element that doesn't pass
 filter_more : {X : Type 0} (p : X → Bool) (xs : List X) (y : X) → p y ≡ false → filter p (xs ++ y ∷ []) ≡ filter p xs
@@ -34,17 +37,21 @@ filter_more p (x ∷ xs) y h = go (p x) (filter_more p xs y h)
     go false e = e
 
 module _ {Q QH P PH K : Type 0} (p : Parts Q QH P PH K) (settings : ServerSettings K) (receiver : ℕ) (m : Messages P ResponseDetails PH)
-    (sound : IsSound p empty_hand) (slots room receivers channels capacity : ℕ)
+    (site : Site P ResponseDetails PH) (sound : IsSound p empty_hand) (slots room receivers channels capacity : ℕ)
     (new : IsNew slots room receivers channels capacity no_response m)
     (vacant : (i : ℕ) (s : ServerPart K) → slice_get p.servers i ≡ Some s → s.receiver ≢ receiver)
-    (inside : receiver < p.limits.max_servers) where
+    (inside : receiver < p.limits.max_servers)
+    (put : IsPut site.sender (new_server_sender p site.row receiver m) p.server_senders site.senders)
+    (unlisted : (n : ℕ) → filter (responses_from (response_lists p) n) (map (λ l. l.number) site.left)
+    ≡ filter (responses_from (response_lists p) n) (map (λ l. l.number) p.left_servers)) where
   abbrev after : Parts Q QH P PH K
-  after = with_server_part p settings receiver m
+  after = with_server_part p settings receiver site
 
   -- no request awaits the new server
   waiting : (sender slot : ℕ) → waiting_at after sender slot ≡ waiting_at p sender slot
   waiting sender slot = ap (map (λ (s : ServerPart K). s.port.id))
-      (filter_more (λ (s : ServerPart K). is_awaited p sender slot s.receiver s.port.id) p.servers (new_server p settings receiver)
+      (filter_more (λ (s : ServerPart K). is_awaited p sender slot s.receiver s.port.id)
+      p.servers (new_server p settings site.sender receiver)
       (sound.vacated.awaits_none sender slot receiver p.next (omega arith) (omega (arith, sound.sized.next_fits))))
 
   -- the handles show what they did
@@ -53,29 +60,29 @@ module _ {Q QH P PH K : Type 0} (p : Parts Q QH P PH K) (settings : ServerSettin
       same_handle after p s.value.stage s.value.sender s.value.slot
       (λ is. (refl, waiting s.value.sender s.value.slot))
       (λ is. ap (λ (l : Sender P ResponseDetails PH). response_in_slot p.spare_response_header l.messages s.value.slot)
-      (sender_before p.server_senders _ s.value.sender (response_sender p empty_hand sound.counted k s at is)))
+      (put.others s.value.sender (response_elsewhere p sound.counted site.sender put.idle k s at is)))
 
-  -- no response waits in the new sender
+  -- no two senders have one number
+  owned_once : IsOwnedOnce site.senders
+  owned_once = apart_added put (λ l. l.owner) (λ l _ h same. omega (arith, sound.server_ports.numbered l h, same))
+      sound.server_ports.owned_once
+
+  -- no response waits in the new sender, and none waited in the one before it
   responses : (key : ResponseKey) → responses_at after key ≡ responses_at p key
-  responses key =
-      ap (λ o. option_map_or (λ (c : ClientPart K). option_map_or
-      (λ (l : Sender P ResponseDetails PH). shown l c) o []) (find (λ c. c.port.id == key.client) p.clients)
-      []) (find_last (λ (l : Sender P ResponseDetails PH). l.owner == key.server) p.server_senders _)
-      ∙ go (find (λ c. c.port.id == key.client) p.clients) (find (λ l. l.owner == key.server) p.server_senders) (p.next == key.server)
+  responses key = go (find (λ c. c.port.id == key.client) p.clients)
     where
-      shown : Sender P ResponseDetails PH → ClientPart K → List (ResponseMessage P PH)
-      shown l c = map (response_in_slot p.spare_response_header l.messages) (queue_at l.messages c.receiver key.channel)
+      shown : ClientPart K → Sender P ResponseDetails PH → List (ResponseMessage P PH)
+      shown c l = map (response_in_slot p.spare_response_header l.messages) (queue_at l.messages c.receiver key.channel)
 
-      go : (client : Option (ClientPart K)) (sender : Option (Sender P ResponseDetails PH)) (b : Bool)
-          → option_map_or (λ c. option_map_or (λ l. map (response_in_slot p.spare_response_header l.messages)
-          (queue_at l.messages c.receiver key.channel)) (option_or sender
-          (cond b (Some (new_server_sender p receiver m)) None)) []) client []
-          ≡ option_map_or (λ c. option_map_or (λ l. map (response_in_slot p.spare_response_header l.messages)
-          (queue_at l.messages c.receiver key.channel)) sender []) client []
-      go None sender b = refl
-      go (Some c) (Some l) b = refl
-      go (Some c) None true = ap (map (response_in_slot p.spare_response_header m)) (new_queue m new c.receiver key.channel)
-      go (Some c) None false = refl
+      go : (client : Option (ClientPart K))
+          → option_map_or (λ c. option_map_or (shown c) (find (λ l. l.owner == key.server) site.senders) []) client []
+          ≡ option_map_or (λ c. option_map_or (shown c) (find (λ l. l.owner == key.server) p.server_senders) []) client []
+      go None = refl
+      go (Some c) = read_put put sound.server_ports.owned_once owned_once (shown c) []
+          (ap (map (response_in_slot p.spare_response_header m)) (new_queue m new c.receiver key.channel))
+          (ap (map (response_in_slot p.spare_response_header (sender_of site.sender p.server_senders).messages))
+          (put.idle.queues c.receiver key.channel))
+          key.server
 
   -- no request waits for the new server
   requests : (key : RequestKey) → requests_at after key ≡ requests_at p key
@@ -92,7 +99,7 @@ module _ {Q QH P PH K : Type 0} (p : Parts Q QH P PH K) (settings : ServerSettin
           → find (λ l. l.owner == key.client) p.client_senders ≡ sender
           → option_map_or (λ s. option_map_or
           (λ l. map (request_in_slot p.spare_request_header l.messages) (queue_at l.messages s.receiver 0))
-          sender []) (option_or server (cond b (Some (new_server p settings receiver)) None)) []
+          sender []) (option_or server (cond b (Some (new_server p settings site.sender receiver)) None)) []
           ≡ option_map_or (λ s. option_map_or
           (λ l. map (request_in_slot p.spare_request_header l.messages) (queue_at l.messages s.receiver 0))
           sender []) server []
@@ -114,4 +121,5 @@ module _ {Q QH P PH K : Type 0} (p : Parts Q QH P PH K) (settings : ServerSettin
       refl (map-append server_of p.servers _)
       (map_values-same (handle_of after) (handle_of p) p.table.entries handles)
       (same_requests after p requests) (same_responses after p responses)
-      (same_expired _ _ (same_requests after p requests) (same_responses after p responses)) refl
+      (same_expired _ _ (same_requests after p requests) (same_responses after p responses)
+      ∙ same_left_servers (request_lists p) (response_lists p) _ _ _ unlisted) refl

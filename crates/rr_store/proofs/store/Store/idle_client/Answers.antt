@@ -1,0 +1,19 @@
+use Rattle.std.proofs.Common.{map, ap, ◌∙◌}
+use Rattle.rr_store.specs.Creating.{idle_left}
+use Rattle.rr_store.specs.Draining.{AreThere}
+use Rattle.rr_store.specs.Inside.{parts_of}
+use Rattle.rr_store.specs.Ports.{sender_part}
+use Rattle.rr_store.proofs.store.Store.idle_client.Goals as goal
+
+pub idle_left-requires : goal.idle_left-requires
+idle_left-requires g c =
+    let p = parts_of c.self.inside in
+    let asked : AreThere p.client_senders p.left_clients = rw (← c.self.view_is) at c.requires in
+    rw c.as_slice.ensures.value (rw c.as_slice-2.ensures.value asked)
+
+pub returns : goal.returns
+returns g c =
+    let p = parts_of c.self.inside in
+    rw (← c.self.view_is) (c.idle_left.ensures
+    ∙ ap (λ ls. idle_left (map sender_part ls) c.as_slice-2.result.now) c.as_slice.ensures.value
+    ∙ ap (idle_left p.client_senders) c.as_slice-2.ensures.value)
