@@ -247,7 +247,7 @@ fn is_idle<B: Body, N: Copy, H: Drop>(senders: &[OwnedSender<B, N, H>], sender: 
     messages.free_slots() == messages.slots()
 }
 
-/// Returns which of the ports that left is the first whose sender nothing uses. Looks at each of them once.
+/// Returns which of the ports that left is the first whose sender nothing uses. Looks at each at most once.
 pub fn idle_left<B: Body, N: Copy, H: Drop>(
     senders: &[OwnedSender<B, N, H>],
     left: &[LeftPort],

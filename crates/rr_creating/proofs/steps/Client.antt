@@ -116,7 +116,8 @@ module _ {Q QH P PH K : Type 0} (p : Parts Q QH P PH K) (core : IsCore p) (setti
           (client_row_len p settings) (new_client_sender p settings (length p.table.rows) receiver messages)
           (last_client_site p settings receiver messages)
       last_is = last_sited (client_row_len p settings) core.sound.have_ports.left_clients
-          (λ l h. (core.sound.inserted.client_rows l h).0) _ (λ i c at. (core.sound.client_ports.own i c at).0) (λ l h. (core.sound.inserted.server_rows l h).0)
+          (λ l h. (core.sound.inserted.client_rows l h).0) _ (λ i c at. (core.sound.client_ports.own i c at).0)
+          (λ l h. (core.sound.inserted.server_rows l h).0)
 
       module _ (q : Parts Q QH P PH K) where
         -- the parts after it

@@ -128,7 +128,7 @@ impl<QB: Body, QH: Default + Drop, PB: Body, PH: Default + Drop, K: Backpressure
         self.left_servers.reserve(self.servers.len() + 1)
     }
 
-    /// Returns which of the clients that left is the first whose sender nothing uses. Looks at each of them once.
+    /// Returns which of the clients that left is the first whose sender nothing uses. Looks at each at most once.
     pub fn idle_client(&self) -> Option<usize>
         requires { AreThere self.now.client_senders self.now.left_clients }
         ensures { result ≡ idle_left self.now.client_senders self.now.left_clients }
@@ -136,7 +136,7 @@ impl<QB: Body, QH: Default + Drop, PB: Body, PH: Default + Drop, K: Backpressure
         create::idle_left(self.client_senders.as_slice(), self.left_clients.as_slice())
     }
 
-    /// Returns which of the servers that left is the first whose sender nothing uses. Looks at each of them once.
+    /// Returns which of the servers that left is the first whose sender nothing uses. Looks at each at most once.
     pub fn idle_server(&self) -> Option<usize>
         requires { AreThere self.now.server_senders self.now.left_servers }
         ensures { result ≡ idle_left self.now.server_senders self.now.left_servers }
