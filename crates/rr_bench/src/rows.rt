@@ -8,7 +8,7 @@ ghost use Rattle.rr_bench.specs.Kinds.{HasPorts};
 use crate::hub::{Hub, make_hub};
 use crate::payload::Payload;
 use crate::shapes::{
-    self, CLIENTS, HANDLES, LARGE, LARGE_SLICE, PAGE, PAGE_SLICE, PAIR, PASSED, POOLS, SERVERS,
+    CLIENTS, HANDLES, LARGE, LARGE_SLICE, PAGE, PAGE_SLICE, PAIR, PASSED, POOLS, SERVERS,
     SLICE, Shape,
 };
 use crate::trip::{look, round_trip};

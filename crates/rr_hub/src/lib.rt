@@ -2,12 +2,15 @@
 #![tactic(auto)]
 
 mod create;
+mod header;
 mod loan;
 mod making;
 mod query;
+mod queue;
 mod receive;
 mod release;
 mod send;
+mod settings;
 mod state;
 mod write;
 

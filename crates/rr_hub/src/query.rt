@@ -2,14 +2,14 @@
 ghost use Rattle.std.specs.Prelude.{◌≡◌, false, nat_lt, length, Some, IsSome, IsSomeAnd, option_and_then};
 ghost use Rattle.rr_protocol.specs.Counts.{is_alive};
 ghost use Rattle.rr_protocol.specs.Messages.{request_in, response_in};
-ghost use Rattle.rr_protocol.specs.Queries.{kind_at};
+ghost use Rattle.rr_protocol.specs.Queries.{has_disconnect_hint, kind_at};
 ghost use Rattle.rr_protocol.specs.State.{handle_at, pending_at, active_at};
 
 use crate::state::Core;
 use rr_protocol::{BackpressureFn, Kind};
 use rr_querying::{
-    is_active_connected_at, is_pending_connected_at, kind_of, request_body_at, request_number_at,
-    response_body_at,
+    has_disconnect_hint_at, is_active_connected_at, is_pending_connected_at, kind_of,
+    number_of_server_connections_at, request_body_at, request_number_at, response_body_at,
 };
 use rr_slots::Body;
 use rr_store::HandleId;
@@ -109,6 +109,38 @@ impl<QB: Body, QH: Default + Drop, PB: Body, PH: Default + Drop, K: Backpressure
         } else {
             let place = self.parts.place_of(id.number());
             request_number_at(&self.parts, id.number(), place)
+        }
+    }
+
+    /// Returns how many queues took a pending response's request as it was sent. One look. After iceoryx2's
+    /// `PendingResponse::number_of_server_connections`.
+    #[inline(always)]
+    pub fn number_of_server_connections(&self, id: &HandleId) -> usize
+        requires { kind_at self.now id.now ≡ Some Kind.PendingResponse }
+        ensures { IsSomeAnd (pending_at self.now id.now) (λ pending. result ≡ pending.connections) }
+    {
+        let hint = id.hint();
+        if self.parts.is_at(id.number(), hint) {
+            number_of_server_connections_at(&self.parts, id.number(), hint)
+        } else {
+            let place = self.parts.place_of(id.number());
+            number_of_server_connections_at(&self.parts, id.number(), place)
+        }
+    }
+
+    /// Returns whether the pending response of an active request's request lives and has its hint set. Looks at the one place
+    /// where that handle can stand. After iceoryx2's `ActiveRequest::has_disconnect_hint`.
+    #[inline(always)]
+    pub fn has_disconnect_hint(&self, id: &HandleId) -> bool
+        requires { kind_at self.now id.now ≡ Some Kind.ActiveRequest }
+        ensures { IsSomeAnd (active_at self.now id.now) (λ active. result ≡ has_disconnect_hint self.now active.message.number) }
+    {
+        let hint = id.hint();
+        if self.parts.is_at(id.number(), hint) {
+            has_disconnect_hint_at(&self.parts, id.number(), hint)
+        } else {
+            let place = self.parts.place_of(id.number());
+            has_disconnect_hint_at(&self.parts, id.number(), place)
         }
     }
 }

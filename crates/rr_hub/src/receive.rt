@@ -19,8 +19,8 @@ impl<QB: Body, QH: Default + Drop, PB: Body, PH: Default + Drop, K: Backpressure
     K,
 > {
     /// Receives the oldest response that some server's queue on the request's channel has. It keeps its number. Returns `None`
-    /// if no response is queued. Looks once at each server that ever was, and takes no memory. After iceoryx2's
-    /// `PendingResponse::receive`.
+    /// if no response is queued. Looks once at the sender of each server, of those that left as well until a creation takes it,
+    /// and takes no memory. After iceoryx2's `PendingResponse::receive`.
     ///
     /// # Errors
     ///
@@ -42,8 +42,9 @@ impl<QB: Body, QH: Default + Drop, PB: Body, PH: Default + Drop, K: Backpressure
 
     /// Receives the oldest request of some client for a server whose value lives. It has the next number, of which one is left.
     /// Drops requests whose pending responses were released first, where they are the oldest of their clients, unless the limits
-    /// have fire-and-forget requests. Returns `None` if no request is queued then. Looks at each client that ever was at most
-    /// twice, and once at each request that it drops, and takes no memory. After iceoryx2's `Server::receive`.
+    /// have fire-and-forget requests. Returns `None` if no request is queued then. Looks at most twice at the sender of each
+    /// client, of those that left as well until a creation takes it, and once at each request that it drops, and takes no
+    /// memory. After iceoryx2's `Server::receive`.
     ///
     /// # Errors
     ///

@@ -1,6 +1,6 @@
-//! Writing what a loaned message says, before it is sent.
+//! Writing what a loaned message says, before it is sent, and the hint of one that was sent.
 ghost use Rattle.std.specs.Prelude.{◌≡◌, ◌⊎◌, not, true, Some, IsSomeAnd, if◌then◌else◌, option_and_then};
-ghost use Rattle.rr_protocol.specs.Messages.{request_in, response_in};
+ghost use Rattle.rr_protocol.specs.Messages.{request_in, response_in, with_hint};
 ghost use Rattle.rr_protocol.specs.Queries.{kind_at};
 ghost use Rattle.rr_protocol.specs.State.{handle_at, with_changed};
 ghost use Rattle.rr_protocol.specs.Writing.{is_complete, with_element, with_request_content, with_response_content, after_init};
@@ -10,7 +10,7 @@ use crate::state::Core;
 use rr_protocol::{BackpressureFn, Kind};
 use rr_slots::Body;
 use rr_store::HandleId;
-use rr_writing::{assume_init_at, push_request_at, push_response_at};
+use rr_writing::{assume_init_at, push_request_at, push_response_at, set_disconnect_hint_at};
 
 impl<QB: Body, QH: Default + Drop, PB: Body, PH: Default + Drop, K: BackpressureFn> Core<
     QB,
@@ -70,6 +70,23 @@ impl<QB: Body, QH: Default + Drop, PB: Body, PH: Default + Drop, K: Backpressure
         } else {
             let place = self.parts.place_of(id.number());
             assume_init_at(&mut self.parts, id.number(), place);
+        }
+    }
+
+    /// Sets the hint of a pending response that its client wants no more responses. Whether a hint was set before is not told.
+    ///
+    /// After iceoryx2's `PendingResponse::set_disconnect_hint`.
+    #[inline(always)]
+    pub fn set_disconnect_hint(&mut self, id: &HandleId)
+        requires { kind_at self.old id.now ≡ Some Kind.PendingResponse }
+        ensures { self.new ≡ with_changed self.old id.now with_hint }
+    {
+        let hint = id.hint();
+        if self.parts.is_at(id.number(), hint) {
+            set_disconnect_hint_at(&mut self.parts, id.number(), hint);
+        } else {
+            let place = self.parts.place_of(id.number());
+            set_disconnect_hint_at(&mut self.parts, id.number(), place);
         }
     }
 }

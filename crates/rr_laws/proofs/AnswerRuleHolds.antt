@@ -30,7 +30,7 @@ use Rattle.rr_laws.proofs.Opening.{some_and, from_pending}
 use Rattle.rr_laws.proofs.Counts.{and_first}
 use Rattle.rr_laws.proofs.Creating.{empty_hub_reached}
 use Rattle.rr_laws.proofs.Stepping.{step_reached}
-use Rattle.rr_laws.proofs.SameLimits.{step_keeps_limits, run_keeps_limits}
+use Rattle.rr_laws.proofs.LastingSteps.{step_lasts, run_lasts}
 use Rattle.rr_laws.proofs.ApartSteps.{empty_hub_apart, step_apart}
 use Rattle.rr_laws.proofs.LeftRuns.{step_left, left_from_empty}
 use Rattle.rr_laws.proofs.Occurring.{false_is_true}
@@ -103,7 +103,7 @@ module _ {T H K : Type 0} (action : K → ℕ → ℕ → BackpressureAction) (I
       let mid_left = step_left action IsDefaultElement IsDefaultHeader family old fits left event.0 event.1 mid run.1 in
       let mid_follows = step_follows action IsDefaultElement IsDefaultHeader family before old fits apart follows event.0 event.1 mid
       mid_apart run.1 in
-      let limits = step_keeps_limits action IsDefaultElement IsDefaultHeader family old event.0 event.1 mid run.1 in
+      let limits = (step_lasts action IsDefaultElement IsDefaultHeader family old event.0 event.1 mid run.1).limits in
       let mid_completes = step_completes action IsDefaultElement IsDefaultHeader family before old fits apart left follows completes event.0
       event.1 mid mid_apart (mid_follows, limits) run.1 in
       subst (λ h. Follows h new × Completes h new) (append_assoc before (event ∷ []) events)
@@ -121,8 +121,8 @@ module _ {T H K : Type 0} (action : K → ℕ → ℕ → BackpressureAction) (I
     keeps_limits : (history : List (Event T H K)) (s : State T H T H K)
         → Run action IsDefaultElement IsDefaultHeader family (empty_hub limits node_id) (map (λ e. e.0) history) (map (λ e. e.1) history) s
         → s.limits ≡ limits
-    keeps_limits history s run = run_keeps_limits action IsDefaultElement IsDefaultHeader family (empty_hub limits node_id)
-        (map (λ e. e.0) history) (map (λ e. e.1) history) s run
+    keeps_limits history s run = (run_lasts action IsDefaultElement IsDefaultHeader family (empty_hub limits node_id)
+        (map (λ e. e.0) history) (map (λ e. e.1) history) s run).limits
 
     -- what is received from a server that waits for room has no gap
     pub receives_without_gap : limits.enable_safe_overflow_for_responses ≡ false → (history : List (Event T H K)) (s : State T H T H K) →

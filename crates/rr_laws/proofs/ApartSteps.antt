@@ -34,7 +34,7 @@ use Rattle.rr_laws.proofs.Creating.{empty_hub_reached}
 use Rattle.rr_laws.proofs.Loaning.{loans_request_reached, loans_response_reached}
 use Rattle.rr_laws.proofs.Changing.{init_role, hint_role, content_role, complete_reached}
 use Rattle.rr_laws.proofs.Stepping.{step_reached, run_reached}
-use Rattle.rr_laws.proofs.SameLimits.{run_keeps_limits}
+use Rattle.rr_laws.proofs.LastingSteps.{run_lasts}
 use Rattle.rr_laws.proofs.ApartReleases.{after_release_apart}
 use Rattle.rr_laws.proofs.ApartSends.{loans_request_apart, loans_response_apart, sends_request_apart, sends_response_apart}
 use Rattle.rr_laws.proofs.ApartReceives.{changed_apart, receives_request_apart, receives_response_apart}
@@ -211,5 +211,5 @@ module _ {T H K : Type 0} (action : K → ℕ → ℕ → BackpressureAction) (I
       let start = empty_hub_reached limits node_id makes_hub in (
         run_reached action IsDefaultElement IsDefaultHeader family (empty_hub limits node_id) start commands replies s run,
         run_apart (empty_hub limits node_id) start (empty_hub_apart T H T H K limits node_id) commands replies s run,
-        run_keeps_limits action IsDefaultElement IsDefaultHeader family (empty_hub limits node_id) commands replies s run,
+        (run_lasts action IsDefaultElement IsDefaultHeader family (empty_hub limits node_id) commands replies s run).limits,
       )

@@ -6,7 +6,7 @@ use Rattle.rr_laws.specs.Reached.{IsReached}
 use Rattle.rr_laws.specs.Bound.{HoldsOfRuns, BoundsRequests, BoundsResponses}
 use Rattle.rr_laws.proofs.Creating.{empty_hub_reached}
 use Rattle.rr_laws.proofs.Stepping.{run_reached}
-use Rattle.rr_laws.proofs.SameLimits.{run_keeps_limits}
+use Rattle.rr_laws.proofs.LastingSteps.{run_lasts}
 use Rattle.rr_laws.proofs.LiveRequests.{live_requests_le}
 use Rattle.rr_laws.proofs.LiveResponses.{live_responses_le}
 
@@ -30,6 +30,6 @@ module _ {T H K : Type 0} (IsDefaultElement : T → Type 0) (IsDefaultHeader : H
   pub of_runs : (R : Limits → State T H T H K → Type 0) → ((s : State T H T H K) → IsReached s → R s.limits s)
       → HoldsOfRuns IsDefaultElement IsDefaultHeader R
   of_runs R holds limits node_id makes_hub action family commands replies s run =
-      subst (λ l. R l s) (run_keeps_limits action IsDefaultElement IsDefaultHeader family (empty_hub limits node_id) commands replies s run)
+      subst (λ l. R l s) (run_lasts action IsDefaultElement IsDefaultHeader family (empty_hub limits node_id) commands replies s run).limits
       (holds s (run_reached action IsDefaultElement IsDefaultHeader family (empty_hub limits node_id)
       (empty_hub_reached limits node_id makes_hub) commands replies s run))

@@ -30,6 +30,18 @@ module _ {X : Type 0} (id : X → ℕ) where
       go None true is e h = inr (eqb-true (id y) n e)
       go None false is e h = absurd (cc)
 
+  -- who is found after one more came was there before, or is that one
+  pub found-append_cases : (xs : List X) (y : X) (n : ℕ) (x : X) → find (λ x. eqb (id x) n) (xs ++ y ∷ []) ≡ Some x
+      → (find (λ x. eqb (id x) n) xs ≡ Some x) ⊎ ((id y ≡ n) × (y ≡ x))
+  found-append_cases xs y n x e = go (find (λ x. eqb (id x) n) xs) (eqb (id y) n) refl refl
+      (sym (find-append (λ x. eqb (id x) n) xs y) ∙ e)
+    where
+      go : (o : Option X) (b : Bool) → find (λ x. eqb (id x) n) xs ≡ o → eqb (id y) n ≡ b
+          → cond (is_some o) o (cond b (Some y) None) ≡ Some x → (find (λ x. eqb (id x) n) xs ≡ Some x) ⊎ ((id y ≡ n) × (y ≡ x))
+      go (Some z) b is same e = inl (is ∙ e)
+      go None true is same e = inr (eqb-true (id y) n same, (cc))
+      go None false is same e = absurd (let f : None ≡ Some x = e in cc)
+
   -- those with a number that is gone are not there
   pub hasn't-gone : (gone : ℕ) (xs : List X) → is_some (find (λ x. eqb (id x) gone) (filter (λ x. not (eqb (id x) gone)) xs)) ≡ false
   hasn't-gone gone xs = ap is_some (find-gone id gone gone xs)

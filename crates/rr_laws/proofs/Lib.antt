@@ -18,7 +18,6 @@ pub mod Bins
 pub mod Below
 pub mod LiveRequests
 pub mod LiveResponses
-pub mod SameLimits
 pub mod Bounds
 pub mod FreeChannels
 pub mod Memory
@@ -31,6 +30,8 @@ pub mod ApartSteps
 pub mod Naming
 pub mod Filled
 pub mod LeftPorts
+pub mod Lasting
+pub mod LastingSteps
 pub mod LeftSteps
 pub mod LeftRuns
 pub mod Distinct
@@ -66,4 +67,6 @@ pub mod SettlingServers
 pub mod SettlingWrites
 pub mod CompletingSteps
 pub mod AnswerRuleHolds
+pub mod Made
+pub mod WholePools
 pub mod AfterLeft

@@ -1,5 +1,5 @@
 -- How states settle as a server is created, and as a request goes to a server.
-use Rattle.std.proofs.Common.{◌≡◌, ℕ, ◌<◌, ◌≤◌, Bool, true, false, cond, eqb, ◌&&◌, [], ◌∷◌, ◌++◌, Option, Some, None, Ok, refl, sym, ap, ◌∙◌, subst, ⊎_elim, inl, inr, arith}
+use Rattle.std.proofs.Common.{◌≡◌, ℕ, ◌<◌, ◌≤◌, Bool, true, false, eqb, ◌&&◌, [], ◌∷◌, ◌++◌, Option, Some, None, Ok, refl, sym, ap, ◌∙◌, subst, ⊎_elim, inl, inr, arith}
 use Rattle.std.specs.Prelude.{◌⊎◌, ◌||◌, find, is_some, is_none, count_by, option_and_then, IsSomeAnd}
 use Rattle.std.specs.List.{list_any}
 use Rattle.std.specs.FinMap.{get}
@@ -25,27 +25,16 @@ use Rattle.rr_laws.specs.Roles.{Question, Role, roles_of, asking, asking_at}
 use Rattle.rr_laws.specs.Reached.{IsReached}
 use Rattle.rr_laws.specs.Following.{entries_for}
 use Rattle.rr_laws.specs.Settling.{listed, IsNew, IsWaiting, Settles}
-use Rattle.rr_maps.proofs.ListFacts.{any-append, find-append}
+use Rattle.rr_maps.proofs.ListFacts.{any-append}
 use Rattle.rr_laws.proofs.Opening.{some_and}
 use Rattle.rr_laws.proofs.Connected.{has_below}
 use Rattle.rr_maps.proofs.Counting.{count-cons}
 use Rattle.rr_laws.proofs.Occurring.{false_is_true}
 use Rattle.rr_laws.proofs.Telling.{three_true}
+use Rattle.rr_laws.proofs.LeftPorts.{found-append_cases}
 use Rattle.rr_laws.proofs.SettlingSends.{listed_below, skims_fewer}
 
 module _ {Q QH P PH K : Type 0} where
-  -- who is found after one more server came was there before, or is that one
-  server_cases : (s : State Q QH P PH K) (one : Server K) (n : ℕ) (c : Server K) → find (λ d. eqb d.id n) (s.servers ++ one ∷ []) ≡ Some c
-      → (server_at s n ≡ Some c) ⊎ ((one.id ≡ n) × (one ≡ c))
-  server_cases s one n c e = go (find (λ d. eqb d.id n) s.servers) (eqb one.id n) refl refl
-      (sym (find-append (λ d. eqb d.id n) s.servers one) ∙ e)
-    where
-      go : (o : Option (Server K)) (b : Bool) → find (λ d. eqb d.id n) s.servers ≡ o → eqb one.id n ≡ b
-          → cond (is_some o) o (cond b (Some one) None) ≡ Some c → (server_at s n ≡ Some c) ⊎ ((one.id ≡ n) × (one ≡ c))
-      go (Some d) b is same e = inl (is ∙ e)
-      go None true is same e = inr (eqb-true one.id n same, (cc))
-      go None false is same e = absurd (let f : None ≡ Some c = e in cc)
-
   -- a server with the next number, which nothing waits for yet
   pub new_server_settles : {Ends : ℕ → Type 0} (s new : State Q QH P PH K) (one : Server K) → IsReached s → s.next ≤ new.next
       → one.id ≡ s.next → new.handles ≡ s.handles → new.responses ≡ s.responses → new.requests ≡ s.requests →
@@ -85,7 +74,7 @@ module _ {Q QH P PH K : Type 0} where
   }
     where
       at_server : (n : ℕ) (c : Server K) → server_at new n ≡ Some c → (server_at s n ≡ Some c) ⊎ ((one.id ≡ n) × (one ≡ c))
-      at_server n c e = server_cases s one n c (sym (ap (find (λ d. eqb d.id n)) servers) ∙ e)
+      at_server n c e = found-append_cases (λ (d : Server K). d.id) s.servers one n c (sym (ap (find (λ d. eqb d.id n)) servers) ∙ e)
 
       named : (n : ℕ) (q : Question) → asking_at (roles_of s.handles) n ≡ Some q → n < s.next
       named n q e = go (get (roles_of s.handles) n) refl e
@@ -166,7 +155,7 @@ module _ {T H K : Type 0} where
               (family_keeps family settings).1
                   ∙ none_is settings.handler t.2,
             ))
-            (server_cases s _ n c at)),
+            (found-append_cases (λ (d : Server K). d.id) s.servers _ n c at)),
         list_any-append (λ (x : Server K). eqb x.id n && x.has_value) s.servers _
             ∙ ap (λ b. list_any (λ (x : Server K). eqb x.id n && x.has_value) s.servers || ((b && true) || false))
             (eq-eqb s.next n (sym is))

@@ -25,6 +25,7 @@ below_of_test a b e = leb-false a b e
 
 -- limits that make a hub are above 0
 pub record ArePositive (l : Limits) : Type 0 where
+  pub clients : 0 < l.max_clients
   pub loaned : 0 < l.max_loaned_requests
   pub active : 0 < l.max_active_requests_per_client
   pub buffer : 0 < l.max_response_buffer_size
@@ -39,7 +40,9 @@ positive l e =
     let active = or_false _ _ buffer.0 in
     let loaned = or_false _ _ active.0 in
     let some = above_zero l.max_loaned_requests loaned.1 in
+    let clients = or_false _ _ loaned.0 in
     record {
+      clients = above_zero l.max_clients clients.0;
       loaned = some;
       active = above_zero l.max_active_requests_per_client active.1;
       buffer = above_zero l.max_response_buffer_size buffer.1;

@@ -7,6 +7,7 @@ pub mod Expired
 pub mod Bound
 pub mod Unreduced
 pub mod History
+pub mod Whole
 pub mod Following
 pub mod Settling
 pub mod Completing

@@ -6,9 +6,11 @@ mod expired;
 mod ordered;
 mod own_request;
 mod unreduced;
+mod whole;
 
 pub use bounded::bound;
 pub use expired::expired_lists;
 pub use ordered::in_order;
 pub use own_request::own_request_once;
 pub use unreduced::unreduced_pool;
+pub use whole::whole_pool;

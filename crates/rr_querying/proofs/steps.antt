@@ -1,6 +1,11 @@
-pub mod RequestBody
-pub mod ResponseBody
+pub mod Request
+pub mod Response
 pub mod Pending
 pub mod Active
 pub mod Number
 pub mod Naming
+pub mod Received
+pub mod Ports
+pub mod Waiting
+pub mod DeliverableRequest
+pub mod DeliverableResponse

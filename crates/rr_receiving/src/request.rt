@@ -16,8 +16,8 @@ use rr_store::{HandleEntry, HandleId, Stage, Store};
 ///
 /// Requests whose pending responses were released are dropped first, where they are the oldest of their clients, unless the
 /// limits have fire-and-forget requests. `None` if no client's request waits then. `ExceedsMaxBorrows` if some waits, but the
-/// server has as many requests of each such client as it may. It looks at each client that ever was at most twice, and once
-/// at each request that it drops, and takes no memory. After iceoryx2's `Server::receive`.
+/// server has as many requests of each such client as it may. It looks at each client's sender at most twice, and once at each
+/// request that it drops, and takes no memory. After iceoryx2's `Server::receive`.
 #[inline(always)]
 pub fn receive_request<
     QB: Body,

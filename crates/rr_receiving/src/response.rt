@@ -16,7 +16,7 @@ use rr_table::Place;
 /// number.
 ///
 /// `None` if no server's response waits. `ExceedsMaxBorrows` if some waits, but the client has as many responses from each
-/// such server on this channel as it may. Nothing has changed then. It looks once at each server that ever was, and takes no
+/// such server on this channel as it may. Nothing has changed then. It looks once at each server's sender, and takes no
 /// memory. After iceoryx2's `PendingResponse::receive`.
 #[inline(always)]
 pub fn receive_response_at<

@@ -15,8 +15,10 @@ use rr_slots::Body;
 use std::alloc::{AllocError, Global};
 use std::marker::Model;
 
+mod answers;
 mod creation;
 mod loans;
+mod ports;
 mod queries;
 mod receives;
 mod releases;
@@ -77,33 +79,27 @@ impl<T: Copy + Default, B: Body<Item = T>, H: Copy + Default, K: BackpressureFn>
         self.core.kind(&self.hints.id_of(number))
     }
 
-    /// Returns whether `apply` takes a command: one of those that it names. Our own.
+    /// Returns whether `apply` takes a command: any but those that it names. Our own.
     pub fn offers(command: &Command<T, H, K>) -> bool
         ensures yes { IsTrue result → IsOffered command.now }
         ensures no { IsOffered command.now → IsTrue result }
     {
         match command {
-            Command::CreateClient(_)
-            | Command::CreateServer(_)
-            | Command::Loan(_, _)
-            | Command::SendCopy(_, _)
-            | Command::Push(_, _)
-            | Command::AssumeInit(_)
-            | Command::Send(_)
-            | Command::Receive(_)
-            | Command::Payload(_)
-            | Command::IsConnected(_)
-            | Command::Release(_) => true,
-            _ => false,
+            Command::LoanDefault(_, _)
+            | Command::Set(_, _, _)
+            | Command::SetUserHeader(_, _)
+            | Command::HasEntries(_)
+            | Command::Strategy(_)
+            | Command::MaxSliceLen(_) => false,
+            _ => true,
         }
     }
 
     /// Carries out a command, and returns its reply.
     ///
-    /// So far it takes creations, loans, copies, pushes, `AssumeInit`, sends, receives, payloads, `IsConnected`, and releases.
-    /// A refusal leaves everything as it was; it is the first that holds, in this order: `Unknown`,
-    /// `WrongKind`, `NumbersExhausted`, `Incomplete`. Beside the memory that the call itself takes, a hint may be kept for
-    /// each handle. Our own: iceoryx2 has the calls alone.
+    /// So far it takes all commands but `LoanDefault`, `Set`, `SetUserHeader`, `HasEntries`, `Strategy` and `MaxSliceLen`. A
+    /// refusal leaves everything as it was; it is the first that holds, in this order: `Unknown`, `WrongKind`, `NumbersExhausted`, `Incomplete`. Beside the memory that
+    /// the call itself takes, a hint may be kept for each handle. Our own: iceoryx2 has the calls alone.
     pub fn apply(&mut self, command: Command<T, H, K>) -> Reply<T, H>
         requires { IsOffered command }
         ensures { Step K.action T.is_default H.is_default B.family self.old command result self.new }
@@ -127,16 +123,22 @@ impl<T: Copy + Default, B: Body<Item = T>, H: Copy + Default, K: BackpressureFn>
             Command::Receive(number) => {
                 receives::receive(&mut self.core, &mut self.hints, number)
             }
-            Command::Payload(number) => queries::payload(
-                &self.core,
-                self.alloc,
-                &self.hints.id_of(number),
-            ),
-            Command::IsConnected(number) => {
-                queries::is_connected(&self.core, &self.hints.id_of(number))
+            Command::SetHint(number) => {
+                writes::set_hint(&mut self.core, &self.hints.id_of(number))
             }
             Command::Release(number) => {
                 releases::release(&mut self.core, &mut self.hints, number)
+            }
+            Command::IsDeliverable(_)
+            | Command::IsConnected(_)
+            | Command::HasHint(_)
+            | Command::Servers(_)
+            | Command::Header(_)
+            | Command::UserHeader(_)
+            | Command::Payload(_)
+            | Command::Origin(_)
+            | Command::UpdateConnections(_) => {
+                answers::answer(&self.core, self.alloc, &self.hints, command)
             }
             _ => unreachable!(),
         }

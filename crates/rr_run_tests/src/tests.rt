@@ -4,6 +4,7 @@ mod leaving;
 mod lines;
 mod orders;
 mod pools;
+mod questions;
 mod queues;
 mod rows;
 mod runner;

@@ -1,3 +1,4 @@
 pub mod Connected
 pub mod Alive
 pub mod Used
+pub mod Waiting

@@ -2,6 +2,7 @@ pub mod Parts
 pub mod Order
 pub mod Views
 pub mod Kinds
+pub mod Hints
 pub mod Writing
 pub mod Sound
 pub mod Start
@@ -15,6 +16,7 @@ pub mod Loaning
 pub mod Rewrites
 pub mod Emptying
 pub mod Receiving
+pub mod Waiting
 pub mod Asked
 pub mod Answering
 pub mod Dropping

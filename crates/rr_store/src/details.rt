@@ -1,6 +1,6 @@
 //! The details of a message beside its body and its user header.
 
-/// Of a request. Its channel is its slot.
+/// The details of a request. Its channel is its slot.
 #[derive(Clone, Copy, Debug)]
 pub struct RequestDetails {
     /// The request's number.
@@ -11,7 +11,7 @@ pub struct RequestDetails {
     pub request_id: u64,
 }
 
-/// Of a response.
+/// The details of a response.
 #[derive(Clone, Copy, Debug)]
 pub struct ResponseDetails {
     /// The response's number.

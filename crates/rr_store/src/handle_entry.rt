@@ -1,6 +1,7 @@
 //! What is kept under the number of a handle.
 ghost use Rattle.std.specs.Prelude.{◌≡◌};
 ghost use Rattle.rr_store.specs.Answering.{active_in};
+ghost use Rattle.rr_store.specs.Hints.{hinted, stage_connections, stage_hint};
 ghost use Rattle.rr_store.specs.Kinds.{stage_kind};
 ghost use Rattle.rr_store.specs.Sound.{is_pending};
 ghost use Rattle.rr_store.specs.Releasing.{server_of_stage};
@@ -86,6 +87,39 @@ impl Stage {
         match self {
             Stage::PendingResponse(_, _) => true,
             _ => false,
+        }
+    }
+
+    /// Returns how many queues took the request of a pending response. 0 in other stages.
+    #[inline(always)]
+    pub fn connections(self) -> usize
+        ensures { result ≡ stage_connections self }
+    {
+        match self {
+            Stage::PendingResponse(_, connections) => connections,
+            _ => 0,
+        }
+    }
+
+    /// Returns whether the hint of a pending response is set. `false` in other stages.
+    #[inline(always)]
+    pub fn has_hint(self) -> bool
+        ensures { result ≡ stage_hint self }
+    {
+        match self {
+            Stage::PendingResponse(hint, _) => hint,
+            _ => false,
+        }
+    }
+
+    /// Returns the stage once the hint of a pending response is set. Other stages stay.
+    #[inline(always)]
+    pub fn hinted(self) -> Self
+        ensures { result ≡ hinted self }
+    {
+        match self {
+            Stage::PendingResponse(_, connections) => Stage::PendingResponse(true, connections),
+            stage => stage,
         }
     }
 }

@@ -1,10 +1,11 @@
 //! What a core tells of its ports and handles. No query changes it.
-ghost use Rattle.std.specs.Prelude.{◌≡◌, ℕ, ◌+◌, ◌<◌, ◌==◌, ◌&&◌, length, map, Some, slice_get, slice_index_or};
+ghost use Rattle.std.specs.Prelude.{◌≡◌, ℕ, ◌+◌, ◌<◌, ◌==◌, ◌&&◌, [], length, map, Some, slice_get, slice_index_or};
 ghost use Rattle.std.specs.List.{list_any};
 ghost use Rattle.rr_store.specs.Leaving.{is_borrowing};
 ghost use Rattle.rr_store.specs.Order.{IsRising};
 ghost use Rattle.rr_store.specs.Ports.{sender_part};
 ghost use Rattle.rr_store.specs.Views.{no_server};
+ghost use Rattle.rr_store.specs.Waiting.{has_entry};
 
 use crate::{ConnectedPort, OwnedSender, ServerPort, index_of};
 use rr_slots::Body;
@@ -45,6 +46,24 @@ pub fn is_borrowing<B: Body, N: Copy, H: Drop>(
 {
     for sender in senders {
         if sender.messages.has_borrowed(receiver) {
+            return true;
+        }
+    }
+    false
+}
+
+/// Returns whether a message waits from one of the senders for a receiver on a channel. Looks at most once at each sender.
+#[inline(always)]
+pub fn is_waiting<B: Body, N: Copy, H: Drop>(
+    senders: &[OwnedSender<B, N, H>],
+    receiver: usize,
+    channel: usize,
+) -> bool
+    requires { (i : ℕ) (l : OwnedSender B N H B.Item) → slice_get senders.now i ≡ Some l → (receiver < length l.messages.queues) × (channel < length (slice_index_or l.messages.queues receiver [])) }
+    ensures { result ≡ has_entry receiver channel (map sender_part senders.now) }
+{
+    for sender in senders {
+        if sender.messages.has_entries(receiver, channel) {
             return true;
         }
     }

@@ -1,4 +1,4 @@
-//! Receiving responses, and from which sender a receiver takes next.
+//! From which sender a receiver takes next.
 ghost use Rattle.std.specs.Prelude.{Some, map};
 ghost use Rattle.rr_store.specs.Ports.{sender_part};
 ghost use Rattle.rr_store.specs.Receiving.{IsNextSender, Reaches};

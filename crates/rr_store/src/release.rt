@@ -1,15 +1,13 @@
 //! Releases of handles.
 ghost use Rattle.std.specs.Prelude.{◌≡◌, ◌==◌, ◌<◌, ◌+◌, ◌*◌, map, Some, IsSome, IsSomeAnd, [], length, slice_get, slice_index, slice_index_or, slice_set};
-ghost use Rattle.std.specs.List.{position};
 ghost use Rattle.rr_sender.specs.Senders.{borrowed_at};
 ghost use Rattle.rr_store.specs.Loaning.{with_sender_at};
-ghost use Rattle.rr_store.specs.Order.{IsRising};
 ghost use Rattle.rr_store.specs.Ports.{sender_part};
 ghost use Rattle.rr_store.specs.Releasing.{borrow_given_back, without_loan, without_mark};
 ghost use Rattle.rr_store.specs.Views.{sender_of};
 ghost use Rattle.rr_store.specs.Writing.{with_messages};
 
-use crate::{ConnectedPort, NO_SERVER, OwnedSender, index_of};
+use crate::{NO_SERVER, OwnedSender};
 use rr_slots::Body;
 
 pub mod pending;

@@ -12,9 +12,11 @@ mod handles;
 mod leaving;
 mod loaning;
 mod querying;
+mod queues;
 mod receiving;
 mod releasing;
 mod sending;
+mod settings;
 mod values;
 mod writing;
 

@@ -1,3 +1,4 @@
 pub mod Request
 pub mod Response
 pub mod Initialising
+pub mod Hinting

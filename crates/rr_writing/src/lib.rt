@@ -1,10 +1,12 @@
 //! Writing of loaned messages in a store, each as the message machine writes it.
 #![tactic(auto)]
 
+mod hinting;
 mod initialising;
 mod request;
 mod response;
 
+pub use hinting::set_disconnect_hint_at;
 pub use initialising::assume_init_at;
 pub use request::push_request_at;
 pub use response::push_response_at;

@@ -41,7 +41,7 @@ fn assume_init(core: &mut TypedCore, id: &HandleId) -> bool {
 }
 
 /// Sends a request, if the handle is one that can be sent.
-fn send(core: &mut TypedCore, id: &HandleId) -> Option<Result<usize, RequestSendError>> {
+pub(super) fn send(core: &mut TypedCore, id: &HandleId) -> Option<Result<usize, RequestSendError>> {
     match core.kind(id) {
         Some(Kind::RequestMut) => Some(core.send_request(id)),
         _ => None,

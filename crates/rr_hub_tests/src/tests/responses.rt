@@ -42,7 +42,7 @@ fn assume_init(core: &mut TypedCore, id: &HandleId) -> bool {
 }
 
 /// Sends a response, if the handle is one that can be sent.
-fn send(core: &mut TypedCore, id: &HandleId) -> Option<Result<(), SendError>> {
+pub(super) fn send(core: &mut TypedCore, id: &HandleId) -> Option<Result<(), SendError>> {
     match core.kind(id) {
         Some(Kind::ResponseMut) => Some(core.send_response(id)),
         _ => None,
@@ -100,11 +100,20 @@ fn a_response_is_loaned_and_written(rt: HostRuntime) -> Result<(), Fail> {
     Ok(())
 }
 
-/// Loans, writes and sends a response. Returns its handle, and what the send returned.
-fn action(core: &mut TypedCore, active: &HandleId) -> Option<(HandleId, Result<(), SendError>)> {
+/// A response of an active request with one element, which can be sent.
+pub(super) fn written(core: &mut TypedCore, active: &HandleId) -> Option<HandleId> {
     let response = loan(core, active)?.ok()?;
     push(core, &response, 456)?;
     assume_init(core, &response);
+    Some(response)
+}
+
+/// Loans, writes and sends a response. Returns its handle, and what the send returned.
+pub(super) fn action(
+    core: &mut TypedCore,
+    active: &HandleId,
+) -> Option<(HandleId, Result<(), SendError>)> {
+    let response = written(core, active)?;
     let sent = send(core, &response)?;
     Some((response, sent))
 }
@@ -123,7 +132,7 @@ fn a_response_is_sent(rt: HostRuntime) -> Result<(), Fail> {
 }
 
 /// A pending response and a response that was received for it.
-fn answered(core: &mut TypedCore) -> Option<(HandleId, HandleId)> {
+pub(super) fn answered(core: &mut TypedCore) -> Option<(HandleId, HandleId)> {
     let (pending, active) = asked(core)?;
     action(core, &active)?.1.ok()?;
     let response = receive(core, &pending)?.ok()??;

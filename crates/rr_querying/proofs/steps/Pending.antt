@@ -1,13 +1,15 @@
--- The marks of a pending response's request are read.
+-- What is kept of a pending response is read: its stage, and the marks of its request.
 use Rattle.std.proofs.Common.{◌≡◌, ◌≤◌, ◌<◌, ◌+◌, ◌*◌, ℕ, Bool, Some, length, refl}
 use Rattle.std.specs.Prelude.{IsSomeAnd, nat_lt, slice_get}
 use Rattle.std.specs.FinMap as fin_map
 use Rattle.rr_table.specs.TableView.{table_entry, value_at}
 use Rattle.rr_table.specs.declared.place.Place.{Place}
 use Rattle.rr_protocol.specs.declared.kind.Kind.{Kind}
+use Rattle.rr_protocol.specs.Messages.{Pending as kept}
 use Rattle.rr_protocol.specs.Queries.{kind_at}
 use Rattle.rr_protocol.specs.State.{pending_at}
 use Rattle.rr_store.specs.declared.handle_entry.HandleEntry.{HandleEntry}
+use Rattle.rr_store.specs.Hints.{stage_connections}
 use Rattle.rr_store.specs.Kinds.{stage_kind}
 use Rattle.rr_store.specs.Parts.{Parts, ServerPart}
 use Rattle.rr_store.specs.Reaching.{IsCore}
@@ -16,7 +18,7 @@ use Rattle.rr_store.specs.Views.{sender_of, state_of, waiting_at}
 use Rattle.rr_store.proofs.base.lookups.Placed.{value_there}
 use Rattle.rr_store.proofs.base.lookups.Shown.{request_spot}
 use Rattle.rr_store.proofs.base.views.Counts.{listed}
-use Rattle.rr_store.proofs.querying.Connected.{mark_within, marks_before, of_kind, of_pending, pending_has_request}
+use Rattle.rr_store.proofs.querying.Connected.{mark_within, marks_before, of_kept, of_kind, of_pending, pending_has_request}
 
 module _ {Q QH P PH K : Type 0} (p : Parts Q QH P PH K) (core : IsCore p) (n : ℕ) (place : Place) (entry : HandleEntry)
     (at : fin_map.get p.table.entries n ≡ Some (table_entry place entry))
@@ -61,3 +63,9 @@ module _ {Q QH P PH K : Type 0} (p : Parts Q QH P PH K) (core : IsCore p) (n : �
       → IsSomeAnd (pending_at (state_of p) n) (λ pending. told ≡ nat_lt 0 (length pending.servers))
   told_then told tells =
       of_pending p (state_of p) n n refl refl entry here (λ servers. told ≡ nat_lt 0 (length servers)) is tells
+
+  -- what the stage tells of the queues that took the request
+  pub connections_then : (told : ℕ) → told ≡ stage_connections entry.stage
+      → IsSomeAnd (pending_at (state_of p) n) (λ pending. told ≡ pending.connections)
+  connections_then told tells =
+      of_kept p (state_of p) n n refl refl entry here (λ (pending : kept Q QH). told ≡ pending.connections) is tells

@@ -64,3 +64,86 @@ pub(crate) fn is_connected<
         None => Reply::Unknown,
     }
 }
+
+/// The number of queues that took a request as it was sent.
+pub(crate) fn servers<T: Copy + Default, B: Body<Item = T>, H: Copy + Default, K: BackpressureFn>(
+    core: &Core<B, H, B, H, K>,
+    id: &HandleId,
+) -> Reply<T, H>
+    ensures { Step K.action T.is_default H.is_default B.family core.now (Command.Servers id.now) result core.now }
+{
+    match core.kind(id) {
+        Some(Kind::PendingResponse) => Reply::Count(core.number_of_server_connections(id)),
+        Some(_) => Reply::WrongKind,
+        None => Reply::Unknown,
+    }
+}
+
+/// Whether the client of an active request set the disconnect hint.
+pub(crate) fn has_hint<T: Copy + Default, B: Body<Item = T>, H: Copy + Default, K: BackpressureFn>(
+    core: &Core<B, H, B, H, K>,
+    id: &HandleId,
+) -> Reply<T, H>
+    ensures { Step K.action T.is_default H.is_default B.family core.now (Command.HasHint id.now) result core.now }
+{
+    match core.kind(id) {
+        Some(Kind::ActiveRequest) => Reply::Flag(core.has_disconnect_hint(id)),
+        Some(_) => Reply::WrongKind,
+        None => Reply::Unknown,
+    }
+}
+
+/// The header of a handle's message.
+pub(crate) fn header<T: Copy + Default, B: Body<Item = T>, H: Copy + Default, K: BackpressureFn>(
+    core: &Core<B, H, B, H, K>,
+    id: &HandleId,
+) -> Reply<T, H>
+    ensures { Step K.action T.is_default H.is_default B.family core.now (Command.Header id.now) result core.now }
+{
+    match core.kind(id) {
+        Some(Kind::Client | Kind::Server) => Reply::WrongKind,
+        Some(
+            Kind::RequestMutUninit | Kind::RequestMut | Kind::PendingResponse | Kind::ActiveRequest,
+        ) => Reply::RequestHeader(core.request_header(id)),
+        Some(Kind::ResponseMutUninit | Kind::ResponseMut | Kind::Response) => {
+            Reply::ResponseHeader(core.response_header(id))
+        }
+        None => Reply::Unknown,
+    }
+}
+
+/// The user header of a handle's message.
+pub(crate) fn user_header<
+    T: Copy + Default,
+    B: Body<Item = T>,
+    H: Copy + Default,
+    K: BackpressureFn,
+>(core: &Core<B, H, B, H, K>, id: &HandleId) -> Reply<T, H>
+    ensures { Step K.action T.is_default H.is_default B.family core.now (Command.UserHeader id.now) result core.now }
+{
+    match core.kind(id) {
+        Some(Kind::Client | Kind::Server) => Reply::WrongKind,
+        Some(
+            Kind::RequestMutUninit | Kind::RequestMut | Kind::PendingResponse | Kind::ActiveRequest,
+        ) => Reply::UserHeader(*core.request_user_header(id)),
+        Some(Kind::ResponseMutUninit | Kind::ResponseMut | Kind::Response) => {
+            Reply::UserHeader(*core.response_user_header(id))
+        }
+        None => Reply::Unknown,
+    }
+}
+
+/// The port from which a received message came.
+pub(crate) fn origin<T: Copy + Default, B: Body<Item = T>, H: Copy + Default, K: BackpressureFn>(
+    core: &Core<B, H, B, H, K>,
+    id: &HandleId,
+) -> Reply<T, H>
+    ensures { Step K.action T.is_default H.is_default B.family core.now (Command.Origin id.now) result core.now }
+{
+    match core.kind(id) {
+        Some(Kind::ActiveRequest) => Reply::Id(core.request_origin(id).0),
+        Some(Kind::Response) => Reply::Id(core.response_origin(id).0),
+        Some(_) => Reply::WrongKind,
+        None => Reply::Unknown,
+    }
+}

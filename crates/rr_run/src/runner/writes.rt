@@ -45,3 +45,20 @@ pub(crate) fn assume_init<
     core.assume_init(id);
     Reply::Done
 }
+
+/// Sets the disconnect hint of a pending response.
+pub(crate) fn set_hint<T: Copy + Default, B: Body<Item = T>, H: Copy + Default, K: BackpressureFn>(
+    core: &mut Core<B, H, B, H, K>,
+    id: &HandleId,
+) -> Reply<T, H>
+    ensures { Step K.action T.is_default H.is_default B.family core.old (Command.SetHint id.now) result core.new }
+{
+    match core.kind(id) {
+        Some(Kind::PendingResponse) => {
+            core.set_disconnect_hint(id);
+            Reply::Done
+        }
+        Some(_) => Reply::WrongKind,
+        None => Reply::Unknown,
+    }
+}

@@ -60,9 +60,24 @@ fn call(name: &str, number: u64, words: &mut Words) -> Option<ScriptCommand> {
         "init" => Some(Command::AssumeInit(number)),
         "send" => Some(Command::Send(number)),
         "recv" => Some(Command::Receive(number)),
-        "data" => Some(Command::Payload(number)),
-        "conn" => Some(Command::IsConnected(number)),
+        "hint" => Some(Command::SetHint(number)),
         "drop" => Some(Command::Release(number)),
+        _ => question(name, number),
+    }
+}
+
+/// The question with this first word, of the port or handle with a number.
+fn question(name: &str, number: u64) -> Option<ScriptCommand> {
+    match name {
+        "ready" => Some(Command::IsDeliverable(number)),
+        "conn" => Some(Command::IsConnected(number)),
+        "hinted" => Some(Command::HasHint(number)),
+        "count" => Some(Command::Servers(number)),
+        "head" => Some(Command::Header(number)),
+        "user" => Some(Command::UserHeader(number)),
+        "data" => Some(Command::Payload(number)),
+        "origin" => Some(Command::Origin(number)),
+        "update" => Some(Command::UpdateConnections(number)),
         _ => None,
     }
 }

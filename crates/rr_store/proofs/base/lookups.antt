@@ -4,3 +4,4 @@ pub mod Numbers
 pub mod Asking
 pub mod NextNumber
 pub mod Placed
+pub mod Named

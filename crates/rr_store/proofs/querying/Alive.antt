@@ -1,6 +1,7 @@
 -- A request's own handle can stand in its own place alone.
-use Rattle.std.proofs.Common.{◌≡◌, ◌<◌, ℕ, Bool, true, false, None, Some, refl, sym, ap, ◌∙◌, subst, ⊎_elim, option_map}
+use Rattle.std.proofs.Common.{◌≡◌, ◌<◌, ℕ, Bool, true, false, Option, None, Some, refl, sym, ap, ◌∙◌, subst, ⊎_elim, option_map}
 use Rattle.std.specs.Prelude.{is_some, option_and_then}
+use Rattle.std.specs.Option.{option_map_or}
 use Rattle.std.specs.FinMap as fin_map
 use Rattle.std.proofs.lemmas.Bool.{false≢true}
 use Rattle.rr_table.specs.TableView.{TableEntry, kept_in, value_at, value_in}
@@ -8,10 +9,13 @@ use Rattle.rr_table.specs.declared.place.Place.{Place}
 use Rattle.rr_table.proofs.Kept.{kept_in_own, kept_in_place}
 use Rattle.rr_table.proofs.Standing.{none_or_some}
 use Rattle.rr_protocol.specs.Counts.{is_alive}
-use Rattle.rr_protocol.specs.Messages.{as_pending}
+use Rattle.rr_protocol.specs.Messages.{Pending, as_pending}
+use Rattle.rr_protocol.specs.Queries.{has_disconnect_hint}
+use Rattle.rr_protocol.specs.State.{pending_at}
 use Rattle.rr_store.specs.declared.handle_entry.HandleEntry.{HandleEntry}
 use Rattle.rr_store.specs.declared.handle_entry.Stage.{Stage}
 use Rattle.rr_store.specs.declared.handle_entry.Stage.TheVariants as stage
+use Rattle.rr_store.specs.Hints.{stage_hint}
 use Rattle.rr_store.specs.Parts.{Parts}
 use Rattle.rr_store.specs.Views.{handle_in, handle_of, state_of}
 use Rattle.rr_store.specs.Sound.{IsSound, Hand, is_of_request, is_pending, own_place, place_at, request_details, request_uses}
@@ -33,6 +37,19 @@ module _ {Q QH P PH K : Type 0} (p : Parts Q QH P PH K) where
   pending-handle_in stage.ResponseMutUninit sender slot = refl
   pending-handle_in stage.ResponseMut sender slot = refl
   pending-handle_in stage.Response sender slot = refl
+
+  -- whether the hint is set
+  abbrev hint_in : Option (Pending Q QH) → Bool
+  hint_in o = option_map_or (λ pending. pending.hint) o false
+
+  hint-handle_in : (g : Stage) (sender slot : ℕ) → hint_in (as_pending (handle_in p g sender slot)) ≡ stage_hint g
+  hint-handle_in stage.RequestMutUninit sender slot = refl
+  hint-handle_in stage.RequestMut sender slot = refl
+  hint-handle_in (stage.PendingResponse hint connections) sender slot = refl
+  hint-handle_in (stage.ActiveRequest server loans) sender slot = refl
+  hint-handle_in stage.ResponseMutUninit sender slot = refl
+  hint-handle_in stage.ResponseMut sender slot = refl
+  hint-handle_in stage.Response sender slot = refl
 
   -- its place is its request's own
   pending_place : (g : Stage) (sender slot : ℕ) → is_pending g ≡ true → place_at p g sender slot ≡ own_place p sender slot
@@ -56,14 +73,25 @@ module _ {Q QH P PH K : Type 0} (p : Parts Q QH P PH K) where
       alive_is k ∙ ap (λ o. is_some (option_and_then as_pending (option_map (handle_of p) o))) at
       ∙ pending-handle_in s.value.stage s.value.sender s.value.slot
 
-  -- what stands in the place under its number tells whether a request is alive
-  pub alive_here : (k : ℕ) (own : Place) (v : HandleEntry) → value_in p.table k own ≡ Some v → is_alive (state_of p) k ≡ is_pending v.stage
-  alive_here k own v h =
+  -- what stands in the place under its number tells of the pending response
+  pub pending_here : (k : ℕ) (own : Place) (v : HandleEntry) → value_in p.table k own ≡ Some v
+      → pending_at (state_of p) k ≡ as_pending (handle_in p v.stage v.sender v.slot)
+  pending_here k own v h =
       ⊎_elim
       (λ n. absurd (let f : None ≡ Some v = sym (ap (option_and_then (kept_in own)) n) ∙ h in cc))
-      (λ f. let kept = kept_in_place own f.0 v (sym (ap (option_and_then (kept_in own)) f.1) ∙ h) in alive_by k f.0 f.1
-      ∙ ap (λ (x : HandleEntry). is_pending x.stage) kept.1)
+      (λ f. let kept = kept_in_place own f.0 v (sym (ap (option_and_then (kept_in own)) f.1) ∙ h) in
+      ap (option_and_then as_pending) (handle_at-state_of p k ∙ ap (option_map (handle_of p)) f.1)
+      ∙ ap (λ (x : HandleEntry). as_pending (handle_in p x.stage x.sender x.slot)) kept.1)
       (none_or_some (fin_map.get p.table.entries k))
+
+  -- and so whether a request is alive
+  pub alive_here : (k : ℕ) (own : Place) (v : HandleEntry) → value_in p.table k own ≡ Some v → is_alive (state_of p) k ≡ is_pending v.stage
+  alive_here k own v h = ap is_some (pending_here k own v h) ∙ pending-handle_in v.stage v.sender v.slot
+
+  -- and whether its hint is set
+  pub hint_here : (k : ℕ) (own : Place) (v : HandleEntry) → value_in p.table k own ≡ Some v
+      → has_disconnect_hint (state_of p) k ≡ stage_hint v.stage
+  hint_here k own v h = ap hint_in (pending_here k own v h) ∙ hint-handle_in v.stage v.sender v.slot
 
   module _ (hand : Hand) (sound : IsSound p hand) where
     -- a request with a handle is used
@@ -98,3 +126,12 @@ module _ {Q QH P PH K : Type 0} (p : Parts Q QH P PH K) where
         ap (λ q. kept_in q f.0) (place ∙ sym (stands_own sender slot k f.0 uses number f.1 is)) ∙ kept_in_own f.0.place f.0.value in
         let e : None ≡ Some f.0.value = sym h ∙ ap (option_and_then (kept_in own)) f.1 ∙ kept in cc))
         (none_or_some (fin_map.get p.table.entries k))
+
+    -- nor is its hint set
+    pub hint_not : (sender slot k : ℕ) (own : Place) → 0 < request_uses p sender slot → k ≡ (request_details p sender slot).number
+        → own ≡ own_place p sender slot → value_in p.table k own ≡ None → has_disconnect_hint (state_of p) k ≡ false
+    hint_not sender slot k own uses number place h = none (pending_at (state_of p) k) (alive_not sender slot k own uses number place h)
+      where
+        none : (o : Option (Pending Q QH)) → is_some o ≡ false → hint_in o ≡ false
+        none None e = refl
+        none (Some pending) e = absurd (false≢true (sym e))

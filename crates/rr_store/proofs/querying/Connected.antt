@@ -6,7 +6,7 @@ use Rattle.std.proofs.Math.Nat.{mul-le-mul_right}
 use Rattle.std.proofs.lemmas.Bool.{false≢true}
 use Rattle.rr_table.specs.TableView.{value_at}
 use Rattle.rr_protocol.specs.declared.kind.Kind.{Kind}
-use Rattle.rr_protocol.specs.Messages.{as_pending, as_active}
+use Rattle.rr_protocol.specs.Messages.{Pending, RequestMessage, as_pending, as_active}
 use Rattle.rr_protocol.specs.Queries.{kind_of, kind_at}
 use Rattle.rr_protocol.specs.State.{State, handle_at, is_client_value, is_server_value, pending_at, active_at}
 use Rattle.rr_store.specs.declared.handle_entry.HandleEntry.{HandleEntry}
@@ -14,10 +14,11 @@ use Rattle.rr_store.specs.declared.handle_entry.Stage.{Stage}
 use Rattle.rr_store.specs.declared.handle_entry.Stage.TheVariants as stage
 use Rattle.rr_store.specs.declared.port.ServerPort.{ServerPort}
 use Rattle.rr_store.specs.Ports.{server_part}
+use Rattle.rr_store.specs.Hints.{stage_connections, stage_hint}
 use Rattle.rr_store.specs.Kinds.{stage_kind}
 use Rattle.rr_store.specs.Parts.{Parts}
 use Rattle.rr_store.specs.Views.{handle_in, state_of, is_awaited, is_marked, sender_of, waiting_at, request_at}
-use Rattle.rr_store.specs.Sound.{is_of_request}
+use Rattle.rr_store.specs.Sound.{is_of_request, is_of_response}
 use Rattle.rr_store.proofs.base.lookups.Looking.{list_any-map, some_pass, kind_shown}
 use Rattle.rr_store.proofs.base.lookups.Shown.{shown_there}
 
@@ -68,6 +69,15 @@ mark_within slot slots receivers receiver marks here there is =
 pub marks_before : (slot slots receivers marks : ℕ) → slot < slots → marks ≡ slots * receivers → slot * receivers ≤ marks
 marks_before slot slots receivers marks here is = omega (arith, mul-le-mul_right {m = slot} {n = slots} receivers (omega (arith, here)), is)
 
+-- what a pending response in a stage keeps
+abbrev pub pending_in : {Q QH P PH K : Type 0} → Parts Q QH P PH K → Stage → ℕ → ℕ → Pending Q QH
+pending_in p g sender slot = record {
+  message = request_at p sender slot;
+  hint = stage_hint g;
+  connections = stage_connections g;
+  servers = waiting_at p sender slot;
+}
+
 module _ {Q QH P PH K : Type 0} (p : Parts Q QH P PH K) where
   -- some server has a mark where some may answer
   pub waiting_seen : (sender slot : ℕ) (servers stored : List (ServerPort K)) (marks : List ℕ) → p.servers ≡ map server_part servers
@@ -92,6 +102,13 @@ module _ {Q QH P PH K : Type 0} (p : Parts Q QH P PH K) where
     pub of_kind : (entry : HandleEntry) → value_at p.table n ≡ Some entry → stage_kind entry.stage ≡ k
     of_kind entry h = let f : Some (stage_kind entry.stage) ≡ Some k = sym (kind_shown p n entry h) ∙ kind_there in cc
 
+  -- what is shown of a pending response
+  pending-shown : (g : Stage) (sender slot : ℕ) → stage_kind g ≡ Kind.PendingResponse
+      → as_pending (handle_in p g sender slot) ≡ Some (pending_in p g sender slot)
+  pending-shown g sender slot is =
+      let f = pending_stage g is in
+      ap (λ (g : Stage). as_pending (handle_in p g sender slot)) f.2 ∙ sym (ap (λ (g : Stage). Some (pending_in p g sender slot)) f.2)
+
   -- only a handle of an active request shows one
   active-handle_in : (g : Stage) (sender slot : ℕ) → is_some (as_active (handle_in p g sender slot)) ≡ true
       → stage_kind g ≡ Kind.ActiveRequest
@@ -113,21 +130,31 @@ module _ {Q QH P PH K : Type 0} (p : Parts Q QH P PH K) where
 
   module _ (s : State Q QH P PH K) (n m : ℕ) (view : state_of p ≡ s) (same : n ≡ m) (entry : HandleEntry)
       (h : value_at p.table n ≡ Some entry) where
+    -- what holds of what a pending response keeps
+    pub of_kept : (R : Pending Q QH → Type 0) → stage_kind entry.stage ≡ Kind.PendingResponse
+        → R (pending_in p entry.stage entry.sender entry.slot) → IsSomeAnd (pending_at s m) R
+    of_kept R is r =
+        subst (λ o. IsSomeAnd o R)
+        (sym (ap (option_and_then as_pending) (shown_there p s n m view same entry h)
+        ∙ pending-shown entry.stage entry.sender entry.slot is)) r
+
     -- what holds of the servers that may answer
     pub of_pending : (R : List ℕ → Type 0) → stage_kind entry.stage ≡ Kind.PendingResponse → R (waiting_at p entry.sender entry.slot)
         → IsSomeAnd (pending_at s m) (λ pending. R pending.servers)
-    of_pending R is r =
-        let f = pending_stage entry.stage is in
-        subst (λ o. IsSomeAnd (option_and_then as_pending o) (λ pending. R pending.servers))
-        (sym (shown_there p s n m view same entry h ∙ ap (λ (g : Stage). Some (handle_in p g entry.sender entry.slot)) f.2)) r
+    of_pending R is r = of_kept (λ pending. R pending.servers) is r
 
     -- what holds of the request that was received
+    pub of_received : (R : RequestMessage Q QH → Type 0) → stage_kind entry.stage ≡ Kind.ActiveRequest
+        → R (request_at p entry.sender entry.slot) → IsSomeAnd (active_at s m) (λ active. R active.message)
+    of_received R is r =
+        let f = active_stage entry.stage is in
+        subst (λ o. IsSomeAnd (option_and_then as_active o) (λ active. R active.message))
+        (sym (shown_there p s n m view same entry h ∙ ap (λ (g : Stage). Some (handle_in p g entry.sender entry.slot)) f.2)) r
+
+    -- and of its number
     pub of_active : (R : ℕ → Type 0) → stage_kind entry.stage ≡ Kind.ActiveRequest → R (request_at p entry.sender entry.slot).number
         → IsSomeAnd (active_at s m) (λ active. R active.message.number)
-    of_active R is r =
-        let f = active_stage entry.stage is in
-        subst (λ o. IsSomeAnd (option_and_then as_active o) (λ active. R active.message.number))
-        (sym (shown_there p s n m view same entry h ∙ ap (λ (g : Stage). Some (handle_in p g entry.sender entry.slot)) f.2)) r
+    of_active R is r = of_received (λ (m : RequestMessage Q QH). R m.number) is r
 
 -- a pending response is a handle of a request
 pub pending_has_request : (g : Stage) → stage_kind g ≡ Kind.PendingResponse → is_of_request g ≡ true
@@ -136,3 +163,13 @@ pending_has_request g h = let f = pending_stage g h in ap is_of_request f.2
 -- and an active request is one
 pub active_has_request : (g : Stage) → stage_kind g ≡ Kind.ActiveRequest → is_of_request g ≡ true
 active_has_request g h = let f = active_stage g h in ap is_of_request f.2
+
+-- a response that was received is a handle of a response
+pub received_has_response : (g : Stage) → stage_kind g ≡ Kind.Response → is_of_response g ≡ true
+received_has_response stage.Response h = refl
+received_has_response stage.RequestMutUninit h = absurd (let f : Kind.RequestMutUninit ≡ Kind.Response = h in cc)
+received_has_response stage.RequestMut h = absurd (let f : Kind.RequestMut ≡ Kind.Response = h in cc)
+received_has_response (stage.PendingResponse hint connections) h = absurd (let f : Kind.PendingResponse ≡ Kind.Response = h in cc)
+received_has_response (stage.ActiveRequest server loans) h = absurd (let f : Kind.ActiveRequest ≡ Kind.Response = h in cc)
+received_has_response stage.ResponseMutUninit h = refl
+received_has_response stage.ResponseMut h = refl

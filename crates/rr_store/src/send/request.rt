@@ -1,12 +1,11 @@
 //! Sends of requests.
-ghost use Rattle.std.specs.Prelude.{◌≡◌, ◌<◌, ◌+◌, ◌*◌, ◌^◌, not, ℕ, Some, IsSomeAnd, [], count_by, length, map, slice_get, slice_index, slice_index_or, slice_set};
+ghost use Rattle.std.specs.Prelude.{◌≡◌, ◌<◌, ◌+◌, ◌*◌, ◌^◌, not, ℕ, Some, IsSomeAnd, [], count_by, length, map, slice_get, slice_index, slice_index_or};
 ghost use Rattle.std.specs.List.{list_any};
 ghost use Rattle.rr_sender.specs.Senders.{uses};
 ghost use Rattle.rr_store.specs.Loaning.{with_sender_at};
 ghost use Rattle.rr_store.specs.Ports.{connected_of, sender_part, server_part};
 ghost use Rattle.rr_store.specs.Sending.{HasQueues, after_puts, after_queued, is_blocked_at, is_refused_at, receivers_of, with_marks, with_one_sent};
 ghost use Rattle.rr_store.specs.Views.{sender_of};
-ghost use Rattle.rr_store.specs.Writing.{with_messages};
 
 use crate::{OwnedSender, Port, ServerPort};
 use rr_protocol::BackpressureFn;

@@ -244,6 +244,7 @@ impl<QB: Body, QH: Default + Drop, PB: Body, PH: Default + Drop, K: Backpressure
         self.next = number + 1;
         Ok(number)
     }
+
     /// Adds a server as `add_server` does, which sends from the sender of the server that left as the one at an index: that
     /// sender becomes a new one, and that server is no longer noted. Returns `AllocError` if memory was refused; nothing has
     /// changed then.

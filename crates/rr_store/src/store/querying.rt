@@ -1,5 +1,5 @@
 //! What a query reads.
-ghost use Rattle.std.specs.Prelude.{◌≡◌, ◌≤◌, ◌<◌, ◌+◌, ◌*◌, ℕ, [], IsSomeAnd, Some, length, nat_lt, option_map, slice_get, slice_index_or};
+ghost use Rattle.std.specs.Prelude.{◌≡◌, ◌≤◌, ◌<◌, ◌+◌, ◌*◌, ℕ, [], IsSomeAnd, Some, length, nat_lt, option_map, slice_get};
 ghost use Rattle.std.specs.FinMap as fin_map;
 ghost use Rattle.rr_slots.specs.Pools.{written};
 ghost use Rattle.rr_table.specs.TableView.{value_in};
@@ -9,11 +9,11 @@ ghost use Rattle.rr_store.specs.Leaving.{is_client_used, is_server_used};
 ghost use Rattle.rr_store.specs.Order.{IsRising};
 ghost use Rattle.rr_store.specs.Parts.{ServerPart};
 ghost use Rattle.rr_store.specs.Sound.{own_place};
-ghost use Rattle.rr_store.specs.Views.{sender_of, state_of, waiting_at};
+ghost use Rattle.rr_store.specs.Views.{request_at, response_at, sender_of, state_of, waiting_at};
 
 use crate::store::Store;
 use crate::{HandleEntry, query};
-use rr_protocol::BackpressureFn;
+use rr_protocol::{BackpressureFn, UniqueNodeId};
 use rr_slots::Body;
 use rr_table::Place;
 
@@ -118,6 +118,34 @@ impl<QB: Body, QH: Default + Drop, PB: Body, PH: Default + Drop, K: Backpressure
         ensures { written PB.asked_len PB.elements result.now ≡ content_at (sender_of sender self.now.server_senders).messages slot }
     {
         self.server_senders[sender].messages.body(slot)
+    }
+
+    /// Returns the user header of the request in a slot.
+    #[inline(always)]
+    pub fn request_user_header(&self, sender: usize, slot: usize) -> &QH
+        requires sender { sender < length self.now.client_senders }
+        requires slot { slot < length (sender_of sender self.now.client_senders).messages.held }
+        ensures { result.now ≡ (request_at self.now sender slot).content.user_header }
+    {
+        self.client_senders[sender].messages.user_header(slot)
+    }
+
+    /// Returns the user header of the response in a slot.
+    #[inline(always)]
+    pub fn response_user_header(&self, sender: usize, slot: usize) -> &PH
+        requires sender { sender < length self.now.server_senders }
+        requires slot { slot < length (sender_of sender self.now.server_senders).messages.held }
+        ensures { result.now ≡ (response_at self.now sender slot).content.user_header }
+    {
+        self.server_senders[sender].messages.user_header(slot)
+    }
+
+    /// Returns the node.
+    #[inline(always)]
+    pub fn node_id(&self) -> UniqueNodeId
+        ensures { result.0 ≡ self.now.node_id }
+    {
+        self.node_id
     }
 
     /// Returns whether a connected server may still answer the request in a slot. Looks once at each connected server.

@@ -1,12 +1,10 @@
 //! What a release changes.
 ghost use Rattle.std.specs.Prelude.{◌≡◌, ◌==◌, ◌+◌, ◌*◌, ◌<◌, [], Option, IfSome, IsSome, IsSomeAnd, length, slice_get, slice_index, slice_index_or};
-ghost use Rattle.std.specs.List.{position};
 ghost use Rattle.rr_sender.specs.Senders.{borrowed_at, given_back};
 ghost use Rattle.rr_table.specs.declared.place.Place as place;
 ghost use Rattle.rr_store.specs.Changes.{with_client_sender_at, with_server_sender_at, with_requests, with_responses, with_channel_cleared};
 ghost use Rattle.rr_store.specs.Clearing.{without_pending};
 ghost use Rattle.rr_store.specs.Ending.{IsAskedPlace, IsLoanEnded, found_under};
-ghost use Rattle.rr_store.specs.Order.{IsRising};
 ghost use Rattle.rr_store.specs.Receiving.{Reaches};
 ghost use Rattle.rr_store.specs.Releasing.{borrow_given_back, without_loan, without_mark};
 ghost use Rattle.rr_store.specs.Sound.{request_details, response_details};

@@ -4,8 +4,7 @@ ghost use Rattle.std.specs.List.{position};
 ghost use Rattle.rr_sender.specs.Senders.{uses};
 ghost use Rattle.rr_store.specs.Changes.{is_open_to, request_send_limit, with_client_sender_at, with_request_queued, with_responses};
 ghost use Rattle.rr_store.specs.Delivering.{HasQueue, handed_on, is_refused_in, reached};
-ghost use Rattle.rr_store.specs.Order.{IsRising};
-ghost use Rattle.rr_store.specs.Parts.{ClientPart, ServerPart};
+ghost use Rattle.rr_store.specs.Parts.{ServerPart};
 ghost use Rattle.rr_store.specs.Sending.{with_one_sent};
 ghost use Rattle.rr_store.specs.Views.{sender_of};
 

@@ -1,4 +1,4 @@
-use Rattle.rr_querying.proofs.steps.RequestBody.{sender_asked, slot_asked, asked_then, elements_then}
+use Rattle.rr_querying.proofs.steps.Request.{sender_asked, slot_asked, asked_then, elements_then}
 use Rattle.rr_querying.proofs.bodies.request_body_at.Goals as goal
 
 pub at-entry-requires : goal.at-entry-requires

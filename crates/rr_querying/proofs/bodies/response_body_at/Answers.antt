@@ -1,4 +1,4 @@
-use Rattle.rr_querying.proofs.steps.ResponseBody.{sender_asked, slot_asked, asked_then, elements_then}
+use Rattle.rr_querying.proofs.steps.Response.{sender_asked, slot_asked, asked_then, elements_then}
 use Rattle.rr_querying.proofs.bodies.response_body_at.Goals as goal
 
 pub at-entry-requires : goal.at-entry-requires

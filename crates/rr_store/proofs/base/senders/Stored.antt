@@ -26,6 +26,13 @@ module _ {B N H T : Type 0} (items : List (OwnedSender B N H T)) (sender : ℕ) 
       sym (get_or_from_slice_get x.messages.details slot details none at)
       ∙ ap (λ l. slice_index_or l.messages.details slot none) (sym stored_is)
 
+  -- the user header
+  pub user_header_is : (slot : ℕ) (header spare : H) → slice_get x.messages.user_headers slot ≡ Some header
+      → header ≡ slice_index_or (sender_of sender (map sender_part items)).messages.user_headers slot spare
+  user_header_is slot header spare at =
+      sym (get_or_from_slice_get x.messages.user_headers slot header spare at)
+      ∙ ap (λ l. slice_index_or l.messages.user_headers slot spare) (sym stored_is)
+
   -- the senders after its messages changed
   pub stored_set : (m : Messages T N H) (change : Messages T N H → Messages T N H) → m ≡ change x.messages
       → map sender_part (slice_set items sender (with_messages x m))

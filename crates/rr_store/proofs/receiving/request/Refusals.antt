@@ -156,8 +156,25 @@ module _ {Q QH P PH K : Type 0} (p : Parts Q QH P PH K) (sound : IsSound p empty
           (shows (Some l) e ∙ ap (λ (l : Sender Q RequestDetails QH). map (request_in_slot p.spare_request_header l.messages)
           (queue_at l.messages c.receiver 0)) (sym is))
 
+  -- what waits from a sender's client
+  pub shown_from : (sender : ℕ) → sender < length p.client_senders
+      → at (state_of p).requests (request_key (sender_of sender p.client_senders).owner c.port.id)
+      ≡ map (request_in_slot p.spare_request_header (sender_of sender p.client_senders).messages)
+      (queue_from p.client_senders c.receiver 0 sender)
+  shown_from sender there =
+      at_requests p (request_key (sender_of sender p.client_senders).owner c.port.id) ∙ rw the_one (rw sender_there refl)
+    where
+      sender_there : find (λ l. l.owner == (sender_of sender p.client_senders).owner) p.client_senders ≡ Some
+          (sender_of sender p.client_senders)
+      sender_there =
+          found_alone (λ (l : Sender Q RequestDetails QH). l.owner == (sender_of sender p.client_senders).owner) p.client_senders sender
+          (sender_of sender p.client_senders) (slice_get-get_or p.client_senders sender no_sender there) (eq-eqb _ _ refl)
+          (λ k l e same. sound.client_ports.owned_once k sender (slice_get_within p.client_senders k l e) there
+          (ap (λ (l : Sender Q RequestDetails QH). l.owner) (get_or_from_slice_get p.client_senders k l no_sender e)
+          ∙ eqb-true l.owner (sender_of sender p.client_senders).owner same))
+
   -- all lists are empty
-  all_empty : ((sender : ℕ) → sender < length p.client_senders → queue_from p.client_senders c.receiver 0 sender ≡ []) → (client : ℕ)
+  pub all_empty : ((sender : ℕ) → sender < length p.client_senders → queue_from p.client_senders c.receiver 0 sender ≡ []) → (client : ℕ)
       → at (state_of p).requests (request_key client c.port.id) ≡ []
   all_empty none client = from_sender client (λ e. e) (λ sender there owner e. e
       ∙ ap (map (request_in_slot p.spare_request_header (sender_of sender p.client_senders).messages)) (none sender there))
@@ -182,22 +199,8 @@ module _ {Q QH P PH K : Type 0} (p : Parts Q QH P PH K) (sound : IsSound p empty
     (sender_of sender p.client_senders).owner,
     room_is sender there ∙ le-ltb (borrowed_from p.client_senders c.receiver 0 sender) most full,
     (λ e. map_some (request_in_slot p.spare_request_header (sender_of sender p.client_senders).messages)
-        (queue_from p.client_senders c.receiver 0 sender) some (sym shown ∙ e)),
+        (queue_from p.client_senders c.receiver 0 sender) some (sym (shown_from sender there) ∙ e)),
   )
-    where
-      sender_there : find (λ l. l.owner == (sender_of sender p.client_senders).owner) p.client_senders ≡ Some
-          (sender_of sender p.client_senders)
-      sender_there =
-          found_alone (λ (l : Sender Q RequestDetails QH). l.owner == (sender_of sender p.client_senders).owner) p.client_senders sender
-          (sender_of sender p.client_senders) (slice_get-get_or p.client_senders sender no_sender there) (eq-eqb _ _ refl)
-          (λ k l e same. sound.client_ports.owned_once k sender (slice_get_within p.client_senders k l e) there
-          (ap (λ (l : Sender Q RequestDetails QH). l.owner) (get_or_from_slice_get p.client_senders k l no_sender e)
-          ∙ eqb-true l.owner (sender_of sender p.client_senders).owner same))
-
-      shown : at (state_of p).requests (request_key (sender_of sender p.client_senders).owner c.port.id) ≡ map
-          (request_in_slot p.spare_request_header (sender_of sender p.client_senders).messages)
-          (queue_from p.client_senders c.receiver 0 sender)
-      shown = at_requests p (request_key (sender_of sender p.client_senders).owner c.port.id) ∙ rw the_one (rw sender_there refl)
 
   -- no request that is waited for is dead
   not_dead : (sender slot : ℕ) → 0 < request_uses p sender slot →

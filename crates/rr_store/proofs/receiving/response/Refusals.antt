@@ -130,6 +130,22 @@ module _ {Q QH P PH K : Type 0} (p : Parts Q QH P PH K) (sound : IsSound p empty
           (shows (Some l) e ∙ ap (λ (l : Sender P ResponseDetails PH). map (response_in_slot p.spare_response_header l.messages)
           (queue_at l.messages c.receiver channel)) (sym is))
 
+  -- what waits from a sender's server
+  pub shown_from : (sender : ℕ) → sender < length p.server_senders
+      → at (state_of p).responses (from (sender_of sender p.server_senders).owner)
+      ≡ map (response_in_slot p.spare_response_header (sender_of sender p.server_senders).messages)
+      (queue_from p.server_senders c.receiver channel sender)
+  shown_from sender there = at_responses p (from (sender_of sender p.server_senders).owner) ∙ rw the_one (rw sender_there refl)
+    where
+      sender_there : find (λ l. l.owner == (sender_of sender p.server_senders).owner) p.server_senders ≡ Some
+          (sender_of sender p.server_senders)
+      sender_there =
+          found_alone (λ (l : Sender P ResponseDetails PH). l.owner == (sender_of sender p.server_senders).owner) p.server_senders sender
+          (sender_of sender p.server_senders) (slice_get-get_or p.server_senders sender no_sender there) (eq-eqb _ _ refl)
+          (λ k l e same. sound.server_ports.owned_once k sender (slice_get_within p.server_senders k l e) there
+          (ap (λ (l : Sender P ResponseDetails PH). l.owner) (get_or_from_slice_get p.server_senders k l no_sender e)
+          ∙ eqb-true l.owner (sender_of sender p.server_senders).owner same))
+
   -- all lists are empty
   pub all_empty : ((sender : ℕ) → sender < length p.server_senders → queue_from p.server_senders c.receiver channel sender ≡ [])
       → (server : ℕ)
@@ -155,22 +171,8 @@ module _ {Q QH P PH K : Type 0} (p : Parts Q QH P PH K) (sound : IsSound p empty
     (sender_of sender p.server_senders).owner,
     room_is sender there ∙ le-ltb (borrowed_from p.server_senders c.receiver channel sender) most full,
     (λ e. map_some (response_in_slot p.spare_response_header (sender_of sender p.server_senders).messages)
-        (queue_from p.server_senders c.receiver channel sender) some (sym shown ∙ e)),
+        (queue_from p.server_senders c.receiver channel sender) some (sym (shown_from sender there) ∙ e)),
   )
-    where
-      sender_there : find (λ l. l.owner == (sender_of sender p.server_senders).owner) p.server_senders ≡ Some
-          (sender_of sender p.server_senders)
-      sender_there =
-          found_alone (λ (l : Sender P ResponseDetails PH). l.owner == (sender_of sender p.server_senders).owner) p.server_senders sender
-          (sender_of sender p.server_senders) (slice_get-get_or p.server_senders sender no_sender there) (eq-eqb _ _ refl)
-          (λ k l e same. sound.server_ports.owned_once k sender (slice_get_within p.server_senders k l e) there
-          (ap (λ (l : Sender P ResponseDetails PH). l.owner) (get_or_from_slice_get p.server_senders k l no_sender e)
-          ∙ eqb-true l.owner (sender_of sender p.server_senders).owner same))
-
-      shown : at (state_of p).responses (from (sender_of sender p.server_senders).owner) ≡ map
-          (response_in_slot p.spare_response_header (sender_of sender p.server_senders).messages)
-          (queue_from p.server_senders c.receiver channel sender)
-      shown = at_responses p (from (sender_of sender p.server_senders).owner) ∙ rw the_one (rw sender_there refl)
 
   -- the first response of a list with room is taken
   pub takes : (sender : ℕ) → sender < length p.server_senders → (slot : ℕ) → channel < worst_case_requests p.limits
@@ -200,7 +202,7 @@ module _ {Q QH P PH K : Type 0} (p : Parts Q QH P PH K) (sound : IsSound p empty
     (seen : pending_at (state_of p) n ≡ Some pending) (its_client : pending.message.client ≡ c.port.id)
     (its_channel : pending.message.channel ≡ channel) (s : State Q QH P PH K) (is : state_of p ≡ s) where
   -- its lists are the client's on the channel
-  keys : (server : ℕ) → from p sound index c at_c channel server ≡ response_key pending server
+  pub keys : (server : ℕ) → from p sound index c at_c channel server ≡ response_key pending server
   keys server = ap (λ n. record { server = server; client = n; channel = channel }) (sym its_client)
       ∙ ap (λ h. record { server = server; client = pending.message.client; channel = h }) (sym its_channel)
 

@@ -17,7 +17,7 @@ use Rattle.rr_protocol.specs.Counts.{pending_responses}
 use Rattle.rr_protocol.specs.Keys.{RequestKey, request_key}
 use Rattle.rr_protocol.specs.Messages.{Handle, RequestMut, RequestMessage, as_request_mut}
 use Rattle.rr_protocol.specs.Ports.{Client}
-use Rattle.rr_protocol.specs.Sends.{is_blocked, is_request_list_blocked, is_request_refused, request_send_refusal, connections_of}
+use Rattle.rr_protocol.specs.Sends.{is_blocked, is_request_deliverable, is_request_list_blocked, is_request_refused, request_send_refusal, connections_of}
 use Rattle.rr_protocol.specs.State.{State, IsRequestMutAnd, client_at, handle_at}
 use Rattle.rr_store.specs.Changes.{is_closed_to, is_open_to, request_send_limit}
 use Rattle.rr_store.specs.declared.handle_entry.HandleEntry.{HandleEntry}
@@ -106,6 +106,14 @@ module _ {Q QH P PH K : Type 0} (p : Parts Q QH P PH K) (sound : IsSound p empty
       ∙ any-map (λ (d : Server K). request_key message.client d.port.id) test p.servers
       ∙ any_same (λ d. test (request_key message.client d.port.id)) stored p.servers
       (λ i d at. ap (λ b. b && not (discards action c.port d.port.id)) (blocked_stored i d at))
+
+  -- whether no queue does
+  pub deliverable_parts : is_request_deliverable (state_of p) message ≡ not (list_any (is_closed_to p sender) p.servers)
+  deliverable_parts =
+      ap not (ap (list_any (is_request_list_blocked (state_of p))) (view.reach_is p sound k sender slot 0 s at_s is)
+      ∙ any-map (λ (d : Server K). request_key message.client d.port.id) (is_request_list_blocked (state_of p)) p.servers
+      ∙ any_same (λ d. is_request_list_blocked (state_of p) (request_key message.client d.port.id)) (is_closed_to p sender) p.servers
+      blocked_stored)
 
   pub connections_parts : connections_of (state_of p) message ≡ count_by (is_open_to p sender) p.servers
   connections_parts =

@@ -1,20 +1,20 @@
 -- The fields of a core as a response is sent, as parts.
 use Rattle.std.proofs.Common.{◌≡◌, ◌<◌, ◌+◌, ◌^◌, ℕ, Bool, true, Option, None, Some, option_map, refl, sym, ap, ◌∙◌, subst, arith}
-use Rattle.std.specs.Prelude.{◌==◌, IsSomeAnd, option_and_then, slice_get, slice_index}
+use Rattle.std.specs.Prelude.{◌==◌, IsSomeAnd, not, option_and_then, slice_get, slice_index}
 use Rattle.rr_table.specs.TableView.{value_at}
 use Rattle.rr_sender.specs.Senders.{Messages, uses}
 use Rattle.rr_protocol.specs.declared.kind.Kind.{Kind}
 use Rattle.rr_protocol.specs.Messages.{Handle, RequestMutUninit, RequestMut, PendingResponse, ActiveRequest, ResponseMutUninit, ResponseMut, Response, ResponseMessage, as_response_mut}
 use Rattle.rr_protocol.specs.Ports.{Server}
 use Rattle.rr_protocol.specs.declared.settings.BackpressureAction.{BackpressureAction}
-use Rattle.rr_protocol.specs.Sends.{is_response_refused}
+use Rattle.rr_protocol.specs.Sends.{is_response_deliverable, is_response_refused}
 use Rattle.rr_protocol.specs.Queries.{kind_of, kind_at}
 use Rattle.rr_protocol.specs.State.{State, IsResponseMutAnd, handle_at, server_at}
 use Rattle.rr_store.specs.declared.handle_entry.HandleEntry.{HandleEntry}
 use Rattle.rr_store.specs.declared.handle_entry.Stage.{Stage}
 use Rattle.rr_store.specs.declared.handle_entry.Stage.TheVariants as stage
 use Rattle.rr_store.specs.declared.details.ResponseDetails.{ResponseDetails}
-use Rattle.rr_store.specs.Delivering.{HasQueue, delivered, is_refused_in, reached}
+use Rattle.rr_store.specs.Delivering.{HasQueue, delivered, is_blocked_in, is_refused_in, reached}
 use Rattle.rr_store.specs.Kinds.{stage_kind}
 use Rattle.rr_store.specs.Parts.{Parts, ServerPart}
 use Rattle.rr_store.specs.Releasing.{is_loaned_response}
@@ -22,7 +22,7 @@ use Rattle.rr_store.specs.Sound.{IsSound, empty_hand, response_details}
 use Rattle.rr_store.specs.Views.{sender_of, state_of, server_of, handle_in, response_at}
 use Rattle.rr_store.proofs.releasing.response_loan.Fields.{ResponseLoanFound}
 use Rattle.rr_store.proofs.releasing.response_loan.Place.{server_alone}
-use Rattle.rr_store.proofs.sending.response.Refusals.{used_once, has_queue, refused_is, server_is}
+use Rattle.rr_store.proofs.sending.response.Refusals.{deliverable_is, used_once, has_queue, refused_is, server_is}
 use Rattle.rr_store.proofs.querying.Connected.{handle_kind}
 use Rattle.rr_store.proofs.base.lookups.Looking.{shown}
 use Rattle.rr_store.proofs.base.lists.Replaced.{find_mapped}
@@ -91,6 +91,18 @@ module _ {Q QH P PH K : Type 0} (p : Parts Q QH P PH K) (sound : IsSound p empty
         (reached p.client_senders p.table (response_details p entry.sender entry.slot)))
         (sym read)
         ∙ sym (refused_is p sound k entry f index c there sends action)
+
+    -- and whether it can be delivered
+    pub deliverable_then : (noted : ResponseDetails) → response_details p entry.sender entry.slot ≡ noted → (reach : Option ℕ)
+        → reach ≡ reached p.client_senders p.table noted
+        → not (is_blocked_in (sender_of entry.sender p.server_senders).messages p.limits.enable_safe_overflow_for_responses noted.channel
+        reach) ≡ is_response_deliverable (state_of p) (response_at p entry.sender entry.slot)
+    deliverable_then noted same reach is =
+        let m = (sender_of entry.sender p.server_senders).messages in
+        let overflow = p.limits.enable_safe_overflow_for_responses in
+        ap (λ o. not (is_blocked_in m overflow noted.channel o)) is
+        ∙ ap (λ (n : ResponseDetails). not (is_blocked_in m overflow n.channel (reached p.client_senders p.table n))) (sym same)
+        ∙ sym (deliverable_is p sound k entry f index c there sends)
 
     -- and of the slot
     pub slot_asked : (0 < slice_index (sender_of entry.sender p.server_senders).messages.held entry.slot)

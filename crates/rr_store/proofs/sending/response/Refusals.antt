@@ -17,7 +17,7 @@ use Rattle.rr_protocol.specs.Sends as sends
 use Rattle.rr_protocol.specs.State.{State}
 use Rattle.rr_store.specs.declared.handle_entry.HandleEntry.{HandleEntry}
 use Rattle.rr_store.specs.declared.details.ResponseDetails.{ResponseDetails}
-use Rattle.rr_store.specs.Delivering.{HasQueue, delivered, is_refused_in, reached, with_delivered}
+use Rattle.rr_store.specs.Delivering.{HasQueue, delivered, is_blocked_in, is_refused_in, reached, with_delivered}
 use Rattle.rr_store.specs.Ending.{IsAskedPlace, IsLoanEnded, found_under}
 use Rattle.rr_store.specs.Loaning as part
 use Rattle.rr_store.specs.Parts.{Parts, ClientPart, ServerPart, Sender}
@@ -37,6 +37,11 @@ use Rattle.rr_store.proofs.sending.response.Queued.{queued}
 use Rattle.rr_store.proofs.sending.response.Reached.{Reach, Told, told}
 use Rattle.rr_store.proofs.releasing.View.{gone_as, removed_view}
 use Rattle.rr_store.proofs.base.hands.Stages.{response_loan_is_response, handle_uses_response}
+
+-- a test of one element
+alone : (b : Bool) → (b || false) ≡ b
+alone true = refl
+alone false = refl
 
 -- what is delivered changes queues alone
 details_as_were : {T N H : Type 0} (m : Messages T N H) (overflow : Bool) (channel slot : ℕ) (reach : Option ℕ)
@@ -122,6 +127,19 @@ module _ {Q QH P PH K : Type 0} (p : Parts Q QH P PH K) (sound : IsSound p empty
       ap (λ n. record { server = n; client = details.client; channel = details.channel }) owner_is
       ∙ ap (λ n. record { server = (sender_of entry.sender p.server_senders).owner; client = n; channel = details.channel }) t.named
 
+  -- whether its list is blocked
+  blocked_is : (receiver : ℕ) → Told p empty_hand sound entry.sender entry.slot used (Some receiver)
+      → sends.is_response_list_blocked (state_of p) key ≡ is_blocked_in m overflow details.channel (Some receiver)
+  blocked_is receiver t =
+      let waits : at (state_of p).responses key ≡ map (response_in_slot p.spare_response_header m) (queue_at m receiver details.channel) =
+      ap (at (state_of p).responses) (key_is receiver t) ∙ queued p empty_hand sound entry.sender f.sender t.index t.client t.there
+      details.channel
+      ∙ ap (λ r. map (response_in_slot p.spare_response_header m) (queue_at m r details.channel)) t.placed in
+      let many : length (at (state_of p).responses key) ≡ length (queue_at m receiver details.channel) = ap length waits
+      ∙ length-map (queue_at m receiver details.channel) (response_in_slot p.spare_response_header m) in
+      ap (λ n. not overflow && nat_le p.limits.max_response_buffer_size n) many
+      ∙ ap (λ n. not overflow && nat_le n (length (queue_at m receiver details.channel))) (sym shaped.capacity_is)
+
   -- it is refused for contracts if it is for the queue that was found
   pub refused_is : (action : K → ℕ → ℕ → BackpressureAction)
       → sends.is_response_refused action (state_of p) (server_of c) message ≡ is_refused_in action c.port m overflow details reach
@@ -130,25 +148,22 @@ module _ {Q QH P PH K : Type 0} (p : Parts Q QH P PH K) (sound : IsSound p empty
       refuses : ResponseKey → Bool
       refuses key = sends.is_response_list_blocked (state_of p) key && not (discards action c.port key.client)
 
-      alone : (b : Bool) → (b || false) ≡ b
-      alone true = refl
-      alone false = refl
-
       by : (o : Option ℕ) → Told p empty_hand sound entry.sender entry.slot used o
           → list_any refuses (sends.response_reach (state_of p) message) ≡ is_refused_in action c.port m overflow details o
       by None t = ap (list_any refuses) t
-      by (Some receiver) t =
-          let waits : at (state_of p).responses key ≡ map (response_in_slot p.spare_response_header m) (queue_at m receiver details.channel)
-          =
-          ap (at (state_of p).responses) (key_is receiver t) ∙ queued p empty_hand sound entry.sender f.sender t.index t.client t.there
-          details.channel
-          ∙ ap (λ r. map (response_in_slot p.spare_response_header m) (queue_at m r details.channel)) t.placed in
-          let many : length (at (state_of p).responses key) ≡ length (queue_at m receiver details.channel) = ap length waits
-          ∙ length-map (queue_at m receiver details.channel) (response_in_slot p.spare_response_header m) in
-          ap (list_any refuses) t.reach ∙ alone (refuses key)
-          ∙ ap (λ n. not overflow && nat_le p.limits.max_response_buffer_size n && not (discards action c.port details.client)) many
-          ∙ ap (λ n. not overflow && nat_le n (length (queue_at m receiver details.channel)) && not (discards action c.port details.client))
-          (sym shaped.capacity_is)
+      by (Some receiver) t = ap (list_any refuses) t.reach ∙ alone (refuses key)
+          ∙ ap (λ b. b && not (discards action c.port details.client)) (blocked_is receiver t)
+
+  -- and can be delivered if that queue takes it
+  pub deliverable_is : sends.is_response_deliverable (state_of p) message ≡ not (is_blocked_in m overflow details.channel reach)
+  deliverable_is = ap not (by reach where_it_goes)
+    where
+      by : (o : Option ℕ) → Told p empty_hand sound entry.sender entry.slot used o
+          → list_any (sends.is_response_list_blocked (state_of p)) (sends.response_reach (state_of p) message)
+          ≡ is_blocked_in m overflow details.channel o
+      by None t = ap (list_any (sends.is_response_list_blocked (state_of p))) t
+      by (Some receiver) t = ap (list_any (sends.is_response_list_blocked (state_of p))) t.reach
+          ∙ alone (sends.is_response_list_blocked (state_of p) key) ∙ blocked_is receiver t
 
   abbrev put_lists : Lists response_key_cmp (ResponseMessage P PH)
   put_lists = sends.with_response_put (state_of p) message

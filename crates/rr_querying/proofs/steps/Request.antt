@@ -1,5 +1,5 @@
--- The body of a handle's request is read.
-use Rattle.std.proofs.Common.{◌≡◌, ◌<◌, ℕ, true, Some, length, refl, ap}
+-- What a handle's request says is read.
+use Rattle.std.proofs.Common.{◌≡◌, ◌<◌, ℕ, true, Some, length, refl, ap, ◌∙◌}
 use Rattle.std.specs.Prelude.{IsSome, IsSomeAnd, option_and_then}
 use Rattle.std.specs.FinMap as fin_map
 use Rattle.rr_slots.specs.Pools.{Written}
@@ -7,12 +7,16 @@ use Rattle.rr_table.specs.TableView.{table_entry, value_at}
 use Rattle.rr_table.specs.declared.place.Place.{Place}
 use Rattle.rr_sender.specs.Senders.{content_at}
 use Rattle.rr_protocol.specs.Messages.{RequestMessage, request_in}
+use Rattle.rr_protocol.specs.declared.identifiers.UniqueNodeId.{UniqueNodeId}
+use Rattle.rr_protocol.specs.declared.request_header.RequestHeader.{RequestHeader}
+use Rattle.rr_protocol.specs.Queries.{request_header}
 use Rattle.rr_protocol.specs.State.{handle_at}
+use Rattle.rr_store.specs.declared.details.RequestDetails.{RequestDetails}
 use Rattle.rr_store.specs.declared.handle_entry.HandleEntry.{HandleEntry}
 use Rattle.rr_store.specs.Parts.{Parts}
 use Rattle.rr_store.specs.Reaching.{IsCore}
-use Rattle.rr_store.specs.Sound.{empty_hand, is_of_request}
-use Rattle.rr_store.specs.Views.{sender_of, state_of}
+use Rattle.rr_store.specs.Sound.{empty_hand, is_of_request, request_details}
+use Rattle.rr_store.specs.Views.{request_at, sender_of, state_of}
 use Rattle.rr_store.proofs.base.lookups.Placed.{value_there}
 use Rattle.rr_store.proofs.base.lookups.Shown.{is_request, of_request, request_spot}
 
@@ -51,3 +55,36 @@ module _ {Q QH P PH K : Type 0} (p : Parts Q QH P PH K) (core : IsCore p) (n : �
     elements_then =
         of_request p (state_of p) n n refl refl entry here (λ (m : RequestMessage Q QH). body.elements ≡ m.content.elements) is
         (ap (λ (w : Written Q). w.elements) read)
+
+  -- its user header
+  pub user_header_then : (header : QH) → header ≡ (request_at p entry.sender entry.slot).content.user_header
+      → IsSomeAnd (option_and_then request_in (handle_at (state_of p) n)) (λ m. header ≡ m.content.user_header)
+  user_header_then header read =
+      of_request p (state_of p) n n refl refl entry here (λ (m : RequestMessage Q QH). header ≡ m.content.user_header) is read
+
+  -- what its header tells
+  pub header_then : (details : RequestDetails) → details ≡ request_details p entry.sender entry.slot
+      → (body : Written Q) → body ≡ content_at (sender_of entry.sender p.client_senders).messages entry.slot
+      → (asked_len : ℕ) → asked_len ≡ body.asked_len → (node : UniqueNodeId) → node.0 ≡ p.node_id → (header : RequestHeader)
+      → header ≡ record {
+        client_id = record { 0 = details.client };
+        request_id = details.request_id;
+        number_of_elements = asked_len;
+        node_id = node;
+      }
+      → IsSomeAnd (option_and_then request_in (handle_at (state_of p) n)) (λ m. header ≡ request_header (state_of p) m)
+  header_then details are body read asked_len asks node its header is_made =
+      of_request p (state_of p) n n refl refl entry here (λ (m : RequestMessage Q QH). header ≡ request_header (state_of p) m) is
+      (is_made
+      ∙ ap (λ (d : RequestDetails). record {
+        client_id = record { 0 = d.client };
+        request_id = d.request_id;
+        number_of_elements = asked_len;
+        node_id = node;
+      }) are
+      ∙ (λ k. record {
+        client_id = record { 0 = (request_details p entry.sender entry.slot).client };
+        request_id = (request_details p entry.sender entry.slot).request_id;
+        number_of_elements = (asks ∙ ap (λ (w : Written Q). w.asked_len) read) k;
+        node_id = record { 0 = its k };
+      }))

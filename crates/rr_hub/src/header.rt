@@ -1,0 +1,117 @@
+//! What a core tells of what travels with messages, and of where they came from. No query changes it.
+ghost use Rattle.std.specs.Prelude.{◌≡◌, Some, IsSome, IsSomeAnd, option_and_then};
+ghost use Rattle.rr_protocol.specs.Messages.{request_in, response_in};
+ghost use Rattle.rr_protocol.specs.Queries.{kind_at, request_header, response_header};
+ghost use Rattle.rr_protocol.specs.State.{active_at, handle_at};
+
+use crate::state::Core;
+use rr_protocol::{
+    BackpressureFn, Kind, RequestHeader, ResponseHeader, UniqueClientId, UniqueServerId,
+};
+use rr_querying::{
+    request_header_at, request_origin_at, request_user_header_at, response_header_at,
+    response_origin_at, response_user_header_at,
+};
+use rr_slots::Body;
+use rr_store::HandleId;
+
+impl<QB: Body, QH: Default + Drop, PB: Body, PH: Default + Drop, K: BackpressureFn> Core<
+    QB,
+    QH,
+    PB,
+    PH,
+    K,
+> {
+    /// Returns the header of a handle's request. One look. After iceoryx2's `header` of `RequestMut`,
+    /// `PendingResponse` and `ActiveRequest`.
+    #[inline(always)]
+    pub fn request_header(&self, id: &HandleId) -> RequestHeader
+        requires { IsSome (option_and_then request_in (handle_at self.now id.now)) }
+        ensures { IsSomeAnd (option_and_then request_in (handle_at self.now id.now)) (λ m. result ≡ request_header self.now m) }
+    {
+        let hint = id.hint();
+        if self.parts.is_at(id.number(), hint) {
+            request_header_at(&self.parts, id.number(), hint)
+        } else {
+            let place = self.parts.place_of(id.number());
+            request_header_at(&self.parts, id.number(), place)
+        }
+    }
+
+    /// Returns the header of a handle's response. One look. After iceoryx2's `header` of `ResponseMut` and `Response`.
+    #[inline(always)]
+    pub fn response_header(&self, id: &HandleId) -> ResponseHeader
+        requires { IsSome (option_and_then response_in (handle_at self.now id.now)) }
+        ensures { IsSomeAnd (option_and_then response_in (handle_at self.now id.now)) (λ m. result ≡ response_header self.now m) }
+    {
+        let hint = id.hint();
+        if self.parts.is_at(id.number(), hint) {
+            response_header_at(&self.parts, id.number(), hint)
+        } else {
+            let place = self.parts.place_of(id.number());
+            response_header_at(&self.parts, id.number(), place)
+        }
+    }
+
+    /// Returns the user header of a handle's request. One look. After iceoryx2's `user_header` of `RequestMut`,
+    /// `PendingResponse` and `ActiveRequest`.
+    #[inline(always)]
+    pub fn request_user_header(&self, id: &HandleId) -> &QH
+        requires { IsSome (option_and_then request_in (handle_at self.now id.now)) }
+        ensures { IsSomeAnd (option_and_then request_in (handle_at self.now id.now)) (λ m. result.now ≡ m.content.user_header) }
+    {
+        let hint = id.hint();
+        if self.parts.is_at(id.number(), hint) {
+            request_user_header_at(&self.parts, id.number(), hint)
+        } else {
+            let place = self.parts.place_of(id.number());
+            request_user_header_at(&self.parts, id.number(), place)
+        }
+    }
+
+    /// Returns the user header of a handle's response. One look. After iceoryx2's `user_header` of `ResponseMut` and
+    /// `Response`.
+    #[inline(always)]
+    pub fn response_user_header(&self, id: &HandleId) -> &PH
+        requires { IsSome (option_and_then response_in (handle_at self.now id.now)) }
+        ensures { IsSomeAnd (option_and_then response_in (handle_at self.now id.now)) (λ m. result.now ≡ m.content.user_header) }
+    {
+        let hint = id.hint();
+        if self.parts.is_at(id.number(), hint) {
+            response_user_header_at(&self.parts, id.number(), hint)
+        } else {
+            let place = self.parts.place_of(id.number());
+            response_user_header_at(&self.parts, id.number(), place)
+        }
+    }
+
+    /// Returns the client that sent an active request's request. One look. After iceoryx2's `ActiveRequest::origin`.
+    #[inline(always)]
+    pub fn request_origin(&self, id: &HandleId) -> UniqueClientId
+        requires { kind_at self.now id.now ≡ Some Kind.ActiveRequest }
+        ensures { IsSomeAnd (active_at self.now id.now) (λ active. result.0 ≡ active.message.client) }
+    {
+        let hint = id.hint();
+        if self.parts.is_at(id.number(), hint) {
+            request_origin_at(&self.parts, id.number(), hint)
+        } else {
+            let place = self.parts.place_of(id.number());
+            request_origin_at(&self.parts, id.number(), place)
+        }
+    }
+
+    /// Returns the server that sent a received response. One look. After iceoryx2's `Response::origin`.
+    #[inline(always)]
+    pub fn response_origin(&self, id: &HandleId) -> UniqueServerId
+        requires { kind_at self.now id.now ≡ Some Kind.Response }
+        ensures { IsSomeAnd (option_and_then response_in (handle_at self.now id.now)) (λ m. result.0 ≡ m.server) }
+    {
+        let hint = id.hint();
+        if self.parts.is_at(id.number(), hint) {
+            response_origin_at(&self.parts, id.number(), hint)
+        } else {
+            let place = self.parts.place_of(id.number());
+            response_origin_at(&self.parts, id.number(), place)
+        }
+    }
+}

@@ -1,0 +1,76 @@
+//! What a core tells of its own settings, and of those of its ports.
+ghost use Rattle.std.specs.Prelude.{◌≡◌, Some, IsSomeAnd};
+ghost use Rattle.rr_protocol.specs.Queries.{kind_at};
+ghost use Rattle.rr_protocol.specs.State.{client_at, server_at};
+
+use crate::state::Core;
+use rr_protocol::{BackpressureFn, BackpressureStrategy, Kind, Limits, UniqueNodeId};
+use rr_querying::{
+    client_backpressure_strategy, client_initial_max_slice_len, server_backpressure_strategy,
+    server_initial_max_slice_len,
+};
+use rr_slots::Body;
+
+impl<QB: Body, QH: Default + Drop, PB: Body, PH: Default + Drop, K: BackpressureFn> Core<
+    QB,
+    QH,
+    PB,
+    PH,
+    K,
+> {
+    /// Returns the limits. Our own: iceoryx2 has one getter for each.
+    #[inline(always)]
+    pub fn limits(&self) -> Limits
+        ensures { result ≡ self.now.limits }
+    {
+        self.parts.limits()
+    }
+
+    /// Returns the node that the core was made with. Our own.
+    #[inline(always)]
+    pub fn node_id(&self) -> UniqueNodeId
+        ensures { result.0 ≡ self.now.node_id }
+    {
+        self.parts.node_id()
+    }
+
+    /// Returns the backpressure strategy of a client whose value lives. Looks at about ten of 1,000. After iceoryx2's
+    /// `Client::backpressure_strategy`.
+    #[inline(always)]
+    pub fn client_backpressure_strategy(&self, client: u64) -> BackpressureStrategy
+        requires { kind_at self.now client ≡ Some Kind.Client }
+        ensures { IsSomeAnd (client_at self.now client) (λ c. result ≡ c.port.strategy) }
+    {
+        client_backpressure_strategy(&self.parts, client)
+    }
+
+    /// Returns for how many elements each slot of a client whose value lives has room from the start. Looks at about ten of 1,000.
+    /// After iceoryx2's `Client::initial_max_slice_len`.
+    #[inline(always)]
+    pub fn client_initial_max_slice_len(&self, client: u64) -> usize
+        requires { kind_at self.now client ≡ Some Kind.Client }
+        ensures { IsSomeAnd (client_at self.now client) (λ c. result ≡ c.port.initial_max_slice_len) }
+    {
+        client_initial_max_slice_len(&self.parts, client)
+    }
+
+    /// Returns the backpressure strategy of a server whose value lives. Looks at about ten of 1,000. After iceoryx2's
+    /// `Server::backpressure_strategy`.
+    #[inline(always)]
+    pub fn server_backpressure_strategy(&self, server: u64) -> BackpressureStrategy
+        requires { kind_at self.now server ≡ Some Kind.Server }
+        ensures { IsSomeAnd (server_at self.now server) (λ s. result ≡ s.port.strategy) }
+    {
+        server_backpressure_strategy(&self.parts, server)
+    }
+
+    /// Returns for how many elements each slot of a server whose value lives has room from the start. Looks at about ten of 1,000.
+    /// After iceoryx2's `Server::initial_max_slice_len`.
+    #[inline(always)]
+    pub fn server_initial_max_slice_len(&self, server: u64) -> usize
+        requires { kind_at self.now server ≡ Some Kind.Server }
+        ensures { IsSomeAnd (server_at self.now server) (λ s. result ≡ s.port.initial_max_slice_len) }
+    {
+        server_initial_max_slice_len(&self.parts, server)
+    }
+}

@@ -1,0 +1,78 @@
+//! The settings of ports.
+ghost use Rattle.std.specs.Prelude.{◌≡◌, Some, IsSomeAnd};
+ghost use Rattle.rr_protocol.specs.Queries.{kind_at};
+ghost use Rattle.rr_protocol.specs.State.{client_at, server_at};
+ghost use Rattle.rr_store.specs.Reaching.{IsCore};
+ghost use Rattle.rr_store.specs.Views.{state_of};
+
+use rr_protocol::{BackpressureFn, BackpressureStrategy, Kind};
+use rr_slots::Body;
+use rr_store::Store;
+
+/// Returns the backpressure strategy of a client whose value lives. Looks at about ten of 1,000.
+#[inline(always)]
+pub fn client_backpressure_strategy<
+    QB: Body,
+    QH: Default + Drop,
+    PB: Body,
+    PH: Default + Drop,
+    K: BackpressureFn,
+>(store: &Store<QB, QH, PB, PH, K>, client: u64) -> BackpressureStrategy
+    requires core { IsCore store.now }
+    requires kind { kind_at (state_of store.now) client ≡ Some Kind.Client }
+    ensures { IsSomeAnd (client_at (state_of store.now) client) (λ c. result ≡ c.port.strategy) }
+{
+    let index = store.client_index(client);
+    store.client_strategy(index)
+}
+
+/// Returns for how many elements each slot of a client whose value lives has room from the start. Looks at about ten of 1,000.
+#[inline(always)]
+pub fn client_initial_max_slice_len<
+    QB: Body,
+    QH: Default + Drop,
+    PB: Body,
+    PH: Default + Drop,
+    K: BackpressureFn,
+>(store: &Store<QB, QH, PB, PH, K>, client: u64) -> usize
+    requires core { IsCore store.now }
+    requires kind { kind_at (state_of store.now) client ≡ Some Kind.Client }
+    ensures { IsSomeAnd (client_at (state_of store.now) client) (λ c. result ≡ c.port.initial_max_slice_len) }
+{
+    let index = store.client_index(client);
+    store.client_initial_max_slice_len(index)
+}
+
+/// Returns the backpressure strategy of a server whose value lives. Looks at about ten of 1,000.
+#[inline(always)]
+pub fn server_backpressure_strategy<
+    QB: Body,
+    QH: Default + Drop,
+    PB: Body,
+    PH: Default + Drop,
+    K: BackpressureFn,
+>(store: &Store<QB, QH, PB, PH, K>, server: u64) -> BackpressureStrategy
+    requires core { IsCore store.now }
+    requires kind { kind_at (state_of store.now) server ≡ Some Kind.Server }
+    ensures { IsSomeAnd (server_at (state_of store.now) server) (λ s. result ≡ s.port.strategy) }
+{
+    let index = store.server_index(server);
+    store.server_strategy(index)
+}
+
+/// Returns for how many elements each slot of a server whose value lives has room from the start. Looks at about ten of 1,000.
+#[inline(always)]
+pub fn server_initial_max_slice_len<
+    QB: Body,
+    QH: Default + Drop,
+    PB: Body,
+    PH: Default + Drop,
+    K: BackpressureFn,
+>(store: &Store<QB, QH, PB, PH, K>, server: u64) -> usize
+    requires core { IsCore store.now }
+    requires kind { kind_at (state_of store.now) server ≡ Some Kind.Server }
+    ensures { IsSomeAnd (server_at (state_of store.now) server) (λ s. result ≡ s.port.initial_max_slice_len) }
+{
+    let index = store.server_index(server);
+    store.server_initial_max_slice_len(index)
+}

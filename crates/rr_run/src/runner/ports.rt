@@ -1,0 +1,42 @@
+//! What a runner tells of queues and of connections. No query changes it.
+ghost use Rattle.std.specs.Prelude.{◌≡◌};
+ghost use Rattle.rr_commands.specs.declared.command.Command.{Command};
+ghost use Rattle.rr_commands.specs.Step.{Step};
+
+use rr_commands::Reply;
+use rr_hub::{Core, HandleId};
+use rr_protocol::{BackpressureFn, Kind};
+use rr_slots::Body;
+
+/// Whether no queue that a send would reach is full without overflow.
+pub(crate) fn is_deliverable<
+    T: Copy + Default,
+    B: Body<Item = T>,
+    H: Copy + Default,
+    K: BackpressureFn,
+>(core: &Core<B, H, B, H, K>, id: &HandleId) -> Reply<T, H>
+    ensures { Step K.action T.is_default H.is_default B.family core.now (Command.IsDeliverable id.now) result core.now }
+{
+    match core.kind(id) {
+        Some(Kind::RequestMut) => Reply::Flag(core.is_request_deliverable(id)),
+        Some(Kind::ResponseMut) => Reply::Flag(core.is_response_deliverable(id)),
+        Some(_) => Reply::WrongKind,
+        None => Reply::Unknown,
+    }
+}
+
+/// Nothing is left to connect: a port is connected with all others from its creation on.
+pub(crate) fn update_connections<
+    T: Copy + Default,
+    B: Body<Item = T>,
+    H: Copy + Default,
+    K: BackpressureFn,
+>(core: &Core<B, H, B, H, K>, id: &HandleId) -> Reply<T, H>
+    ensures { Step K.action T.is_default H.is_default B.family core.now (Command.UpdateConnections id.now) result core.now }
+{
+    match core.kind(id) {
+        Some(Kind::Client | Kind::Server) => Reply::Done,
+        Some(_) => Reply::WrongKind,
+        None => Reply::Unknown,
+    }
+}

@@ -1,0 +1,37 @@
+//! Hints that a client wants no more responses.
+ghost use Rattle.std.specs.Prelude.{◌≡◌, Some};
+ghost use Rattle.rr_protocol.specs.Messages.{with_hint};
+ghost use Rattle.rr_protocol.specs.Queries.{kind_at};
+ghost use Rattle.rr_protocol.specs.State.{with_changed};
+ghost use Rattle.rr_store.specs.Reaching.{IsCore};
+ghost use Rattle.rr_store.specs.Views.{state_of};
+ghost use Rattle.rr_table.specs.TableView.{IsAt};
+
+use rr_protocol::{BackpressureFn, Kind};
+use rr_slots::Body;
+use rr_store::{HandleEntry, Store};
+use rr_table::Place;
+
+/// Sets the hint of the pending response that stands in this place.
+#[inline(always)]
+pub fn set_disconnect_hint_at<
+    QB: Body,
+    QH: Default + Drop,
+    PB: Body,
+    PH: Default + Drop,
+    K: BackpressureFn,
+>(store: &mut Store<QB, QH, PB, PH, K>, number: u64, place: Place)
+    requires core { IsCore store.old }
+    requires at { IsAt store.old.table number place }
+    requires kind { kind_at (state_of store.old) number ≡ Some Kind.PendingResponse }
+    ensures core { IsCore store.new }
+    ensures view { state_of store.new ≡ with_changed (state_of store.old) number with_hint }
+{
+    let entry = store.at(number, place);
+    let hinted = HandleEntry {
+        stage: entry.stage.hinted(),
+        sender: entry.sender,
+        slot: entry.slot,
+    };
+    store.replace(number, place, hinted);
+}
