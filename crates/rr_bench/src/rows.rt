@@ -8,8 +8,8 @@ ghost use Rattle.rr_bench.specs.Kinds.{HasPorts};
 use crate::hub::{Hub, make_hub};
 use crate::payload::Payload;
 use crate::shapes::{
-    CLIENTS, HANDLES, LARGE, LARGE_SLICE, PAGE, PAGE_SLICE, PAIR, PASSED, POOLS, SERVERS,
-    SLICE, Shape,
+    CLIENTS, HANDLES, LARGE, LARGE_SLICE, PAGE, PAGE_SLICE, PAIR, PASSED, POOLS, SERVERS, SLICE,
+    Shape,
 };
 use crate::trip::{look, round_trip};
 use crate::trip_error::TripError;
