@@ -1,16 +1,20 @@
 //! Writing what a loaned message says, before it is sent, and the hint of one that was sent.
-ghost use Rattle.std.specs.Prelude.{◌≡◌, ◌⊎◌, not, true, Some, IsSomeAnd, if◌then◌else◌, option_and_then};
+ghost use Rattle.std.specs.Prelude.{◌≡◌, ◌⊎◌, not, true, length, nat_lt, Some, IsSomeAnd, if◌then◌else◌, option_and_then};
 ghost use Rattle.rr_protocol.specs.Messages.{request_in, response_in, with_hint};
 ghost use Rattle.rr_protocol.specs.Queries.{kind_at};
 ghost use Rattle.rr_protocol.specs.State.{handle_at, with_changed};
-ghost use Rattle.rr_protocol.specs.Writing.{is_complete, with_element, with_request_content, with_response_content, after_init};
+ghost use Rattle.rr_protocol.specs.Writing.{is_complete, with_element, with_element_at, with_request_content, with_response_content, with_user_header, after_init};
 ghost use Rattle.rr_store.specs.Writing.{is_ready};
 
 use crate::state::Core;
 use rr_protocol::{BackpressureFn, Kind};
 use rr_slots::Body;
 use rr_store::HandleId;
-use rr_writing::{assume_init_at, push_request_at, push_response_at, set_disconnect_hint_at};
+use rr_writing::{
+    assume_init_at, push_request_at, push_response_at, set_disconnect_hint_at,
+    write_request_element_at, write_request_user_header_at, write_response_element_at,
+    write_response_user_header_at,
+};
 
 impl<QB: Body, QH: Default + Drop, PB: Body, PH: Default + Drop, K: BackpressureFn> Core<
     QB,
@@ -87,6 +91,76 @@ impl<QB: Body, QH: Default + Drop, PB: Body, PH: Default + Drop, K: Backpressure
         } else {
             let place = self.parts.place_of(id.number());
             set_disconnect_hint_at(&mut self.parts, id.number(), place);
+        }
+    }
+
+    /// Replaces the element at an index of a request that was not sent, and returns `true`. Returns `false` if no element stands
+    /// there; the element is dropped then, and the hub stays as it was.
+    ///
+    /// Our own: it stands for writes through what iceoryx2's `RequestMut::payload_mut` lends.
+    #[inline(always)]
+    pub fn write_request_element(&mut self, id: &HandleId, index: usize, element: QB::Item) -> bool
+        requires { (kind_at self.old id.now ≡ Some Kind.RequestMutUninit) ⊎ (kind_at self.old id.now ≡ Some Kind.RequestMut) }
+        ensures { IsSomeAnd (option_and_then request_in (handle_at self.old id.now)) (λ m. (result ≡ nat_lt index (length m.content.elements)) × (self.new ≡ (if result then with_changed self.old id.now (with_request_content (with_element_at index element)) else self.old))) }
+    {
+        let hint = id.hint();
+        if self.parts.is_at(id.number(), hint) {
+            write_request_element_at(&mut self.parts, id.number(), hint, index, element)
+        } else {
+            let place = self.parts.place_of(id.number());
+            write_request_element_at(&mut self.parts, id.number(), place, index, element)
+        }
+    }
+
+    /// Replaces the user header of a request that was not sent. The old one is dropped.
+    ///
+    /// Our own: it stands for writes through what iceoryx2's `RequestMut::user_header_mut` lends.
+    #[inline(always)]
+    pub fn write_request_user_header(&mut self, id: &HandleId, header: QH)
+        requires { (kind_at self.old id.now ≡ Some Kind.RequestMutUninit) ⊎ (kind_at self.old id.now ≡ Some Kind.RequestMut) }
+        ensures { self.new ≡ with_changed self.old id.now (with_request_content (with_user_header header)) }
+    {
+        let hint = id.hint();
+        if self.parts.is_at(id.number(), hint) {
+            write_request_user_header_at(&mut self.parts, id.number(), hint, header);
+        } else {
+            let place = self.parts.place_of(id.number());
+            write_request_user_header_at(&mut self.parts, id.number(), place, header);
+        }
+    }
+
+    /// Replaces the element at an index of a response that was not sent, and returns `true`. Returns `false` if no element stands
+    /// there; the element is dropped then, and the hub stays as it was.
+    ///
+    /// Our own: it stands for writes through what iceoryx2's `ResponseMut::payload_mut` lends.
+    #[inline(always)]
+    pub fn write_response_element(&mut self, id: &HandleId, index: usize, element: PB::Item) -> bool
+        requires { (kind_at self.old id.now ≡ Some Kind.ResponseMutUninit) ⊎ (kind_at self.old id.now ≡ Some Kind.ResponseMut) }
+        ensures { IsSomeAnd (option_and_then response_in (handle_at self.old id.now)) (λ m. (result ≡ nat_lt index (length m.content.elements)) × (self.new ≡ (if result then with_changed self.old id.now (with_response_content (with_element_at index element)) else self.old))) }
+    {
+        let hint = id.hint();
+        if self.parts.is_at(id.number(), hint) {
+            write_response_element_at(&mut self.parts, id.number(), hint, index, element)
+        } else {
+            let place = self.parts.place_of(id.number());
+            write_response_element_at(&mut self.parts, id.number(), place, index, element)
+        }
+    }
+
+    /// Replaces the user header of a response that was not sent. The old one is dropped.
+    ///
+    /// Our own: it stands for writes through what iceoryx2's `ResponseMut::user_header_mut` lends.
+    #[inline(always)]
+    pub fn write_response_user_header(&mut self, id: &HandleId, header: PH)
+        requires { (kind_at self.old id.now ≡ Some Kind.ResponseMutUninit) ⊎ (kind_at self.old id.now ≡ Some Kind.ResponseMut) }
+        ensures { self.new ≡ with_changed self.old id.now (with_response_content (with_user_header header)) }
+    {
+        let hint = id.hint();
+        if self.parts.is_at(id.number(), hint) {
+            write_response_user_header_at(&mut self.parts, id.number(), hint, header);
+        } else {
+            let place = self.parts.place_of(id.number());
+            write_response_user_header_at(&mut self.parts, id.number(), place, header);
         }
     }
 }

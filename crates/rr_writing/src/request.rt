@@ -1,9 +1,9 @@
 //! Writing of requests.
-ghost use Rattle.std.specs.Prelude.{◌≡◌, not, true, Some, IsSomeAnd, if◌then◌else◌, option_and_then};
+ghost use Rattle.std.specs.Prelude.{◌≡◌, ◌⊎◌, not, true, length, nat_lt, Some, IsSomeAnd, if◌then◌else◌, option_and_then};
 ghost use Rattle.rr_protocol.specs.Messages.{request_in};
 ghost use Rattle.rr_protocol.specs.Queries.{kind_at};
 ghost use Rattle.rr_protocol.specs.State.{handle_at, with_changed};
-ghost use Rattle.rr_protocol.specs.Writing.{is_complete, with_element, with_request_content};
+ghost use Rattle.rr_protocol.specs.Writing.{is_complete, with_element, with_element_at, with_request_content, with_user_header};
 ghost use Rattle.rr_store.specs.Reaching.{IsCore};
 ghost use Rattle.rr_store.specs.Views.{state_of};
 ghost use Rattle.rr_table.specs.TableView.{IsAt};
@@ -31,4 +31,49 @@ pub fn push_request_at<
 {
     let entry = store.at(number, place);
     store.push_request(entry.sender, entry.slot, item)
+}
+
+/// Makes another element the one at an index of the request in this place, which was not sent, and tells whether one stood there:
+/// `false` where none did, and then nothing changes.
+#[inline(always)]
+pub fn write_request_element_at<
+    QB: Body,
+    QH: Default + Drop,
+    PB: Body,
+    PH: Default + Drop,
+    K: BackpressureFn,
+>(
+    store: &mut Store<QB, QH, PB, PH, K>,
+    number: u64,
+    place: Place,
+    index: usize,
+    element: QB::Item,
+) -> bool
+    requires core { IsCore store.old }
+    requires at { IsAt store.old.table number place }
+    requires kind { (kind_at (state_of store.old) number ≡ Some Kind.RequestMutUninit) ⊎ (kind_at (state_of store.old) number ≡ Some Kind.RequestMut) }
+    ensures core { IsCore store.new }
+    ensures view { IsSomeAnd (option_and_then request_in (handle_at (state_of store.old) number)) (λ m. (result ≡ nat_lt index (length m.content.elements)) × (state_of store.new ≡ (if result then with_changed (state_of store.old) number (with_request_content (with_element_at index element)) else state_of store.old))) }
+{
+    let entry = store.at(number, place);
+    store.write_request_element(entry.sender, entry.slot, index, element)
+}
+
+/// Makes another user header the one of the request in this place, which was not sent.
+#[inline(always)]
+pub fn write_request_user_header_at<
+    QB: Body,
+    QH: Default + Drop,
+    PB: Body,
+    PH: Default + Drop,
+    K: BackpressureFn,
+>(store: &mut Store<QB, QH, PB, PH, K>, number: u64, place: Place, header: QH)
+    requires core { IsCore store.old }
+    requires at { IsAt store.old.table number place }
+    requires kind { (kind_at (state_of store.old) number ≡ Some Kind.RequestMutUninit) ⊎ (kind_at (state_of store.old) number ≡ Some Kind.RequestMut) }
+    ensures core { IsCore store.new }
+    ensures view { state_of store.new ≡ with_changed (state_of store.old) number (with_request_content (with_user_header header)) }
+{
+    let entry = store.at(number, place);
+    store.write_request_user_header(entry.sender, entry.slot, header);
 }

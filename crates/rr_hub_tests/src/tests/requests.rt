@@ -183,3 +183,48 @@ fn nothing_is_received_before_it_is_sent(rt: HostRuntime) -> Result<(), Fail> {
     assert!(rt; is_nothing(&mut connected(rt.alloc())?));
     Ok(())
 }
+
+/// Replaces an element of a request, if the handle is one that can be sent. Returns whether there was such an element.
+fn write(core: &mut TypedCore, id: &HandleId, index: usize) -> Option<bool> {
+    match core.kind(id) {
+        Some(Kind::RequestMut) => Some(core.write_request_element(id, index, 321)),
+        _ => None,
+    }
+}
+
+/// Replaces the user header of a request, if the handle is one that can be sent. Returns whether it was.
+fn write_header(core: &mut TypedCore, id: &HandleId) -> bool {
+    match core.kind(id) {
+        Some(Kind::RequestMut) => {
+            core.write_request_user_header(id, 7);
+            true
+        }
+        _ => false,
+    }
+}
+
+/// Writes a request at its first place, behind it, and in its user header. Returns what that returned, and what the request
+/// says then.
+fn rewritten(core: &mut TypedCore) -> Option<([bool; 3], Option<u64>, u64)> {
+    let request = written(core)?;
+    let writes = [
+        write(core, &request, 0)?,
+        write(core, &request, 1)?,
+        write_header(core, &request),
+    ];
+    match core.kind(&request) {
+        Some(Kind::RequestMut) => Some((
+            writes,
+            *core.request_body(&request),
+            *core.request_user_header(&request),
+        )),
+        _ => None,
+    }
+}
+
+#[test]
+fn a_request_is_written_again(rt: HostRuntime) -> Result<(), Fail> {
+    let rewritten = rewritten(&mut connected(rt.alloc())?);
+    assert!(rt; rewritten == Some(([true, false, true], Some(321), 7)));
+    Ok(())
+}

@@ -172,3 +172,49 @@ fn a_response_is_received_once(rt: HostRuntime) -> Result<(), Fail> {
     assert!(rt; is_nothing(&mut connected(rt.alloc())?) == Some(true));
     Ok(())
 }
+
+/// Replaces an element of a response, if the handle is one that can be sent. Returns whether there was such an element.
+fn write(core: &mut TypedCore, id: &HandleId, index: usize) -> Option<bool> {
+    match core.kind(id) {
+        Some(Kind::ResponseMut) => Some(core.write_response_element(id, index, 321)),
+        _ => None,
+    }
+}
+
+/// Replaces the user header of a response, if the handle is one that can be sent. Returns whether it was.
+fn write_header(core: &mut TypedCore, id: &HandleId) -> bool {
+    match core.kind(id) {
+        Some(Kind::ResponseMut) => {
+            core.write_response_user_header(id, 7);
+            true
+        }
+        _ => false,
+    }
+}
+
+/// Writes a response at its first place, behind it, and in its user header. Returns what that returned, and what the response
+/// says then.
+fn rewritten(core: &mut TypedCore) -> Option<([bool; 3], Option<u64>, u64)> {
+    let (_, active) = asked(core)?;
+    let response = written(core, &active)?;
+    let writes = [
+        write(core, &response, 0)?,
+        write(core, &response, 1)?,
+        write_header(core, &response),
+    ];
+    match core.kind(&response) {
+        Some(Kind::ResponseMut) => Some((
+            writes,
+            *core.response_body(&response),
+            *core.response_user_header(&response),
+        )),
+        _ => None,
+    }
+}
+
+#[test]
+fn a_response_is_written_again(rt: HostRuntime) -> Result<(), Fail> {
+    let rewritten = rewritten(&mut connected(rt.alloc())?);
+    assert!(rt; rewritten == Some(([true, false, true], Some(321), 7)));
+    Ok(())
+}

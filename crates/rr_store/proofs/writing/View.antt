@@ -1,6 +1,6 @@
--- What contracts see where what stands in the slot of one handle is written.
+-- What contracts see where the slot of one handle is written.
 use Rattle.std.proofs.Common.{◌≡◌, ◌≢◌, ◌<◌, ◌≤◌, ℕ, Bool, true, false, cond, List, [], Some, find, map, length, refl, sym, ap, ◌∙◌, arith}
-use Rattle.std.specs.Prelude.{◌==◌, ◌&&◌, slice_get, slice_index_or, slice_set}
+use Rattle.std.specs.Prelude.{◌==◌, ◌&&◌, slice_get, slice_set}
 use Rattle.std.specs.Option.{option_map_or}
 use Rattle.std.specs.FinMap as fin_map
 use Rattle.std.proofs.lemmas.Bool.{eq-eqb}
@@ -12,7 +12,7 @@ use Rattle.rr_maps.specs.Maps.{tally}
 use Rattle.rr_maps.proofs.MapLaws.{map_values-but, tally_one}
 use Rattle.rr_sender.specs.Senders.{Messages, all_entries, times, with_changed_at}
 use Rattle.rr_protocol.specs.Keys.{RequestKey, ResponseKey}
-use Rattle.rr_protocol.specs.Messages.{Handle, RequestMessage, ResponseMessage}
+use Rattle.rr_protocol.specs.Messages.{Content, Handle}
 use Rattle.rr_protocol.specs.State.{with_changed}
 use Rattle.rr_store.specs.declared.handle_entry.Stage.{Stage}
 use Rattle.rr_store.specs.declared.handle_entry.HandleEntry.{HandleEntry}
@@ -21,7 +21,7 @@ use Rattle.rr_store.specs.declared.details.ResponseDetails.{ResponseDetails}
 use Rattle.rr_store.specs.declared.port.OwnedSender.{OwnedSender}
 use Rattle.rr_store.specs.Ports.{sender_part}
 use Rattle.rr_store.specs.Parts.{Parts, Sender}
-use Rattle.rr_store.specs.Views.{no_sender, no_request, no_response, sender_of, handle_in, handle_of, requests_at, responses_at, state_of, marked}
+use Rattle.rr_store.specs.Views.{no_sender, sender_of, content_of, request_in_slot, response_in_slot, handle_in, handle_of, requests_at, responses_at, state_of, marked}
 use Rattle.rr_store.specs.Sound.{IsSound, Hand, is_of_request, is_of_response, request_uses, response_uses}
 use Rattle.rr_store.specs.Frames.{moved}
 use Rattle.rr_store.specs.Writing.{with_messages}
@@ -30,34 +30,43 @@ use Rattle.rr_store.proofs.base.views.Agreeing.{same_handle, same_requests, same
 use Rattle.rr_store.proofs.base.lookups.Looking.{table_entry_under, shown}
 use Rattle.rr_store.proofs.base.lookups.Shown.{request_held, response_held, request_spot, response_spot}
 use Rattle.rr_store.proofs.base.frames.Rewrites.{senders_unwritten, rewritten_sound}
-use Rattle.rr_store.proofs.base.views.Unseen.{with_slot, slot_rewritten, marks_same, shown_other, waiting_same}
+use Rattle.rr_store.proofs.base.views.Unseen.{IsWritten, with_slot, with_written, slot_rewritten, marks_same, shown_other, waiting_same}
 
--- a request by what stands in its slot
-abbrev pub request_with : {T H : Type 0} → H → Messages T RequestDetails H → ℕ → Written T → RequestMessage T H
-request_with spare m slot w =
-    let details = slice_index_or m.details slot no_request in
-    record {
-      number = details.number;
-      client = details.client;
-      request_id = details.request_id;
-      channel = slot;
-      content = record { user_header = slice_index_or m.user_headers slot spare; asked_len = w.asked_len; elements = w.elements };
-    }
+module _ {T H : Type 0} (spare : H) where
+  -- what a slot that was not written says
+  content_blind : {N : Type 0} (before after : Messages T N H) (slot : ℕ) → IsWritten before after slot → (i : ℕ) → i ≢ slot
+      → content_of spare after i ≡ content_of spare before i
+  content_blind before after slot w i other = λ j. record {
+    user_header = w.other_header i other spare j;
+    asked_len = (w.other_content i other j).asked_len;
+    elements = (w.other_content i other j).elements;
+  }
 
--- the same of a response
-abbrev pub response_with : {T H : Type 0} → H → Messages T ResponseDetails H → ℕ → Written T → ResponseMessage T H
-response_with spare m slot w =
-    let details = slice_index_or m.details slot no_response in
-    record {
-      number = details.number;
-      server = details.server;
-      active_request = details.active_request;
-      request = details.request;
-      request_id = details.request_id;
-      client = details.client;
-      channel = details.channel;
-      content = record { user_header = slice_index_or m.user_headers slot spare; asked_len = w.asked_len; elements = w.elements };
-    }
+  -- a request of which the content changed, and one of another slot
+  pub request_says : (before after : Messages T RequestDetails H) (slot : ℕ) → IsWritten before after slot → (i : ℕ)
+      → (content : Content T H)
+      → content_of spare after i ≡ content → request_in_slot spare after i ≡ record (request_in_slot spare before i) { content = content }
+  request_says before after slot w i content says =
+      ap (λ (m : Messages T RequestDetails H). record (request_in_slot spare m i) { content = content_of spare after i }) w.rest
+      ∙ ap (λ (c : Content T H). record (request_in_slot spare before i) { content = c }) says
+
+  pub request_blind : (before after : Messages T RequestDetails H) (slot : ℕ) → IsWritten before after slot → (i : ℕ) → i ≢ slot
+      → request_in_slot spare after i ≡ request_in_slot spare before i
+  request_blind before after slot w i other = request_says before after slot w i (content_of spare before i)
+      (content_blind before after slot w i other)
+
+  -- the same of responses
+  pub response_says : (before after : Messages T ResponseDetails H) (slot : ℕ) → IsWritten before after slot → (i : ℕ)
+      → (content : Content T H)
+      → content_of spare after i ≡ content → response_in_slot spare after i ≡ record (response_in_slot spare before i) { content = content }
+  response_says before after slot w i content says =
+      ap (λ (m : Messages T ResponseDetails H). record (response_in_slot spare m i) { content = content_of spare after i }) w.rest
+      ∙ ap (λ (c : Content T H). record (response_in_slot spare before i) { content = c }) says
+
+  pub response_blind : (before after : Messages T ResponseDetails H) (slot : ℕ) → IsWritten before after slot → (i : ℕ) → i ≢ slot
+      → response_in_slot spare after i ≡ response_in_slot spare before i
+  response_blind before after slot w i other = response_says before after slot w i (content_of spare before i)
+      (content_blind before after slot w i other)
 
 module _ {B T N H : Type 0} (senders : List (OwnedSender B N H T)) (sender : ℕ) where
   -- a sender that is there is stored
@@ -129,38 +138,43 @@ module _ {Q QH P PH K : Type 0} (p : Parts Q QH P PH K) (n : ℕ) (entry : Handl
       request_unqueued : times entry.slot (all_entries (sender_of entry.sender p.client_senders).messages.queues) ≡ 0
       request_unqueued = omega (arith, once, request_held p hand sound.counted n entry h is)
 
-      -- its slot is written: the core stays sound
-      pub request_written_sound : (change : Written Q → Written Q)
-          → IsSound (record p { client_senders = with_slot p.client_senders entry.sender entry.slot change }) hand
-      request_written_sound change =
-          rewritten_sound p hand sound (with_slot p.client_senders entry.sender entry.slot change) p.server_senders
-          (slot_rewritten p.client_senders entry.sender entry.slot change (request_spot p hand sound.counted n entry h is).0)
-          (senders_unwritten p.server_senders)
+      module _ (new : Messages Q RequestDetails QH)
+          (written : IsWritten (sender_of entry.sender p.client_senders).messages new entry.slot) where
+        there : entry.sender < length p.client_senders
+        there = (request_spot p hand sound.counted n entry h is).0
 
-      -- and the handle alone shows another message
-      pub request_written_view : (change : Written Q → Written Q) (seen : Handle Q QH P PH → Handle Q QH P PH)
-          → let q = record p { client_senders = with_slot p.client_senders entry.sender entry.slot change } in
-          handle_in q entry.stage entry.sender entry.slot ≡ seen (handle_in p entry.stage entry.sender entry.slot)
-          → state_of q ≡ with_changed (state_of p) n seen
-      request_written_view change seen its =
-          let q = record p { client_senders = with_slot p.client_senders entry.sender entry.slot change } in
-          let within = (request_spot p hand sound.counted n entry h is).0 in
-          viewed (with_slot p.client_senders entry.sender entry.slot change) p.server_senders
-          (λ key i. option_map_or
-          (λ server. waiting_same p.client_senders entry.sender entry.slot change within (request_with p.spare_request_header)
-          (λ j w. refl) request_unqueued key.client server.receiver 0 i)
-          (find (λ server. server.port.id == key.server) p.servers)
-          [])
-          (λ key. refl)
-          (λ k x at other. same_handle p q x.value.stage x.value.sender x.value.slot
-          (λ of. (
-            sym (shown_other p.client_senders entry.sender entry.slot change within (request_with p.spare_request_header)
-                (λ j w. refl) x.value.sender x.value.slot (λ e f. other (request_alone k x at of e f))),
-            ap (λ ms. marked p.limits.max_servers p.servers ms x.value.slot)
-                (sym (marks_same p.client_senders entry.sender entry.slot change within x.value.sender)),
-          ))
-          (λ of. refl))
-          seen its
+        -- its slot is written: the core stays sound
+        pub request_written_sound : IsSound (record p { client_senders = with_written p.client_senders entry.sender new }) hand
+        request_written_sound =
+            rewritten_sound p hand sound (with_written p.client_senders entry.sender new) p.server_senders
+            (slot_rewritten p.client_senders entry.sender new entry.slot written there)
+            (senders_unwritten p.server_senders)
+
+        -- and the handle alone shows another message
+        pub request_written_view : (seen : Handle Q QH P PH → Handle Q QH P PH)
+            → let q = record p { client_senders = with_written p.client_senders entry.sender new } in
+            handle_in q entry.stage entry.sender entry.slot ≡ seen (handle_in p entry.stage entry.sender entry.slot)
+            → state_of q ≡ with_changed (state_of p) n seen
+        request_written_view seen its =
+            let q = record p { client_senders = with_written p.client_senders entry.sender new } in
+            let before = (sender_of entry.sender p.client_senders).messages in
+            let blind = request_blind p.spare_request_header before new entry.slot written in
+            viewed (with_written p.client_senders entry.sender new) p.server_senders
+            (λ key i. option_map_or
+            (λ server. waiting_same p.client_senders entry.sender new entry.slot written there (request_in_slot p.spare_request_header)
+            blind request_unqueued key.client server.receiver 0 i)
+            (find (λ server. server.port.id == key.server) p.servers)
+            [])
+            (λ key. refl)
+            (λ k x at other. same_handle p q x.value.stage x.value.sender x.value.slot
+            (λ of. (
+              sym (shown_other p.client_senders entry.sender new entry.slot written there (request_in_slot p.spare_request_header)
+                  blind x.value.sender x.value.slot (λ e f. other (request_alone k x at of e f))),
+              ap (λ ms. marked p.limits.max_servers p.servers ms x.value.slot)
+                  (sym (marks_same p.client_senders entry.sender new entry.slot written there x.value.sender)),
+            ))
+            (λ of. refl))
+            seen its
 
     module _ (is : is_of_response entry.stage ≡ true) (once : response_uses p entry.sender entry.slot ≤ 1) where
       -- no other handle is of its response, and no entry
@@ -171,31 +185,37 @@ module _ {Q QH P PH K : Type 0} (p : Parts Q QH P PH K) (n : ℕ) (entry : Handl
       response_unqueued : times entry.slot (all_entries (sender_of entry.sender p.server_senders).messages.queues) ≡ 0
       response_unqueued = omega (arith, once, response_held p hand sound.counted n entry h is)
 
-      -- its slot is written: the core stays sound
-      pub response_written_sound : (change : Written P → Written P)
-          → IsSound (record p { server_senders = with_slot p.server_senders entry.sender entry.slot change }) hand
-      response_written_sound change =
-          rewritten_sound p hand sound p.client_senders (with_slot p.server_senders entry.sender entry.slot change)
-          (senders_unwritten p.client_senders)
-          (slot_rewritten p.server_senders entry.sender entry.slot change (response_spot p hand sound.counted n entry h is).0)
+      module _ (new : Messages P ResponseDetails PH)
+          (written : IsWritten (sender_of entry.sender p.server_senders).messages new entry.slot) where
+        room : entry.sender < length p.server_senders
+        room = (response_spot p hand sound.counted n entry h is).0
 
-      -- and the handle alone shows another message
-      pub response_written_view : (change : Written P → Written P) (seen : Handle Q QH P PH → Handle Q QH P PH)
-          → let q = record p { server_senders = with_slot p.server_senders entry.sender entry.slot change } in
-          handle_in q entry.stage entry.sender entry.slot ≡ seen (handle_in p entry.stage entry.sender entry.slot)
-          → state_of q ≡ with_changed (state_of p) n seen
-      response_written_view change seen its =
-          let q = record p { server_senders = with_slot p.server_senders entry.sender entry.slot change } in
-          let within = (response_spot p hand sound.counted n entry h is).0 in
-          viewed p.client_senders (with_slot p.server_senders entry.sender entry.slot change)
-          (λ key. refl)
-          (λ key i. option_map_or
-          (λ client. waiting_same p.server_senders entry.sender entry.slot change within (response_with p.spare_response_header)
-          (λ j w. refl) response_unqueued key.server client.receiver key.channel i)
-          (find (λ client. client.port.id == key.client) p.clients)
-          [])
-          (λ k x at other. same_handle p q x.value.stage x.value.sender x.value.slot
-          (λ of. (refl, refl))
-          (λ of. sym (shown_other p.server_senders entry.sender entry.slot change within (response_with p.spare_response_header)
-          (λ j w. refl) x.value.sender x.value.slot (λ e f. other (response_alone k x at of e f)))))
-          seen its
+        -- its slot is written: the core stays sound
+        pub response_written_sound : IsSound (record p { server_senders = with_written p.server_senders entry.sender new }) hand
+        response_written_sound =
+            rewritten_sound p hand sound p.client_senders (with_written p.server_senders entry.sender new)
+            (senders_unwritten p.client_senders)
+            (slot_rewritten p.server_senders entry.sender new entry.slot written room)
+
+        -- and the handle alone shows another message
+        pub response_written_view : (seen : Handle Q QH P PH → Handle Q QH P PH)
+            → let q = record p { server_senders = with_written p.server_senders entry.sender new } in
+            handle_in q entry.stage entry.sender entry.slot ≡ seen (handle_in p entry.stage entry.sender entry.slot)
+            → state_of q ≡ with_changed (state_of p) n seen
+        response_written_view seen its =
+            let q = record p { server_senders = with_written p.server_senders entry.sender new } in
+            let before = (sender_of entry.sender p.server_senders).messages in
+            let blind = response_blind p.spare_response_header before new entry.slot written in
+            viewed p.client_senders (with_written p.server_senders entry.sender new)
+            (λ key. refl)
+            (λ key i. option_map_or
+            (λ client. waiting_same p.server_senders entry.sender new entry.slot written room (response_in_slot p.spare_response_header)
+            blind response_unqueued key.server client.receiver key.channel i)
+            (find (λ client. client.port.id == key.client) p.clients)
+            [])
+            (λ k x at other. same_handle p q x.value.stage x.value.sender x.value.slot
+            (λ of. (refl, refl))
+            (λ of. sym (shown_other p.server_senders entry.sender new entry.slot written room
+            (response_in_slot p.spare_response_header) blind x.value.sender x.value.slot
+            (λ e f. other (response_alone k x at of e f)))))
+            seen its

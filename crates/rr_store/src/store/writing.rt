@@ -1,7 +1,7 @@
 //! What a write changes.
-ghost use Rattle.std.specs.Prelude.{◌≡◌, ◌<◌, not, true, length, if◌then◌else◌};
-ghost use Rattle.rr_slots.specs.Pools.{appended};
-ghost use Rattle.rr_sender.specs.Senders.{content_at, with_changed_at};
+ghost use Rattle.std.specs.Prelude.{◌≡◌, ◌<◌, not, true, length, nat_lt, if◌then◌else◌};
+ghost use Rattle.rr_slots.specs.Pools.{appended, with_element_at};
+ghost use Rattle.rr_sender.specs.Senders.{content_at, with_changed_at, with_user_header};
 ghost use Rattle.rr_store.specs.Changes.{with_requests, with_responses};
 ghost use Rattle.rr_store.specs.Views.{sender_of};
 ghost use Rattle.rr_store.specs.Writing.{is_written};
@@ -38,5 +38,49 @@ impl<QB: Body, QH: Default + Drop, PB: Body, PH: Default + Drop, K: Backpressure
         ensures pushed { self.new ≡ (if result then with_responses self.old sender (λ m. with_changed_at m slot (appended item)) else self.old) }
     {
         write::push_in(&mut self.server_senders, sender, slot, item)
+    }
+
+    /// Makes another user header the one of the request in a slot. The old one is dropped.
+    #[inline(always)]
+    pub fn write_request_user_header(&mut self, sender: usize, slot: usize, header: QH)
+        requires sender { sender < length self.old.client_senders }
+        requires slot { slot < length (sender_of sender self.old.client_senders).messages.held }
+        ensures { self.new ≡ with_requests self.old sender (λ m. with_user_header m slot header) }
+    {
+        *self.client_senders[sender].messages.user_header_mut(slot) = header;
+    }
+
+    /// Makes another user header the one of the response in a slot. The old one is dropped.
+    #[inline(always)]
+    pub fn write_response_user_header(&mut self, sender: usize, slot: usize, header: PH)
+        requires sender { sender < length self.old.server_senders }
+        requires slot { slot < length (sender_of sender self.old.server_senders).messages.held }
+        ensures { self.new ≡ with_responses self.old sender (λ m. with_user_header m slot header) }
+    {
+        *self.server_senders[sender].messages.user_header_mut(slot) = header;
+    }
+
+    /// Makes another element the one at an index of the request in a slot, if one stands there, and returns whether one did. The
+    /// old one is dropped.
+    #[inline(always)]
+    pub fn write_request_element(&mut self, sender: usize, slot: usize, index: usize, element: QB::Item) -> bool
+        requires sender { sender < length self.old.client_senders }
+        requires slot { slot < length (sender_of sender self.old.client_senders).messages.held }
+        ensures told { result ≡ nat_lt index (length (content_at (sender_of sender self.old.client_senders).messages slot).elements) }
+        ensures written { self.new ≡ (if result then with_requests self.old sender (λ m. with_changed_at m slot (with_element_at index element)) else self.old) }
+    {
+        write::write_element_in(&mut self.client_senders, sender, slot, index, element)
+    }
+
+    /// Makes another element the one at an index of the response in a slot, if one stands there, and returns whether one did. The
+    /// old one is dropped.
+    #[inline(always)]
+    pub fn write_response_element(&mut self, sender: usize, slot: usize, index: usize, element: PB::Item) -> bool
+        requires sender { sender < length self.old.server_senders }
+        requires slot { slot < length (sender_of sender self.old.server_senders).messages.held }
+        ensures told { result ≡ nat_lt index (length (content_at (sender_of sender self.old.server_senders).messages slot).elements) }
+        ensures written { self.new ≡ (if result then with_responses self.old sender (λ m. with_changed_at m slot (with_element_at index element)) else self.old) }
+    {
+        write::write_element_in(&mut self.server_senders, sender, slot, index, element)
     }
 }
