@@ -8,10 +8,8 @@ use crate::state::Core;
 use rr_creating::new_store;
 use rr_protocol::{BackpressureFn, HubCreateError, Limits, UniqueNodeId};
 use rr_slots::Body;
+use rr_store::NUMBERS;
 use std::alloc::Global;
-
-/// How many numbers a hub gives: 2^62.
-const NUMBERS: u64 = 4611686018427387904;
 
 impl<QB: Body, QH: Default + Drop, PB: Body, PH: Default + Drop, K: BackpressureFn> Core<
     QB,

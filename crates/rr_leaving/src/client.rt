@@ -44,6 +44,22 @@ fn leave_unused_client<
     ensures view { state_of store.new ≡ without_unused_port (state_of store.old) (sender_of sender store.old.client_senders).owner }
 {
     let index = store.client_of_sender(sender);
+    leave_client_unless_used(store, index);
+}
+
+/// Lets the client at an index leave, if neither its value nor one of its handles lives.
+pub fn leave_client_unless_used<
+    QB: Body,
+    QH: Default + Drop,
+    PB: Body,
+    PH: Default + Drop,
+    K: BackpressureFn,
+>(store: &mut Store<QB, QH, PB, PH, K>, index: usize)
+    requires sound { IsSound store.old empty_hand }
+    requires index { index < length store.old.clients }
+    ensures sound { IsSound store.new empty_hand }
+    ensures view { IsSomeAnd (slice_get store.old.clients index) (λ c. state_of store.new ≡ without_unused_port (state_of store.old) c.port.id) }
+{
     if !store.is_client_used(index) {
         leave_client(store, index);
     }
@@ -66,5 +82,5 @@ fn leave_client<QB: Body, QH: Default + Drop, PB: Body, PH: Default + Drop, K: B
     let room = store.room_for_expired_clients();
     store.expire_requests(leaving, room);
     store.clear_responses_to(receiver);
-    store.remove_client(index);
+    store.remove_client(index, leaving);
 }

@@ -44,6 +44,22 @@ fn leave_unused_server<
     ensures view { state_of store.new ≡ without_unused_port (state_of store.old) (sender_of sender store.old.server_senders).owner }
 {
     let index = store.server_of_sender(sender);
+    leave_server_unless_used(store, index);
+}
+
+/// Lets the server at an index leave, if neither its value nor one of its handles lives.
+pub fn leave_server_unless_used<
+    QB: Body,
+    QH: Default + Drop,
+    PB: Body,
+    PH: Default + Drop,
+    K: BackpressureFn,
+>(store: &mut Store<QB, QH, PB, PH, K>, index: usize)
+    requires sound { IsSound store.old empty_hand }
+    requires index { index < length store.old.servers }
+    ensures sound { IsSound store.new empty_hand }
+    ensures view { IsSomeAnd (slice_get store.old.servers index) (λ s. state_of store.new ≡ without_unused_port (state_of store.old) s.port.id) }
+{
     if !store.is_server_used(index) {
         leave_server(store, index);
     }
@@ -66,5 +82,5 @@ fn leave_server<QB: Body, QH: Default + Drop, PB: Body, PH: Default + Drop, K: B
     let room = store.room_for_expired_servers();
     store.expire_responses(leaving, room);
     store.clear_requests_to(receiver);
-    store.remove_server(index);
+    store.remove_server(index, leaving);
 }

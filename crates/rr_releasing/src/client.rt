@@ -1,13 +1,13 @@
 //! Releases of clients by their values.
-ghost use Rattle.std.specs.Prelude.{◌≡◌, Some};
+ghost use Rattle.std.specs.Prelude.{◌≡◌, Some, IsSomeAnd, slice_get};
 ghost use Rattle.rr_protocol.specs.declared.kind.Kind.TheVariants as kind;
 ghost use Rattle.rr_protocol.specs.Queries.{kind_at};
 ghost use Rattle.rr_protocol.specs.Releases.{after_release, without_port_value};
 ghost use Rattle.rr_store.specs.Reaching.{IsCore};
-ghost use Rattle.rr_store.specs.Sound.{HasPort, IsSound, empty_hand};
-ghost use Rattle.rr_store.specs.Views.{sender_of, state_of};
+ghost use Rattle.rr_store.specs.Sound.{IsSound, empty_hand};
+ghost use Rattle.rr_store.specs.Views.{state_of};
 
-use rr_leaving::leave_client_if_unused;
+use rr_leaving::leave_client_unless_used;
 use rr_protocol::BackpressureFn;
 use rr_slots::Body;
 use rr_store::Store;
@@ -25,11 +25,11 @@ pub fn release_client<
     ensures core { IsCore store.new }
     ensures view { state_of store.new ≡ after_release (state_of store.old) client }
 {
-    let sender = end_client_value(store, client);
-    leave_client_if_unused(store, sender);
+    let index = end_client_value(store, client);
+    leave_client_unless_used(store, index);
 }
 
-/// Notes that the value of a client is gone, and returns the sender of the client.
+/// Notes that the value of a client is gone, and returns where among the clients it stands.
 fn end_client_value<QB: Body, QH: Default + Drop, PB: Body, PH: Default + Drop, K: BackpressureFn>(
     store: &mut Store<QB, QH, PB, PH, K>,
     client: u64,
@@ -37,12 +37,10 @@ fn end_client_value<QB: Body, QH: Default + Drop, PB: Body, PH: Default + Drop, 
     requires core { IsCore store.old }
     requires kind { kind_at (state_of store.old) client ≡ Some kind.Client }
     ensures sound { IsSound store.new empty_hand }
-    ensures port { HasPort (λ c. c.sender) store.new.clients result }
-    ensures owner { (sender_of result store.new.client_senders).owner ≡ client }
+    ensures named { IsSomeAnd (slice_get store.new.clients result) (λ c. c.port.id ≡ client) }
     ensures gone { state_of store.new ≡ without_port_value (state_of store.old) client }
 {
     let index = store.client_index(client);
-    let sender = store.client_sender(index);
     store.end_client_value(index);
-    sender
+    index
 }

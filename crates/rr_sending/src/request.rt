@@ -41,11 +41,12 @@ pub fn send_request_at<
     ensures sends { SendsRequest K.action (state_of store.old) number result (state_of store.new) }
 {
     let entry = store.at(number, place);
-    if let Some(refusal) = store.request_send_limit(entry.sender) {
+    let connections = store.open_connections(entry.sender);
+    if let Some(refusal) = store.request_send_limit(entry.sender, connections) {
         release_request_at(store, number, place);
         return Err(refusal);
     }
-    let connections = store.queue_request(entry.sender, entry.slot);
+    store.queue_request(entry.sender, entry.slot);
     store.count_as_sent(entry.sender);
     let stage = Stage::PendingResponse(false, connections);
     store.replace(number, place, HandleEntry { stage, ..entry });

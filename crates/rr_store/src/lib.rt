@@ -21,6 +21,5 @@ pub use handle_entry::{HandleEntry, Stage};
 pub use handle_id::HandleId;
 pub use port::{
     ClientPort, ConnectedPort, LeftPort, NO_SERVER, OwnedSender, Port, ServerPort, index_of,
-    index_of_sender,
 };
-pub use store::Store;
+pub use store::{NUMBERS, Store};

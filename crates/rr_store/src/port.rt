@@ -224,10 +224,3 @@ pub fn index_of<P: ConnectedPort>(ports: &[P], id: u64) -> Option<usize>
     }
     None
 }
-
-/// Returns where among the ports the one with this sender stands.
-pub fn index_of_sender<P: ConnectedPort>(ports: &[P], sender: usize) -> Option<usize>
-    ensures { result ≡ position (λ p. P.sender p == sender) ports.now }
-{
-    ports.iter().position(|port| port.sender() == sender)
-}

@@ -20,6 +20,9 @@ mod settings;
 mod values;
 mod writing;
 
+/// How many numbers a store gives to ports and handles: 2^62, as many as iceoryx2 has request ids.
+pub const NUMBERS: u64 = 4611686018427387904;
+
 /// All ports, handles and messages of a service. Contracts see them as parts, of which nothing is claimed: each method
 /// changes one thing.
 ///

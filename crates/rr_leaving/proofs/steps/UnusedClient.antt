@@ -1,9 +1,9 @@
 -- Whether the client of a sender leaves.
-use Rattle.std.proofs.Common.{◌≡◌, ◌<◌, ℕ, Bool, true, false, cond, Some, is_some, find, length, map, refl, sym, ap, ◌∙◌, subst, arith}
+use Rattle.std.proofs.Common.{◌≡◌, ◌<◌, ℕ, Bool, true, false, cond, Some, is_some, length, map, refl, sym, ap, ◌∙◌, subst, ⊎_elim, arith}
 use Rattle.std.specs.Prelude.{◌==◌, ◌||◌, IsSome, IsSomeAnd, nat_lt, slice_get}
 use Rattle.std.specs.List.{list_any, position}
 use Rattle.std.proofs.lemmas.Bool.{eq-eqb, eqb-true}
-use Rattle.std.proofs.lemmas.Option.{slice_get_within}
+use Rattle.std.proofs.lemmas.Option.{slice_get_cases}
 use Rattle.rr_maps.proofs.ListFacts.{any_found}
 use Rattle.rr_maps.proofs.Members.{any_there}
 use Rattle.rr_protocol.specs.Counts.{is_in_use}
@@ -15,8 +15,9 @@ use Rattle.rr_store.specs.Order.{IsRising}
 use Rattle.rr_store.specs.Parts.{ClientPart, Parts}
 use Rattle.rr_store.specs.Sound.{HasPort, IsSound, empty_hand}
 use Rattle.rr_store.specs.Views.{client_of, sender_of, state_of}
-use Rattle.rr_store.proofs.base.lists.Replaced.{Standing, standing}
+use Rattle.rr_store.proofs.base.lists.Replaced.{standing}
 use Rattle.rr_store.proofs.base.senders.Owners.{clients_rise, first_by}
+use Rattle.rr_store.proofs.base.senders.Ports.{found_within}
 use Rattle.rr_store.proofs.base.views.Counts.{listed}
 use Rattle.rr_store.proofs.leaving.InUse.{client_in_use_is}
 
@@ -65,65 +66,71 @@ module _ {Q QH P PH K : Type 0} (p : Parts Q QH P PH K) (sound : IsSound p empty
       || is_borrowing p.server_senders has.1.receiver))) is in
       stays (state_of p) owner (ap (is_in_use (state_of p)) owner_is ∙ client_in_use_is p sound has.0 has.1 has.2 ∙ used)
 
+  -- it is found at an index
   module _ (index : ℕ) (found_at : position (λ (c : ClientPart K). c.port.id == owner) p.clients ≡ Some index) where
-    it : Standing (λ (c : ClientPart K). c.port.id == owner) p.clients index
-    it = standing (λ (c : ClientPart K). c.port.id == owner) p.clients index found_at
-
-    named : it.it.port.id ≡ owner
-    named = eqb-true _ _ it.passes
-
-    its : IsSomeAnd (slice_get p.clients index) (λ c. c ≡ it.it)
-    its = subst (λ o. IsSomeAnd o (λ c. c ≡ it.it)) (sym it.at) refl
-
-    -- what is told of the client at the index
-    told_of : (R : ClientPart K → Type 0) → IsSomeAnd (slice_get p.clients index) R → R it.it
-    told_of R told = subst (λ o. IsSomeAnd o R) it.at told
-
-    of_it : (R : ClientPart K → Type 0) → R it.it → IsSomeAnd (slice_get p.clients index) R
-    of_it R told = subst (λ o. IsSomeAnd o R) (sym it.at) told
-
-    here : slice_get (map (λ (c : ClientPart K). c.connected) p.clients) index ≡ Some it.it.connected
-    here = listed (λ (c : ClientPart K). c.connected) p.clients index it.it it.at
-
-    pub its_sender_asked : IsSomeAnd (slice_get p.clients index) (λ c. c.sender < length p.client_senders)
-    its_sender_asked = of_it (λ c. c.sender < length p.client_senders) (sound.client_ports.own index it.it.connected here).0
-
-    pub receivers_asked : IsSomeAnd (slice_get p.clients index) (λ c. (l : ℕ) → l < length p.server_senders
-        → c.receiver < length (sender_of l p.server_senders).messages.borrowed)
-    receivers_asked =
-        of_it (λ c. (l : ℕ) → l < length p.server_senders → c.receiver < length (sender_of l p.server_senders).messages.borrowed)
-        (λ l there. omega (
-          arith,
-          sound.client_ports.placed index it.it.connected here,
-          (sound.sized.server_senders l there).borrowed,
-        ))
-
     pub index_asked : index < length p.clients
-    index_asked = slice_get_within p.clients index it.it it.at
+    index_asked = found_within (λ (c : ClientPart K). c.port.id == owner) p.clients index found_at
 
-    module _ (used : Bool) (told : IsSomeAnd (slice_get p.clients index) (λ c. used ≡ is_client_used p c)) where
-      in_use : is_in_use (state_of p) owner ≡ used
-      in_use = ap (is_in_use (state_of p)) (sym named) ∙ client_in_use_is p sound index it.it it.at
-          ∙ sym (told_of (λ c. used ≡ is_client_used p c) told)
+    -- what becomes of it by its index becomes of it by its number
+    pub left_by : (t : Parts Q QH P PH K)
+        → IsSomeAnd (slice_get p.clients index) (λ c. state_of t ≡ without_unused_port (state_of p) c.port.id)
+        → state_of t ≡ without_unused_port (state_of p) owner
+    left_by t told =
+        let it = standing (λ (c : ClientPart K). c.port.id == owner) p.clients index found_at in
+        subst (λ o. IsSomeAnd o (λ (c : ClientPart K). state_of t ≡ without_unused_port (state_of p) c.port.id)) it.at told
+        ∙ ap (without_unused_port (state_of p)) (eqb-true _ _ it.passes)
 
-      -- it is in use
-      pub used_then : used ≡ true → state_of p ≡ without_unused_port (state_of p) owner
-      used_then is = stays (state_of p) owner (in_use ∙ is)
+-- whether the client at an index leaves
+module _ {Q QH P PH K : Type 0} (p : Parts Q QH P PH K) (sound : IsSound p empty_hand) (index : ℕ) (there : index < length p.clients) where
+  it : (c : ClientPart K) × (slice_get p.clients index ≡ Some c)
+  it = ⊎_elim (λ h. (h.0, h.2)) (λ h. absurd (omega (arith, h.0, there))) (slice_get_cases p.clients index).1
 
-      pub unused_asked : used ≡ false → IsSomeAnd (slice_get p.clients index) (λ c. is_client_used p c ≡ false)
-      unused_asked is = of_it (λ c. is_client_used p c ≡ false) (sym (told_of (λ c. used ≡ is_client_used p c) told) ∙ is)
+  -- what is told of the client at the index
+  told_of : (R : ClientPart K → Type 0) → IsSomeAnd (slice_get p.clients index) R → R it.0
+  told_of R told = subst (λ o. IsSomeAnd o R) it.1 told
 
-      -- the client is connected
-      connected : is_some (client_at (state_of p) owner) ≡ true
-      connected =
-          any_found (λ (c : Client K). c.id == owner) (map client_of p.clients)
-          ∙ any_there (λ (c : Client K). c.id == owner) (map client_of p.clients) index (client_of it.it)
-          (listed client_of p.clients index it.it it.at) it.passes
+  of_it : (R : ClientPart K → Type 0) → R it.0 → IsSomeAnd (slice_get p.clients index) R
+  of_it R told = subst (λ o. IsSomeAnd o R) (sym it.1) told
 
-      -- it left
-      pub left_then : used ≡ false → (t : Parts Q QH P PH K)
-          → IsSomeAnd (slice_get p.clients index) (λ c. state_of t ≡ after_client_left (state_of p) c.port.id)
-          → state_of t ≡ without_unused_port (state_of p) owner
-      left_then is t left =
-          told_of (λ c. state_of t ≡ after_client_left (state_of p) c.port.id) left
-          ∙ ap (after_client_left (state_of p)) named ∙ leaves (state_of p) owner (in_use ∙ is) connected
+  here : slice_get (map (λ (c : ClientPart K). c.connected) p.clients) index ≡ Some it.0.connected
+  here = listed (λ (c : ClientPart K). c.connected) p.clients index it.0 it.1
+
+  pub its_sender_asked : IsSomeAnd (slice_get p.clients index) (λ c. c.sender < length p.client_senders)
+  its_sender_asked = of_it (λ c. c.sender < length p.client_senders) (sound.client_ports.own index it.0.connected here).0
+
+  pub receivers_asked : IsSomeAnd (slice_get p.clients index) (λ c. (l : ℕ) → l < length p.server_senders
+      → c.receiver < length (sender_of l p.server_senders).messages.borrowed)
+  receivers_asked =
+      of_it (λ c. (l : ℕ) → l < length p.server_senders → c.receiver < length (sender_of l p.server_senders).messages.borrowed)
+      (λ l there. omega (
+        arith,
+        sound.client_ports.placed index it.0.connected here,
+        (sound.sized.server_senders l there).borrowed,
+      ))
+
+  module _ (used : Bool) (told : IsSomeAnd (slice_get p.clients index) (λ c. used ≡ is_client_used p c)) where
+    in_use : is_in_use (state_of p) it.0.port.id ≡ used
+    in_use = client_in_use_is p sound index it.0 it.1 ∙ sym (told_of (λ c. used ≡ is_client_used p c) told)
+
+    -- it is in use
+    pub used_then : used ≡ true → IsSomeAnd (slice_get p.clients index) (λ c. state_of p ≡ without_unused_port (state_of p) c.port.id)
+    used_then is = of_it (λ c. state_of p ≡ without_unused_port (state_of p) c.port.id) (stays (state_of p) it.0.port.id (in_use ∙ is))
+
+    pub unused_asked : used ≡ false → IsSomeAnd (slice_get p.clients index) (λ c. is_client_used p c ≡ false)
+    unused_asked is = of_it (λ c. is_client_used p c ≡ false) (sym (told_of (λ c. used ≡ is_client_used p c) told) ∙ is)
+
+    -- the client is connected
+    connected : is_some (client_at (state_of p) it.0.port.id) ≡ true
+    connected =
+        any_found (λ (c : Client K). c.id == it.0.port.id) (map client_of p.clients)
+        ∙ any_there (λ (c : Client K). c.id == it.0.port.id) (map client_of p.clients) index (client_of it.0)
+        (listed client_of p.clients index it.0 it.1) (eq-eqb it.0.port.id it.0.port.id refl)
+
+    -- it left
+    pub left_then : used ≡ false → (t : Parts Q QH P PH K)
+        → IsSomeAnd (slice_get p.clients index) (λ c. state_of t ≡ after_client_left (state_of p) c.port.id)
+        → IsSomeAnd (slice_get p.clients index) (λ c. state_of t ≡ without_unused_port (state_of p) c.port.id)
+    left_then is t left =
+        of_it (λ c. state_of t ≡ without_unused_port (state_of p) c.port.id)
+        (told_of (λ c. state_of t ≡ after_client_left (state_of p) c.port.id) left
+        ∙ leaves (state_of p) it.0.port.id (in_use ∙ is) connected)

@@ -1,9 +1,9 @@
 -- Whether the server of a sender leaves.
-use Rattle.std.proofs.Common.{◌≡◌, ◌<◌, ℕ, Bool, true, false, cond, Some, is_some, find, length, map, refl, sym, ap, ◌∙◌, subst, arith}
+use Rattle.std.proofs.Common.{◌≡◌, ◌<◌, ℕ, Bool, true, false, cond, Some, is_some, length, map, refl, sym, ap, ◌∙◌, subst, ⊎_elim, arith}
 use Rattle.std.specs.Prelude.{◌==◌, ◌||◌, IsSome, IsSomeAnd, nat_lt, slice_get}
 use Rattle.std.specs.List.{list_any, position}
 use Rattle.std.proofs.lemmas.Bool.{eq-eqb, eqb-true}
-use Rattle.std.proofs.lemmas.Option.{slice_get_within}
+use Rattle.std.proofs.lemmas.Option.{slice_get_cases}
 use Rattle.rr_maps.proofs.ListFacts.{any_found}
 use Rattle.rr_maps.proofs.Members.{any_gives}
 use Rattle.rr_protocol.specs.Counts.{is_in_use}
@@ -15,9 +15,10 @@ use Rattle.rr_store.specs.Order.{IsRising}
 use Rattle.rr_store.specs.Parts.{Parts, ServerPart}
 use Rattle.rr_store.specs.Sound.{HasPort, IsSound, empty_hand}
 use Rattle.rr_store.specs.Views.{client_of, sender_of, state_of}
-use Rattle.rr_store.proofs.base.lists.Replaced.{Standing, standing}
+use Rattle.rr_store.proofs.base.lists.Replaced.{standing}
 use Rattle.rr_store.proofs.base.lists.Adding.{mapped}
 use Rattle.rr_store.proofs.base.senders.Owners.{servers_rise, first_by}
+use Rattle.rr_store.proofs.base.senders.Ports.{found_within}
 use Rattle.rr_store.proofs.base.views.Counts.{listed}
 use Rattle.rr_store.proofs.leaving.InUse.{server_in_use_is}
 
@@ -65,71 +66,77 @@ module _ {Q QH P PH K : Type 0} (p : Parts Q QH P PH K) (sound : IsSound p empty
       let used : is_server_used p has.1 ≡ true = ap (λ b. b || (nat_lt 0 (sender_of has.1.sender p.server_senders).loans || is_borrowing p.client_senders has.1.receiver)) is in
       stays (state_of p) owner (ap (is_in_use (state_of p)) owner_is ∙ server_in_use_is p sound has.0 has.1 has.2 ∙ used)
 
+  -- it is found at an index
   module _ (index : ℕ) (found_at : position (λ (s : ServerPart K). s.port.id == owner) p.servers ≡ Some index) where
-    it : Standing (λ (s : ServerPart K). s.port.id == owner) p.servers index
-    it = standing (λ (s : ServerPart K). s.port.id == owner) p.servers index found_at
-
-    named : it.it.port.id ≡ owner
-    named = eqb-true _ _ it.passes
-
-    its : IsSomeAnd (slice_get p.servers index) (λ s. s ≡ it.it)
-    its = subst (λ o. IsSomeAnd o (λ s. s ≡ it.it)) (sym it.at) refl
-
-    -- what is told of the server at the index
-    told_of : (R : ServerPart K → Type 0) → IsSomeAnd (slice_get p.servers index) R → R it.it
-    told_of R told = subst (λ o. IsSomeAnd o R) it.at told
-
-    of_it : (R : ServerPart K → Type 0) → R it.it → IsSomeAnd (slice_get p.servers index) R
-    of_it R told = subst (λ o. IsSomeAnd o R) (sym it.at) told
-
-    here : slice_get (map (λ (s : ServerPart K). s.connected) p.servers) index ≡ Some it.it.connected
-    here = listed (λ (s : ServerPart K). s.connected) p.servers index it.it it.at
-
-    pub its_sender_asked : IsSomeAnd (slice_get p.servers index) (λ s. s.sender < length p.server_senders)
-    its_sender_asked = of_it (λ s. s.sender < length p.server_senders) (sound.server_ports.own index it.it.connected here).0
-
-    pub receivers_asked : IsSomeAnd (slice_get p.servers index) (λ s. (l : ℕ) → l < length p.client_senders
-        → s.receiver < length (sender_of l p.client_senders).messages.borrowed)
-    receivers_asked =
-        of_it (λ s. (l : ℕ) → l < length p.client_senders → s.receiver < length (sender_of l p.client_senders).messages.borrowed)
-        (λ l there. omega (
-          arith,
-          sound.server_ports.placed index it.it.connected here,
-          (sound.sized.client_senders l there).borrowed,
-        ))
-
     pub index_asked : index < length p.servers
-    index_asked = slice_get_within p.servers index it.it it.at
+    index_asked = found_within (λ (s : ServerPart K). s.port.id == owner) p.servers index found_at
 
-    module _ (used : Bool) (told : IsSomeAnd (slice_get p.servers index) (λ s. used ≡ is_server_used p s)) where
-      in_use : is_in_use (state_of p) owner ≡ used
-      in_use = ap (is_in_use (state_of p)) (sym named) ∙ server_in_use_is p sound index it.it it.at
-          ∙ sym (told_of (λ s. used ≡ is_server_used p s) told)
+    -- what becomes of it by its index becomes of it by its number
+    pub left_by : (t : Parts Q QH P PH K)
+        → IsSomeAnd (slice_get p.servers index) (λ s. state_of t ≡ without_unused_port (state_of p) s.port.id)
+        → state_of t ≡ without_unused_port (state_of p) owner
+    left_by t told =
+        let it = standing (λ (s : ServerPart K). s.port.id == owner) p.servers index found_at in
+        subst (λ o. IsSomeAnd o (λ (s : ServerPart K). state_of t ≡ without_unused_port (state_of p) s.port.id)) it.at told
+        ∙ ap (without_unused_port (state_of p)) (eqb-true _ _ it.passes)
 
-      -- it is in use
-      pub used_then : used ≡ true → state_of p ≡ without_unused_port (state_of p) owner
-      used_then is = stays (state_of p) owner (in_use ∙ is)
+-- whether the server at an index leaves
+module _ {Q QH P PH K : Type 0} (p : Parts Q QH P PH K) (sound : IsSound p empty_hand) (index : ℕ) (there : index < length p.servers) where
+  it : (s : ServerPart K) × (slice_get p.servers index ≡ Some s)
+  it = ⊎_elim (λ h. (h.0, h.2)) (λ h. absurd (omega (arith, h.0, there))) (slice_get_cases p.servers index).1
 
-      pub unused_asked : used ≡ false → IsSomeAnd (slice_get p.servers index) (λ s. is_server_used p s ≡ false)
-      unused_asked is = of_it (λ s. is_server_used p s ≡ false) (sym (told_of (λ s. used ≡ is_server_used p s) told) ∙ is)
+  -- what is told of the server at the index
+  told_of : (R : ServerPart K → Type 0) → IsSomeAnd (slice_get p.servers index) R → R it.0
+  told_of R told = subst (λ o. IsSomeAnd o R) it.1 told
 
-      -- no client has its number
-      no_client : is_some (client_at (state_of p) owner) ≡ false
-      no_client = any_found (λ (c : Client K). c.id == owner) (map client_of p.clients) ∙ go _ refl
-        where
-          go : (b : Bool) → list_any (λ (c : Client K). c.id == owner) (map client_of p.clients) ≡ b
-              → list_any (λ (c : Client K). c.id == owner) (map client_of p.clients) ≡ false
-          go false e = e
-          go true e =
-              let a = any_gives (λ (c : Client K). c.id == owner) (map client_of p.clients) e in
-              let m = mapped client_of p.clients a.0 a.1 a.2 in
-              absurd (sound.have_ports.apart a.0 index m.0 it.it m.1 it.at
-              (ap (λ (c : Client K). c.id) m.2 ∙ eqb-true a.1.id owner a.3 ∙ sym named))
+  of_it : (R : ServerPart K → Type 0) → R it.0 → IsSomeAnd (slice_get p.servers index) R
+  of_it R told = subst (λ o. IsSomeAnd o R) (sym it.1) told
 
-      -- it left
-      pub left_then : used ≡ false → (t : Parts Q QH P PH K)
-          → IsSomeAnd (slice_get p.servers index) (λ s. state_of t ≡ after_server_left (state_of p) s.port.id)
-          → state_of t ≡ without_unused_port (state_of p) owner
-      left_then is t left =
-          told_of (λ s. state_of t ≡ after_server_left (state_of p) s.port.id) left
-          ∙ ap (after_server_left (state_of p)) named ∙ leaves (state_of p) owner (in_use ∙ is) no_client
+  here : slice_get (map (λ (s : ServerPart K). s.connected) p.servers) index ≡ Some it.0.connected
+  here = listed (λ (s : ServerPart K). s.connected) p.servers index it.0 it.1
+
+  pub its_sender_asked : IsSomeAnd (slice_get p.servers index) (λ s. s.sender < length p.server_senders)
+  its_sender_asked = of_it (λ s. s.sender < length p.server_senders) (sound.server_ports.own index it.0.connected here).0
+
+  pub receivers_asked : IsSomeAnd (slice_get p.servers index) (λ s. (l : ℕ) → l < length p.client_senders
+      → s.receiver < length (sender_of l p.client_senders).messages.borrowed)
+  receivers_asked =
+      of_it (λ s. (l : ℕ) → l < length p.client_senders → s.receiver < length (sender_of l p.client_senders).messages.borrowed)
+      (λ l there. omega (
+        arith,
+        sound.server_ports.placed index it.0.connected here,
+        (sound.sized.client_senders l there).borrowed,
+      ))
+
+  module _ (used : Bool) (told : IsSomeAnd (slice_get p.servers index) (λ s. used ≡ is_server_used p s)) where
+    in_use : is_in_use (state_of p) it.0.port.id ≡ used
+    in_use = server_in_use_is p sound index it.0 it.1 ∙ sym (told_of (λ s. used ≡ is_server_used p s) told)
+
+    -- it is in use
+    pub used_then : used ≡ true → IsSomeAnd (slice_get p.servers index) (λ s. state_of p ≡ without_unused_port (state_of p) s.port.id)
+    used_then is = of_it (λ s. state_of p ≡ without_unused_port (state_of p) s.port.id) (stays (state_of p) it.0.port.id (in_use ∙ is))
+
+    pub unused_asked : used ≡ false → IsSomeAnd (slice_get p.servers index) (λ s. is_server_used p s ≡ false)
+    unused_asked is = of_it (λ s. is_server_used p s ≡ false) (sym (told_of (λ s. used ≡ is_server_used p s) told) ∙ is)
+
+    -- no client has its number
+    no_client : is_some (client_at (state_of p) it.0.port.id) ≡ false
+    no_client = any_found (λ (c : Client K). c.id == it.0.port.id) (map client_of p.clients) ∙ go _ refl
+      where
+        go : (b : Bool) → list_any (λ (c : Client K). c.id == it.0.port.id) (map client_of p.clients) ≡ b
+            → list_any (λ (c : Client K). c.id == it.0.port.id) (map client_of p.clients) ≡ false
+        go false e = e
+        go true e =
+            let a = any_gives (λ (c : Client K). c.id == it.0.port.id) (map client_of p.clients) e in
+            let m = mapped client_of p.clients a.0 a.1 a.2 in
+            absurd (sound.have_ports.apart a.0 index m.0 it.0 m.1 it.1
+            (ap (λ (c : Client K). c.id) m.2 ∙ eqb-true a.1.id it.0.port.id a.3))
+
+    -- it left
+    pub left_then : used ≡ false → (t : Parts Q QH P PH K)
+        → IsSomeAnd (slice_get p.servers index) (λ s. state_of t ≡ after_server_left (state_of p) s.port.id)
+        → IsSomeAnd (slice_get p.servers index) (λ s. state_of t ≡ without_unused_port (state_of p) s.port.id)
+    left_then is t left =
+        of_it (λ s. state_of t ≡ without_unused_port (state_of p) s.port.id)
+        (told_of (λ s. state_of t ≡ after_server_left (state_of p) s.port.id) left
+        ∙ leaves (state_of p) it.0.port.id (in_use ∙ is) no_client)

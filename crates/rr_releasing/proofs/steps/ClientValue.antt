@@ -47,20 +47,12 @@ module _ {Q QH P PH K : Type 0} (p : Parts Q QH P PH K) (core : IsCore p) (n : �
     pub index_asked : index < length p.clients
     index_asked = slice_get_within p.clients index it.it it.at
 
-    own : (it.it.sender < length p.client_senders) × ((sender_of it.it.sender p.client_senders).owner ≡ it.it.port.id)
-    own =
-        let o = core.sound.client_ports.own index it.it.connected
-        (listed (λ (c : ClientPart K). c.connected) p.clients index it.it it.at) in
-        (o.0, o.1)
-
     pub its_sender_asked : IsSomeAnd (slice_get p.clients index) (λ c. c.sender < length p.client_senders)
-    its_sender_asked = subst (λ o. IsSomeAnd o (λ c. c.sender < length p.client_senders)) (sym it.at) own.0
+    its_sender_asked = subst (λ o. IsSomeAnd o (λ c. c.sender < length p.client_senders)) (sym it.at)
+        (core.sound.client_ports.own index it.it.connected (listed (λ (c : ClientPart K). c.connected) p.clients index it.it it.at)).0
 
-    module _ (sender : ℕ) (told : IsSomeAnd (slice_get p.clients index) (λ c. sender ≡ c.sender)) (t : Parts Q QH P PH K)
+    module _ (t : Parts Q QH P PH K)
         (ended : IsSomeAnd (slice_get p.clients index) (λ c. t ≡ without_client_value p index c)) where
-      sender_is : sender ≡ it.it.sender
-      sender_is = subst (λ o. IsSomeAnd o (λ c. sender ≡ c.sender)) it.at told
-
       t_is : t ≡ without_client_value p index it.it
       t_is = subst (λ o. IsSomeAnd o (λ c. t ≡ without_client_value p index c)) it.at ended
 
@@ -71,23 +63,16 @@ module _ {Q QH P PH K : Type 0} (p : Parts Q QH P PH K) (core : IsCore p) (n : �
       abbrev gone : ClientPart K
       gone = record it.it { connected = record it.it.connected { port = record it.it.port { has_value = false } } }
 
-      pub port_then : HasPort (λ (c : ClientPart K). c.sender) t.clients sender
-      port_then =
-          subst (λ (q : Parts Q QH P PH K). HasPort (λ (c : ClientPart K). c.sender) q.clients sender) (sym t_is)
-          (index, gone, set_there, sym sender_is)
+      pub named_then : IsSomeAnd (slice_get t.clients index) (λ c. c.port.id ≡ n)
+      named_then =
+          subst (λ (q : Parts Q QH P PH K). IsSomeAnd (slice_get q.clients index) (λ c. c.port.id ≡ n)) (sym t_is)
+          (subst (λ o. IsSomeAnd o (λ (c : ClientPart K). c.port.id ≡ n)) (sym set_there) named)
         where
           set_there : slice_get (slice_set p.clients index gone) index ≡ Some gone
           set_there =
               slice_get-get_or (slice_set p.clients index gone) index gone
               (omega (arith, index_asked, length-set p.clients index gone))
               ∙ ap Some (get_or-set_same p.clients index gone gone index_asked)
-
-      pub owner_then : (sender_of sender t.client_senders).owner ≡ n
-      owner_then =
-          ap (λ (q : Parts Q QH P PH K). (sender_of sender q.client_senders).owner) t_is
-          ∙ set_alike p.client_senders it.it.sender (valueless (sender_of it.it.sender p.client_senders)) no_sender (λ l. l.owner) refl
-          sender
-          ∙ ap (λ l. (sender_of l p.client_senders).owner) sender_is ∙ own.1 ∙ named
 
       pub gone_then : state_of t ≡ without_port_value (state_of p) n
       gone_then = ap state_of t_is ∙ client_value_view p core.sound index it.it it.at ∙ ap (without_port_value (state_of p)) named

@@ -47,20 +47,12 @@ module _ {Q QH P PH K : Type 0} (p : Parts Q QH P PH K) (core : IsCore p) (n : �
     pub index_asked : index < length p.servers
     index_asked = slice_get_within p.servers index it.it it.at
 
-    own : (it.it.sender < length p.server_senders) × ((sender_of it.it.sender p.server_senders).owner ≡ it.it.port.id)
-    own =
-        let o = core.sound.server_ports.own index it.it.connected
-        (listed (λ (s : ServerPart K). s.connected) p.servers index it.it it.at) in
-        (o.0, o.1)
-
     pub its_sender_asked : IsSomeAnd (slice_get p.servers index) (λ s. s.sender < length p.server_senders)
-    its_sender_asked = subst (λ o. IsSomeAnd o (λ s. s.sender < length p.server_senders)) (sym it.at) own.0
+    its_sender_asked = subst (λ o. IsSomeAnd o (λ s. s.sender < length p.server_senders)) (sym it.at)
+        (core.sound.server_ports.own index it.it.connected (listed (λ (s : ServerPart K). s.connected) p.servers index it.it it.at)).0
 
-    module _ (sender : ℕ) (told : IsSomeAnd (slice_get p.servers index) (λ s. sender ≡ s.sender)) (t : Parts Q QH P PH K)
+    module _ (t : Parts Q QH P PH K)
         (ended : IsSomeAnd (slice_get p.servers index) (λ s. t ≡ without_server_value p index s)) where
-      sender_is : sender ≡ it.it.sender
-      sender_is = subst (λ o. IsSomeAnd o (λ s. sender ≡ s.sender)) it.at told
-
       t_is : t ≡ without_server_value p index it.it
       t_is = subst (λ o. IsSomeAnd o (λ s. t ≡ without_server_value p index s)) it.at ended
 
@@ -71,23 +63,16 @@ module _ {Q QH P PH K : Type 0} (p : Parts Q QH P PH K) (core : IsCore p) (n : �
       abbrev gone : ServerPart K
       gone = record it.it { connected = record it.it.connected { port = record it.it.port { has_value = false } } }
 
-      pub port_then : HasPort (λ (s : ServerPart K). s.sender) t.servers sender
-      port_then =
-          subst (λ (q : Parts Q QH P PH K). HasPort (λ (s : ServerPart K). s.sender) q.servers sender) (sym t_is)
-          (index, gone, set_there, sym sender_is)
+      pub named_then : IsSomeAnd (slice_get t.servers index) (λ s. s.port.id ≡ n)
+      named_then =
+          subst (λ (q : Parts Q QH P PH K). IsSomeAnd (slice_get q.servers index) (λ s. s.port.id ≡ n)) (sym t_is)
+          (subst (λ o. IsSomeAnd o (λ (s : ServerPart K). s.port.id ≡ n)) (sym set_there) named)
         where
           set_there : slice_get (slice_set p.servers index gone) index ≡ Some gone
           set_there =
               slice_get-get_or (slice_set p.servers index gone) index gone
               (omega (arith, index_asked, length-set p.servers index gone))
               ∙ ap Some (get_or-set_same p.servers index gone gone index_asked)
-
-      pub owner_then : (sender_of sender t.server_senders).owner ≡ n
-      owner_then =
-          ap (λ (q : Parts Q QH P PH K). (sender_of sender q.server_senders).owner) t_is
-          ∙ set_alike p.server_senders it.it.sender (valueless (sender_of it.it.sender p.server_senders)) no_sender (λ l. l.owner) refl
-          sender
-          ∙ ap (λ l. (sender_of l p.server_senders).owner) sender_is ∙ own.1 ∙ named
 
       pub gone_then : state_of t ≡ without_port_value (state_of p) n
       gone_then = ap state_of t_is ∙ server_value_view p core.sound index it.it it.at ∙ ap (without_port_value (state_of p)) named

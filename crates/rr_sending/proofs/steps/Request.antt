@@ -1,10 +1,9 @@
 -- A request that can be sent comes to all connected servers, its client counts it, and it becomes a pending response.
 use Rattle.std.proofs.Common.{◌≡◌, ◌<◌, ◌+◌, ◌*◌, ◌^◌, ℕ, true, [], None, Some, Ok, Err, length, refl, sym, ap, ◌∙◌, subst, arith}
-use Rattle.std.specs.Prelude.{◌==◌, IsSomeAnd, count_by, slice_get, slice_index, slice_index_or, slice_set, Option}
+use Rattle.std.specs.Prelude.{◌==◌, IsSome, IsSomeAnd, count_by, slice_get, slice_index, slice_index_or, slice_set, Option}
 use Rattle.std.specs.List.{position}
 use Rattle.std.specs.FinMap as fin_map
 use Rattle.std.proofs.lemmas.List.{length-map, length-set}
-use Rattle.std.proofs.lemmas.Option.{slice_get_within}
 use Rattle.std.proofs.Math.Nat.{le-mul_of_pos_right}
 use Rattle.rr_table.specs.TableView.{IsAt, TableEntry, table_entry, value_at}
 use Rattle.rr_table.specs.declared.place.Place.{Place}
@@ -23,6 +22,7 @@ use Rattle.rr_store.specs.declared.handle_entry.HandleEntry.{HandleEntry}
 use Rattle.rr_store.specs.declared.handle_entry.Stage.TheVariants as stage
 use Rattle.rr_store.specs.Changes.{is_open_to, request_send_limit, with_client_sender_at, with_handle, with_request_queued}
 use Rattle.rr_store.specs.Emptying.{PartsEmptied}
+use Rattle.rr_store.specs.Order.{IsRising}
 use Rattle.rr_store.specs.Parts.{ClientPart, ServerPart, Parts, Sender}
 use Rattle.rr_store.specs.Reaching.{IsCore}
 use Rattle.rr_store.specs.Releasing.{is_loaned_request}
@@ -38,7 +38,7 @@ use Rattle.rr_store.proofs.base.lookups.Asking.{countable}
 use Rattle.rr_store.proofs.base.lookups.Looking.{shown}
 use Rattle.rr_store.proofs.base.lookups.Placed.{value_there}
 use Rattle.rr_store.proofs.base.lookups.Shown.{request_held as has_value, request_spot}
-use Rattle.rr_store.proofs.base.senders.Owners.{First, port_of_sender}
+use Rattle.rr_store.proofs.base.senders.Owners.{First, client_named, clients_rise, port_of_sender}
 use Rattle.rr_store.proofs.base.senders.Ports.{of_found}
 use Rattle.rr_store.proofs.base.senders.Stored.{stored_twice}
 use Rattle.rr_store.proofs.querying.Connected.{mark_within, of_kind}
@@ -74,13 +74,18 @@ module _ {Q QH P PH K : Type 0} (p : Parts Q QH P PH K) (core : IsCore p) (n : �
       port_of_sender (λ (c : ClientPart K). c.sender) p.clients entry.sender
       ((core.sound.have_ports.handles n (table_entry place entry) at).request_loan (ap is_request_loan stage_is))
 
-  -- what the client that sends from the sender has or becomes
-  abbrev Ends : Parts Q QH P PH K → (ℕ → ClientPart K → Type 0) → Type 0
-  Ends q R = IsSomeAnd (position (λ (c : ClientPart K). c.sender == entry.sender) q.clients) (λ i. IsSomeAnd (slice_get q.clients i) (R i))
+  -- the client's number, by which it is found
+  abbrev owner : ℕ
+  owner = (sender_of entry.sender p.client_senders).owner
 
-  pub client_asked : IsSomeAnd (position (λ (c : ClientPart K). c.sender == entry.sender) p.clients) (λ i. i < length p.clients)
-  client_asked = subst (λ o. IsSomeAnd o (λ i. i < length p.clients)) (sym client.found)
-      (slice_get_within p.clients client.index client.it client.at)
+  pub rising_asked : IsRising (λ (c : ClientPart K). c.port.id) p.clients
+  rising_asked = clients_rise p empty_hand core.sound
+
+  named : position (λ (c : ClientPart K). c.port.id == owner) p.clients ≡ Some client.index
+  named = client_named p empty_hand core.sound entry.sender client
+
+  pub found_asked : IsSome (position (λ (c : ClientPart K). c.port.id == owner) p.clients)
+  found_asked = subst IsSome (sym named) refl
 
   -- each server has a queue
   pub queues_asked : (i : ℕ) (s : ServerPart K) → slice_get p.servers i ≡ Some s
@@ -97,9 +102,10 @@ module _ {Q QH P PH K : Type 0} (p : Parts Q QH P PH K) (core : IsCore p) (n : �
       subst (λ o. IsSomeAnd o (λ handle. is_loaned_request handle ≡ true)) (sym (shown p n entry value))
       (ap (λ g. is_loaned_request (handle_in p g entry.sender entry.slot)) stage_is)
 
-  module _ (limit : Option RequestSendError) (limited : Ends p (λ _ c. limit ≡ request_send_limit p action c entry.sender)) where
+  module _ (limit : Option RequestSendError) (limited : IsSomeAnd (position (λ (c : ClientPart K). c.port.id == owner) p.clients)
+      (λ i. IsSomeAnd (slice_get p.clients i) (λ c. limit ≡ request_send_limit p action c entry.sender))) where
     limit_is : limit ≡ request_send_limit p action client.it entry.sender
-    limit_is = of_found (λ (c : ClientPart K). c.sender == entry.sender) p.clients client.index client.it client.found client.at
+    limit_is = of_found (λ (c : ClientPart K). c.port.id == owner) p.clients client.index client.it named client.at
         (λ _ c. limit ≡ request_send_limit p action c entry.sender) limited
 
     -- a refusal equals a release

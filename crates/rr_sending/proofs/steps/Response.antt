@@ -1,10 +1,9 @@
 -- A response that can be sent comes to the queue that it reaches, and its handle, its hold and its loans end.
 use Rattle.std.proofs.Common.{◌≡◌, ◌<◌, ℕ, Bool, true, false, Option, None, Some, Ok, List, [], ◌∷◌, length, refl, sym, ap, ◌∙◌, subst, arith}
-use Rattle.std.specs.Prelude.{◌==◌, IfSome, IsSomeAnd, slice_get, slice_index, slice_set}
+use Rattle.std.specs.Prelude.{◌==◌, IfSome, IsSome, IsSomeAnd, slice_get, slice_index, slice_set}
 use Rattle.std.specs.List.{position}
 use Rattle.std.specs.FinMap as fin_map
 use Rattle.std.proofs.lemmas.List.{length-set}
-use Rattle.std.proofs.lemmas.Option.{slice_get_within}
 use Rattle.rr_table.specs.TableView.{table_entry, value_at}
 use Rattle.rr_table.specs.declared.place.Place.{Place}
 use Rattle.rr_sender.specs.Senders.{Messages, evicted, queue_at}
@@ -25,6 +24,7 @@ use Rattle.rr_store.specs.Emptying.{MessagesEmptied, PartsEmptied}
 use Rattle.rr_store.specs.Ending.{IsAskedPlace, IsLoanEnded, found_under}
 use Rattle.rr_store.specs.Kinds.{stage_kind}
 use Rattle.rr_store.specs.Loaning.{with_messages}
+use Rattle.rr_store.specs.Order.{IsRising}
 use Rattle.rr_store.specs.Parts.{ServerPart, Parts, Sender}
 use Rattle.rr_store.specs.Reaching.{IsCore}
 use Rattle.rr_store.specs.Releasing.{IsHandleGone, held_once_less, is_loaned_response, without_loan}
@@ -35,7 +35,7 @@ use Rattle.rr_store.proofs.base.senders.Emptied.{among_emptied, responses_emptie
 use Rattle.rr_store.proofs.base.lists.Replaced.{set_alike}
 use Rattle.rr_store.proofs.base.lookups.Placed.{value_there}
 use Rattle.rr_store.proofs.base.lookups.Shown.{held_within}
-use Rattle.rr_store.proofs.base.senders.Owners.{First, port_of_sender, server_receiver, server_owner}
+use Rattle.rr_store.proofs.base.senders.Owners.{First, port_of_sender, server_named, server_owner, server_receiver, servers_rise}
 use Rattle.rr_store.proofs.base.senders.Ports.{of_found}
 use Rattle.rr_store.proofs.base.senders.Stored.{stored_twice}
 use Rattle.rr_store.proofs.querying.Connected.{of_kind}
@@ -66,9 +66,18 @@ module _ {Q QH P PH K : Type 0} (p : Parts Q QH P PH K) (core : IsCore p) (n : �
       ((core.sound.have_ports.handles n (table_entry place entry) at).response_loan
       (ap (λ (h : HandleEntry). is_response_loan h.stage) (sym found.is) ∙ found.loan))
 
-  -- what the server that sends from the sender has or becomes
-  abbrev Ends : Parts Q QH P PH K → (ℕ → ServerPart K → Type 0) → Type 0
-  Ends q R = IsSomeAnd (position (λ (s : ServerPart K). s.sender == entry.sender) q.servers) (λ i. IsSomeAnd (slice_get q.servers i) (R i))
+  -- the server's number, by which it is found
+  abbrev owner : ℕ
+  owner = (sender_of entry.sender p.server_senders).owner
+
+  pub rising_asked : IsRising (λ (s : ServerPart K). s.port.id) p.servers
+  rising_asked = servers_rise p empty_hand core.sound
+
+  named : position (λ (s : ServerPart K). s.port.id == owner) p.servers ≡ Some server.index
+  named = server_named p empty_hand core.sound entry.sender server
+
+  pub found_asked : IsSome (position (λ (s : ServerPart K). s.port.id == owner) p.servers)
+  found_asked = subst IsSome (sym named) refl
 
   abbrev m : Messages P ResponseDetails PH
   m = (sender_of entry.sender p.server_senders).messages
@@ -82,19 +91,16 @@ module _ {Q QH P PH K : Type 0} (p : Parts Q QH P PH K) (core : IsCore p) (n : �
   pub slot_asked : entry.slot < length (sender_of entry.sender p.server_senders).messages.held
   slot_asked = held_within (sender_of entry.sender p.server_senders).messages.held entry.slot found.slot
 
-  pub server_asked : IsSomeAnd (position (λ (s : ServerPart K). s.sender == entry.sender) p.servers) (λ i. i < length p.servers)
-  server_asked =
-      subst (λ o. IsSomeAnd o (λ i. i < length p.servers)) (sym server.found) (slice_get_within p.servers server.index server.it server.at)
-
   module _ (details : ResponseDetails) (are : details ≡ response_details p entry.sender entry.slot) (reach : Option ℕ)
       (told : reach ≡ reached p.client_senders p.table details) where
     pub queue_asked : HasQueue (sender_of entry.sender p.server_senders).messages details.channel reach
     queue_asked = fields.queue_asked p core.sound n entry found server.index server.it server.at server.is details (sym are) reach told
 
-    module _ (r : Bool) (refusal : Ends p (λ _ s. r ≡ is_refused_in action s.port m overflow details reach)) where
+    module _ (r : Bool) (refusal : IsSomeAnd (position (λ (s : ServerPart K). s.port.id == owner) p.servers)
+        (λ i. IsSomeAnd (slice_get p.servers i) (λ s. r ≡ is_refused_in action s.port m overflow details reach))) where
       refused_is : r ≡ is_response_refused action (state_of p) (server_of server.it) (response_at p entry.sender entry.slot)
       refused_is =
-          of_found (λ (s : ServerPart K). s.sender == entry.sender) p.servers server.index server.it server.found server.at
+          of_found (λ (s : ServerPart K). s.port.id == owner) p.servers server.index server.it named server.at
           (λ _ s. r ≡ is_refused_in action s.port m overflow details reach) refusal
           ∙ fields.refused_then p core.sound n entry found server.index server.it server.at server.is action details
           (sym are) reach told m refl

@@ -12,7 +12,7 @@ ghost use Rattle.rr_store.specs.Start.{start_parts};
 ghost use Rattle.rr_store.specs.Views.{sender_of, state_of};
 
 use crate::create::{ClientStore, server as of_server};
-use crate::store::Store;
+use crate::store::{NUMBERS, Store};
 use crate::{ResponseDetails, create};
 use rr_protocol::{
     BackpressureFn, ClientCreateError, ClientSettings, Limits, ServerCreateError, ServerSettings,
@@ -22,9 +22,6 @@ use rr_sender::Sender;
 use rr_slots::Body;
 use rr_table::Table;
 use std::alloc::{AllocError, Global};
-
-/// Counts the numbers that a store gives: 2^62.
-const NUMBERS: u64 = 4611686018427387904;
 
 impl<QB: Body, QH: Default + Drop, PB: Body, PH: Default + Drop, K: BackpressureFn> Store<
     QB,

@@ -1,16 +1,17 @@
 //! What a send changes.
-ghost use Rattle.std.specs.Prelude.{◌≡◌, ◌==◌, ◌+◌, ◌*◌, ◌<◌, ◌^◌, ℕ, [], Some, IsSomeAnd, count_by, length, not, slice_get, slice_index, slice_index_or};
+ghost use Rattle.std.specs.Prelude.{◌≡◌, ◌==◌, ◌+◌, ◌*◌, ◌<◌, ◌^◌, ℕ, [], Some, IsSome, IsSomeAnd, count_by, length, not, slice_get, slice_index, slice_index_or};
 ghost use Rattle.std.specs.List.{position};
 ghost use Rattle.rr_sender.specs.Senders.{uses};
 ghost use Rattle.rr_store.specs.Changes.{is_open_to, request_send_limit, with_client_sender_at, with_request_queued, with_responses};
 ghost use Rattle.rr_store.specs.Delivering.{HasQueue, handed_on, is_refused_in, reached};
+ghost use Rattle.rr_store.specs.Order.{IsRising};
 ghost use Rattle.rr_store.specs.Parts.{ServerPart};
 ghost use Rattle.rr_store.specs.Sending.{with_one_sent};
 ghost use Rattle.rr_store.specs.Views.{sender_of};
 
 use crate::send::{request as of_request, response as of_response};
 use crate::store::Store;
-use crate::{HandleEntry, ResponseDetails, index_of_sender};
+use crate::{HandleEntry, ResponseDetails};
 use rr_protocol::{BackpressureFn, RequestSendError, SendError};
 use rr_slots::Body;
 
@@ -21,50 +22,58 @@ impl<QB: Body, QH: Default + Drop, PB: Body, PH: Default + Drop, K: Backpressure
     PH,
     K,
 > {
-    /// Returns the first reason against one more request from a sender: its client has too many pending responses, or the
-    /// queue to some server is full, may not overflow, and is not passed over.
+    /// Returns to how many connected servers the queue from a sender takes one more.
     #[inline(always)]
-    pub fn request_send_limit(&self, sender: usize) -> Option<RequestSendError>
+    pub fn open_connections(&self, sender: usize) -> usize
         requires sender { sender < length self.now.client_senders }
-        requires client { IsSomeAnd (position (λ c. c.sender == sender) self.now.clients) (λ i. i < length self.now.clients) }
         requires queues { (i : ℕ) (s : ServerPart K) → slice_get self.now.servers i ≡ Some s → (s.receiver < length (sender_of sender self.now.client_senders).messages.queues) × (0 < length (slice_index_or (sender_of sender self.now.client_senders).messages.queues s.receiver [])) }
-        ensures { IsSomeAnd (position (λ c. c.sender == sender) self.now.clients) (λ i. IsSomeAnd (slice_get self.now.clients i) (λ c. result ≡ request_send_limit self.now K.action c sender)) }
+        ensures { result ≡ count_by (is_open_to self.now sender) self.now.servers }
+    {
+        let overflow = self.limits.enable_safe_overflow_for_requests;
+        let servers = self.servers.as_slice();
+        let messages = &self.client_senders[sender].messages;
+        of_request::open_count(messages, servers, overflow)
+    }
+
+    /// Returns the first reason against one more request from a sender, of which so many queues take one more: its client has
+    /// too many pending responses, or the queue to some server is full, may not overflow, and is not passed over.
+    #[inline(always)]
+    pub fn request_send_limit(&self, sender: usize, connections: usize) -> Option<RequestSendError>
+        requires sender { sender < length self.now.client_senders }
+        requires rising { IsRising (λ c. c.port.id) self.now.clients }
+        requires found { IsSome (position (λ c. c.port.id == (sender_of sender self.now.client_senders).owner) self.now.clients) }
+        requires queues { (i : ℕ) (s : ServerPart K) → slice_get self.now.servers i ≡ Some s → (s.receiver < length (sender_of sender self.now.client_senders).messages.queues) × (0 < length (slice_index_or (sender_of sender self.now.client_senders).messages.queues s.receiver [])) }
+        requires connections { connections ≡ count_by (is_open_to self.now sender) self.now.servers }
+        ensures { IsSomeAnd (position (λ c. c.port.id == (sender_of sender self.now.client_senders).owner) self.now.clients) (λ i. IsSomeAnd (slice_get self.now.clients i) (λ c. result ≡ request_send_limit self.now K.action c sender)) }
     {
         if self.limits.max_active_requests_per_client <= self.client_senders[sender].pendings {
             return Some(RequestSendError::ExceedsMaxActiveRequests);
         }
-        let messages = &self.client_senders[sender].messages;
-        let overflow = self.limits.enable_safe_overflow_for_requests;
         let servers = self.servers.as_slice();
-        if !of_request::is_any_blocked(messages, servers, overflow) {
+        if connections == servers.len() {
             return None;
         }
-        let client = match index_of_sender(self.clients.as_slice(), sender) {
-            Some(index) => &self.clients[index],
-            None => unreachable!(),
-        };
+        let client = &self.clients[self.client_of_sender(sender)];
+        let messages = &self.client_senders[sender].messages;
+        let overflow = self.limits.enable_safe_overflow_for_requests;
         if of_request::is_refused(messages, &client.port, servers, overflow) {
             return Some(RequestSendError::SendError(SendError::UnableToDeliver));
         }
         None
     }
 
-    /// Puts a request into the queue to each connected server, notes that these may answer it, and returns how many queues
-    /// took it.
+    /// Puts a request into the queue to each connected server, and notes that these may answer it.
     #[inline(always)]
-    pub fn queue_request(&mut self, sender: usize, slot: usize) -> usize
+    pub fn queue_request(&mut self, sender: usize, slot: usize)
         requires sender { sender < length self.old.client_senders }
         requires queues { (i : ℕ) (s : ServerPart K) → slice_get self.old.servers i ≡ Some s → (s.receiver < length (sender_of sender self.old.client_senders).messages.queues) × (0 < length (slice_index_or (sender_of sender self.old.client_senders).messages.queues s.receiver [])) }
         requires takes { (0 < (sender_of sender self.old.client_senders).messages.capacity) × (0 < slice_index (sender_of sender self.old.client_senders).messages.held slot) × (uses (sender_of sender self.old.client_senders).messages slot + length self.old.servers < 2 ^ 64) }
         requires marks { (i : ℕ) (s : ServerPart K) → slice_get self.old.servers i ≡ Some s → slot * self.old.limits.max_servers + s.receiver < length (sender_of sender self.old.client_senders).may_answer }
-        ensures count { result ≡ count_by (is_open_to self.old sender) self.old.servers }
-        ensures queued { self.new ≡ with_request_queued self.old sender slot }
+        ensures { self.new ≡ with_request_queued self.old sender slot }
     {
         let overflow = self.limits.enable_safe_overflow_for_requests;
         let receivers = self.limits.max_servers;
         let servers = self.servers.as_slice();
-        let messages = &self.client_senders[sender].messages;
-        let count = of_request::open_count(messages, servers, overflow);
         of_request::queue_in(
             &mut self.client_senders,
             sender,
@@ -73,7 +82,6 @@ impl<QB: Body, QH: Default + Drop, PB: Body, PH: Default + Drop, K: Backpressure
             servers,
             overflow,
         );
-        count
     }
 
     /// Counts one request less on loan from a sender, and one pending response more.
@@ -104,19 +112,17 @@ impl<QB: Body, QH: Default + Drop, PB: Body, PH: Default + Drop, K: Backpressure
         reach: Option<usize>,
     ) -> bool
         requires sender { sender < length self.now.server_senders }
-        requires server { IsSomeAnd (position (λ s. s.sender == sender) self.now.servers) (λ i. i < length self.now.servers) }
+        requires rising { IsRising (λ s. s.port.id) self.now.servers }
+        requires found { IsSome (position (λ s. s.port.id == (sender_of sender self.now.server_senders).owner) self.now.servers) }
         requires queue { HasQueue (sender_of sender self.now.server_senders).messages details.channel reach }
-        ensures { IsSomeAnd (position (λ s. s.sender == sender) self.now.servers) (λ i. IsSomeAnd (slice_get self.now.servers i) (λ s. result ≡ is_refused_in K.action s.port (sender_of sender self.now.server_senders).messages self.now.limits.enable_safe_overflow_for_responses details reach)) }
+        ensures { IsSomeAnd (position (λ s. s.port.id == (sender_of sender self.now.server_senders).owner) self.now.servers) (λ i. IsSomeAnd (slice_get self.now.servers i) (λ s. result ≡ is_refused_in K.action s.port (sender_of sender self.now.server_senders).messages self.now.limits.enable_safe_overflow_for_responses details reach)) }
     {
         let messages = &self.server_senders[sender].messages;
         let overflow = self.limits.enable_safe_overflow_for_responses;
         if !of_response::is_blocked(messages, reach, details.channel, overflow) {
             return false;
         }
-        let server = match index_of_sender(self.servers.as_slice(), sender) {
-            Some(index) => &self.servers[index],
-            None => unreachable!(),
-        };
+        let server = &self.servers[self.server_of_sender(sender)];
         !server.port.discards(details.client)
     }
 

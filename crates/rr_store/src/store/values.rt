@@ -1,12 +1,12 @@
 //! Values of ports that go, and ports that are removed.
 ghost use Rattle.std.specs.Prelude.{◌≡◌, ◌<◌, ◌==◌, IsSome, IsSomeAnd, Some, length, slice_get};
 ghost use Rattle.std.specs.List.{position};
-ghost use Rattle.rr_store.specs.Leaving.{without_client, without_client_value, without_server, without_server_value};
+ghost use Rattle.rr_store.specs.Leaving.{leaving_client, leaving_server, without_client, without_client_value, without_server, without_server_value};
 ghost use Rattle.rr_store.specs.Order.{IsRising};
 ghost use Rattle.rr_store.specs.Views.{sender_of};
 
-use crate::leave;
 use crate::store::Store;
+use crate::{LeftPort, leave};
 use rr_protocol::BackpressureFn;
 use rr_slots::Body;
 
@@ -50,14 +50,13 @@ impl<QB: Body, QH: Default + Drop, PB: Body, PH: Default + Drop, K: Backpressure
 
     /// Takes the client at an index out of the connected ones, and notes that it left.
     #[cold]
-    pub fn remove_client(&mut self, index: usize)
-        requires index { index < length self.old.clients }
+    pub fn remove_client(&mut self, index: usize, leaving: LeftPort)
+        requires leaving { IsSomeAnd (slice_get self.old.clients index) (λ c. leaving ≡ leaving_client c) }
         requires room { length self.old.left_clients < self.old.client_room }
         ensures { IsSomeAnd (slice_get self.old.clients index) (λ c. self.new ≡ without_client self.old index c) }
     {
-        let left = self.leaving_client(index);
         self.clients.remove(index);
-        self.left_clients.push_reserved(left);
+        self.left_clients.push_reserved(leaving);
     }
 
     /// Returns whether the value of the server that sends from a sender lives.
@@ -93,13 +92,12 @@ impl<QB: Body, QH: Default + Drop, PB: Body, PH: Default + Drop, K: Backpressure
 
     /// Takes the server at an index out of the connected ones, and notes that it left.
     #[cold]
-    pub fn remove_server(&mut self, index: usize)
-        requires index { index < length self.old.servers }
+    pub fn remove_server(&mut self, index: usize, leaving: LeftPort)
+        requires leaving { IsSomeAnd (slice_get self.old.servers index) (λ s. leaving ≡ leaving_server s) }
         requires room { length self.old.left_servers < self.old.server_room }
         ensures { IsSomeAnd (slice_get self.old.servers index) (λ s. self.new ≡ without_server self.old index s) }
     {
-        let left = self.leaving_server(index);
         self.servers.remove(index);
-        self.left_servers.push_reserved(left);
+        self.left_servers.push_reserved(leaving);
     }
 }

@@ -1,4 +1,4 @@
-use Rattle.rr_sending.proofs.steps.Response.{sender_asked, slot_asked, loan_asked, server_asked, queue_asked, refused, sender_still, queue_still, takes_still, loan_sender, loan_counted, sends, core_then, port_then, sound_then}
+use Rattle.rr_sending.proofs.steps.Response.{sender_asked, slot_asked, loan_asked, rising_asked, found_asked, queue_asked, refused, sender_still, queue_still, takes_still, loan_sender, loan_counted, sends, core_then, port_then, sound_then}
 use Rattle.rr_sending.proofs.response.send_response_at.Goals as goal
 
 pub response_details-details-requires-clause-sender : goal.response_details-details-requires-clause-sender
@@ -16,9 +16,14 @@ is_response_refused-requires-clause-sender g c =
     sender_asked c.args.store.now c.requires.core c.args.number c.args.place c.at-entry.result c.at-entry.ensures c.requires.kind
     g.K.BackpressureFn.action
 
-pub is_response_refused-requires-clause-server : goal.is_response_refused-requires-clause-server
-is_response_refused-requires-clause-server g c =
-    server_asked c.args.store.now c.requires.core c.args.number c.args.place c.at-entry.result c.at-entry.ensures c.requires.kind
+pub is_response_refused-requires-clause-rising : goal.is_response_refused-requires-clause-rising
+is_response_refused-requires-clause-rising g c =
+    rising_asked c.args.store.now c.requires.core c.args.number c.args.place c.at-entry.result c.at-entry.ensures c.requires.kind
+    g.K.BackpressureFn.action
+
+pub is_response_refused-requires-clause-found : goal.is_response_refused-requires-clause-found
+is_response_refused-requires-clause-found g c =
+    found_asked c.args.store.now c.requires.core c.args.number c.args.place c.at-entry.result c.at-entry.ensures c.requires.kind
     g.K.BackpressureFn.action
 
 pub is_response_refused-requires-clause-queue : goal.is_response_refused-requires-clause-queue

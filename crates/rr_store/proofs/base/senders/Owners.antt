@@ -7,7 +7,7 @@ use Rattle.rr_store.specs.Order.{IsRising}
 use Rattle.rr_store.specs.Parts.{Connected, ClientPart, ServerPart, Parts}
 use Rattle.rr_store.specs.Sound.{HasPort, IsSound, Hand}
 use Rattle.rr_store.specs.Views.{sender_of}
-use Rattle.rr_store.proofs.base.lists.Rising.{rising_unmapped}
+use Rattle.rr_store.proofs.base.lists.Rising.{rising_once, rising_unmapped}
 use Rattle.rr_store.proofs.base.senders.Ports.{sender_found}
 use Rattle.rr_store.proofs.base.views.Counts.{listed}
 
@@ -25,6 +25,13 @@ pub first_by : {X : Type 0} (read : X → ℕ) (xs : List X) (n i : ℕ) (x : X)
 first_by read xs n i x at is =
     let r = sender_found (λ x. read x == n) xs i x at (eq-eqb (read x) n is) in
     record { index = r.0; it = r.2.it; found = r.1; at = r.2.at; is = eqb-true _ _ r.2.passes }
+
+-- where numbers rise, what has one is found by it
+pub found_by_number : {X : Type 0} (read : X → ℕ) (xs : List X) → IsRising read xs → (n i : ℕ) (x : X) → slice_get xs i ≡ Some x
+    → read x ≡ n → position (λ x. read x == n) xs ≡ Some i
+found_by_number read xs rising n i x at is =
+    let f = first_by read xs n i x at is in
+    f.found ∙ ap Some (rising_once read xs rising f.index i f.it x f.at at (f.is ∙ sym is))
 
 -- the port that sends from a sender is found by it
 pub port_of_sender : {X : Type 0} (sender : X → ℕ) (ports : List X) (l : ℕ) → HasPort sender ports l
@@ -64,3 +71,14 @@ module _ {Q QH P PH K : Type 0} (p : Parts Q QH P PH K) (hand : Hand) (sound : I
 
   pub servers_rise : IsRising (λ (s : ServerPart K). s.port.id) p.servers
   servers_rise = rising_unmapped (λ (s : ServerPart K). s.connected) (λ (c : Connected K). c.port.id) p.servers sound.server_ports.rising
+
+  -- a port is found by the number that its sender knows
+  pub client_named : (l : ℕ) (f : First (λ (c : ClientPart K). c.sender) (λ (c : ClientPart K). c.sender == l) p.clients l)
+      → position (λ (c : ClientPart K). c.port.id == (sender_of l p.client_senders).owner) p.clients ≡ Some f.index
+  client_named l f = found_by_number (λ (c : ClientPart K). c.port.id) p.clients clients_rise (sender_of l p.client_senders).owner
+      f.index f.it f.at (sym (client_owner l f))
+
+  pub server_named : (l : ℕ) (f : First (λ (s : ServerPart K). s.sender) (λ (s : ServerPart K). s.sender == l) p.servers l)
+      → position (λ (s : ServerPart K). s.port.id == (sender_of l p.server_senders).owner) p.servers ≡ Some f.index
+  server_named l f = found_by_number (λ (s : ServerPart K). s.port.id) p.servers servers_rise (sender_of l p.server_senders).owner
+      f.index f.it f.at (sym (server_owner l f))

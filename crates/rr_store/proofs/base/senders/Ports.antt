@@ -1,28 +1,12 @@
 -- The port that sends in a sender, where a call found it.
-use Rattle.std.proofs.Common.{◌≡◌, ◌<◌, ℕ, Bool, true, List, Option, None, Some, length, get_or, refl, sym, ap, ◌∙◌, subst, arith}
-use Rattle.std.specs.Prelude.{IsSomeAnd, slice_get, slice_set}
+use Rattle.std.proofs.Common.{◌≡◌, ◌<◌, ℕ, Bool, true, false, List, Option, None, Some, length, get_or, refl, sym, ap, ◌∙◌, subst, arith}
+use Rattle.std.specs.Prelude.{IsSome, IsSomeAnd, slice_get, slice_set}
 use Rattle.std.specs.List.{position}
-use Rattle.rr_store.proofs.base.lookups.Asking.{standing_at, read_at}
 use Rattle.std.proofs.lemmas.Bool.{false≢true}
 use Rattle.std.proofs.lemmas.List.{get_or-set_same, length-set}
 use Rattle.std.proofs.lemmas.Option.{slice_get_within, slice_get-get_or, get_or_from_slice_get}
 use Rattle.rr_store.proofs.base.senders.Entries.{found_none}
 use Rattle.rr_store.proofs.base.lists.Replaced.{Standing, standing, standing_nowhere}
-
-module _ {X : Type 0} (test : X → Bool) (i : ℕ) (slice items : List X) (o : Option ℕ) (told : o ≡ position test slice)
-    (same : slice ≡ items) (is : o ≡ Some i) (x : X) (read : x ≡ get_or items i x) (R : ℕ → X → Type 0) where
-  it : Standing test items i
-  it = standing_at test i slice items o told same is
-
-  index_is : position test items ≡ Some i
-  index_is = ap (position test) (sym same) ∙ sym told ∙ is
-
-  -- and the other way about
-  pub to_sender : R i x → IsSomeAnd (position test items) (λ j. IsSomeAnd (slice_get items j) (R j))
-  to_sender r =
-      let S : Option ℕ → Type 0 = λ p. IsSomeAnd p (λ j. IsSomeAnd (slice_get items j) (R j)) in
-      let T : Option X → Type 0 = λ p. IsSomeAnd p (R i) in
-      subst S (sym index_is) (subst T (sym it.at) (subst (R i) (read_at items i it.it x it.at read) r))
 
 module _ {X : Type 0} (test : X → Bool) (items : List X) where
   -- a port that passes is found, or one before it
@@ -44,14 +28,13 @@ module _ {X : Type 0} (test : X → Bool) (items : List X) where
   found_within i found = let s = standing test items i found in slice_get_within items i s.it s.at
 
   -- what is true of each port is true of the one that is found
-  pub of_each : (R : X → Type 0) → IsSomeAnd (position test items) (λ i. i < length items) → ((x : X) → R x)
+  pub of_each : (R : X → Type 0) → IsSome (position test items) → ((x : X) → R x)
       → IsSomeAnd (position test items) (λ i. IsSomeAnd (slice_get items i) R)
   of_each R found each = go (position test items) refl found
     where
-      go : (o : Option ℕ) → position test items ≡ o → IsSomeAnd o (λ i. i < length items)
-          → IsSomeAnd o (λ i. IsSomeAnd (slice_get items i) R)
-      go None e t = t
-      go (Some i) e t =
+      go : (o : Option ℕ) → position test items ≡ o → IsSome o → IsSomeAnd o (λ i. IsSomeAnd (slice_get items i) R)
+      go None e some = absurd (let f : false ≡ true = some in cc)
+      go (Some i) e some =
           let it = standing test items i e in
           subst (λ o. IsSomeAnd o R) (sym it.at) (each it.it)
 

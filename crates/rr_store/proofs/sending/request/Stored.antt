@@ -1,7 +1,10 @@
 -- Servers as they are stored, and as parts: their queues, marks and numbers.
-use Rattle.std.proofs.Common.{◌≡◌, ◌<◌, ◌+◌, ◌*◌, ℕ, Bool, true, false, List, [], ◌∷◌, Some, length, map, refl, sym, ap, ◌∙◌}
-use Rattle.std.specs.Prelude.{◌&&◌, ◌||◌, slice_get, slice_index_or}
+use Rattle.std.proofs.Common.{◌≡◌, ◌<◌, ◌+◌, ◌*◌, ℕ, Bool, true, false, not, List, [], ◌∷◌, Some, length, map, refl, sym, ap, ◌∙◌, arith}
+use Rattle.std.specs.Prelude.{◌&&◌, ◌||◌, count_by, slice_get, slice_index_or}
 use Rattle.std.specs.List.{list_any}
+use Rattle.std.proofs.lemmas.List.Sums.{count_by-le-length}
+use Rattle.rr_maps.proofs.Counting.{count-cons}
+use Rattle.rr_maps.specs.Maps.{mark}
 use Rattle.rr_sender.specs.Senders.{Messages}
 use Rattle.rr_store.specs.declared.port.ServerPort.{ServerPort}
 use Rattle.rr_store.specs.Parts.{ServerPart}
@@ -19,6 +22,22 @@ none_and t u (x ∷ xs) none = go (t x) none (none_and t u xs)
         → ((b && u x) || list_any (λ x. t x && u x) xs) ≡ false
     go true e rest = absurd (let f : true ≡ false = e in cc)
     go false e rest = rest e
+
+-- where as many fail a test as there are, none passes it
+pub all_fail : {X : Type 0} (t : X → Bool) (xs : List X) → count_by (λ x. not (t x)) xs ≡ length xs → list_any t xs ≡ false
+all_fail t [] all = refl
+all_fail t (x ∷ xs) all = go (t x) refl (all_fail t xs)
+  where
+    go : (b : Bool) → t x ≡ b → (count_by (λ x. not (t x)) xs ≡ length xs → list_any t xs ≡ false) → (b || list_any t xs) ≡ false
+    go true e rest =
+        absurd (omega (
+          arith,
+          count-cons (λ x. not (t x)) x xs,
+          ap (λ b. mark (not b)) e,
+          count_by-le-length (λ x. not (t x)) xs,
+          all,
+        ))
+    go false e rest = rest (omega (arith, count-cons (λ x. not (t x)) x xs, ap (λ b. mark (not b)) e, all))
 
 module _ {K : Type 0} (items slice : List (ServerPort K)) (same : slice ≡ items) where
   -- a server of the slice is one of the parts

@@ -1,7 +1,7 @@
-use Rattle.std.proofs.Common.{◌≡◌, ℕ, Bool, true, false, Option, None, Some, sym, ap, ◌∙◌, subst, arith}
-use Rattle.std.specs.Prelude.{◌==◌, ◌<◌, ◌&&◌, IsSomeAnd, length, map, not}
+use Rattle.std.proofs.Common.{◌≡◌, ◌<◌, ℕ, Bool, true, false, Option, None, Some, length, sym, ap, ◌∙◌, subst, arith}
+use Rattle.std.specs.Prelude.{◌==◌, ◌&&◌, not}
 use Rattle.std.specs.List.{position}
-use Rattle.std.proofs.lemmas.Option.{slice_get_within}
+use Rattle.std.proofs.lemmas.List.{length-map}
 use Rattle.rr_sender.specs.Senders.{Messages}
 use Rattle.rr_protocol.specs.declared.settings.BackpressureAction.{BackpressureAction}
 use Rattle.rr_protocol.specs.Backpressure.{discards}
@@ -13,11 +13,10 @@ use Rattle.rr_store.specs.Inside.{parts_of}
 use Rattle.rr_store.specs.Parts.{ServerPart, Sender}
 use Rattle.rr_store.specs.Ports.{server_part}
 use Rattle.rr_store.specs.Views.{sender_of}
-use Rattle.rr_store.proofs.base.lists.Mapped.{position-map, to_mapped}
-use Rattle.rr_store.proofs.base.lookups.Asking.{standing_at}
-use Rattle.rr_store.proofs.base.senders.Ports.{of_each, to_sender}
+use Rattle.rr_store.proofs.base.lists.Mapped.{to_index}
+use Rattle.rr_store.proofs.base.senders.Ports.{found_within, of_each, told_at, to_read}
 use Rattle.rr_store.proofs.base.senders.Stored.{stored_is}
-use Rattle.rr_store.proofs.store.Store.is_response_refused.Goals.{After-is_blocked}
+use Rattle.rr_store.proofs.store.Store.is_response_refused.Goals.{After-is_blocked, After-server_of_sender}
 use Rattle.rr_store.proofs.store.Store.is_response_refused.Goals as goal
 
 -- whether the queue that is reached can take no more decides, with the port
@@ -52,25 +51,30 @@ returns-then-not-is_blocked g c =
     let action = g.K.BackpressureFn.action in
     let overflow = p.limits.enable_safe_overflow_for_responses in
     let m = (sender_of c.args.sender p.server_senders).messages in
-    rw (← c.self.view_is) (of_each (λ (x : ServerPart _). x.sender == c.args.sender) p.servers
-    (λ x. false ≡ is_refused_in action x.port m overflow c.args.details c.args.reach) (rw (← c.self.view_is) at c.requires.server)
+    rw (← c.self.view_is) (of_each (λ (x : ServerPart _). x.port.id == (sender_of c.args.sender p.server_senders).owner) p.servers
+    (λ x. false ≡ is_refused_in action x.port m overflow c.args.details c.args.reach) (rw (← c.self.view_is) at c.requires.found)
     (λ x. sym (refused_as action x.port m overflow c.args.details c.args.reach false
     (blocked g at.After-is_blocked false c.if-not-is_blocked.true))))
 
-pub unreachable-requires : goal.unreachable-requires
-unreachable-requires g c =
-    let items = c.self.inside.servers.items in
-    let none = position-map server_part (λ (x : ServerPart _). x.sender == c.args.sender) items
-    ∙ ap (position (λ (x : ServerPort _). x.port.sender == c.args.sender)) (sym c.as_slice.ensures.value)
-    ∙ sym c.index_of_sender.ensures ∙ c.in-None.is in
-    subst (λ o. IsSomeAnd o (λ i. i < length (map server_part items))) none (rw (← c.self.view_is) at c.requires.server)
+-- the server was found
+found : (g : _) (c : After-server_of_sender g)
+    → position (λ (x : ServerPart _). x.port.id == (sender_of c.args.sender (parts_of c.self.inside).server_senders).owner)
+    (parts_of c.self.inside).servers ≡ Some c.server_of_sender.result
+found g c = rw (← c.self.view_is) at c.server_of_sender.ensures
 
-pub index-requires-in-Some : goal.index-requires-in-Some
-index-requires-in-Some g c =
-    let items = c.self.inside.servers.items in
-    let it = standing_at (λ (x : ServerPort _). x.port.sender == c.args.sender) c.in-Some.index c.as_slice.result.now items
-    c.index_of_sender.result c.index_of_sender.ensures c.as_slice.ensures.value c.in-Some.is in
-    omega (arith, slice_get_within items c.in-Some.index it.it it.at, c.self.inside.servers.ok.0)
+within : (g : _) (c : After-server_of_sender g) → c.server_of_sender.result < length c.self.inside.servers.items
+within g c =
+    let p = parts_of c.self.inside in
+    omega (
+      arith,
+      found_within (λ (x : ServerPart _). x.port.id == (sender_of c.args.sender p.server_senders).owner) p.servers
+          c.server_of_sender.result (found g c),
+      length-map c.self.inside.servers.items server_part,
+    )
+
+pub index-server-requires : goal.index-server-requires
+index-server-requires g c =
+    omega (arith, within g (goal.at.index-server-requires g c).After-server_of_sender, c.self.inside.servers.ok.0)
 
 pub returns : goal.returns
 returns g c =
@@ -80,14 +84,15 @@ returns g c =
     let action = g.K.BackpressureFn.action in
     let overflow = p.limits.enable_safe_overflow_for_responses in
     let m = (sender_of c.args.sender p.server_senders).messages in
-    let port = (server_part c.index-in-Some.result.now).port in
+    let port = (server_part c.index-server.result.now).port in
     let told : not c.discards.result ≡ is_refused_in action port m overflow c.args.details c.args.reach =
     ap not c.discards.ensures
     ∙ sym (refused_as action port m overflow c.args.details c.args.reach true
     (blocked g at.After-is_blocked true c.if-not-is_blocked.false)) in
-    rw (← c.self.view_is) (to_mapped server_part (λ (x : ServerPart _). x.sender == c.args.sender) items
-    (λ _ x. not c.discards.result ≡ is_refused_in action x.port m overflow c.args.details c.args.reach)
-    (λ _ x. not c.discards.result ≡ is_refused_in action (server_part x).port m overflow c.args.details c.args.reach) (λ i x h. h)
-    (to_sender (λ (x : ServerPort _). x.port.sender == c.args.sender) c.in-Some.index c.as_slice.result.now items c.index_of_sender.result
-    c.index_of_sender.ensures c.as_slice.ensures.value c.in-Some.is c.index-in-Some.result.now c.index-in-Some.ensures
-    (λ _ x. not c.discards.result ≡ is_refused_in action (server_part x).port m overflow c.args.details c.args.reach) told))
+    let R : ServerPart _ → Type 0 = λ x. not c.discards.result ≡ is_refused_in action x.port m overflow c.args.details c.args.reach in
+    let S : ServerPort _ → Type 0 = λ x. R (server_part x) in
+    let i = c.server_of_sender.result in
+    rw (← c.self.view_is) (told_at (λ (x : ServerPart _). x.port.id == (sender_of c.args.sender p.server_senders).owner) p.servers R i
+    (found g at.After-server_of_sender)
+    (to_index server_part items i R S (λ x h. h)
+    (to_read items i c.index-server.result.now c.index-server.ensures S (within g at.After-server_of_sender) told)))

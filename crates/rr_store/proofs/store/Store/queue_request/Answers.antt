@@ -1,31 +1,16 @@
-use Rattle.std.proofs.Common.{◌≡◌, ◌<◌, ◌+◌, ◌*◌, ◌^◌, ℕ, Some, length, map, sym, ap, ◌∙◌, subst, arith}
-use Rattle.std.specs.Prelude.{count_by, slice_get, slice_index, not}
+use Rattle.std.proofs.Common.{◌≡◌, ◌<◌, ◌+◌, ◌*◌, ◌^◌, ℕ, Some, length, map, ap, ◌∙◌, arith}
+use Rattle.std.specs.Prelude.{slice_get, slice_index}
 use Rattle.std.proofs.lemmas.List.{length-map}
-use Rattle.rr_maps.proofs.Counting.{count-map}
 use Rattle.rr_sender.specs.Senders.{uses}
-use Rattle.rr_store.specs.Changes.{is_open_to}
 use Rattle.rr_store.specs.declared.port.ServerPort.{ServerPort}
 use Rattle.rr_store.specs.Inside.{parts_of}
 use Rattle.rr_store.specs.Loaning.{with_sender_at}
-use Rattle.rr_store.specs.Parts.{Sender}
 use Rattle.rr_store.specs.Ports.{server_part}
-use Rattle.rr_store.specs.Sending.{HasQueues, after_queued, is_blocked_at}
+use Rattle.rr_store.specs.Sending.{HasQueues, after_queued}
 use Rattle.rr_store.specs.Views.{sender_of}
-use Rattle.rr_store.proofs.base.senders.Stored.{stored_is}
 use Rattle.rr_store.proofs.releasing.request.Fields.{sender_asked}
 use Rattle.rr_store.proofs.sending.request.Stored.{has_queues, has_marks}
 use Rattle.rr_store.proofs.store.Store.queue_request.Goals as goal
-
-pub open_count-count-requires : goal.open_count-count-requires
-open_count-count-requires g c =
-    let p = parts_of c.self.inside in
-    let items = c.self.inside.servers.items in
-    let slice = c.as_slice-servers.result.now in
-    let there = rw (← c.self.view_is) at c.requires.sender in
-    let queues = rw (← c.self.view_is) at c.requires.queues in
-    subst (λ (x : Sender _ _ _). HasQueues x.messages slice)
-    (stored_is c.self.inside.client_senders.items c.args.sender c.index.result.now there c.index.ensures)
-    (has_queues items slice c.as_slice-servers.ensures.value (sender_of c.args.sender p.client_senders).messages queues)
 
 pub queue_in-requires-clause-queues : goal.queue_in-requires-clause-queues
 queue_in-requires-clause-queues g c =
@@ -64,20 +49,8 @@ queue_in-requires-clause-marks g c =
     (has_marks c.self.inside.servers.items slice c.as_slice-servers.ensures.value
     (sender_of c.args.sender (parts_of c.self.inside).client_senders).may_answer c.args.slot receivers marks)
 
-pub returns-clause-count : goal.returns-clause-count
-returns-clause-count g c =
-    let p = parts_of c.self.inside in
-    let items = c.self.inside.servers.items in
-    let there = rw (← c.self.view_is) at c.requires.sender in
-    let is = stored_is c.self.inside.client_senders.items c.args.sender c.index.result.now there c.index.ensures in
-    rw (← c.self.view_is) (c.open_count-count.ensures
-    ∙ ap (λ (x : Sender _ _ _). count_by (λ s. not (is_blocked_at p.limits.enable_safe_overflow_for_requests x.messages s.port.receiver))
-    c.as_slice-servers.result.now) (sym is)
-    ∙ ap (count_by (λ s. is_open_to p c.args.sender (server_part s))) c.as_slice-servers.ensures.value
-    ∙ sym (count-map server_part (is_open_to p c.args.sender) items))
-
-pub returns-clause-queued : goal.returns-clause-queued
-returns-clause-queued g c =
+pub returns : goal.returns
+returns g c =
     let p = parts_of c.self.inside in
     rw (← c.self.view_is)
     (ap (λ ls. record p { client_senders = ls }) (c.queue_in.ensures
