@@ -8,6 +8,7 @@ use crate::script::reply_text::{hub_error, write_reply};
 use crate::script::stop::Stop;
 use rr_commands::Reply;
 use rr_protocol::{Limits, UniqueNodeId};
+use rr_slots::{Body, Family, SliceBody};
 use std::alloc::{AllocError, Global};
 use std::io::{BufRead, Write};
 
@@ -18,8 +19,8 @@ mod source;
 mod stop;
 mod words;
 
-/// A runner of the typed family, of numbers.
-type ScriptRunner = Runner<u64, Option<u64>, u64, NoHandler>;
+/// A runner of numbers, whose messages have bodies of one family.
+type ScriptRunner<B> = Runner<u64, B, u64, NoHandler>;
 
 /// The program: does what the words ask for, and returns its status.
 ///
@@ -58,24 +59,43 @@ fn script<R: BufRead + Drop, W: Write>(
     play(alloc, &mut lines, output)
 }
 
-/// Makes the hub of the first line, and carries out the other lines.
+/// Makes the hub of the first line, which tells its family, and carries out the other lines.
 fn play<R: BufRead + Drop, W: Write>(
     alloc: Global,
     lines: &mut Lines<R>,
     output: &mut W,
 ) -> Result<(), Stop> {
     match lines.read()? {
-        Some(Line::Hub(limits)) => match hub(alloc, limits, output) {
-            Ok(mut runner) => commands(alloc, &mut runner, lines, output),
-            Err(stop) => Err(stop),
-        },
+        Some(Line::Hub(Family::Typed, limits)) => {
+            play_on::<Option<u64>, R, W>(alloc, limits, lines, output)
+        }
+        Some(Line::Hub(Family::Sliced, limits)) => {
+            play_on::<SliceBody<u64>, R, W>(alloc, limits, lines, output)
+        }
         Some(Line::Command(_)) => Err(lines.bad_line()),
         None => Ok(()),
     }
 }
 
+/// Makes a hub whose messages have such bodies, and carries out the lines that are left.
+fn play_on<B: Body<Item = u64>, R: BufRead + Drop, W: Write>(
+    alloc: Global,
+    limits: Limits,
+    lines: &mut Lines<R>,
+    output: &mut W,
+) -> Result<(), Stop> {
+    match hub::<B, W>(alloc, limits, output) {
+        Ok(mut runner) => commands(alloc, &mut runner, lines, output),
+        Err(stop) => Err(stop),
+    }
+}
+
 /// Makes a hub, and writes `done`.
-fn hub<W: Write>(alloc: Global, limits: Limits, output: &mut W) -> Result<ScriptRunner, Stop> {
+fn hub<B: Body<Item = u64>, W: Write>(
+    alloc: Global,
+    limits: Limits,
+    output: &mut W,
+) -> Result<ScriptRunner<B>, Stop> {
     match Runner::new(alloc, limits, UniqueNodeId(0)) {
         Ok(runner) => {
             tell(output, "done", "")?;
@@ -97,16 +117,16 @@ fn tell<W: Write>(output: &mut W, first: &str, second: &str) -> Result<(), Stop>
 }
 
 /// Carries out the commands of the lines that are left.
-fn commands<R: BufRead + Drop, W: Write>(
+fn commands<B: Body<Item = u64>, R: BufRead + Drop, W: Write>(
     alloc: Global,
-    runner: &mut ScriptRunner,
+    runner: &mut ScriptRunner<B>,
     lines: &mut Lines<R>,
     output: &mut W,
 ) -> Result<(), Stop> {
     for _ in 0..u64::MAX {
         match lines.read()? {
             Some(Line::Command(command)) => carry_out(alloc, runner, lines, command, output)?,
-            Some(Line::Hub(_)) => return Err(lines.bad_line()),
+            Some(Line::Hub(_, _)) => return Err(lines.bad_line()),
             None => return Ok(()),
         }
     }
@@ -114,14 +134,14 @@ fn commands<R: BufRead + Drop, W: Write>(
 }
 
 /// Carries out one command, and writes its reply.
-fn carry_out<R: BufRead + Drop, W: Write>(
+fn carry_out<B: Body<Item = u64>, R: BufRead + Drop, W: Write>(
     alloc: Global,
-    runner: &mut ScriptRunner,
+    runner: &mut ScriptRunner<B>,
     lines: &Lines<R>,
     command: ScriptCommand,
     output: &mut W,
 ) -> Result<(), Stop> {
-    if !ScriptRunner::offers(&command) {
+    if !ScriptRunner::<B>::offers(&command) {
         return Err(lines.bad_line());
     }
     match replies_to(alloc, runner, command) {
@@ -131,9 +151,9 @@ fn carry_out<R: BufRead + Drop, W: Write>(
 }
 
 /// Runs one command, and gives its reply.
-fn replies_to(
+fn replies_to<B: Body<Item = u64>>(
     alloc: Global,
-    runner: &mut ScriptRunner,
+    runner: &mut ScriptRunner<B>,
     command: ScriptCommand,
 ) -> Result<Vec<Reply<u64, u64>>, AllocError>
     requires { IsOffered command }

@@ -9,3 +9,4 @@ mod queues;
 mod rows;
 mod runner;
 mod scripts;
+mod slices;

@@ -5,6 +5,7 @@ use rr_protocol::{
     AllocationStrategy, BackpressureAction, BackpressureFn, BackpressureInfo, BackpressureStrategy,
     ClientSettings, Limits, ServerSettings,
 };
+use rr_slots::Family;
 
 /// The type of a script's backpressure handlers, of which no line sets one.
 #[derive(Clone, Copy, Debug, PartialEq, Eq)]
@@ -26,8 +27,8 @@ pub(crate) type ScriptCommand = Command<u64, u64, NoHandler>;
 /// What a line says.
 #[derive(Drop)]
 pub(crate) enum Line {
-    /// It makes a hub of the typed family.
-    Hub(Limits),
+    /// It makes a hub of a family.
+    Hub(Family, Limits),
     /// It is a command.
     Command(ScriptCommand),
 }
@@ -36,7 +37,7 @@ pub(crate) enum Line {
 pub(crate) fn line_of(text: &str) -> Option<Line> {
     let mut words = Words::new(text);
     let line = match words.take()? {
-        "hub" => Line::Hub(limits(&mut words)?),
+        "hub" => Line::Hub(family(words.take()?)?, limits(&mut words)?),
         name => Line::Command(command(name, &mut words)?),
     };
     if words.is_done() { Some(line) } else { None }
@@ -82,11 +83,17 @@ fn question(name: &str, number: u64) -> Option<ScriptCommand> {
     }
 }
 
-/// The limits of a hub of the typed family.
-fn limits(words: &mut Words) -> Option<Limits> {
-    if words.take()? != "typed" {
-        return None;
+/// The family of a hub's messages.
+fn family(word: &str) -> Option<Family> {
+    match word {
+        "typed" => Some(Family::Typed),
+        "sliced" => Some(Family::Sliced),
+        _ => None,
     }
+}
+
+/// The limits of a hub.
+fn limits(words: &mut Words) -> Option<Limits> {
     let counts = words.counts::<6>()?;
     let (requests, responses, forgets) = flags(words.take()?)?;
     let buffers = words.counts::<2>()?;

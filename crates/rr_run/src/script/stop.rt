@@ -32,7 +32,7 @@ impl Stop {
     /// Writes it in one line. What can't be written there is written nowhere.
     pub(crate) fn tell<W: Write>(self, faults: &mut W) -> io::Result<()> {
         match self {
-            Stop::BadLine(number) => writeln!(faults, "bad line {number}"),
+            Stop::BadLine(number) => writeln!(faults, "{} {number}", self.text()),
             stop => writeln!(faults, "{}", stop.text()),
         }
     }

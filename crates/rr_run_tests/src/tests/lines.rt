@@ -49,7 +49,7 @@ const BAD_LINES: [BadLine; 8] = [
         fault: "bad line 1\n",
     },
     BadLine {
-        input: "hub sliced 2 1 2 2 2 1 - 1 1\n",
+        input: "hub slices 2 1 2 2 2 1 - 1 1\n",
         output: "",
         fault: "bad line 1\n",
     },
