@@ -1,8 +1,8 @@
 //! What a core tells of queues: whether something waits in one, and whether one takes a message. No query changes it.
-ghost use Rattle.std.specs.Prelude.{◌≡◌, ◌↔◌, Some, IsSomeAnd, IsTrue};
+ghost use Rattle.std.specs.Prelude.{◌≡◌, ◌↔◌, Some, None, IsSomeAnd, IsTrue};
 ghost use Rattle.rr_protocol.specs.Queries.{HasRequests, HasResponse, kind_at};
 ghost use Rattle.rr_protocol.specs.Sends.{is_request_deliverable, is_response_deliverable};
-ghost use Rattle.rr_protocol.specs.State.{pending_at, request_at, response_at};
+ghost use Rattle.rr_protocol.specs.State.{handle_at, pending_at, request_at, response_at};
 
 use crate::state::Core;
 use rr_protocol::{BackpressureFn, Kind};
@@ -25,7 +25,10 @@ impl<QB: Body, QH: Default + Drop, PB: Body, PH: Default + Drop, K: Backpressure
     #[inline(always)]
     pub fn has_requests(&self, server: u64) -> bool
         requires { kind_at self.now server ≡ Some Kind.Server }
-        ensures { IsTrue result ↔ HasRequests self.now server }
+        ensures waits { IsTrue result ↔ HasRequests self.now server }
+
+        // A server's number is no handle's.
+        ensures apart { handle_at self.now server ≡ None }
     {
         has_requests(&self.parts, server)
     }

@@ -1,5 +1,5 @@
 //! What a core tells of its own settings, and of those of its ports.
-ghost use Rattle.std.specs.Prelude.{◌≡◌, Some, IsSomeAnd};
+ghost use Rattle.std.specs.Prelude.{◌≡◌, Some, None, IsSomeAnd};
 ghost use Rattle.rr_protocol.specs.Queries.{kind_at};
 ghost use Rattle.rr_protocol.specs.State.{client_at, server_at};
 
@@ -59,7 +59,10 @@ impl<QB: Body, QH: Default + Drop, PB: Body, PH: Default + Drop, K: Backpressure
     #[inline(always)]
     pub fn server_backpressure_strategy(&self, server: u64) -> BackpressureStrategy
         requires { kind_at self.now server ≡ Some Kind.Server }
-        ensures { IsSomeAnd (server_at self.now server) (λ s. result ≡ s.port.strategy) }
+        ensures strategy { IsSomeAnd (server_at self.now server) (λ s. result ≡ s.port.strategy) }
+
+        // A server's number is no client's.
+        ensures apart { client_at self.now server ≡ None }
     {
         server_backpressure_strategy(&self.parts, server)
     }
@@ -69,7 +72,10 @@ impl<QB: Body, QH: Default + Drop, PB: Body, PH: Default + Drop, K: Backpressure
     #[inline(always)]
     pub fn server_initial_max_slice_len(&self, server: u64) -> usize
         requires { kind_at self.now server ≡ Some Kind.Server }
-        ensures { IsSomeAnd (server_at self.now server) (λ s. result ≡ s.port.initial_max_slice_len) }
+        ensures len { IsSomeAnd (server_at self.now server) (λ s. result ≡ s.port.initial_max_slice_len) }
+
+        // A server's number is no client's.
+        ensures apart { client_at self.now server ≡ None }
     {
         server_initial_max_slice_len(&self.parts, server)
     }

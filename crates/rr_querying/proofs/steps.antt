@@ -7,5 +7,6 @@ pub mod Naming
 pub mod Received
 pub mod Ports
 pub mod Waiting
+pub mod Apart
 pub mod DeliverableRequest
 pub mod DeliverableResponse

@@ -1,5 +1,5 @@
 //! The settings of ports.
-ghost use Rattle.std.specs.Prelude.{◌≡◌, Some, IsSomeAnd};
+ghost use Rattle.std.specs.Prelude.{◌≡◌, Some, None, IsSomeAnd};
 ghost use Rattle.rr_protocol.specs.Queries.{kind_at};
 ghost use Rattle.rr_protocol.specs.State.{client_at, server_at};
 ghost use Rattle.rr_store.specs.Reaching.{IsCore};
@@ -54,7 +54,10 @@ pub fn server_backpressure_strategy<
 >(store: &Store<QB, QH, PB, PH, K>, server: u64) -> BackpressureStrategy
     requires core { IsCore store.now }
     requires kind { kind_at (state_of store.now) server ≡ Some Kind.Server }
-    ensures { IsSomeAnd (server_at (state_of store.now) server) (λ s. result ≡ s.port.strategy) }
+    ensures strategy { IsSomeAnd (server_at (state_of store.now) server) (λ s. result ≡ s.port.strategy) }
+
+    // A server's number is no client's.
+    ensures apart { client_at (state_of store.now) server ≡ None }
 {
     let index = store.server_index(server);
     store.server_strategy(index)
@@ -71,7 +74,10 @@ pub fn server_initial_max_slice_len<
 >(store: &Store<QB, QH, PB, PH, K>, server: u64) -> usize
     requires core { IsCore store.now }
     requires kind { kind_at (state_of store.now) server ≡ Some Kind.Server }
-    ensures { IsSomeAnd (server_at (state_of store.now) server) (λ s. result ≡ s.port.initial_max_slice_len) }
+    ensures len { IsSomeAnd (server_at (state_of store.now) server) (λ s. result ≡ s.port.initial_max_slice_len) }
+
+    // A server's number is no client's.
+    ensures apart { client_at (state_of store.now) server ≡ None }
 {
     let index = store.server_index(server);
     store.server_initial_max_slice_len(index)

@@ -1,7 +1,7 @@
 //! Whether something waits to be received.
-ghost use Rattle.std.specs.Prelude.{◌≡◌, ◌↔◌, Some, IsSomeAnd, IsTrue};
+ghost use Rattle.std.specs.Prelude.{◌≡◌, ◌↔◌, Some, None, IsSomeAnd, IsTrue};
 ghost use Rattle.rr_protocol.specs.Queries.{HasRequests, HasResponse, kind_at};
-ghost use Rattle.rr_protocol.specs.State.{pending_at};
+ghost use Rattle.rr_protocol.specs.State.{handle_at, pending_at};
 ghost use Rattle.rr_store.specs.Reaching.{IsCore};
 ghost use Rattle.rr_store.specs.Views.{state_of};
 ghost use Rattle.rr_table.specs.TableView.{IsAt};
@@ -20,7 +20,10 @@ pub fn has_requests<QB: Body, QH: Default + Drop, PB: Body, PH: Default + Drop, 
 ) -> bool
     requires core { IsCore store.now }
     requires kind { kind_at (state_of store.now) server ≡ Some Kind.Server }
-    ensures { IsTrue result ↔ HasRequests (state_of store.now) server }
+    ensures waits { IsTrue result ↔ HasRequests (state_of store.now) server }
+
+    // A server's number is no handle's.
+    ensures apart { handle_at (state_of store.now) server ≡ None }
 {
     let index = store.server_index(server);
     let receiver = store.server_receiver(index);

@@ -1,10 +1,14 @@
--- A message of one element that was just loaned: it is written, complete and ready, and no port has its number.
-use Rattle.std.proofs.Common.{◌≡◌, ℕ, ◌+◌, Bool, true, false, cond, List, [], ◌∷◌, map, Option, Some, None, option_map, refl, sym, ap, ◌∙◌, subst, Ok}
+-- A message that was just loaned: its elements are written one after another, it is complete and ready then, and no port has its number.
+use Rattle.std.proofs.Common.{◌≡◌, ℕ, ◌+◌, ◌<◌, Bool, true, false, cond, List, [], ◌∷◌, ◌++◌, length, map, Option, Some, None, option_map, refl, sym, ap, ◌∙◌, subst, Ok, ⊎_elim, arith}
 use Rattle.std.specs.Prelude.{not, ◌&&◌, ◌||◌, ◌==◌, if◌then◌else◌, option_and_then, IsSomeAnd}
 use Rattle.std.specs.List.{list_any}
 use Rattle.std.specs.Option.{option_map_or}
 use Rattle.std.specs.FinMap as fin_map
-use Rattle.rr_maps.proofs.MapLaws.{get-insert_same}
+use Rattle.std.specs.FinMap.{FinMap, same_map, nat_cmp-IsAntisymmetric}
+use Rattle.std.specs.Ordering.{nat_cmp}
+use Rattle.std.specs.Cmp.{nat_cmp_total}
+use Rattle.std.proofs.lemmas.Bool.{cases_eq, ne_eqb}
+use Rattle.rr_maps.proofs.MapLaws.{get-insert_same, get-insert_other, insert_itself}
 use Rattle.rr_protocol.specs.declared.kind.Kind.{Kind}
 use Rattle.rr_protocol.specs.Messages.{Content, RequestMessage, ResponseMessage, Handle, RequestMutUninit, ResponseMutUninit, request_in, response_in}
 use Rattle.rr_protocol.specs.Ports.{Client}
@@ -32,9 +36,16 @@ counted_held n k (c ∷ clients) =
     ap (λ b. b || list_any (λ d. d.id == n && d.has_value) (map (with_loan_counted k) clients)) (counted_one n k c)
     ∙ ap (λ b. (c.id == n && c.has_value) || b) (counted_held n k clients)
 
+-- of two values that are put under one number, the second stays
+insert_again : {X : Type 0} (m : FinMap nat_cmp X) (k : ℕ) (v w : X) → fin_map.insert (fin_map.insert m k v) k w ≡ fin_map.insert m k w
+insert_again m k v w = same_map nat_cmp_total nat_cmp-IsAntisymmetric _ _ (λ q. ⊎_elim
+    (λ e. get-insert_same (fin_map.insert m k v) k w q e ∙ sym (get-insert_same m k w q e))
+    (λ ne. get-insert_other (fin_map.insert m k v) k w q ne ∙ get-insert_other m k v q ne ∙ sym (get-insert_other m k w q ne))
+    (cases_eq q k))
+
 module _ {T H K : Type 0} where
   -- no port has the number
-  abbrev IsNoPort : State T H T H K → ℕ → Type 0
+  abbrev pub IsNoPort : State T H T H K → ℕ → Type 0
   IsNoPort s n = (is_client_value s n ≡ false) × (is_server_value s n ≡ false)
 
   no_port : (s : State T H T H K) (n : ℕ) → kind_at s n ≡ None → IsNoPort s n
@@ -53,10 +64,13 @@ module _ {T H K : Type 0} where
       ∙ ap (λ b. cond b (Some Kind.Server) (option_map kind_of (handle_at s n))) apart.1
       ∙ ap (option_map kind_of) at
 
+  -- after a handle was put under a number
+  abbrev put : State T H T H K → ℕ → Handle T H T H → State T H T H K
+  put s n handle = record s { handles = fin_map.insert s.handles n handle }
+
   -- a handle that is there becomes another
   changed : (s : State T H T H K) (n : ℕ) (handle : Handle T H T H) (change : Handle T H T H → Handle T H T H) → handle_at s n ≡ Some handle
-      →
-      with_changed s n change ≡ record s { handles = fin_map.insert s.handles n (change handle) }
+      → with_changed s n change ≡ put s n (change handle)
   changed s n handle change at = ap (λ o. record s { handles = option_map_or (λ h. fin_map.insert s.handles n (change h)) o s.handles }) at
 
   changed_handle : (s : State T H T H K) (n : ℕ) (handle : Handle T H T H) (change : Handle T H T H → Handle T H T H)
@@ -65,94 +79,115 @@ module _ {T H K : Type 0} where
   changed_handle s n handle change at = ap (λ t. handle_at t n) (changed s n handle change at)
       ∙ get-insert_same s.handles n (change handle) n refl
 
-  -- a message that was just loaned for one element, in the handle that a content makes
-  pub record IsFresh (s : State T H T H K) (n : ℕ) (uninit : Content T H → Handle T H T H) : Type 0 where
+  -- a message that was just loaned for this many elements, in the handle that a content makes
+  pub record IsFresh (s : State T H T H K) (n len : ℕ) (uninit : Content T H → Handle T H T H) : Type 0 where
     pub apart : IsNoPort s n
     pub header : H
-    pub at : handle_at s n ≡ Some (uninit (empty_content header 1))
+    pub at : handle_at s n ≡ Some (uninit (empty_content header len))
 
-  module _ (s : State T H T H K) (n : ℕ) (uninit : Content T H → Handle T H T H) (f : IsFresh s n uninit) where
+  module _ (s : State T H T H K) (n len : ℕ) (uninit : Content T H → Handle T H T H) (f : IsFresh s n len uninit) where
     -- it is being written
-    pub fresh_kind : kind_at s n ≡ Some (kind_of (uninit (empty_content f.header 1)))
-    fresh_kind = handle_kind s n (uninit (empty_content f.header 1)) f.apart f.at
+    pub fresh_kind : kind_at s n ≡ Some (kind_of (uninit (empty_content f.header len)))
+    fresh_kind = handle_kind s n (uninit (empty_content f.header len)) f.apart f.at
 
-    module _ (v : T) (writes : (change : Content T H → Content T H) (c : Content T H) →
+    -- the handle once it has these elements
+    abbrev written : List T → Handle T H T H
+    written elements = uninit (with_elements elements (empty_content f.header len))
+
+    module _ (writes : (change : Content T H → Content T H) (c : Content T H) →
         with_request_content change (with_response_content change (uninit c)) ≡ uninit (change c)) where
-      -- its element written
-      abbrev full : Handle T H T H
-      full = uninit (with_elements (v ∷ []) (empty_content f.header 1))
+      filled : (elements : List T) → with_content s n (with_elements elements) ≡ put s n (written elements)
+      filled elements =
+          changed s n (uninit (empty_content f.header len)) (λ handle. with_request_content
+          (with_elements elements) (with_response_content (with_elements elements) handle)) f.at
+          ∙ ap (put s n) (writes (with_elements elements) (empty_content f.header len))
 
-      filled : with_content s n (with_elements (v ∷ [])) ≡ record s { handles = fin_map.insert s.handles n full }
-      filled =
-          changed s n (uninit (empty_content f.header 1)) (λ handle. with_request_content
-          (with_elements (v ∷ [])) (with_response_content (with_elements (v ∷ [])) handle)) f.at
-          ∙ ap (λ h. record s { handles = fin_map.insert s.handles n h }) (writes (with_elements (v ∷ [])) (empty_content f.header 1))
+      -- with no elements it stands as it was loaned
+      pub blank : s ≡ with_content s n (with_elements [])
+      blank = sym (filled [] ∙ ap (λ h. record s { handles = h }) (insert_itself s.handles n (written []) f.at))
 
-      filled_at : handle_at (with_content s n (with_elements (v ∷ []))) n ≡ Some full
-      filled_at = ap (λ t. handle_at t n) filled ∙ get-insert_same s.handles n full n refl
+      module _ (elements : List T) (new : State T H T H K) (is : new ≡ with_content s n (with_elements elements)) where
+        written_at : handle_at new n ≡ Some (written elements)
+        written_at = ap (λ t. handle_at t n) (is ∙ filled elements) ∙ get-insert_same s.handles n (written elements) n refl
 
-      -- to append it to nothing is that
-      pub pushed : (change : Handle T H T H → Handle T H T H) → change (uninit (empty_content f.header 1)) ≡ full
-          → (b : Bool) (new : State T H T H K) →
-          b ≡ true → new ≡ (if b then with_changed s n change else s) → new ≡ with_content s n (with_elements (v ∷ []))
-      pushed change is b new told now =
-          now ∙ ap (λ c. if c then with_changed s n change else s) told ∙ changed s n (uninit (empty_content f.header 1)) change f.at
-          ∙ ap (λ h. record s { handles = fin_map.insert s.handles n h }) is ∙ sym filled
-
-      module _ (new : State T H T H K) (is : new ≡ with_content s n (with_elements (v ∷ []))) where
         -- it is still being written
-        pub still_uninit : kind_at new n ≡ Some (kind_of full)
-        still_uninit = ap (λ t. kind_at t n) is ∙ handle_kind (with_content s n (with_elements (v ∷ []))) n full f.apart filled_at
+        pub still_uninit : kind_at new n ≡ Some (kind_of (written elements))
+        still_uninit =
+            ap (λ t. kind_at t n) is
+            ∙ handle_kind (with_content s n (with_elements elements)) n (written elements) f.apart
+            (ap (λ t. handle_at t n) (sym is) ∙ written_at)
 
-        -- and complete
-        pub ready : is_ready full ≡ true → IsSomeAnd (handle_at new n) (λ handle. is_ready handle ≡ true)
-        ready whole = subst (λ o. IsSomeAnd o (λ handle. is_ready handle ≡ true)) (sym (ap (λ t. handle_at t n) is ∙ filled_at)) whole
+        -- and complete, if these are all
+        pub ready : is_ready (written elements) ≡ true → IsSomeAnd (handle_at new n) (λ handle. is_ready handle ≡ true)
+        ready whole = subst (λ o. IsSomeAnd o (λ handle. is_ready handle ≡ true)) (sym written_at) whole
 
         -- so it can be sent once it is taken as complete
-        pub completed : with_changed new n after_init ≡ with_complete s n (v ∷ [])
+        pub completed : with_changed new n after_init ≡ with_complete s n elements
         completed = ap (λ t. with_changed t n after_init) is
 
-        pub sendable : kind_at (with_changed new n after_init) n ≡ Some (kind_of (after_init full))
+        pub sendable : kind_at (with_changed new n after_init) n ≡ Some (kind_of (after_init (written elements)))
         sendable =
             ap (λ t. kind_at t n) completed
-            ∙ handle_kind (with_complete s n (v ∷ [])) n (after_init full) f.apart
-            (changed_handle (with_content s n (with_elements (v ∷ []))) n full after_init filled_at)
+            ∙ handle_kind (with_complete s n elements) n (after_init (written elements)) f.apart
+            (changed_handle (with_content s n (with_elements elements)) n (written elements) after_init
+            (ap (λ t. handle_at t n) (sym is) ∙ written_at))
 
-  module _ (s : State T H T H K) (n : ℕ) (v : T) (b : Bool) (new : State T H T H K) where
-    -- an element appended to a fresh request
-    pub request_pushed : (m : RequestMessage T H) (f : IsFresh s n (λ c. RequestMutUninit (record m { content = c }))) →
-        IsSomeAnd (option_and_then request_in (handle_at s n))
-        (λ m. (b ≡ not (is_complete m.content)) × (new ≡ (if b then with_changed s n (with_request_content (with_element v)) else s))) →
-        new ≡ with_content s n (with_elements (v ∷ []))
+        -- to append one more element
+        appended : (v : T) (change : Handle T H T H → Handle T H T H) → change (written elements) ≡ written (elements ++ v ∷ [])
+            → with_changed new n change ≡ with_content s n (with_elements (elements ++ v ∷ []))
+        appended v change more =
+            changed new n (written elements) change written_at
+            ∙ ap (put new n) more
+            ∙ ap (λ t. put t n (written (elements ++ v ∷ []))) (is ∙ filled elements)
+            ∙ ap (λ m. record s { handles = m }) (insert_again s.handles n (written elements) (written (elements ++ v ∷ [])))
+            ∙ sym (filled (elements ++ v ∷ []))
+
+        -- which a call did that was told so
+        pub pushed : (v : T) (change : Handle T H T H → Handle T H T H) → change (written elements) ≡ written (elements ++ v ∷ [])
+            → (b : Bool) (next : State T H T H K) → b ≡ not (length elements == len) → length elements < len →
+            next ≡ (if b then with_changed new n change else new) → next ≡ with_content s n (with_elements (elements ++ v ∷ []))
+        pushed v change more b next told room now =
+            now
+            ∙ ap (λ c. if c then with_changed new n change else new) (told ∙ ap not (ne_eqb (length elements) len (λ e. omega arith)))
+            ∙ appended v change more
+
+  module _ (s : State T H T H K) (n len : ℕ) (elements : List T) (room : length elements < len) (now : State T H T H K)
+      (is : now ≡ with_content s n (with_elements elements)) (v : T) (b : Bool) (new : State T H T H K) where
+    -- an element appended to a request
+    pub request_pushed : (m : RequestMessage T H) (f : IsFresh s n len (λ c. RequestMutUninit (record m { content = c }))) →
+        IsSomeAnd (option_and_then request_in (handle_at now n))
+        (λ m. (b ≡ not (is_complete m.content)) × (new ≡ (if b then with_changed now n (with_request_content (with_element v)) else now)))
+        →
+        new ≡ with_content s n (with_elements (elements ++ v ∷ []))
     request_pushed m f pushes =
         let told = subst (λ o. IsSomeAnd (option_and_then request_in o)
-        (λ m. (b ≡ not (is_complete m.content)) × (new ≡ (if b then with_changed s n (with_request_content (with_element v)) else s))))
-        f.at pushes in
-        pushed s n (λ c. RequestMutUninit (record m { content = c })) f v (λ change c. refl)
-        (with_request_content (with_element v)) refl b new told.0 told.1
+        (λ m. (b ≡ not (is_complete m.content)) × (new ≡ (if b then with_changed now n (with_request_content (with_element v)) else now))))
+        (written_at s n len (λ c. RequestMutUninit (record m { content = c })) f (λ change c. refl) elements now is) pushes in
+        pushed s n len (λ c. RequestMutUninit (record m { content = c })) f (λ change c. refl) elements now is v
+        (with_request_content (with_element v)) refl b new told.0 room told.1
 
-    -- and to a fresh response
-    pub response_pushed : (m : ResponseMessage T H) (f : IsFresh s n (λ c. ResponseMutUninit (record m { content = c }))) →
-        IsSomeAnd (option_and_then response_in (handle_at s n))
-        (λ m. (b ≡ not (is_complete m.content)) × (new ≡ (if b then with_changed s n (with_response_content (with_element v)) else s)))
+    -- and to a response
+    pub response_pushed : (m : ResponseMessage T H) (f : IsFresh s n len (λ c. ResponseMutUninit (record m { content = c }))) →
+        IsSomeAnd (option_and_then response_in (handle_at now n))
+        (λ m. (b ≡ not (is_complete m.content)) × (new ≡ (if b then with_changed now n (with_response_content (with_element v)) else now)))
         →
-        new ≡ with_content s n (with_elements (v ∷ []))
+        new ≡ with_content s n (with_elements (elements ++ v ∷ []))
     response_pushed m f pushes =
         let told = subst (λ o. IsSomeAnd (option_and_then response_in o)
-        (λ m. (b ≡ not (is_complete m.content)) × (new ≡ (if b then with_changed s n (with_response_content (with_element v)) else s))))
-        f.at pushes in
-        pushed s n (λ c. ResponseMutUninit (record m { content = c })) f v (λ change c. refl)
-        (with_response_content (with_element v)) refl b new told.0 told.1
+        (λ m. (b ≡ not (is_complete m.content)) × (new ≡ (if b then with_changed now n (with_response_content (with_element v)) else now))))
+        (written_at s n len (λ c. ResponseMutUninit (record m { content = c })) f (λ change c. refl) elements now is) pushes in
+        pushed s n len (λ c. ResponseMutUninit (record m { content = c })) f (λ change c. refl) elements now is v
+        (with_response_content (with_element v)) refl b new told.0 room told.1
 
-  module _ (IsDefault : H → Type 0) (old : State T H T H K) (n k : ℕ) (mid : State T H T H K) (free : kind_at old k ≡ None) where
+  module _ (IsDefault : H → Type 0) (old : State T H T H K) (n len k : ℕ) (mid : State T H T H K) (free : kind_at old k ≡ None) where
     -- a loan of a request
-    pub fresh_request : LoansRequest IsDefault old n 1 (Ok k) mid → (m : RequestMessage T H)
-        × IsFresh mid k (λ c. RequestMutUninit (record m { content = c }))
+    pub fresh_request : LoansRequest IsDefault old n len (Ok k) mid → (m : RequestMessage T H)
+        × IsFresh mid k len (λ c. RequestMutUninit (record m { content = c }))
     fresh_request loans =
         let l = some_and (client_at old n) _ loans in
         let a = no_port old k free in
         let m = l.2.2 in (
-          record { number = old.next; client = l.0.id; request_id = l.0.loans_made; channel = m.0; content = empty_content m.1 1 },
+          record { number = old.next; client = l.0.id; request_id = l.0.loans_made; channel = m.0; content = empty_content m.1 len },
           record {
             apart = (
               ap (λ t. is_client_value t k) m.4 ∙ counted_held k l.0.id old.clients ∙ a.0,
@@ -164,8 +199,8 @@ module _ {T H K : Type 0} where
         )
 
     -- a loan of a response
-    pub fresh_response : LoansResponse IsDefault old n 1 (Ok k) mid → (m : ResponseMessage T H)
-        × IsFresh mid k (λ c. ResponseMutUninit (record m { content = c }))
+    pub fresh_response : LoansResponse IsDefault old n len (Ok k) mid → (m : ResponseMessage T H)
+        × IsFresh mid k len (λ c. ResponseMutUninit (record m { content = c }))
     fresh_response loans =
         let i = some_and (active_at old n) _ loans in
         let l = some_and (server_at old i.0.server) _ i.2 in
@@ -179,7 +214,7 @@ module _ {T H K : Type 0} where
             request_id = i.0.message.request_id;
             client = i.0.message.client;
             channel = i.0.message.channel;
-            content = empty_content m.0 1;
+            content = empty_content m.0 len;
           },
           record {
             apart = (

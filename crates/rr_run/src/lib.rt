@@ -1,9 +1,13 @@
 //! A runner that carries out commands of all ports, and a program that reads them from a script.
 #![tactic(auto)]
 
+mod commands;
+mod error;
 mod hints;
 mod runner;
 mod script;
 
+pub use commands::run;
+pub use error::OutOfMemory;
 pub use runner::Runner;
 pub use script::serve;

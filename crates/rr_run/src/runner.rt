@@ -1,10 +1,8 @@
 //! A runner of commands over a hub's core.
-ghost use Rattle.std.specs.Prelude.{◌≡◌, IsTrue};
+ghost use Rattle.std.specs.Prelude.{◌≡◌, true};
 ghost use Rattle.rr_protocol.specs.Creation.{CreatesHub};
 ghost use Rattle.rr_protocol.specs.Queries.{kind_at};
-ghost use Rattle.rr_run.specs.Offered.{IsOffered, AreOffered};
-ghost use Rattle.rr_commands.specs.Continuing.{GoesOn};
-ghost use Rattle.rr_commands.specs.Run.{RunsAppending};
+ghost use Rattle.rr_run.specs.Memory.{may_take_memory};
 ghost use Rattle.rr_commands.specs.Step.{Step};
 
 use crate::hints::Hints;
@@ -12,11 +10,12 @@ use rr_commands::{Command, Reply};
 use rr_hub::Core;
 use rr_protocol::{BackpressureFn, HubCreateError, Kind, Limits, UniqueNodeId};
 use rr_slots::Body;
-use std::alloc::{AllocError, Global};
+use std::alloc::Global;
 use std::marker::Model;
 
 mod answers;
 mod creation;
+mod defaults;
 mod loans;
 mod ports;
 mod queries;
@@ -79,57 +78,47 @@ impl<T: Copy + Default, B: Body<Item = T>, H: Copy + Default, K: BackpressureFn>
         self.core.kind(&self.hints.id_of(number))
     }
 
-    /// Returns whether `apply` takes a command: any but those that it names. Our own.
-    pub fn offers(command: &Command<T, H, K>) -> bool
-        ensures yes { IsTrue result → IsOffered command.now }
-        ensures no { IsOffered command.now → IsTrue result }
-    {
-        match command {
-            Command::LoanDefault(_, _)
-            | Command::Set(_, _, _)
-            | Command::SetUserHeader(_, _)
-            | Command::HasEntries(_)
-            | Command::Strategy(_)
-            | Command::MaxSliceLen(_) => false,
-            _ => true,
-        }
-    }
-
     /// Carries out a command, and returns its reply.
     ///
-    /// So far it takes all commands but `LoanDefault`, `Set`, `SetUserHeader`, `HasEntries`, `Strategy` and `MaxSliceLen`. A
-    /// refusal leaves everything as it was; it is the first that holds, in this order: `Unknown`, `WrongKind`, `NumbersExhausted`, `Incomplete`. Beside the memory that
-    /// the call itself takes, a hint may be kept for each handle. Our own: iceoryx2 has the calls alone.
+    /// A refusal leaves everything as it was; it is the first that holds, in this order: `Unknown`, `WrongKind`,
+    /// `NumbersExhausted`, `Incomplete`. `NoMemory` leaves everything as it was too, and is returned for `Payload` alone, if no
+    /// memory was found for a copy of the elements. Beside the memory that the call itself takes, a hint may be kept for each
+    /// handle. Our own: iceoryx2 has the calls alone.
     pub fn apply(&mut self, command: Command<T, H, K>) -> Reply<T, H>
-        requires { IsOffered command }
+        ensures step { Step K.action T.is_default H.is_default B.family self.old command result self.new }
+        ensures memory { result ≡ Reply.NoMemory → may_take_memory command ≡ true }
+    {
+        self.step(command)
+    }
+
+    /// Carries out a command.
+    fn step(&mut self, command: Command<T, H, K>) -> Reply<T, H>
         ensures { Step K.action T.is_default H.is_default B.family self.old command result self.new }
     {
+        let core = &mut self.core;
+        let hints = &mut self.hints;
         match command {
-            Command::CreateClient(settings) => creation::create_client(&mut self.core, settings),
-            Command::CreateServer(settings) => creation::create_server(&mut self.core, settings),
-            Command::Loan(number, len) => {
-                loans::loan(&mut self.core, &mut self.hints, number, len)
+            Command::CreateClient(settings) => creation::create_client(core, settings),
+            Command::CreateServer(settings) => creation::create_server(core, settings),
+            Command::Loan(number, len) => loans::loan(core, hints, number, len),
+            Command::LoanDefault(number, len) => {
+                defaults::loan_default(core, hints, number, len)
             }
-            Command::SendCopy(number, item) => {
-                sends::send_copy(&mut self.core, &mut self.hints, number, item)
+            Command::SendCopy(number, item) => sends::send_copy(core, hints, number, item),
+            Command::Push(number, item) => writes::push(core, &hints.id_of(number), item),
+            Command::Set(number, index, item) => {
+                writes::set(core, &hints.id_of(number), index, item)
             }
-            Command::Push(number, item) => {
-                writes::push(&mut self.core, &self.hints.id_of(number), item)
+            Command::SetUserHeader(number, header) => {
+                writes::set_user_header(core, &hints.id_of(number), header)
             }
-            Command::AssumeInit(number) => {
-                writes::assume_init(&mut self.core, &self.hints.id_of(number))
-            }
-            Command::Send(number) => sends::send(&mut self.core, &mut self.hints, number),
-            Command::Receive(number) => {
-                receives::receive(&mut self.core, &mut self.hints, number)
-            }
-            Command::SetHint(number) => {
-                writes::set_hint(&mut self.core, &self.hints.id_of(number))
-            }
-            Command::Release(number) => {
-                releases::release(&mut self.core, &mut self.hints, number)
-            }
+            Command::AssumeInit(number) => writes::assume_init(core, &hints.id_of(number)),
+            Command::Send(number) => sends::send(core, hints, number),
+            Command::Receive(number) => receives::receive(core, hints, number),
+            Command::SetHint(number) => writes::set_hint(core, &hints.id_of(number)),
+            Command::Release(number) => releases::release(core, hints, number),
             Command::IsDeliverable(_)
+            | Command::HasEntries(_)
             | Command::IsConnected(_)
             | Command::HasHint(_)
             | Command::Servers(_)
@@ -137,31 +126,9 @@ impl<T: Copy + Default, B: Body<Item = T>, H: Copy + Default, K: BackpressureFn>
             | Command::UserHeader(_)
             | Command::Payload(_)
             | Command::Origin(_)
-            | Command::UpdateConnections(_) => {
-                answers::answer(&self.core, self.alloc, &self.hints, command)
-            }
-            _ => unreachable!(),
+            | Command::Strategy(_)
+            | Command::MaxSliceLen(_)
+            | Command::UpdateConnections(_) => answers::answer(core, self.alloc, hints, command),
         }
-    }
-
-    /// Carries out commands, one after another, and appends their replies. A refusal is a reply, and the next command follows.
-    ///
-    /// Room for all replies is got first: `Err` if no memory was found for them; nothing has changed then. Whatever led to this
-    /// state from a new hub, with these commands and replies the answer rule holds: a response reaches only the request that
-    /// it answers, once, and in the order in which its server sent it. Our own.
-    pub fn run(
-        &mut self,
-        commands: Vec<Command<T, H, K>>,
-        replies: &mut Vec<Reply<T, H>>,
-    ) -> Result<(), AllocError>
-        requires { AreOffered commands.items }
-        ensures runs { RunsAppending K.action T.is_default H.is_default B.family self.old commands.items replies.old.items result self.new replies.new.items }
-        ensures answer_rule { GoesOn K.action T.is_default H.is_default B.family self.old commands.items replies.old.items result self.new replies.new.items }
-    {
-        replies.reserve(commands.len())?;
-        for command in commands {
-            replies.push_reserved(self.apply(command));
-        }
-        Ok(())
     }
 }

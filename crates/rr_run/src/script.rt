@@ -1,6 +1,6 @@
 //! Scripts: a line is a command of a runner, and its reply is a line.
-ghost use Rattle.rr_run.specs.Offered.{IsOffered};
-
+use crate::commands::run;
+use crate::error::OutOfMemory;
 use crate::runner::Runner;
 use crate::script::line::{Line, NoHandler, ScriptCommand};
 use crate::script::lines::Lines;
@@ -9,7 +9,7 @@ use crate::script::stop::Stop;
 use rr_commands::Reply;
 use rr_protocol::{Limits, UniqueNodeId};
 use rr_slots::{Body, Family, SliceBody};
-use std::alloc::{AllocError, Global};
+use std::alloc::Global;
 use std::io::{BufRead, Write};
 
 mod line;
@@ -125,7 +125,7 @@ fn commands<B: Body<Item = u64>, R: BufRead + Drop, W: Write>(
 ) -> Result<(), Stop> {
     for _ in 0..u64::MAX {
         match lines.read()? {
-            Some(Line::Command(command)) => carry_out(alloc, runner, lines, command, output)?,
+            Some(Line::Command(command)) => carry_out(alloc, runner, command, output)?,
             Some(Line::Hub(_, _)) => return Err(lines.bad_line()),
             None => return Ok(()),
         }
@@ -134,16 +134,12 @@ fn commands<B: Body<Item = u64>, R: BufRead + Drop, W: Write>(
 }
 
 /// Carries out one command, and writes its reply.
-fn carry_out<B: Body<Item = u64>, R: BufRead + Drop, W: Write>(
+fn carry_out<B: Body<Item = u64>, W: Write>(
     alloc: Global,
     runner: &mut ScriptRunner<B>,
-    lines: &Lines<R>,
     command: ScriptCommand,
     output: &mut W,
 ) -> Result<(), Stop> {
-    if !ScriptRunner::<B>::offers(&command) {
-        return Err(lines.bad_line());
-    }
     match replies_to(alloc, runner, command) {
         Ok(replies) => write_replies(output, replies.as_slice()),
         Err(_) => Err(Stop::NoMemory),
@@ -155,12 +151,9 @@ fn replies_to<B: Body<Item = u64>>(
     alloc: Global,
     runner: &mut ScriptRunner<B>,
     command: ScriptCommand,
-) -> Result<Vec<Reply<u64, u64>>, AllocError>
-    requires { IsOffered command }
-{
-    let commands = vec![in alloc; command]?;
+) -> Result<Vec<Reply<u64, u64>>, OutOfMemory> {
     let mut replies = Vec::new(alloc);
-    runner.run(commands, &mut replies)?;
+    run(runner, &[command], &mut replies)?;
     Ok(replies)
 }
 

@@ -1,11 +1,14 @@
 //! Scripts with their replies, and a runner at work.
+mod defaults;
 mod faults;
+mod kinds;
 mod leaving;
 mod lines;
 mod orders;
 mod pools;
 mod questions;
 mod queues;
+mod rewriting;
 mod rows;
 mod runner;
 mod scripts;

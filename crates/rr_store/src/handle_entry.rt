@@ -1,5 +1,5 @@
 //! What is kept under the number of a handle.
-ghost use Rattle.std.specs.Prelude.{◌≡◌};
+ghost use Rattle.std.specs.Prelude.{◌≡◌, ◌⊎◌};
 ghost use Rattle.rr_store.specs.Answering.{active_in};
 ghost use Rattle.rr_store.specs.Hints.{hinted, stage_connections, stage_hint};
 ghost use Rattle.rr_store.specs.Kinds.{stage_kind};
@@ -45,15 +45,15 @@ impl Stage {
         }
     }
 
-    /// The stage once a message that was being written can be sent. Other stages stay.
+    /// Returns the stage of a message that is being written, once it can be sent.
     #[inline(always)]
     pub fn initialised(self) -> Self
+        requires { (self ≡ Stage.RequestMutUninit) ⊎ (self ≡ Stage.ResponseMutUninit) }
         ensures { result ≡ initialised self }
     {
         match self {
             Stage::RequestMutUninit => Stage::RequestMut,
-            Stage::ResponseMutUninit => Stage::ResponseMut,
-            stage => stage,
+            _ => Stage::ResponseMut,
         }
     }
 

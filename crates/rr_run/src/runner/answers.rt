@@ -1,7 +1,7 @@
 //! Questions of a runner, which change nothing.
 ghost use Rattle.rr_commands.specs.declared.command.Command.{Command};
 ghost use Rattle.rr_commands.specs.Step.{Step};
-ghost use Rattle.rr_run.specs.Offered.{IsQuestion};
+ghost use Rattle.rr_run.specs.Questions.{IsQuestion};
 
 use crate::hints::Hints;
 use crate::runner::{ports, queries};
@@ -23,6 +23,7 @@ pub(crate) fn answer<T: Copy + Default, B: Body<Item = T>, H: Copy + Default, K:
 {
     match question {
         Command::IsDeliverable(number) => ports::is_deliverable(core, &hints.id_of(number)),
+        Command::HasEntries(number) => ports::has_entries(core, &hints.id_of(number)),
         Command::IsConnected(number) => queries::is_connected(core, &hints.id_of(number)),
         Command::HasHint(number) => queries::has_hint(core, &hints.id_of(number)),
         Command::Servers(number) => queries::servers(core, &hints.id_of(number)),
@@ -30,6 +31,8 @@ pub(crate) fn answer<T: Copy + Default, B: Body<Item = T>, H: Copy + Default, K:
         Command::UserHeader(number) => queries::user_header(core, &hints.id_of(number)),
         Command::Payload(number) => queries::payload(core, alloc, &hints.id_of(number)),
         Command::Origin(number) => queries::origin(core, &hints.id_of(number)),
+        Command::Strategy(number) => ports::strategy(core, &hints.id_of(number)),
+        Command::MaxSliceLen(number) => ports::max_slice_len(core, &hints.id_of(number)),
         Command::UpdateConnections(number) => {
             ports::update_connections(core, &hints.id_of(number))
         }

@@ -81,7 +81,7 @@ fn loan_response<T: Copy + Default, B: Body<Item = T>, H: Copy + Default, K: Bac
 }
 
 /// Whether a message of a family can have this many elements.
-fn takes_len(family: Family, len: usize) -> bool
+pub(crate) fn takes_len(family: Family, len: usize) -> bool
     ensures { result ≡ takes_len family len }
 {
     match family {

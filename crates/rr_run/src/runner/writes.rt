@@ -24,6 +24,49 @@ pub(crate) fn push<T: Copy + Default, B: Body<Item = T>, H: Copy + Default, K: B
     }
 }
 
+/// Replaces an element of a message that was not sent.
+pub(crate) fn set<T: Copy + Default, B: Body<Item = T>, H: Copy + Default, K: BackpressureFn>(
+    core: &mut Core<B, H, B, H, K>,
+    id: &HandleId,
+    index: usize,
+    item: T,
+) -> Reply<T, H>
+    ensures { Step K.action T.is_default H.is_default B.family core.old (Command.Set id.now index item) result core.new }
+{
+    match core.kind(id) {
+        Some(Kind::RequestMutUninit | Kind::RequestMut) => {
+            Reply::Flag(core.write_request_element(id, index, item))
+        }
+        Some(Kind::ResponseMutUninit | Kind::ResponseMut) => {
+            Reply::Flag(core.write_response_element(id, index, item))
+        }
+        Some(_) => Reply::WrongKind,
+        None => Reply::Unknown,
+    }
+}
+
+/// Replaces the user header of a message that was not sent.
+pub(crate) fn set_user_header<
+    T: Copy + Default,
+    B: Body<Item = T>,
+    H: Copy + Default,
+    K: BackpressureFn,
+>(core: &mut Core<B, H, B, H, K>, id: &HandleId, header: H) -> Reply<T, H>
+    ensures { Step K.action T.is_default H.is_default B.family core.old (Command.SetUserHeader id.now header) result core.new }
+{
+    match core.kind(id) {
+        Some(Kind::RequestMutUninit | Kind::RequestMut) => {
+            core.write_request_user_header(id, header);
+        }
+        Some(Kind::ResponseMutUninit | Kind::ResponseMut) => {
+            core.write_response_user_header(id, header);
+        }
+        Some(_) => return Reply::WrongKind,
+        None => return Reply::Unknown,
+    }
+    Reply::Done
+}
+
 /// Makes a message that is being written, and complete, one that can be sent.
 pub(crate) fn assume_init<
     T: Copy + Default,

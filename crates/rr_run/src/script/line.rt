@@ -56,8 +56,11 @@ fn command(name: &str, words: &mut Words) -> Option<ScriptCommand> {
 fn call(name: &str, number: u64, words: &mut Words) -> Option<ScriptCommand> {
     match name {
         "loan" => Some(Command::Loan(number, words.count()?)),
+        "default" => Some(Command::LoanDefault(number, words.count()?)),
         "copy" => Some(Command::SendCopy(number, words.number()?)),
         "push" => Some(Command::Push(number, words.number()?)),
+        "set" => Some(Command::Set(number, words.count()?, words.number()?)),
+        "uset" => Some(Command::SetUserHeader(number, words.number()?)),
         "init" => Some(Command::AssumeInit(number)),
         "send" => Some(Command::Send(number)),
         "recv" => Some(Command::Receive(number)),
@@ -71,6 +74,7 @@ fn call(name: &str, number: u64, words: &mut Words) -> Option<ScriptCommand> {
 fn question(name: &str, number: u64) -> Option<ScriptCommand> {
     match name {
         "ready" => Some(Command::IsDeliverable(number)),
+        "has" => Some(Command::HasEntries(number)),
         "conn" => Some(Command::IsConnected(number)),
         "hinted" => Some(Command::HasHint(number)),
         "count" => Some(Command::Servers(number)),
@@ -78,6 +82,8 @@ fn question(name: &str, number: u64) -> Option<ScriptCommand> {
         "user" => Some(Command::UserHeader(number)),
         "data" => Some(Command::Payload(number)),
         "origin" => Some(Command::Origin(number)),
+        "strategy" => Some(Command::Strategy(number)),
+        "maxlen" => Some(Command::MaxSliceLen(number)),
         "update" => Some(Command::UpdateConnections(number)),
         _ => None,
     }

@@ -17,7 +17,7 @@ struct BadLine {
     fault: &'static str,
 }
 
-const BAD_LINES: [BadLine; 8] = [
+const BAD_LINES: [BadLine; 9] = [
     BadLine {
         input: "hub typed 2 1 2 2 2 1 - 1 1\ncopy 0",
         output: "done\n",
@@ -30,6 +30,11 @@ const BAD_LINES: [BadLine; 8] = [
     },
     BadLine {
         input: "hub typed 2 1 2 2 2 1 - 1 1\ncopy 0 18446744073709551616",
+        output: "done\n",
+        fault: "bad line 2\n",
+    },
+    BadLine {
+        input: "hub typed 2 1 2 2 2 1 - 1 1\nset 0 1",
         output: "done\n",
         fault: "bad line 2\n",
     },

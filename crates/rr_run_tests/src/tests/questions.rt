@@ -87,6 +87,7 @@ conn 3 -> false
 hinted 3 -> false
 origin 3 -> id 0
 copy 3 9 -> sent 6
+has 5 -> false
 ",
     },
     Row {
@@ -105,17 +106,20 @@ drop 3 -> done
 copy 0 11 -> pending 5 1
 ready 4 -> true
 send 4 -> sent 4
+has 5 -> false
 recv 1 -> active 6 5
 loan 6 1 -> loaned 7
 push 7 78 -> true
 init 7 -> done
 ready 7 -> true
 send 7 -> sent 7
+has 5 -> true
 loan 6 1 -> loaned 8
 push 8 79 -> true
 init 8 -> done
 ready 8 -> false
 recv 5 -> response 7
+has 5 -> false
 ready 8 -> true
 ",
     },
@@ -125,20 +129,26 @@ ready 8 -> true
         lines: "\
 copy 0 1 -> pending 2 1
 ready 2 -> refused WrongKind
+has 0 -> refused WrongKind
 hint 0 -> refused WrongKind
 hinted 2 -> refused WrongKind
 count 0 -> refused WrongKind
 head 0 -> refused WrongKind
 user 1 -> refused WrongKind
 origin 2 -> refused WrongKind
+strategy 2 -> refused WrongKind
+maxlen 2 -> refused WrongKind
 update 2 -> refused WrongKind
 ready 9 -> refused Unknown
+has 9 -> refused Unknown
 hint 9 -> refused Unknown
 hinted 9 -> refused Unknown
 count 9 -> refused Unknown
 head 9 -> refused Unknown
 user 9 -> refused Unknown
 origin 9 -> refused Unknown
+strategy 9 -> refused Unknown
+maxlen 9 -> refused Unknown
 update 9 -> refused Unknown
 ",
     },
@@ -150,15 +160,31 @@ fn a_handle_is_asked(rt: HostRuntime) {
 }
 
 /// Questions of ports and of queues.
-const QUEUES: [Row; 3] = [
+const QUEUES: [Row; 5] = [
     Row {
-        name: "a port has nothing left to connect",
+        name: "a port has its settings",
         start: HUB,
         lines: "\
 client retry 1 static - -> created 0
 server discard 1 static - 1 -> created 1
+strategy 0 -> retry
+strategy 1 -> discard
+maxlen 0 -> count 1
+maxlen 1 -> count 1
 update 0 -> done
 update 1 -> done
+",
+    },
+    Row {
+        name: "a dead request is an entry until it is skimmed",
+        start: PORTS,
+        lines: "\
+copy 0 7 -> pending 2 1
+has 1 -> true
+drop 2 -> done
+has 1 -> true
+recv 1 -> none
+has 1 -> false
 ",
     },
     Row {
@@ -179,10 +205,12 @@ push 7 3 -> true
 init 7 -> done
 ready 7 -> false
 send 7 -> error SendError UnableToDeliver
+has 1 -> false
+has 2 -> true
 ",
     },
     Row {
-        name: "a request that outlives its client names it",
+        name: "a request that outlives its client waits for the server",
         start: "hub typed 2 1 2 2 2 1 f 1 1 -> done\n",
         lines: "\
 client discard 1 static - -> created 0
@@ -190,12 +218,33 @@ server discard 1 static - 1 -> created 1
 copy 0 7 -> pending 2 1
 drop 2 -> done
 drop 0 -> done
+has 1 -> true
 recv 1 -> active 3 2
 conn 3 -> false
 origin 3 -> id 0
 data 3 -> data 7
 copy 3 9 -> sent 4
 drop 3 -> done
+has 1 -> false
+",
+    },
+    Row {
+        name: "a released pending response leaves nothing of a server that left",
+        start: HUB,
+        lines: "\
+client discard 1 static 1 -> created 0
+server discard 1 static - 1 -> created 1
+copy 0 1 -> pending 2 1
+recv 1 -> active 3 2
+copy 3 9 -> sent 4
+has 2 -> true
+drop 3 -> done
+drop 1 -> done
+has 2 -> true
+drop 2 -> done
+copy 0 5 -> pending 5 0
+has 5 -> false
+recv 5 -> none
 ",
     },
 ];

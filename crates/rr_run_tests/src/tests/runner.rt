@@ -5,12 +5,12 @@ use rr_protocol::{
     ClientSettings, Kind, Limits, ReceiveError, RequestSendError, SendError, ServerSettings,
     UniqueNodeId,
 };
-use rr_run::Runner;
+use rr_run::{Runner, run};
 use std::alloc::{AllocError, Global};
 use std::test::Fail;
 
 /// Does as it is told at a full queue to port 2, and refuses at every other.
-#[derive(Drop)]
+#[derive(Clone, Copy)]
 struct AtPortTwo {
     action: BackpressureAction,
 }
@@ -72,15 +72,6 @@ fn server(handler: Option<AtPortTwo>) -> ServerSettings<AtPortTwo> {
     }
 }
 
-/// Carries out a command, if the runner takes it.
-fn reply_to(runner: &mut TypedRunner, command: TypedCommand) -> Option<Reply<u64, u64>> {
-    if TypedRunner::offers(&command) {
-        Some(runner.apply(command))
-    } else {
-        None
-    }
-}
-
 /// Carries out commands. Returns the last two replies.
 fn last_replies(
     runner: &mut TypedRunner,
@@ -90,24 +81,22 @@ fn last_replies(
     let mut last = None;
     for command in commands {
         before = last;
-        last = reply_to(runner, command);
+        last = Some(runner.apply(command));
     }
     (before, last)
 }
 
 /// Creates a client on a new runner. Returns the reply, and what 0 and 1 name then.
-fn named(alloc: Global) -> Result<(Option<Reply<u64, u64>>, Option<Kind>, Option<Kind>), Fail> {
+fn named(alloc: Global) -> Result<(Reply<u64, u64>, Option<Kind>, Option<Kind>), Fail> {
     let mut runner: TypedRunner = Runner::new(alloc, LIMITS, UniqueNodeId(7))?;
-    let created = reply_to(
-        &mut runner,
-        Command::CreateClient(client(BackpressureStrategy::DiscardData, None)),
-    );
+    let settings = client(BackpressureStrategy::DiscardData, None);
+    let created = runner.apply(Command::CreateClient(settings));
     Ok((created, runner.kind(0), runner.kind(1)))
 }
 
 #[test]
 fn a_number_names_what_was_created(rt: HostRuntime) -> Result<(), Fail> {
-    let client = Some(Reply::Created(0));
+    let client = Reply::Created(0);
     assert!(rt; named(rt.alloc())? == (client, Some(Kind::Client), None));
     Ok(())
 }
@@ -133,7 +122,7 @@ fn is_run_in_turn(alloc: Global) -> Result<bool, Fail> {
         Command::SendCopy(0, 123),
         Command::Receive(1),
     ]?;
-    runner.run(commands, &mut replies)?;
+    run(&mut runner, commands.as_slice(), &mut replies)?;
     Ok(replies == replies_in_turn(alloc)?)
 }
 

@@ -1,21 +1,15 @@
 -- A core stays sound as the value of a client goes, and contracts see it go.
-use Rattle.std.proofs.Common.{◌≡◌, ◌<◌, ◌≤◌, ◌+◌, ◌*◌, ◌^◌, ℕ, Bool, true, false, List, [], Option, None, Some, length, map, get_or, refl, sym, ap, ◌∙◌, subst, arith}
-use Rattle.std.specs.Prelude.{◌==◌, ◌&&◌, slice_get, slice_index, slice_index_or, slice_set}
-use Rattle.std.specs.FinMap as fin_map
-use Rattle.std.proofs.lemmas.List.{length-map, length-set}
-use Rattle.std.proofs.lemmas.Option.{slice_get-map, slice_get_within}
-use Rattle.rr_table.specs.TableView.{TableEntry}
+use Rattle.std.proofs.Common.{◌≡◌, ◌<◌, ◌≤◌, ◌+◌, ◌*◌, ◌^◌, ℕ, [], Some, length, map, refl, sym, ap, ◌∙◌, subst, arith}
+use Rattle.std.specs.Prelude.{◌==◌, slice_get, slice_index, slice_index_or, slice_set}
+use Rattle.std.proofs.lemmas.List.{length-set}
 use Rattle.rr_sender.specs.Senders.{borrowed_at, queue_at, times, uses}
 use Rattle.rr_store.specs.declared.details.RequestDetails.{RequestDetails}
-use Rattle.rr_store.specs.declared.details.ResponseDetails.{ResponseDetails}
-use Rattle.rr_store.specs.declared.handle_entry.HandleEntry.{HandleEntry}
 use Rattle.rr_store.specs.declared.handle_entry.Stage.{Stage}
 use Rattle.rr_store.specs.declared.handle_entry.Stage.TheVariants as stage
-use Rattle.rr_store.specs.declared.port.LeftPort.{LeftPort}
 use Rattle.rr_store.specs.Leaving.{valueless, valueless_client, without_client_value}
-use Rattle.rr_store.specs.Parts.{ClientPart, Connected, Parts, Sender, ServerPart}
-use Rattle.rr_store.specs.Sound.{HasPort, HasSenders, HaveLeft, HavePorts, IsShaped, IsSound, empty_hand, handles, is_active_at, is_received_at, place_at, request_details, response_details, response_uses, server_place}
-use Rattle.rr_store.specs.Views.{is_awaited, no_request, no_sender, no_server, sender_of}
+use Rattle.rr_store.specs.Parts.{ClientPart, Parts, Sender}
+use Rattle.rr_store.specs.Sound.{HasPort, HasSenders, HaveLeft, IsShaped, IsSound, empty_hand, handles, is_active_at, is_received_at, place_at, request_details, server_place}
+use Rattle.rr_store.specs.Views.{no_request, no_sender, no_server, sender_of}
 use Rattle.rr_store.proofs.base.frames.Frames.{before_it, ports_set}
 use Rattle.rr_store.proofs.base.lists.Replaced.{map-set_one, set_alike}
 use Rattle.rr_store.proofs.base.views.Counts.{listed}

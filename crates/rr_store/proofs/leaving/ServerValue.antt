@@ -1,18 +1,15 @@
 -- A core stays sound as the value of a server goes.
-use Rattle.std.proofs.Common.{◌≡◌, ◌<◌, ◌≤◌, ◌+◌, ◌*◌, ℕ, Bool, true, [], Option, None, Some, find, length, map, get_or, refl, sym, ap, ◌∙◌, subst, arith}
+use Rattle.std.proofs.Common.{◌≡◌, ◌<◌, ◌≤◌, ◌+◌, ◌*◌, ℕ, [], Some, length, map, get_or, refl, sym, ap, ◌∙◌, subst, arith}
 use Rattle.std.specs.Prelude.{◌==◌, ◌&&◌, slice_get, slice_index, slice_index_or, slice_set}
-use Rattle.std.specs.FinMap as fin_map
 use Rattle.std.proofs.lemmas.List.{length-set}
 use Rattle.std.proofs.lemmas.Option.{get_or_from_slice_get}
-use Rattle.rr_table.specs.TableView.{TableEntry}
 use Rattle.rr_sender.specs.Senders.{borrowed_at, queue_at, times, uses}
 use Rattle.rr_protocol.specs.Limits.{max_loaned_responses, worst_case_requests}
 use Rattle.rr_store.specs.declared.details.ResponseDetails.{ResponseDetails}
-use Rattle.rr_store.specs.declared.handle_entry.HandleEntry.{HandleEntry}
 use Rattle.rr_store.specs.declared.handle_entry.Stage.{Stage}
 use Rattle.rr_store.specs.declared.handle_entry.Stage.TheVariants as stage
 use Rattle.rr_store.specs.Leaving.{valueless, valueless_server, without_server_value}
-use Rattle.rr_store.specs.Parts.{Connected, Parts, Sender, ServerPart}
+use Rattle.rr_store.specs.Parts.{Parts, Sender, ServerPart}
 use Rattle.rr_store.specs.Sound.{HasPort, HasSenders, HaveLeft, IsShaped, IsSound, empty_hand, handles, is_active_at, is_received, is_response_loan, place_at, response_details, server_place}
 use Rattle.rr_store.specs.Views.{no_response, no_sender, sender_of}
 use Rattle.rr_store.proofs.base.frames.Frames.{before_it, ports_set}

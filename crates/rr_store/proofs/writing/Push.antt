@@ -1,5 +1,5 @@
 -- A message that was not sent is written.
-use Rattle.std.proofs.Common.{◌≡◌, ◌<◌, ◌≤◌, ℕ, Bool, true, false, cond, Some, length, refl, sym, ap, ◌∙◌, subst, arith}
+use Rattle.std.proofs.Common.{◌≡◌, ◌<◌, ◌≤◌, ℕ, Bool, true, false, cond, Some, length, refl, ap, ◌∙◌, subst, arith}
 use Rattle.std.specs.Prelude.{slice_index_or}
 use Rattle.std.proofs.lemmas.Bool.{false≢true}
 use Rattle.std.proofs.lemmas.List.{get_or-set_same}
@@ -7,7 +7,7 @@ use Rattle.rr_slots.specs.Pools.{Written, nothing_written}
 use Rattle.rr_table.specs.TableView.{value_at}
 use Rattle.rr_sender.specs.Senders.{Messages, content_at, with_changed_at, with_user_header}
 use Rattle.rr_protocol.specs.declared.kind.Kind.{Kind}
-use Rattle.rr_protocol.specs.Messages.{Content, RequestMessage, ResponseMessage, RequestMutUninit, RequestMut, ResponseMutUninit, ResponseMut}
+use Rattle.rr_protocol.specs.Messages.{Content, RequestMutUninit, RequestMut, ResponseMutUninit, ResponseMut}
 use Rattle.rr_protocol.specs.State.{with_changed}
 use Rattle.rr_protocol.specs.Writing as content
 use Rattle.rr_protocol.specs.Writing.{with_request_content, with_response_content}

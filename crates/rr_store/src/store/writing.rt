@@ -63,7 +63,13 @@ impl<QB: Body, QH: Default + Drop, PB: Body, PH: Default + Drop, K: Backpressure
     /// Makes another element the one at an index of the request in a slot, if one stands there, and returns whether one did. The
     /// old one is dropped.
     #[inline(always)]
-    pub fn write_request_element(&mut self, sender: usize, slot: usize, index: usize, element: QB::Item) -> bool
+    pub fn write_request_element(
+        &mut self,
+        sender: usize,
+        slot: usize,
+        index: usize,
+        element: QB::Item,
+    ) -> bool
         requires sender { sender < length self.old.client_senders }
         requires slot { slot < length (sender_of sender self.old.client_senders).messages.held }
         ensures told { result ≡ nat_lt index (length (content_at (sender_of sender self.old.client_senders).messages slot).elements) }
@@ -75,7 +81,13 @@ impl<QB: Body, QH: Default + Drop, PB: Body, PH: Default + Drop, K: Backpressure
     /// Makes another element the one at an index of the response in a slot, if one stands there, and returns whether one did. The
     /// old one is dropped.
     #[inline(always)]
-    pub fn write_response_element(&mut self, sender: usize, slot: usize, index: usize, element: PB::Item) -> bool
+    pub fn write_response_element(
+        &mut self,
+        sender: usize,
+        slot: usize,
+        index: usize,
+        element: PB::Item,
+    ) -> bool
         requires sender { sender < length self.old.server_senders }
         requires slot { slot < length (sender_of sender self.old.server_senders).messages.held }
         ensures told { result ≡ nat_lt index (length (content_at (sender_of sender self.old.server_senders).messages slot).elements) }

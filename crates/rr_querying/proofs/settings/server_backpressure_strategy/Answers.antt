@@ -1,4 +1,5 @@
 use Rattle.std.proofs.Common.{◌≡◌}
+use Rattle.rr_querying.proofs.steps.Apart.{no_client}
 use Rattle.rr_querying.proofs.steps.Naming.{servers_asked}
 use Rattle.rr_querying.proofs.steps.Ports.{server_asked, server_index_asked, server_then}
 use Rattle.rr_querying.proofs.settings.server_backpressure_strategy.Goals as goal
@@ -12,7 +13,10 @@ server_index-index-requires-clause-found g c = server_asked c.args.store.now c.a
 pub server_strategy-requires : goal.server_strategy-requires
 server_strategy-requires g c = server_index_asked c.args.store.now c.args.server _ c.server_index-index.ensures
 
-pub returns : goal.returns
-returns g c =
+pub returns-clause-strategy : goal.returns-clause-strategy
+returns-clause-strategy g c =
     server_then c.args.store.now c.args.server _ c.server_index-index.ensures (λ port. c.server_strategy.result ≡ port.port.strategy)
     c.server_strategy.ensures
+
+pub returns-clause-apart : goal.returns-clause-apart
+returns-clause-apart g c = no_client c.args.store.now c.requires.core c.args.server _ c.server_index-index.ensures

@@ -1,4 +1,5 @@
 use Rattle.std.proofs.Common.{◌≡◌}
+use Rattle.rr_querying.proofs.steps.Apart.{no_client}
 use Rattle.rr_querying.proofs.steps.Naming.{servers_asked}
 use Rattle.rr_querying.proofs.steps.Ports.{server_asked, server_index_asked, server_then}
 use Rattle.rr_querying.proofs.settings.server_initial_max_slice_len.Goals as goal
@@ -12,8 +13,11 @@ server_index-index-requires-clause-found g c = server_asked c.args.store.now c.a
 pub server_initial_max_slice_len-requires : goal.server_initial_max_slice_len-requires
 server_initial_max_slice_len-requires g c = server_index_asked c.args.store.now c.args.server _ c.server_index-index.ensures
 
-pub returns : goal.returns
-returns g c =
+pub returns-clause-len : goal.returns-clause-len
+returns-clause-len g c =
     server_then c.args.store.now c.args.server _ c.server_index-index.ensures
     (λ port. c.server_initial_max_slice_len.result ≡ port.port.initial_max_slice_len)
     c.server_initial_max_slice_len.ensures
+
+pub returns-clause-apart : goal.returns-clause-apart
+returns-clause-apart g c = no_client c.args.store.now c.requires.core c.args.server _ c.server_index-index.ensures

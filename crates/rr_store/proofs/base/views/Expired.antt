@@ -13,7 +13,7 @@ use Rattle.rr_maps.proofs.MapFacts.{itself}
 use Rattle.rr_protocol.specs.Lists.{Lists, at, filled_keys, no_lists, with_at}
 use Rattle.rr_protocol.specs.Keys.{RequestKey, ResponseKey, request_key_cmp, response_key_cmp}
 use Rattle.rr_protocol.proofs.KeyLaws.{request_keys_total, request_keys_exact, response_keys_total, response_keys_exact}
-use Rattle.rr_protocol.proofs.ListsLaws.{at-no_lists, at-retain_keys, at-with_at, same_lists}
+use Rattle.rr_protocol.proofs.ListsLaws.{at-no_lists, at-retain_keys, same_lists}
 use Rattle.std.proofs.lemmas.List.Elements.{filter_agree}
 use Rattle.rr_laws.proofs.Completing.{filter_never}
 use Rattle.rr_laws.proofs.ExpiredLists.{at-with_at-other, each_other_with, filled_stays}

@@ -14,7 +14,7 @@ use Rattle.rr_store.specs.declared.handle_entry.Stage.{Stage}
 use Rattle.rr_store.specs.declared.handle_entry.Stage.TheVariants as stage
 use Rattle.rr_store.specs.declared.details.RequestDetails.{RequestDetails}
 use Rattle.rr_store.specs.Parts.{Parts, ServerPart, Sender}
-use Rattle.rr_store.specs.Views.{state_of, server_of, handle_in, handle_of, is_awaited, waiting_at, request_at, no_server}
+use Rattle.rr_store.specs.Views.{state_of, handle_in, handle_of, is_awaited, waiting_at, request_at, no_server}
 use Rattle.rr_store.specs.Sound.{IsSound, empty_hand, is_of_request, is_pending, request_details, request_uses, server_place}
 use Rattle.rr_store.proofs.releasing.active.Sound.{senders, after_active, inside, server_is, server_placed}
 use Rattle.rr_store.proofs.releasing.active.Sound as active

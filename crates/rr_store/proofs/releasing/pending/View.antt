@@ -24,7 +24,7 @@ use Rattle.rr_store.specs.Clearing.{with_empty_queue}
 use Rattle.rr_store.specs.Parts.{Parts, ClientPart, Sender}
 use Rattle.rr_store.specs.Sound.{IsSound, empty_hand, is_of_request, request_details}
 use Rattle.rr_store.specs.Releasing.{IsHandleGone}
-use Rattle.rr_store.specs.Views.{sender_of, no_sender, state_of, client_of, response_in_slot, handle_in, handle_of, responses_at, request_lists, response_lists}
+use Rattle.rr_store.specs.Views.{sender_of, no_sender, state_of, response_in_slot, handle_in, handle_of, responses_at, request_lists, response_lists}
 use Rattle.rr_store.proofs.base.views.Agreeing.{same_handle, same_state, same_expired}
 use Rattle.rr_store.proofs.releasing.pending.Cleared.{cleared_at, queue_here, queue_there}
 use Rattle.rr_store.proofs.base.lists.Found.{found_passes, found_somewhere}

@@ -16,7 +16,7 @@ use Rattle.rr_store.specs.declared.handle_entry.Stage.TheVariants as stage
 use Rattle.rr_store.specs.declared.details.RequestDetails.{RequestDetails}
 use Rattle.rr_store.specs.Parts.{Parts, ClientPart, Sender}
 use Rattle.rr_store.specs.Releasing.{IsHandleGone}
-use Rattle.rr_store.specs.Views.{sender_of, state_of, client_of, handle_in, handle_of}
+use Rattle.rr_store.specs.Views.{sender_of, state_of, handle_in, handle_of}
 use Rattle.rr_store.specs.Sound.{IsSound, empty_hand, is_of_request, is_of_response, is_request_loan, is_pending, is_active_of, is_response_loan, is_received, is_in_sender, has_request_at, request_details, response_details, server_place}
 use Rattle.rr_store.specs.Frames.{moved}
 use Rattle.rr_store.specs.Dropping.{IsDropped}

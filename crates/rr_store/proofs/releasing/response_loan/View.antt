@@ -14,7 +14,7 @@ use Rattle.rr_store.specs.declared.handle_entry.Stage.{Stage}
 use Rattle.rr_store.specs.declared.handle_entry.Stage.TheVariants as stage
 use Rattle.rr_store.specs.Parts.{Parts, ServerPart}
 use Rattle.rr_store.specs.Releasing.{IsHandleGone}
-use Rattle.rr_store.specs.Views.{sender_of, state_of, server_of, handle_in, handle_of}
+use Rattle.rr_store.specs.Views.{sender_of, state_of, handle_in, handle_of}
 use Rattle.rr_store.specs.Sound.{IsSound, empty_hand, is_response_loan, response_details}
 use Rattle.rr_store.proofs.base.views.Counts.{listed}
 use Rattle.rr_store.proofs.releasing.View.{table_entry_shown}

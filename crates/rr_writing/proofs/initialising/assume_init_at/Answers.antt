@@ -1,4 +1,4 @@
-use Rattle.rr_writing.proofs.steps.Initialising.{core_then, view_then}
+use Rattle.rr_writing.proofs.steps.Initialising.{core_then, uninit_asked, view_then}
 use Rattle.rr_writing.proofs.initialising.assume_init_at.Goals as goal
 
 pub at-entry-requires : goal.at-entry-requires
@@ -6,6 +6,10 @@ at-entry-requires g c = c.requires.at
 
 pub replace-requires : goal.replace-requires
 replace-requires g c = c.requires.at
+
+pub initialised-requires : goal.initialised-requires
+initialised-requires g c =
+    uninit_asked c.args.store.now c.requires.core c.args.number c.args.place _ c.at-entry.ensures c.requires.uninit
 
 pub returns-clause-core : goal.returns-clause-core
 returns-clause-core g c =

@@ -1,4 +1,4 @@
-use Rattle.std.proofs.Common.{◌≡◌, ◌<◌, Bool, true, false, cond, Option, None, Some, length, map, nat_le, sym, ap, ◌∙◌, subst, arith}
+use Rattle.std.proofs.Common.{◌≡◌, ◌<◌, Bool, true, false, cond, Option, None, Some, length, nat_le, sym, ap, ◌∙◌, subst, arith}
 use Rattle.std.specs.Prelude.{◌==◌, ◌&&◌, IsSomeAnd, count_by, not, slice_get}
 use Rattle.std.specs.List.{list_any, position}
 use Rattle.std.proofs.lemmas.Bool.{lt-leb}
@@ -11,7 +11,7 @@ use Rattle.rr_store.specs.Changes.{is_closed_to, is_open_to, request_send_limit}
 use Rattle.rr_store.specs.Inside.{parts_of}
 use Rattle.rr_store.specs.Parts.{ClientPart, ServerPart, Sender}
 use Rattle.rr_store.specs.Ports.{client_part, server_part}
-use Rattle.rr_store.specs.Sending.{HasQueues, is_blocked_at, is_refused_at}
+use Rattle.rr_store.specs.Sending.{HasQueues, is_refused_at}
 use Rattle.rr_store.specs.Views.{sender_of}
 use Rattle.rr_store.proofs.base.lists.Mapped.{to_index}
 use Rattle.rr_store.proofs.base.senders.Ports.{found_within, of_each, told_at, to_read}
