@@ -22,7 +22,8 @@ impl<QB: Body, QH: Default + Drop, PB: Body, PH: Default + Drop, K: Backpressure
     K,
 > {
     /// Returns what a number names: a client or a server whose value lives, or a handle. Returns `None` if it names nothing.
-    /// Finds a handle at its hint, and a port among about ten of 1,000. Our own.
+    /// Finds a handle at its hint, and a port among about ten of 1,000; walks over the table at last, where the hint is wrong or
+    /// the number names nothing. Our own.
     #[inline(always)]
     pub fn kind(&self, id: &HandleId) -> Option<Kind>
         ensures { result ≡ kind_at self.now id.now }

@@ -69,7 +69,7 @@ impl<T: Copy + Default, B: Body<Item = T>, H: Copy + Default, K: BackpressureFn>
         })
     }
 
-    /// What a number names: a client or a server whose value lives, or a handle. `None` if it names nothing.
+    /// Returns what a number names: a client or a server whose value lives, or a handle. Returns `None` if it names nothing.
     ///
     /// Our own.
     pub fn kind(&self, number: u64) -> Option<Kind>

@@ -22,7 +22,7 @@ mod words;
 /// A runner of numbers, whose messages have bodies of one family.
 type ScriptRunner<B> = Runner<u64, B, u64, NoHandler>;
 
-/// The program: does what the words ask for, and returns its status.
+/// Runs the program: does what the words ask for, and returns its status.
 ///
 /// `script` alone reads commands from the input, one a line, and writes each reply before the next line is read. 0 if all was
 /// done. Else one line goes to `faults`: 1 for a line that is none (`bad line L`), 2 for a read or write that failed, 3 for

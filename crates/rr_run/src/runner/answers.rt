@@ -11,7 +11,7 @@ use rr_protocol::BackpressureFn;
 use rr_slots::Body;
 use std::alloc::Global;
 
-/// Answers a question of a port or of a handle. `NoMemory` if none was found for a copy of a payload.
+/// Answers a question of a port or of a handle; with `NoMemory` if no memory was found for a copy of a payload.
 pub(crate) fn answer<T: Copy + Default, B: Body<Item = T>, H: Copy + Default, K: BackpressureFn>(
     core: &Core<B, H, B, H, K>,
     alloc: Global,

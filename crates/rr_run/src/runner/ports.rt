@@ -8,7 +8,7 @@ use rr_hub::{Core, HandleId};
 use rr_protocol::{BackpressureFn, Kind};
 use rr_slots::Body;
 
-/// Whether a queue has an entry from which a server, or a pending response, would receive.
+/// Tells whether a queue has an entry from which a server, or a pending response, would receive.
 pub(crate) fn has_entries<
     T: Copy + Default,
     B: Body<Item = T>,
@@ -25,7 +25,7 @@ pub(crate) fn has_entries<
     }
 }
 
-/// Whether no queue that a send would reach is full without overflow.
+/// Tells whether no queue that a send would reach is full without overflow.
 pub(crate) fn is_deliverable<
     T: Copy + Default,
     B: Body<Item = T>,
@@ -42,7 +42,7 @@ pub(crate) fn is_deliverable<
     }
 }
 
-/// A port's backpressure strategy.
+/// Tells a port's backpressure strategy.
 pub(crate) fn strategy<T: Copy + Default, B: Body<Item = T>, H: Copy + Default, K: BackpressureFn>(
     core: &Core<B, H, B, H, K>,
     id: &HandleId,
@@ -57,7 +57,7 @@ pub(crate) fn strategy<T: Copy + Default, B: Body<Item = T>, H: Copy + Default, 
     }
 }
 
-/// The elements for which a port's slots have room from the start.
+/// Tells for how many elements each of a port's slots has room from the start.
 pub(crate) fn max_slice_len<
     T: Copy + Default,
     B: Body<Item = T>,
@@ -74,7 +74,7 @@ pub(crate) fn max_slice_len<
     }
 }
 
-/// Nothing is left to connect: a port is connected with all others from its creation on.
+/// Changes nothing: a port is connected with all ports of the other side from the creation of the later one on.
 pub(crate) fn update_connections<
     T: Copy + Default,
     B: Body<Item = T>,

@@ -2,7 +2,7 @@
 use super::scripts::{CLIENT, HUB, Row, failing};
 
 /// Overrides of the sizes of pools.
-const POOLS: [Row; 6] = [
+const POOLS: [Row; 8] = [
     Row {
         name: "an override of 0 makes a pool of 1",
         start: "hub typed 2 1 5 1 2 1 - 1 1 -> done\n",
@@ -82,6 +82,36 @@ copy 3 9 -> sent 4
 loan 3 1 -> error OutOfMemory
 drop 2 -> done
 loan 3 1 -> loaned 5
+",
+    },
+    Row {
+        name: "one slot less than the worst case can be too few",
+        start: "hub typed 1 1 1 1 1 1 - 0 0 -> done\n",
+        lines: "\
+client discard 1 static 3 -> created 0
+server discard 1 static - 1 -> created 1
+copy 0 1 -> pending 2 1
+recv 1 -> active 3 2
+drop 2 -> done
+copy 0 2 -> pending 4 1
+drop 4 -> done
+copy 0 3 -> pending 5 0
+loan 0 1 -> error OutOfMemory
+",
+    },
+    Row {
+        name: "the worst case is enough there",
+        start: "hub typed 1 1 1 1 1 1 - 0 0 -> done\n",
+        lines: "\
+client discard 1 static 4 -> created 0
+server discard 1 static - 1 -> created 1
+copy 0 1 -> pending 2 1
+recv 1 -> active 3 2
+drop 2 -> done
+copy 0 2 -> pending 4 1
+drop 4 -> done
+copy 0 3 -> pending 5 0
+loan 0 1 -> loaned 6
 ",
     },
 ];

@@ -75,6 +75,7 @@ head 4 -> response-header 1 0 40 0
 client discard 0 static - -> created 0
 copy 0 5 -> error SendError LoanError ExceedsMaxLoanSize
 loan 0 0 -> loaned 1
+maxlen 0 -> count 0
 ",
     },
     Row {
