@@ -1,4 +1,4 @@
--- Want of memory is answered to the commands that take some, and to no other.
+-- Want of memory is answered to the commands that copy elements, and to no other.
 use Rattle.std.proofs.Common.{◌≡◌, ℕ, Bool, true, false, cond, Option, None, Some, refl, sym, ap, ◌∙◌, subst}
 use Rattle.std.specs.Prelude.{not, ◌&&◌, ◌==◌, MatchOption, option_and_then}
 use Rattle.std.specs.Option.{option_map_or}
@@ -11,7 +11,7 @@ use Rattle.rr_commands.specs.declared.command.Command.{Command}
 use Rattle.rr_commands.specs.declared.reply.Reply.{Reply}
 use Rattle.rr_commands.specs.Refusals.{has_call, has_length, is_incomplete, needs_number, number_in, refusal, refusal_of_kind}
 use Rattle.rr_commands.specs.Step.{Acts, Step}
-use Rattle.rr_run.specs.Memory.{may_take_memory}
+use Rattle.rr_run.specs.Memory.{copies_elements, goes_without}
 
 module _ {T H : Type 0} where
   -- the refusal of a command that names something, by three tests
@@ -43,24 +43,26 @@ module _ {T H K : Type 0} (family : Family) (s : State T H T H K) (command : Com
 
 module _ {T H K : Type 0} (action : K → ℕ → ℕ → BackpressureAction) (IsDefaultElement : T → Type 0) (IsDefaultHeader : H → Type 0)
     (family : Family) (old new : State T H T H K) where
-  -- a command that takes none doesn't act so
+  -- one that neither copies elements nor goes without has no such answer
   acts_otherwise : (command : Command T H K) → Acts action IsDefaultElement IsDefaultHeader family old command Reply.NoMemory new
-      → may_take_memory command ≡ true
-  acts_otherwise (Command.CreateClient settings) h = refl
-  acts_otherwise (Command.CreateServer settings) h = refl
-  acts_otherwise (Command.Loan n len) h = refl
-  acts_otherwise (Command.LoanDefault n len) h = refl
-  acts_otherwise (Command.SendCopy n v) h = refl
-  acts_otherwise (Command.Receive n) h = refl
-  acts_otherwise (Command.Payload n) h = refl
-  acts_otherwise command h = absurd h
+      → (goes_without command ≡ true → ⊥) → copies_elements command ≡ true
+  acts_otherwise (Command.CreateClient settings) h not = absurd (not refl)
+  acts_otherwise (Command.CreateServer settings) h not = absurd (not refl)
+  acts_otherwise (Command.Loan n len) h not = absurd (not refl)
+  acts_otherwise (Command.LoanDefault n len) h not = absurd (not refl)
+  acts_otherwise (Command.SendCopy n v) h not = absurd (not refl)
+  acts_otherwise (Command.Receive n) h not = absurd (not refl)
+  acts_otherwise (Command.Payload n) h not = refl
+  acts_otherwise command h not = absurd h
 
   pub memory_taken : (command : Command T H K) (reply : Reply T H)
-      → Step action IsDefaultElement IsDefaultHeader family old command reply new → reply ≡ Reply.NoMemory → may_take_memory command ≡ true
-  memory_taken command reply step is = go (refusal family old command) refl step
+      → Step action IsDefaultElement IsDefaultHeader family old command reply new
+      → (goes_without command ≡ true → reply ≡ Reply.NoMemory → ⊥) → reply ≡ Reply.NoMemory → copies_elements command ≡ true
+  memory_taken command reply step without is = go (refusal family old command) refl step
     where
       go : (o : Option (Reply T H)) → refusal family old command ≡ o
           → MatchOption o (Acts action IsDefaultElement IsDefaultHeader family old command reply new) (λ refused. (reply ≡ refused) × (new ≡ old))
-          → may_take_memory command ≡ true
-      go None e h = acts_otherwise command (subst (λ r. Acts action IsDefaultElement IsDefaultHeader family old command r new) is h)
+          → copies_elements command ≡ true
+      go None e h =
+          acts_otherwise command (subst (λ r. Acts action IsDefaultElement IsDefaultHeader family old command r new) is h) (λ g. without g is)
       go (Some refused) e h = absurd (refused_otherwise family old command (e ∙ (let f : refused ≡ Reply.NoMemory = sym h.0 ∙ is in ap Some f)))

@@ -1,15 +1,19 @@
--- The commands for which a runner takes memory of its own.
+-- Which commands may find no memory.
 use Rattle.std.specs.Prelude.{Bool, true, false}
 use Rattle.rr_commands.specs.declared.command.Command.{Command}
 
 module _ {T H K : Type 0} where
-  -- whether a command may be answered with want of memory
-  abbrev pub may_take_memory : Command T H K → Bool
-  may_take_memory (Command.CreateClient settings) = true
-  may_take_memory (Command.CreateServer settings) = true
-  may_take_memory (Command.Loan n len) = true
-  may_take_memory (Command.LoanDefault n len) = true
-  may_take_memory (Command.SendCopy n v) = true
-  may_take_memory (Command.Receive n) = true
-  may_take_memory (Command.Payload n) = true
-  may_take_memory command = false
+  -- whether a command copies a message's elements, the one thing for which a runner takes memory that it may not find
+  abbrev pub copies_elements : Command T H K → Bool
+  copies_elements (Command.Payload n) = true
+  copies_elements command = false
+
+  -- whether a command does without: what the machine allows it to answer with want of memory, it never does
+  abbrev pub goes_without : Command T H K → Bool
+  goes_without (Command.CreateClient settings) = true
+  goes_without (Command.CreateServer settings) = true
+  goes_without (Command.Loan n len) = true
+  goes_without (Command.LoanDefault n len) = true
+  goes_without (Command.SendCopy n v) = true
+  goes_without (Command.Receive n) = true
+  goes_without command = false

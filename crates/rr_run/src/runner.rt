@@ -1,8 +1,8 @@
 //! A runner of commands over a hub's core.
-ghost use Rattle.std.specs.Prelude.{◌≡◌, true};
+ghost use Rattle.std.specs.Prelude.{◌≡◌, ◌≢◌, true};
 ghost use Rattle.rr_protocol.specs.Creation.{CreatesHub};
 ghost use Rattle.rr_protocol.specs.Queries.{kind_at};
-ghost use Rattle.rr_run.specs.Memory.{may_take_memory};
+ghost use Rattle.rr_run.specs.Memory.{copies_elements, goes_without};
 ghost use Rattle.rr_commands.specs.Step.{Step};
 
 use crate::hints::Hints;
@@ -86,14 +86,15 @@ impl<T: Copy + Default, B: Body<Item = T>, H: Copy + Default, K: BackpressureFn>
     /// handle. Our own: iceoryx2 has the calls alone.
     pub fn apply(&mut self, command: Command<T, H, K>) -> Reply<T, H>
         ensures step { Step K.action T.is_default H.is_default B.family self.old command result self.new }
-        ensures memory { result ≡ Reply.NoMemory → may_take_memory command ≡ true }
+        ensures memory { result ≡ Reply.NoMemory → copies_elements command ≡ true }
     {
         self.step(command)
     }
 
     /// Carries out a command.
     fn step(&mut self, command: Command<T, H, K>) -> Reply<T, H>
-        ensures { Step K.action T.is_default H.is_default B.family self.old command result self.new }
+        ensures step { Step K.action T.is_default H.is_default B.family self.old command result self.new }
+        ensures memory { goes_without command ≡ true → result ≢ Reply.NoMemory }
     {
         let core = &mut self.core;
         let hints = &mut self.hints;

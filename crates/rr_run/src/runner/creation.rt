@@ -1,5 +1,5 @@
 //! Creating ports.
-ghost use Rattle.std.specs.Prelude.{◌≡◌, true, IsTrue};
+ghost use Rattle.std.specs.Prelude.{◌≡◌, ◌≢◌, true, IsTrue};
 ghost use Rattle.rr_slots.specs.Families.{takes_len};
 ghost use Rattle.rr_commands.specs.declared.command.Command.{Command};
 ghost use Rattle.rr_commands.specs.Step.{Step, client_settings, server_settings};
@@ -16,7 +16,8 @@ pub(crate) fn create_client<
     H: Copy + Default,
     K: BackpressureFn,
 >(core: &mut Core<B, H, B, H, K>, settings: ClientSettings<K>) -> Reply<T, H>
-    ensures { Step K.action T.is_default H.is_default B.family core.old (Command.CreateClient settings) result core.new }
+    ensures step { Step K.action T.is_default H.is_default B.family core.old (Command.CreateClient settings) result core.new }
+    ensures memory { result ≢ Reply.NoMemory }
 {
     match core.create_client(client_settings(B::family(), settings)) {
         Ok(number) => Reply::Created(number),
@@ -31,7 +32,8 @@ pub(crate) fn create_server<
     H: Copy + Default,
     K: BackpressureFn,
 >(core: &mut Core<B, H, B, H, K>, settings: ServerSettings<K>) -> Reply<T, H>
-    ensures { Step K.action T.is_default H.is_default B.family core.old (Command.CreateServer settings) result core.new }
+    ensures step { Step K.action T.is_default H.is_default B.family core.old (Command.CreateServer settings) result core.new }
+    ensures memory { result ≢ Reply.NoMemory }
 {
     match core.create_server(server_settings(B::family(), settings)) {
         Ok(number) => Reply::Created(number),

@@ -1,5 +1,5 @@
 //! Loans of messages of default elements.
-ghost use Rattle.std.specs.Prelude.{◌≡◌, Some};
+ghost use Rattle.std.specs.Prelude.{◌≡◌, ◌≢◌, Some};
 ghost use Rattle.rr_protocol.specs.declared.kind.Kind.TheVariants as kind;
 ghost use Rattle.rr_protocol.specs.Queries.{kind_at};
 ghost use Rattle.rr_commands.specs.declared.command.Command.{Command};
@@ -20,7 +20,8 @@ pub(crate) fn loan_default<
     H: Copy + Default,
     K: BackpressureFn,
 >(core: &mut Core<B, H, B, H, K>, hints: &mut Hints, number: u64, len: usize) -> Reply<T, H>
-    ensures { Step K.action T.is_default H.is_default B.family core.old (Command.LoanDefault number len) result core.new }
+    ensures step { Step K.action T.is_default H.is_default B.family core.old (Command.LoanDefault number len) result core.new }
+    ensures memory { result ≢ Reply.NoMemory }
 {
     let id = hints.id_of(number);
     match core.kind(&id) {
@@ -39,7 +40,8 @@ fn loan_default_request<T: Copy + Default, B: Body<Item = T>, H: Copy + Default,
     len: usize,
 ) -> Reply<T, H>
     requires { kind_at core.old client ≡ Some kind.Client }
-    ensures { Step K.action T.is_default H.is_default B.family core.old (Command.LoanDefault client len) result core.new }
+    ensures step { Step K.action T.is_default H.is_default B.family core.old (Command.LoanDefault client len) result core.new }
+    ensures memory { result ≢ Reply.NoMemory }
 {
     if !takes_len(B::family(), len) {
         return Reply::WrongKind;
@@ -65,7 +67,8 @@ fn loan_default_response<
     K: BackpressureFn,
 >(core: &mut Core<B, H, B, H, K>, hints: &mut Hints, active: &HandleId, len: usize) -> Reply<T, H>
     requires { kind_at core.old active.now ≡ Some kind.ActiveRequest }
-    ensures { Step K.action T.is_default H.is_default B.family core.old (Command.LoanDefault active.now len) result core.new }
+    ensures step { Step K.action T.is_default H.is_default B.family core.old (Command.LoanDefault active.now len) result core.new }
+    ensures memory { result ≢ Reply.NoMemory }
 {
     if !takes_len(B::family(), len) {
         return Reply::WrongKind;

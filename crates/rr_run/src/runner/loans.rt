@@ -1,5 +1,5 @@
 //! Loans.
-ghost use Rattle.std.specs.Prelude.{◌≡◌, Some};
+ghost use Rattle.std.specs.Prelude.{◌≡◌, ◌≢◌, Some};
 ghost use Rattle.rr_slots.specs.Families.{takes_len};
 ghost use Rattle.rr_protocol.specs.declared.kind.Kind.TheVariants as kind;
 ghost use Rattle.rr_protocol.specs.Queries.{kind_at};
@@ -19,7 +19,8 @@ pub(crate) fn loan<T: Copy + Default, B: Body<Item = T>, H: Copy + Default, K: B
     number: u64,
     len: usize,
 ) -> Reply<T, H>
-    ensures { Step K.action T.is_default H.is_default B.family core.old (Command.Loan number len) result core.new }
+    ensures step { Step K.action T.is_default H.is_default B.family core.old (Command.Loan number len) result core.new }
+    ensures memory { result ≢ Reply.NoMemory }
 {
     let id = hints.id_of(number);
     match core.kind(&id) {
@@ -38,7 +39,8 @@ fn loan_request<T: Copy + Default, B: Body<Item = T>, H: Copy + Default, K: Back
     len: usize,
 ) -> Reply<T, H>
     requires { kind_at core.old client ≡ Some kind.Client }
-    ensures { Step K.action T.is_default H.is_default B.family core.old (Command.Loan client len) result core.new }
+    ensures step { Step K.action T.is_default H.is_default B.family core.old (Command.Loan client len) result core.new }
+    ensures memory { result ≢ Reply.NoMemory }
 {
     if !takes_len(B::family(), len) {
         return Reply::WrongKind;
@@ -63,7 +65,8 @@ fn loan_response<T: Copy + Default, B: Body<Item = T>, H: Copy + Default, K: Bac
     len: usize,
 ) -> Reply<T, H>
     requires { kind_at core.old active.now ≡ Some kind.ActiveRequest }
-    ensures { Step K.action T.is_default H.is_default B.family core.old (Command.Loan active.now len) result core.new }
+    ensures step { Step K.action T.is_default H.is_default B.family core.old (Command.Loan active.now len) result core.new }
+    ensures memory { result ≢ Reply.NoMemory }
 {
     if !takes_len(B::family(), len) {
         return Reply::WrongKind;

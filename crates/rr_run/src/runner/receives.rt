@@ -1,5 +1,5 @@
 //! Receives.
-ghost use Rattle.std.specs.Prelude.{◌≡◌, Some};
+ghost use Rattle.std.specs.Prelude.{◌≡◌, ◌≢◌, Some};
 ghost use Rattle.rr_protocol.specs.declared.kind.Kind.TheVariants as kind;
 ghost use Rattle.rr_protocol.specs.Queries.{kind_at};
 ghost use Rattle.rr_commands.specs.declared.command.Command.{Command};
@@ -17,7 +17,8 @@ pub(crate) fn receive<T: Copy + Default, B: Body<Item = T>, H: Copy + Default, K
     hints: &mut Hints,
     number: u64,
 ) -> Reply<T, H>
-    ensures { Step K.action T.is_default H.is_default B.family core.old (Command.Receive number) result core.new }
+    ensures step { Step K.action T.is_default H.is_default B.family core.old (Command.Receive number) result core.new }
+    ensures memory { result ≢ Reply.NoMemory }
 {
     let id = hints.id_of(number);
     match core.kind(&id) {
@@ -35,7 +36,8 @@ fn receive_request<T: Copy + Default, B: Body<Item = T>, H: Copy + Default, K: B
     server: u64,
 ) -> Reply<T, H>
     requires { kind_at core.old server ≡ Some kind.Server }
-    ensures { Step K.action T.is_default H.is_default B.family core.old (Command.Receive server) result core.new }
+    ensures step { Step K.action T.is_default H.is_default B.family core.old (Command.Receive server) result core.new }
+    ensures memory { result ≢ Reply.NoMemory }
 {
     if core.numbers_left() == 0 {
         return Reply::NumbersExhausted;
@@ -57,7 +59,8 @@ fn receive_response<T: Copy + Default, B: Body<Item = T>, H: Copy + Default, K: 
     pending: &HandleId,
 ) -> Reply<T, H>
     requires { kind_at core.old pending.now ≡ Some kind.PendingResponse }
-    ensures { Step K.action T.is_default H.is_default B.family core.old (Command.Receive pending.now) result core.new }
+    ensures step { Step K.action T.is_default H.is_default B.family core.old (Command.Receive pending.now) result core.new }
+    ensures memory { result ≢ Reply.NoMemory }
 {
     match core.receive_response(pending) {
         Ok(Some(id)) => {

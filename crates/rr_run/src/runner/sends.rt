@@ -1,5 +1,5 @@
 //! Sends.
-ghost use Rattle.std.specs.Prelude.{◌≡◌, ◌<◌, Some};
+ghost use Rattle.std.specs.Prelude.{◌≡◌, ◌≢◌, ◌<◌, Some};
 ghost use Rattle.rr_protocol.specs.declared.kind.Kind.TheVariants as kind;
 ghost use Rattle.rr_protocol.specs.Queries.{kind_at};
 ghost use Rattle.rr_protocol.specs.State.{numbers_left};
@@ -49,7 +49,8 @@ pub(crate) fn send_copy<T: Copy + Default, B: Body<Item = T>, H: Copy + Default,
     number: u64,
     item: T,
 ) -> Reply<T, H>
-    ensures { Step K.action T.is_default H.is_default B.family core.old (Command.SendCopy number item) result core.new }
+    ensures step { Step K.action T.is_default H.is_default B.family core.old (Command.SendCopy number item) result core.new }
+    ensures memory { result ≢ Reply.NoMemory }
 {
     let id = hints.id_of(number);
     match core.kind(&id) {
@@ -68,7 +69,8 @@ fn send_request_copy<T: Copy + Default, B: Body<Item = T>, H: Copy + Default, K:
     item: T,
 ) -> Reply<T, H>
     requires { kind_at core.old client ≡ Some kind.Client }
-    ensures { Step K.action T.is_default H.is_default B.family core.old (Command.SendCopy client item) result core.new }
+    ensures step { Step K.action T.is_default H.is_default B.family core.old (Command.SendCopy client item) result core.new }
+    ensures memory { result ≢ Reply.NoMemory }
 {
     if core.numbers_left() == 0 {
         return Reply::NumbersExhausted;
@@ -95,7 +97,8 @@ fn send_response_copy<T: Copy + Default, B: Body<Item = T>, H: Copy + Default, K
     item: T,
 ) -> Reply<T, H>
     requires { kind_at core.old active.now ≡ Some kind.ActiveRequest }
-    ensures { Step K.action T.is_default H.is_default B.family core.old (Command.SendCopy active.now item) result core.new }
+    ensures step { Step K.action T.is_default H.is_default B.family core.old (Command.SendCopy active.now item) result core.new }
+    ensures memory { result ≢ Reply.NoMemory }
 {
     if core.numbers_left() == 0 {
         return Reply::NumbersExhausted;

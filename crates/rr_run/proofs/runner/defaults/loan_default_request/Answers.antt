@@ -18,8 +18,8 @@ fill_request-requires-clause-blank g c =
     (loaned_request g.H.Default.is_default c.args.core.now c.args.client c.args.len c.in-Ok.id c.loan_request.new.self c.in-Ok.ensures.unnamed
     c.in-Ok.ensures.loans).1
 
-pub returns-in-Ok : goal.returns-in-Ok
-returns-in-Ok g c =
+pub returns-in-Ok-clause-step : goal.returns-in-Ok-clause-step
+returns-in-Ok-clause-step g c =
     subst (λ k. Step g.K.BackpressureFn.action g.T.Default.is_default g.H.Default.is_default g.B.Body.family c.args.core.now
     (Command.LoanDefault c.args.client c.args.len) (Reply.Loaned k) c.fill_request.new.core) (sym c.number.ensures)
     (request_filled g.K.BackpressureFn.action g.T.Default.is_default g.H.Default.is_default g.B.Body.family c.args.core.now c.args.client

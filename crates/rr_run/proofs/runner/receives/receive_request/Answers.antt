@@ -15,8 +15,8 @@ request_number-requires g c = active_there c.args.core.now c.receive_request.new
     (subst (λ o. ReceivesRequest c.args.core.now c.args.server (Ok o) c.receive_request.new.self) c.in-Ok-Some.field-0-is
     c.in-Ok-Some.ensures.receives)
 
-pub returns-in-Ok-Some : goal.returns-in-Ok-Some
-returns-in-Ok-Some g c =
+pub returns-in-Ok-Some-clause-step : goal.returns-in-Ok-Some-clause-step
+returns-in-Ok-Some-clause-step g c =
     subst (λ k. Step g.K.BackpressureFn.action g.T.Default.is_default g.H.Default.is_default g.B.Body.family c.args.core.now
     (Command.Receive c.args.server) (Reply.Active k c.request_number.result) c.receive_request.new.self) (sym c.number.ensures)
     (step_acts g.K.BackpressureFn.action g.T.Default.is_default g.H.Default.is_default g.B.Body.family c.args.core.now
@@ -29,8 +29,8 @@ returns-in-Ok-Some g c =
       c.request_number.ensures,
     ))
 
-pub returns-in-Ok-None : goal.returns-in-Ok-None
-returns-in-Ok-None g c =
+pub returns-in-Ok-None-clause-step : goal.returns-in-Ok-None-clause-step
+returns-in-Ok-None-clause-step g c =
     step_acts g.K.BackpressureFn.action g.T.Default.is_default g.H.Default.is_default g.B.Body.family c.args.core.now
     (Command.Receive c.args.server) c.args.server kind.Server Reply.Nothing c.receive_request.new.self refl c.requires
     (receive_due g.B.Body.family c.args.core.now c.args.server

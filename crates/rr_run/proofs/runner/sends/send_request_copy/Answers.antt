@@ -9,8 +9,8 @@ use Rattle.rr_commands.specs.Step.{Step}
 use Rattle.rr_run.proofs.Steps.{step_acts, request_copy_due}
 use Rattle.rr_run.proofs.runner.sends.send_request_copy.Goals as goal
 
-pub returns-in-Ok-send_request : goal.returns-in-Ok-send_request
-returns-in-Ok-send_request g c =
+pub returns-in-Ok-send_request-clause-step : goal.returns-in-Ok-send_request-clause-step
+returns-in-Ok-send_request-clause-step g c =
     let w = c.in-Ok.ensures in
     subst (λ k. Step g.K.BackpressureFn.action g.T.Default.is_default g.H.Default.is_default g.B.Body.family c.args.core.now
     (Command.SendCopy c.args.client c.args.item) (Reply.Pending k c.in-Ok-send_request.connections) c.send_request.new.self)
@@ -26,8 +26,8 @@ returns-in-Ok-send_request g c =
           (Ok c.in-Ok-send_request.connections) c.send_request.new.self) w.2 c.in-Ok-send_request.ensures,
     ))
 
-pub returns-in-Err-send_request : goal.returns-in-Err-send_request
-returns-in-Err-send_request g c =
+pub returns-in-Err-send_request-clause-step : goal.returns-in-Err-send_request-clause-step
+returns-in-Err-send_request-clause-step g c =
     let w = c.in-Ok.ensures in
     step_acts g.K.BackpressureFn.action g.T.Default.is_default g.H.Default.is_default g.B.Body.family c.args.core.now
     (Command.SendCopy c.args.client c.args.item) c.args.client kind.Client

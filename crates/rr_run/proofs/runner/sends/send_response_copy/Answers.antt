@@ -9,8 +9,8 @@ use Rattle.rr_commands.specs.Step.{Step}
 use Rattle.rr_run.proofs.Steps.{step_acts, response_copy_due}
 use Rattle.rr_run.proofs.runner.sends.send_response_copy.Goals as goal
 
-pub returns-in-Ok-send_response : goal.returns-in-Ok-send_response
-returns-in-Ok-send_response g c =
+pub returns-in-Ok-send_response-clause-step : goal.returns-in-Ok-send_response-clause-step
+returns-in-Ok-send_response-clause-step g c =
     let w = c.in-Ok.ensures in
     subst (λ k. Step g.K.BackpressureFn.action g.T.Default.is_default g.H.Default.is_default g.B.Body.family c.args.core.now
     (Command.SendCopy c.args.active.now c.args.item) (Reply.Sent k) c.send_response.new.self) (sym c.number.ensures)
@@ -25,8 +25,8 @@ returns-in-Ok-send_response g c =
           c.in-Ok-send_response.ensures,
     ))
 
-pub returns-in-Err-send_response : goal.returns-in-Err-send_response
-returns-in-Err-send_response g c =
+pub returns-in-Err-send_response-clause-step : goal.returns-in-Err-send_response-clause-step
+returns-in-Err-send_response-clause-step g c =
     let w = c.in-Ok.ensures in
     step_acts g.K.BackpressureFn.action g.T.Default.is_default g.H.Default.is_default g.B.Body.family c.args.core.now
     (Command.SendCopy c.args.active.now c.args.item) c.args.active.now kind.ActiveRequest
