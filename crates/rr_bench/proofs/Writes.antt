@@ -1,12 +1,12 @@
 -- What numbers name after writes.
-use Rattle.std.proofs.Common.{◌≡◌, ◌≢◌, ℕ, Bool, true, false, cond, not, Some, refl, ap, ◌∙◌}
+use Rattle.std.proofs.Common.{◌≡◌, ◌≢◌, [], ◌∷◌, ℕ, Bool, true, false, cond, not, Some, refl, ap, ◌∙◌}
 use Rattle.std.specs.Prelude.{IsSomeAnd, option_and_then}
 use Rattle.rr_protocol.specs.declared.kind.Kind.{Kind}
 use Rattle.rr_protocol.specs.declared.kind.Kind.TheVariants as kind
 use Rattle.rr_protocol.specs.Messages.{Content, Handle, RequestMutUninit, RequestMut, PendingResponse, ActiveRequest, ResponseMutUninit, ResponseMut, Response, request_in, response_in}
 use Rattle.rr_protocol.specs.State.{State, handle_at, with_changed, numbers_left}
 use Rattle.rr_protocol.specs.Queries.{kind_of, kind_at}
-use Rattle.rr_protocol.specs.Writing.{is_complete, with_element, with_request_content, with_response_content, after_init}
+use Rattle.rr_protocol.specs.Writing.{is_complete, with_element, with_elements, with_request_content, with_response_content, after_init}
 use Rattle.rr_laws.proofs.Opening.{some_and}
 use Rattle.rr_bench.specs.Kinds.{Names, KeepsKinds, KeepsOtherKinds}
 use Rattle.rr_bench.proofs.Numbers.{handle_no_port, some_handle, keeps_others, changed_other, changed_own, changed_same}
@@ -94,3 +94,39 @@ module _ {Q QH P PH K : Type 0} (old new : State Q QH P PH K) where
   pub unfinished : (k : Kind) → new ≡ old → KeepsOtherKinds k old new
   unfolding KeepsOtherKinds
   unfinished k same n j other names = ap (λ s. kind_at s n) same ∙ names
+
+module _ {Q QH P PH K : Type 0} (old new : State Q QH P PH K) where
+  -- a message of one element was written whole
+  module _ (k : Kind) (client : Kind.Client ≢ k) (server : Kind.Server ≢ k) (n : ℕ) (change : Handle Q QH P PH → Handle Q QH P PH)
+      (same : (h : Handle Q QH P PH) → kind_of (change h) ≡ kind_of h) (is : kind_at old n ≡ Some k)
+      (written : new ≡ with_changed (with_changed old n change) n after_init) where
+    is_then : kind_at (with_changed old n change) n ≡ Some k
+    is_then = changed_same old n change same n ∙ is
+
+    written_names : Names new n (init_kind k)
+    written_names = finished_names (with_changed old n change) new k client server n is_then written
+
+    written_others : KeepsOtherKinds k old new
+    unfolding KeepsOtherKinds
+    written_others j i other names = finished_others (with_changed old n change) new k client server n is_then written j i other
+        (changed_same old n change same j ∙ names)
+
+  module _ (n : ℕ) (element : Q) (is : kind_at old n ≡ Some Kind.RequestMutUninit)
+      (written : new ≡ with_changed (with_changed old n (with_request_content (with_elements (element ∷ [])))) n after_init) where
+    pub written_request_names : Names new n Kind.RequestMut
+    written_request_names = written_names Kind.RequestMutUninit (λ e. cc) (λ e. cc) n (with_request_content (with_elements (element ∷ [])))
+        (request_written (with_elements (element ∷ []))) is written
+
+    pub written_request_others : KeepsOtherKinds Kind.RequestMutUninit old new
+    written_request_others = written_others Kind.RequestMutUninit (λ e. cc) (λ e. cc) n (with_request_content (with_elements (element ∷ [])))
+        (request_written (with_elements (element ∷ []))) is written
+
+  module _ (n : ℕ) (element : P) (is : kind_at old n ≡ Some Kind.ResponseMutUninit)
+      (written : new ≡ with_changed (with_changed old n (with_response_content (with_elements (element ∷ [])))) n after_init) where
+    pub written_response_names : Names new n Kind.ResponseMut
+    written_response_names = written_names Kind.ResponseMutUninit (λ e. cc) (λ e. cc) n (with_response_content (with_elements (element ∷ [])))
+        (response_written (with_elements (element ∷ []))) is written
+
+    pub written_response_others : KeepsOtherKinds Kind.ResponseMutUninit old new
+    written_response_others = written_others Kind.ResponseMutUninit (λ e. cc) (λ e. cc) n (with_response_content (with_elements (element ∷ [])))
+        (response_written (with_elements (element ∷ []))) is written

@@ -24,7 +24,7 @@ fn read<T: Payload, B: Body<Item = T>>(body: &B) -> Result<u64, TripError> {
     Ok(body.get(len - 1).last_word())
 }
 
-/// Loans a request of one element, and writes it. It is complete by proof, and is not asked about that.
+/// Loans a request of one element, and writes it.
 #[inline(always)]
 fn request_of_one<T: Payload, B: Body<Item = T>>(
     core: &mut Bodies<B>,
@@ -39,12 +39,11 @@ fn request_of_one<T: Payload, B: Body<Item = T>>(
     ensures numbers { numbers_left core.old ≤ numbers_left core.new + 1 }
 {
     let request = calls::loan_request(core, client, 1)?;
-    calls::push_request(core, &request, T::filled(word));
-    calls::init_request(core, &request);
+    calls::write_request(core, &request, T::filled(word));
     Ok(request)
 }
 
-/// Loans a response of one element, and writes it. It is complete by proof, and is not asked about that.
+/// Loans a response of one element, and writes it.
 #[inline(always)]
 fn response_of_one<T: Payload, B: Body<Item = T>>(
     core: &mut Bodies<B>,
@@ -59,14 +58,13 @@ fn response_of_one<T: Payload, B: Body<Item = T>>(
     ensures numbers { numbers_left core.old ≤ numbers_left core.new + 1 }
 {
     let response = calls::loan_response(core, active, 1)?;
-    calls::push_response(core, &response, T::filled(word));
-    calls::init_response(core, &response);
+    calls::write_response(core, &response, T::filled(word));
     Ok(response)
 }
 
 /// Fills a request with elements of one word.
 #[inline(always)]
-fn write_request<T: Payload, B: Body<Item = T>>(
+fn fill_request<T: Payload, B: Body<Item = T>>(
     core: &mut Bodies<B>,
     id: &HandleId,
     len: usize,
@@ -90,7 +88,7 @@ fn write_request<T: Payload, B: Body<Item = T>>(
 
 /// Fills a response with elements of one word.
 #[inline(always)]
-fn write_response<T: Payload, B: Body<Item = T>>(
+fn fill_response<T: Payload, B: Body<Item = T>>(
     core: &mut Bodies<B>,
     id: &HandleId,
     len: usize,
@@ -131,7 +129,7 @@ fn written_request<T: Payload, B: Body<Item = T>>(
         Family::Typed => request_of_one(core, client, word),
         Family::Sliced => {
             let request = calls::loan_request(core, client, len)?;
-            write_request(core, &request, len, word)?;
+            fill_request(core, &request, len, word)?;
             Ok(request)
         }
     }
@@ -176,7 +174,7 @@ fn written_response<T: Payload, B: Body<Item = T>>(
         Family::Typed => response_of_one(core, active, word),
         Family::Sliced => {
             let response = calls::loan_response(core, active, len)?;
-            write_response(core, &response, len, word)?;
+            fill_response(core, &response, len, word)?;
             Ok(response)
         }
     }

@@ -30,7 +30,7 @@ impl<QB: Body, QH: Default + Drop, PB: Body, PH: Default + Drop, K: Backpressure
         ensures { IsSomeAnd (option_and_then request_in (handle_at self.now id.now)) (λ m. result ≡ request_header self.now m) }
     {
         let hint = id.hint();
-        if self.parts.is_at(id.number(), hint) {
+        if self.parts.is_place_of(id.number(), hint) {
             request_header_at(&self.parts, id.number(), hint)
         } else {
             let place = self.parts.place_of(id.number());
@@ -45,7 +45,7 @@ impl<QB: Body, QH: Default + Drop, PB: Body, PH: Default + Drop, K: Backpressure
         ensures { IsSomeAnd (option_and_then response_in (handle_at self.now id.now)) (λ m. result ≡ response_header self.now m) }
     {
         let hint = id.hint();
-        if self.parts.is_at(id.number(), hint) {
+        if self.parts.is_place_of(id.number(), hint) {
             response_header_at(&self.parts, id.number(), hint)
         } else {
             let place = self.parts.place_of(id.number());
@@ -61,7 +61,7 @@ impl<QB: Body, QH: Default + Drop, PB: Body, PH: Default + Drop, K: Backpressure
         ensures { IsSomeAnd (option_and_then request_in (handle_at self.now id.now)) (λ m. result.now ≡ m.content.user_header) }
     {
         let hint = id.hint();
-        if self.parts.is_at(id.number(), hint) {
+        if self.parts.is_place_of(id.number(), hint) {
             request_user_header_at(&self.parts, id.number(), hint)
         } else {
             let place = self.parts.place_of(id.number());
@@ -77,7 +77,7 @@ impl<QB: Body, QH: Default + Drop, PB: Body, PH: Default + Drop, K: Backpressure
         ensures { IsSomeAnd (option_and_then response_in (handle_at self.now id.now)) (λ m. result.now ≡ m.content.user_header) }
     {
         let hint = id.hint();
-        if self.parts.is_at(id.number(), hint) {
+        if self.parts.is_place_of(id.number(), hint) {
             response_user_header_at(&self.parts, id.number(), hint)
         } else {
             let place = self.parts.place_of(id.number());
@@ -92,7 +92,7 @@ impl<QB: Body, QH: Default + Drop, PB: Body, PH: Default + Drop, K: Backpressure
         ensures { IsSomeAnd (active_at self.now id.now) (λ active. result.0 ≡ active.message.client) }
     {
         let hint = id.hint();
-        if self.parts.is_at(id.number(), hint) {
+        if self.parts.is_place_of(id.number(), hint) {
             request_origin_at(&self.parts, id.number(), hint)
         } else {
             let place = self.parts.place_of(id.number());
@@ -107,7 +107,7 @@ impl<QB: Body, QH: Default + Drop, PB: Body, PH: Default + Drop, K: Backpressure
         ensures { IsSomeAnd (option_and_then response_in (handle_at self.now id.now)) (λ m. result.0 ≡ m.server) }
     {
         let hint = id.hint();
-        if self.parts.is_at(id.number(), hint) {
+        if self.parts.is_place_of(id.number(), hint) {
             response_origin_at(&self.parts, id.number(), hint)
         } else {
             let place = self.parts.place_of(id.number());

@@ -63,7 +63,7 @@ impl<QB: Body, QH: Default + Drop, PB: Body, PH: Default + Drop, K: Backpressure
         ensures unreduced { ServerHasPool self.old.limits self.old active.now len → result ≢ Err LoanError.OutOfMemory }
     {
         let hint = active.hint();
-        if self.parts.is_at(active.number(), hint) {
+        if self.parts.is_place_of(active.number(), hint) {
             loan_response_at(&mut self.parts, active.number(), hint, len)
         } else {
             let place = self.parts.place_of(active.number());

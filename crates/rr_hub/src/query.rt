@@ -40,7 +40,7 @@ impl<QB: Body, QH: Default + Drop, PB: Body, PH: Default + Drop, K: Backpressure
         ensures elements { IsSomeAnd (option_and_then request_in (handle_at self.now id.now)) (λ m. QB.elements result.now ≡ m.content.elements) }
     {
         let hint = id.hint();
-        if self.parts.is_at(id.number(), hint) {
+        if self.parts.is_place_of(id.number(), hint) {
             request_body_at(&self.parts, id.number(), hint)
         } else {
             let place = self.parts.place_of(id.number());
@@ -57,7 +57,7 @@ impl<QB: Body, QH: Default + Drop, PB: Body, PH: Default + Drop, K: Backpressure
         ensures elements { IsSomeAnd (option_and_then response_in (handle_at self.now id.now)) (λ m. PB.elements result.now ≡ m.content.elements) }
     {
         let hint = id.hint();
-        if self.parts.is_at(id.number(), hint) {
+        if self.parts.is_place_of(id.number(), hint) {
             response_body_at(&self.parts, id.number(), hint)
         } else {
             let place = self.parts.place_of(id.number());
@@ -73,7 +73,7 @@ impl<QB: Body, QH: Default + Drop, PB: Body, PH: Default + Drop, K: Backpressure
         ensures { IsSomeAnd (pending_at self.now id.now) (λ pending. result ≡ nat_lt 0 (length pending.servers)) }
     {
         let hint = id.hint();
-        if self.parts.is_at(id.number(), hint) {
+        if self.parts.is_place_of(id.number(), hint) {
             is_pending_connected_at(&self.parts, id.number(), hint)
         } else {
             let place = self.parts.place_of(id.number());
@@ -89,7 +89,7 @@ impl<QB: Body, QH: Default + Drop, PB: Body, PH: Default + Drop, K: Backpressure
         ensures { IsSomeAnd (active_at self.now id.now) (λ active. result ≡ is_alive self.now active.message.number) }
     {
         let hint = id.hint();
-        if self.parts.is_at(id.number(), hint) {
+        if self.parts.is_place_of(id.number(), hint) {
             is_active_connected_at(&self.parts, id.number(), hint)
         } else {
             let place = self.parts.place_of(id.number());
@@ -105,7 +105,7 @@ impl<QB: Body, QH: Default + Drop, PB: Body, PH: Default + Drop, K: Backpressure
         ensures { IsSomeAnd (active_at self.now id.now) (λ active. result ≡ active.message.number) }
     {
         let hint = id.hint();
-        if self.parts.is_at(id.number(), hint) {
+        if self.parts.is_place_of(id.number(), hint) {
             request_number_at(&self.parts, id.number(), hint)
         } else {
             let place = self.parts.place_of(id.number());
@@ -121,7 +121,7 @@ impl<QB: Body, QH: Default + Drop, PB: Body, PH: Default + Drop, K: Backpressure
         ensures { IsSomeAnd (pending_at self.now id.now) (λ pending. result ≡ pending.connections) }
     {
         let hint = id.hint();
-        if self.parts.is_at(id.number(), hint) {
+        if self.parts.is_place_of(id.number(), hint) {
             number_of_server_connections_at(&self.parts, id.number(), hint)
         } else {
             let place = self.parts.place_of(id.number());
@@ -137,7 +137,7 @@ impl<QB: Body, QH: Default + Drop, PB: Body, PH: Default + Drop, K: Backpressure
         ensures { IsSomeAnd (active_at self.now id.now) (λ active. result ≡ has_disconnect_hint self.now active.message.number) }
     {
         let hint = id.hint();
-        if self.parts.is_at(id.number(), hint) {
+        if self.parts.is_place_of(id.number(), hint) {
             has_disconnect_hint_at(&self.parts, id.number(), hint)
         } else {
             let place = self.parts.place_of(id.number());

@@ -41,7 +41,7 @@ impl<QB: Body, QH: Default + Drop, PB: Body, PH: Default + Drop, K: Backpressure
         ensures { IsSomeAnd (pending_at self.now id.now) (λ pending. IsTrue result ↔ HasResponse self.now pending) }
     {
         let hint = id.hint();
-        if self.parts.is_at(id.number(), hint) {
+        if self.parts.is_place_of(id.number(), hint) {
             has_response_at(&self.parts, id.number(), hint)
         } else {
             let place = self.parts.place_of(id.number());
@@ -57,7 +57,7 @@ impl<QB: Body, QH: Default + Drop, PB: Body, PH: Default + Drop, K: Backpressure
         ensures { IsSomeAnd (request_at self.now id.now) (λ m. result ≡ is_request_deliverable self.now m) }
     {
         let hint = id.hint();
-        if self.parts.is_at(id.number(), hint) {
+        if self.parts.is_place_of(id.number(), hint) {
             is_request_deliverable_at(&self.parts, id.number(), hint)
         } else {
             let place = self.parts.place_of(id.number());
@@ -73,7 +73,7 @@ impl<QB: Body, QH: Default + Drop, PB: Body, PH: Default + Drop, K: Backpressure
         ensures { IsSomeAnd (response_at self.now id.now) (λ m. result ≡ is_response_deliverable self.now m) }
     {
         let hint = id.hint();
-        if self.parts.is_at(id.number(), hint) {
+        if self.parts.is_place_of(id.number(), hint) {
             is_response_deliverable_at(&self.parts, id.number(), hint)
         } else {
             let place = self.parts.place_of(id.number());

@@ -32,7 +32,7 @@ impl<QB: Body, QH: Default + Drop, PB: Body, PH: Default + Drop, K: Backpressure
         ensures unnamed { IfOk result (λ handle. IfSome handle (λ number. kind_at self.old number ≡ None)) }
     {
         let hint = id.hint();
-        if self.parts.is_at(id.number(), hint) {
+        if self.parts.is_place_of(id.number(), hint) {
             receive_response_at(&mut self.parts, id.number(), hint)
         } else {
             let place = self.parts.place_of(id.number());

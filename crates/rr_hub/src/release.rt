@@ -57,7 +57,7 @@ impl<QB: Body, QH: Default + Drop, PB: Body, PH: Default + Drop, K: Backpressure
         ensures { self.new ≡ after_release self.old id.now }
     {
         let hint = id.hint();
-        if self.parts.is_at(id.number(), hint) {
+        if self.parts.is_place_of(id.number(), hint) {
             release_at(&mut self.parts, id.number(), hint);
         } else {
             let place = self.parts.place_of(id.number());
@@ -73,7 +73,7 @@ impl<QB: Body, QH: Default + Drop, PB: Body, PH: Default + Drop, K: Backpressure
         ensures { self.new ≡ after_release self.old id.now }
     {
         let hint = id.hint();
-        if self.parts.is_at(id.number(), hint) {
+        if self.parts.is_place_of(id.number(), hint) {
             release_pending_at(&mut self.parts, id.number(), hint);
         } else {
             let place = self.parts.place_of(id.number());
@@ -89,7 +89,7 @@ impl<QB: Body, QH: Default + Drop, PB: Body, PH: Default + Drop, K: Backpressure
         ensures { self.new ≡ after_release self.old id.now }
     {
         let hint = id.hint();
-        if self.parts.is_at(id.number(), hint) {
+        if self.parts.is_place_of(id.number(), hint) {
             release_active_at(&mut self.parts, id.number(), hint);
         } else {
             let place = self.parts.place_of(id.number());
@@ -105,7 +105,7 @@ impl<QB: Body, QH: Default + Drop, PB: Body, PH: Default + Drop, K: Backpressure
         ensures { self.new ≡ after_release self.old id.now }
     {
         let hint = id.hint();
-        if self.parts.is_at(id.number(), hint) {
+        if self.parts.is_place_of(id.number(), hint) {
             release_received_at(&mut self.parts, id.number(), hint);
         } else {
             let place = self.parts.place_of(id.number());
@@ -121,7 +121,7 @@ impl<QB: Body, QH: Default + Drop, PB: Body, PH: Default + Drop, K: Backpressure
         ensures { self.new ≡ after_release self.old id.now }
     {
         let hint = id.hint();
-        if self.parts.is_at(id.number(), hint) {
+        if self.parts.is_place_of(id.number(), hint) {
             release_request_at(&mut self.parts, id.number(), hint);
         } else {
             let place = self.parts.place_of(id.number());
@@ -137,7 +137,7 @@ impl<QB: Body, QH: Default + Drop, PB: Body, PH: Default + Drop, K: Backpressure
         ensures { self.new ≡ after_release self.old id.now }
     {
         let hint = id.hint();
-        if self.parts.is_at(id.number(), hint) {
+        if self.parts.is_place_of(id.number(), hint) {
             release_response_loan_at(&mut self.parts, id.number(), hint);
         } else {
             let place = self.parts.place_of(id.number());

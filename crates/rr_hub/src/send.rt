@@ -32,7 +32,7 @@ impl<QB: Body, QH: Default + Drop, PB: Body, PH: Default + Drop, K: Backpressure
         ensures { SendsRequest K.action self.old id.now result self.new }
     {
         let hint = id.hint();
-        if self.parts.is_at(id.number(), hint) {
+        if self.parts.is_place_of(id.number(), hint) {
             send_request_at(&mut self.parts, id.number(), hint)
         } else {
             let place = self.parts.place_of(id.number());
@@ -55,7 +55,7 @@ impl<QB: Body, QH: Default + Drop, PB: Body, PH: Default + Drop, K: Backpressure
         ensures { SendsResponse K.action self.old id.now result self.new }
     {
         let hint = id.hint();
-        if self.parts.is_at(id.number(), hint) {
+        if self.parts.is_place_of(id.number(), hint) {
             send_response_at(&mut self.parts, id.number(), hint)
         } else {
             self.send_response_far(id.number())

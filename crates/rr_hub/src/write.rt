@@ -1,9 +1,9 @@
 //! Writing what a loaned message says, before it is sent, and the hint of one that was sent.
-ghost use Rattle.std.specs.Prelude.{◌≡◌, ◌⊎◌, not, true, length, nat_lt, Some, IsSomeAnd, if◌then◌else◌, option_and_then};
+ghost use Rattle.std.specs.Prelude.{◌≡◌, ◌⊎◌, [], ◌∷◌, not, true, length, nat_lt, Some, IsSomeAnd, if◌then◌else◌, option_and_then};
 ghost use Rattle.rr_protocol.specs.Messages.{request_in, response_in, with_hint};
 ghost use Rattle.rr_protocol.specs.Queries.{kind_at};
 ghost use Rattle.rr_protocol.specs.State.{handle_at, with_changed};
-ghost use Rattle.rr_protocol.specs.Writing.{is_complete, with_element, with_element_at, with_request_content, with_response_content, with_user_header, after_init};
+ghost use Rattle.rr_protocol.specs.Writing.{is_complete, with_element, with_element_at, with_elements, with_request_content, with_response_content, with_user_header, after_init};
 ghost use Rattle.rr_store.specs.Writing.{is_ready};
 
 use crate::state::Core;
@@ -11,9 +11,9 @@ use rr_protocol::{BackpressureFn, Kind};
 use rr_slots::Body;
 use rr_store::HandleId;
 use rr_writing::{
-    assume_init_at, push_request_at, push_response_at, set_disconnect_hint_at,
-    write_request_element_at, write_request_user_header_at, write_response_element_at,
-    write_response_user_header_at,
+    assume_init_at, push_request_at, push_response_at, set_disconnect_hint_at, write_request_at,
+    write_request_element_at, write_request_user_header_at, write_response_at,
+    write_response_element_at, write_response_user_header_at,
 };
 
 impl<QB: Body, QH: Default + Drop, PB: Body, PH: Default + Drop, K: BackpressureFn> Core<
@@ -33,7 +33,7 @@ impl<QB: Body, QH: Default + Drop, PB: Body, PH: Default + Drop, K: Backpressure
         ensures { IsSomeAnd (option_and_then request_in (handle_at self.old id.now)) (λ m. (result ≡ not (is_complete m.content)) × (self.new ≡ (if result then with_changed self.old id.now (with_request_content (with_element item)) else self.old))) }
     {
         let hint = id.hint();
-        if self.parts.is_at(id.number(), hint) {
+        if self.parts.is_place_of(id.number(), hint) {
             push_request_at(&mut self.parts, id.number(), hint, item)
         } else {
             let place = self.parts.place_of(id.number());
@@ -51,7 +51,7 @@ impl<QB: Body, QH: Default + Drop, PB: Body, PH: Default + Drop, K: Backpressure
         ensures { IsSomeAnd (option_and_then response_in (handle_at self.old id.now)) (λ m. (result ≡ not (is_complete m.content)) × (self.new ≡ (if result then with_changed self.old id.now (with_response_content (with_element item)) else self.old))) }
     {
         let hint = id.hint();
-        if self.parts.is_at(id.number(), hint) {
+        if self.parts.is_place_of(id.number(), hint) {
             push_response_at(&mut self.parts, id.number(), hint, item)
         } else {
             let place = self.parts.place_of(id.number());
@@ -69,11 +69,49 @@ impl<QB: Body, QH: Default + Drop, PB: Body, PH: Default + Drop, K: Backpressure
         ensures { self.new ≡ with_changed self.old id.now after_init }
     {
         let hint = id.hint();
-        if self.parts.is_at(id.number(), hint) {
+        if self.parts.is_place_of(id.number(), hint) {
             assume_init_at(&mut self.parts, id.number(), hint);
         } else {
             let place = self.parts.place_of(id.number());
             assume_init_at(&mut self.parts, id.number(), place);
+        }
+    }
+
+    /// Makes an element the only one of a request of one element that is being written, and the request one that can be sent. An
+    /// element that was written before is dropped.
+    ///
+    /// After iceoryx2's `RequestMutUninit::write_payload`.
+    #[inline(always)]
+    pub fn write_request(&mut self, id: &HandleId, element: QB::Item)
+        requires uninit { kind_at self.old id.now ≡ Some Kind.RequestMutUninit }
+        requires asked { IsSomeAnd (option_and_then request_in (handle_at self.old id.now)) (λ m. m.content.asked_len ≡ 1) }
+        ensures { self.new ≡ with_changed (with_changed self.old id.now (with_request_content (with_elements (element ∷ [])))) id.now after_init }
+    {
+        let hint = id.hint();
+        if self.parts.is_place_of(id.number(), hint) {
+            write_request_at(&mut self.parts, id.number(), hint, element);
+        } else {
+            let place = self.parts.place_of(id.number());
+            write_request_at(&mut self.parts, id.number(), place, element);
+        }
+    }
+
+    /// Makes an element the only one of a response of one element that is being written, and the response one that can be sent. An
+    /// element that was written before is dropped.
+    ///
+    /// After iceoryx2's `ResponseMutUninit::write_payload`.
+    #[inline(always)]
+    pub fn write_response(&mut self, id: &HandleId, element: PB::Item)
+        requires uninit { kind_at self.old id.now ≡ Some Kind.ResponseMutUninit }
+        requires asked { IsSomeAnd (option_and_then response_in (handle_at self.old id.now)) (λ m. m.content.asked_len ≡ 1) }
+        ensures { self.new ≡ with_changed (with_changed self.old id.now (with_response_content (with_elements (element ∷ [])))) id.now after_init }
+    {
+        let hint = id.hint();
+        if self.parts.is_place_of(id.number(), hint) {
+            write_response_at(&mut self.parts, id.number(), hint, element);
+        } else {
+            let place = self.parts.place_of(id.number());
+            write_response_at(&mut self.parts, id.number(), place, element);
         }
     }
 
@@ -86,7 +124,7 @@ impl<QB: Body, QH: Default + Drop, PB: Body, PH: Default + Drop, K: Backpressure
         ensures { self.new ≡ with_changed self.old id.now with_hint }
     {
         let hint = id.hint();
-        if self.parts.is_at(id.number(), hint) {
+        if self.parts.is_place_of(id.number(), hint) {
             set_disconnect_hint_at(&mut self.parts, id.number(), hint);
         } else {
             let place = self.parts.place_of(id.number());
@@ -104,7 +142,7 @@ impl<QB: Body, QH: Default + Drop, PB: Body, PH: Default + Drop, K: Backpressure
         ensures { IsSomeAnd (option_and_then request_in (handle_at self.old id.now)) (λ m. (result ≡ nat_lt index (length m.content.elements)) × (self.new ≡ (if result then with_changed self.old id.now (with_request_content (with_element_at index element)) else self.old))) }
     {
         let hint = id.hint();
-        if self.parts.is_at(id.number(), hint) {
+        if self.parts.is_place_of(id.number(), hint) {
             write_request_element_at(&mut self.parts, id.number(), hint, index, element)
         } else {
             let place = self.parts.place_of(id.number());
@@ -121,7 +159,7 @@ impl<QB: Body, QH: Default + Drop, PB: Body, PH: Default + Drop, K: Backpressure
         ensures { self.new ≡ with_changed self.old id.now (with_request_content (with_user_header header)) }
     {
         let hint = id.hint();
-        if self.parts.is_at(id.number(), hint) {
+        if self.parts.is_place_of(id.number(), hint) {
             write_request_user_header_at(&mut self.parts, id.number(), hint, header);
         } else {
             let place = self.parts.place_of(id.number());
@@ -139,7 +177,7 @@ impl<QB: Body, QH: Default + Drop, PB: Body, PH: Default + Drop, K: Backpressure
         ensures { IsSomeAnd (option_and_then response_in (handle_at self.old id.now)) (λ m. (result ≡ nat_lt index (length m.content.elements)) × (self.new ≡ (if result then with_changed self.old id.now (with_response_content (with_element_at index element)) else self.old))) }
     {
         let hint = id.hint();
-        if self.parts.is_at(id.number(), hint) {
+        if self.parts.is_place_of(id.number(), hint) {
             write_response_element_at(&mut self.parts, id.number(), hint, index, element)
         } else {
             let place = self.parts.place_of(id.number());
@@ -156,7 +194,7 @@ impl<QB: Body, QH: Default + Drop, PB: Body, PH: Default + Drop, K: Backpressure
         ensures { self.new ≡ with_changed self.old id.now (with_response_content (with_user_header header)) }
     {
         let hint = id.hint();
-        if self.parts.is_at(id.number(), hint) {
+        if self.parts.is_place_of(id.number(), hint) {
             write_response_user_header_at(&mut self.parts, id.number(), hint, header);
         } else {
             let place = self.parts.place_of(id.number());

@@ -15,9 +15,13 @@ use rr_store::{HandleEntry, HandleId, Stage, Store};
 /// of which one is left.
 ///
 /// Requests whose pending responses were released are dropped first, where they are the oldest of their clients, unless the
-/// limits have fire-and-forget requests. `None` if no client's request waits then. `ExceedsMaxBorrows` if some waits, but the
-/// server has as many requests of each such client as it may. It looks at each client's sender at most twice, and once at each
-/// request that it drops, and takes no memory. After iceoryx2's `Server::receive`.
+/// limits have fire-and-forget requests; a client of which the server has as many requests as it may is left out. Returns `None`
+/// if no client's request waits then. Looks at each client's sender at most twice, and once at each request that it drops, and
+/// takes no memory. After iceoryx2's `Server::receive`.
+///
+/// # Errors
+///
+/// - `ExceedsMaxBorrows` if some request waits, but the server has as many requests of each such client as it may.
 #[inline(always)]
 pub fn receive_request<
     QB: Body,

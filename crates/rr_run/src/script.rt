@@ -25,7 +25,7 @@ type ScriptRunner<B> = Runner<u64, B, u64, NoHandler>;
 /// Runs the program: does what the words ask for, and returns its status.
 ///
 /// `script` alone reads commands from the input, one a line, and writes each reply before the next line is read. 0 if all was
-/// done. Else one line goes to `faults`: 1 for a line that is none (`bad line L`), 2 for a read or write that failed, 3 for
+/// done. Else one line goes to `faults`: 1 for a line that isn't one of the script's (`bad line L`), 2 for a read or write that failed, 3 for
 /// other words, 4 if the hub was refused or a buffer found no memory. What was written before stays. Our own.
 pub fn serve<R: BufRead + Drop, W: Write, F: Write>(
     alloc: Global,

@@ -1,7 +1,7 @@
 -- Buffers of one capacity, and how many of them have entries.
 use Rattle.std.proofs.Common.{◌≡◌, ℕ, suc, zero, ◌+◌, ◌-◌, ◌<◌, ◌≤◌, List, [], ◌∷◌, ◌++◌, cond, length, drop, replicate, refl, sym, ap, ◌∙◌, ⊎_elim, arith, get_or}
-use Rattle.std.specs.Prelude.{slice_set, sum_by, All}
-use Rattle.std.proofs.lemmas.Bool.{cases_eq, eq-eqb, ne_eqb}
+use Rattle.std.specs.Prelude.{◌==◌, true, false, IsOk, OnOk, Result, Ok, Err, slice_set, sum_by, All}
+use Rattle.std.proofs.lemmas.Bool.{cases_eq, cases_lt, false≢true, eq-eqb, eqb-false, eqb-true, ne_eqb}
 use Rattle.std.proofs.lemmas.List.{get_or-map, length-map, length-set, map-set, length_push, length-drop}
 use Rattle.std.proofs.lemmas.List.Elements.{All-head, All-tail, All-set, All-replicate}
 use Rattle.std.proofs.lemmas.List.Sums.{sum_by-set, sum_by-cons, get_or-le-sum_by}
@@ -13,6 +13,21 @@ occupied-le-length : (queues : List (List ℕ)) → sum_by occupancy queues ≤ 
 occupied-le-length [] = omega arith
 occupied-le-length ([] ∷ queues) = omega (arith, sum_by-cons occupancy [] queues, occupied-le-length queues)
 occupied-le-length ((entry ∷ queue) ∷ queues) = omega (arith, sum_by-cons occupancy (entry ∷ queue) queues, occupied-le-length queues)
+
+-- queues of one length are occupied alike, and one with entries is
+occupancy-length : (xs ys : List ℕ) → length xs ≡ length ys → occupancy xs ≡ occupancy ys
+occupancy-length [] [] e = refl
+occupancy-length [] (y ∷ ys) e = absurd (omega (arith, e))
+occupancy-length (x ∷ xs) [] e = absurd (omega (arith, e))
+occupancy-length (x ∷ xs) (y ∷ ys) e = refl
+
+occupancy-some : (xs : List ℕ) → 0 < length xs → occupancy xs ≡ 1
+occupancy-some [] h = absurd (omega (arith, h))
+occupancy-some (x ∷ xs) h = refl
+
+occupancy-le : (xs : List ℕ) → occupancy xs ≤ 1
+occupancy-le [] = omega arith
+occupancy-le (x ∷ xs) = omega arith
 
 -- none is occupied exactly where each is empty
 pub none_occupied : (queues : List (List ℕ)) → sum_by occupancy queues ≡ 0 → All (λ queue. queue ≡ []) queues
@@ -58,6 +73,11 @@ pub queues-empty : (channels capacity : ℕ) → queues_of (replicate channels (
 queues-empty zero capacity = refl
 queues-empty (suc channels) capacity = ap (λ queues. [] ∷ queues) (queues-empty channels capacity)
 
+-- what is so where a call succeeds, where it does
+pub by_ok : {A E : Type 0} (r : Result A E) (X : Type 0) → IsOk r → OnOk r X → X
+by_ok (Ok a) X is x = x
+by_ok (Err e) X is x = absurd (false≢true is)
+
 -- what a call finds at a channel, and what it leaves in its place
 module _ (buffers : List (Buffer ℕ)) (capacity n i : ℕ) (state : Entries) (sound : IsSound buffers capacity n)
     (view : entries (queues_of buffers) capacity ≡ state) (inside : i < length state.queues) (old : Buffer ℕ)
@@ -76,6 +96,30 @@ module _ (buffers : List (Buffer ℕ)) (capacity n i : ℕ) (state : Entries) (s
 
   length_at : length old.items ≤ capacity
   length_at = omega (arith, ap (λ (b : Buffer ℕ). length b.items) is, sound.within i old at_buffers)
+
+  -- a queue that is not full has room
+  room_at : (length old.items == old.capacity) ≡ false → length old.items < capacity
+  room_at fresh = ⊎_elim
+      (λ h. h)
+      (λ h. absurd (eqb-false (length old.items) old.capacity fresh (omega (arith, h, length_at, capacity_at))))
+      (cases_lt (length old.items) capacity)
+
+  room_in : (length old.items == old.capacity) ≡ false → length old.items < old.capacity
+  room_in fresh = omega (arith, room_at fresh, capacity_at)
+
+  -- so it keeps all that it had
+  kept_all : (entry : ℕ) → (length old.items == old.capacity) ≡ false
+      → keep_last old.capacity (old.items ++ entry ∷ []) ≡ old.items ++ entry ∷ []
+  kept_all entry fresh = ap (λ k. drop k (old.items ++ entry ∷ []))
+      (let z : length (old.items ++ entry ∷ []) - old.capacity ≡ 0 = omega
+      (arith, length_push old.items entry, room_at fresh, capacity_at) in z)
+
+  pub entered : {A E : Type 0} (r : Result A E) (new : Buffer ℕ) (entry : ℕ) → (length old.items == old.capacity) ≡ false
+      → (length old.items < old.capacity → IsOk r) → OnOk r (new ≡ buffer (old.items ++ entry ∷ []) old.capacity)
+      → new ≡ buffer (keep_last old.capacity (old.items ++ entry ∷ [])) old.capacity
+  entered r new entry fresh ok told =
+      by_ok r (new ≡ buffer (old.items ++ entry ∷ []) old.capacity) (ok (room_in fresh)) told
+      ∙ ap (λ items. buffer items old.capacity) (sym (kept_all entry fresh))
 
   pub counted_at : occupancy old.items ≤ n
   counted_at = omega (arith, sound.counted, get_or-le-sum_by occupancy (queues_of buffers) i [] at_queues, ap occupancy queue_at)
@@ -130,6 +174,33 @@ module _ (buffers : List (Buffer ℕ)) (capacity n i : ℕ) (state : Entries) (s
     module _ (entry : ℕ) (is_pushed : new ≡ buffer (keep_last old.capacity (old.items ++ entry ∷ [])) old.capacity) where
       items_pushed : new.items ≡ keep_last capacity (old.items ++ entry ∷ [])
       items_pushed = ap (λ b. b.items) is_pushed ∙ ap (λ k. keep_last k (old.items ++ entry ∷ [])) capacity_at
+
+      length_pushed : length new.items ≡ length old.items + 1 - (length old.items + 1 - capacity)
+      length_pushed = omega (
+        arith,
+        ap length items_pushed,
+        length-drop (length (old.items ++ entry ∷ []) - capacity) (old.items ++ entry ∷ []),
+        length_push old.items entry,
+      )
+
+      -- a full queue has as many entries as before
+      pub counted-full : (length old.items == old.capacity) ≡ true → n - occupancy old.items + occupancy new.items ≡ n
+      counted-full full = omega (
+        arith,
+        counted_at,
+        occupancy-length new.items old.items
+            (omega (arith, length_pushed, eqb-true (length old.items) old.capacity full, capacity_at)),
+      )
+
+      -- another one has entries then
+      pub counted-fresh : (length old.items == old.capacity) ≡ false
+          → n - occupancy old.items + occupancy new.items ≡ n + (1 - occupancy old.items)
+      counted-fresh fresh = omega (
+        arith,
+        counted_at,
+        occupancy-le old.items,
+        occupancy-some new.items (omega (arith, length_pushed, room_at fresh)),
+      )
 
       pub sound-pushed : IsSound (slice_set buffers i new) capacity (n - occupancy old.items + occupancy new.items)
       sound-pushed = sound-set

@@ -55,10 +55,14 @@ impl Connection {
         ensures state { self.new ≡ with_queue self.old channel (pushed self.old.capacity (queue_of self.old channel) entry) }
     {
         let queue = &mut self.queues[channel];
+        if queue.is_full() {
+            let evicted = queue.push_back(entry);
+            return evicted;
+        }
         let before = occupancy(queue);
-        let evicted = queue.push_back(entry);
-        self.occupied = self.occupied - before + occupancy(queue);
-        evicted
+        let _ = queue.try_push_back(entry);
+        self.occupied += 1 - before;
+        None
     }
 
     /// Takes the oldest entry of a channel. `None` where it has none, and nothing changes then.

@@ -18,7 +18,7 @@ pub enum Stage {
     RequestMut,
     /// A request that was sent: whether its hint is set, and how many queues took it.
     PendingResponse(bool, usize),
-    /// A request that this server received, and how many responses it has on loan from it.
+    /// A request that this server received, and how many responses are on loan from it.
     ActiveRequest(u64, usize),
     /// A response that is being written.
     ResponseMutUninit,
@@ -29,7 +29,7 @@ pub enum Stage {
 }
 
 impl Stage {
-    /// The kind of the handle.
+    /// Returns the kind of the handle.
     #[inline(always)]
     pub fn kind(self) -> Kind
         ensures { result ≡ stage_kind self }
@@ -57,7 +57,7 @@ impl Stage {
         }
     }
 
-    /// The server of an active request, and how many responses it has on loan from it.
+    /// Returns the server of an active request, and how many responses are on loan from it. `None` in other stages.
     #[inline(always)]
     pub fn active(self) -> Option<(u64, usize)>
         ensures { result ≡ active_in self }
@@ -68,7 +68,7 @@ impl Stage {
         }
     }
 
-    /// The server that received an active request. 0 in other stages.
+    /// Returns the server that received an active request. 0 in other stages.
     #[inline(always)]
     pub fn server(self) -> u64
         ensures { result ≡ server_of_stage self }
@@ -79,7 +79,7 @@ impl Stage {
         }
     }
 
-    /// Whether the handle is a pending response.
+    /// Returns whether the handle is a pending response.
     #[inline(always)]
     pub fn is_pending(self) -> bool
         ensures { result ≡ is_pending self }

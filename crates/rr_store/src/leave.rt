@@ -116,7 +116,8 @@ pub fn expire<B: Body, N: Copy, H: Drop>(
     }
 }
 
-/// Drops what waits for each of these ports of the oldest ports that left, for which there is no room as one more leaves.
+/// Drops, for each of these ports, what waits for it of the oldest ports that left: of as many as there is no room for as one more
+/// leaves.
 pub fn expire_at_each<P: ConnectedPort, B: Body, N: Copy, H: Drop>(
     senders: &mut Vec<OwnedSender<B, N, H>>,
     ports: &[P],

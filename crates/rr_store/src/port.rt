@@ -59,8 +59,9 @@ pub struct OwnedSender<B: Body, N: Copy, H: Drop> {
     pub receiver: usize,
     pub has_value: bool,
     pub loans: usize,
-    pub pendings: usize,
     pub may_answer: Vec<u64>,
+    // Apart from the loans: a send changes both, and the compiler would read two neighbours as one before the first is stored.
+    pub pendings: usize,
     pub messages: Sender<B, N, H>,
 }
 

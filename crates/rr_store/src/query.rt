@@ -22,7 +22,7 @@ pub fn is_value<P: ConnectedPort>(ports: &[P], number: u64) -> bool
     }
 }
 
-/// Whether one of the servers is marked, where the marks by receiver begin at an index.
+/// Returns whether one of the servers is marked, where the marks by receiver begin at an index.
 #[inline(always)]
 pub fn is_any_marked<K: Drop>(servers: &[ServerPort<K>], marks: &[u64], start: usize) -> bool
     requires { (i : ℕ) (s : ServerPort K) → slice_get servers.now i ≡ Some s → start + s.port.receiver < length marks.now }
@@ -36,7 +36,7 @@ pub fn is_any_marked<K: Drop>(servers: &[ServerPort<K>], marks: &[u64], start: u
     false
 }
 
-/// Returns whether a receiver has a message from one of the senders. Looks at each sender and channel.
+/// Returns whether a receiver has a message from one of the senders. Looks at most once at each sender and channel.
 pub fn is_borrowing<B: Body, N: Copy, H: Drop>(
     senders: &[OwnedSender<B, N, H>],
     receiver: usize,

@@ -1,6 +1,6 @@
 //! Writing what a loaned message says, before it is sent.
-ghost use Rattle.std.specs.Prelude.{◌≡◌, ◌<◌, not, true, length, nat_lt, IsSomeAnd, if◌then◌else◌, slice_get, slice_set};
-ghost use Rattle.rr_slots.specs.Pools.{appended, with_element_at};
+ghost use Rattle.std.specs.Prelude.{◌≡◌, ◌<◌, [], ◌∷◌, not, true, length, nat_lt, IsSomeAnd, if◌then◌else◌, slice_get, slice_set};
+ghost use Rattle.rr_slots.specs.Pools.{appended, with_element_at, with_elements};
 ghost use Rattle.rr_sender.specs.Senders.{content_at, with_changed_at};
 ghost use Rattle.rr_protocol.specs.Writing.{is_complete};
 ghost use Rattle.rr_store.specs.Writing.{is_written, with_messages};
@@ -46,4 +46,19 @@ pub fn write_element_in<B: Body, N: Copy, H: Drop>(
     }
     *senders[sender].messages.get_mut(slot, index) = element;
     true
+}
+
+/// Makes an element the only one of what stands in a slot of a sender, of which one is asked for at least. Old ones are dropped.
+#[inline(always)]
+pub fn write_in<B: Body, N: Copy, H: Drop>(
+    senders: &mut Vec<OwnedSender<B, N, H>>,
+    sender: usize,
+    slot: usize,
+    element: B::Item,
+)
+    requires slot { IsSomeAnd (slice_get senders.old.items sender) (λ l. slot < length l.messages.held) }
+    requires asked { IsSomeAnd (slice_get senders.old.items sender) (λ l. 0 < (content_at l.messages slot).asked_len) }
+    ensures { IsSomeAnd (slice_get senders.old.items sender) (λ l. senders.new.items ≡ slice_set senders.old.items sender (with_messages l (with_changed_at l.messages slot (with_elements (element ∷ []))))) }
+{
+    senders[sender].messages.write(slot, element);
 }

@@ -2,7 +2,7 @@
 use Rattle.std.proofs.Common.{◌≡◌, ◌≢◌, ℕ, Bool, true, false, cond, eqb, Option, Some, None, List, refl, sym, ap, ◌∙◌}
 use Rattle.std.specs.Prelude.{is_some, option_map}
 use Rattle.std.specs.FinMap.{get}
-use Rattle.rr_table.specs.TableView.{table_entry, inserted, IsAt, IsVacant}
+use Rattle.rr_table.specs.TableView.{TableEntry, table_entry, inserted, IsAt, IsVacant}
 use Rattle.std.proofs.lemmas.Bool.{eq-eqb, eqb-true}
 use Rattle.rr_table.specs.Places.{entry, of_number, table_of, standing, IsDistinct, IsPlaceOf}
 use Rattle.rr_table.specs.declared.place.Place.{Place}
@@ -45,6 +45,15 @@ module _ {E : Type 0} (rows : List (List (Option (Entry E)))) (n : ℕ) (p : Pla
   vacated_here d h k s f e =
       let none : None ≡ Some (entry k s.value) = sym (standing-written_same rows p None (placed_within rows n p d (place_here h)) s.place e)
       ∙ stands_at (written rows p None) k s f in cc
+
+-- a number that stands somewhere stands in a place
+pub somewhere : {E : Type 0} (rows : List (List (Option (Entry E)))) (n : ℕ) → get (table_of rows).entries n ≢ None
+    → (s : TableEntry E) × (standing rows s.place ≡ Some (entry n s.value))
+somewhere {E} rows n some = go (get (table_of rows).entries n) refl
+  where
+    go : (o : Option (TableEntry E)) → get (table_of rows).entries n ≡ o → (s : TableEntry E) × (standing rows s.place ≡ Some (entry n s.value))
+    go None e = absurd (some e)
+    go (Some s) e = (s, stands_at rows n s e)
 
 -- an entry of a number has that number, and stands there
 pub of_number_some : {E : Type 0} (n : ℕ) (o : Option (Entry E)) (e : Entry E) → of_number n o ≡ Some e → (o ≡ Some e) × (e.number ≡ n)

@@ -1,7 +1,7 @@
 //! How the place of a number is found.
 
-ghost use Rattle.std.specs.Prelude.{◌≡◌};
-ghost use Rattle.rr_table.specs.Places.{of_number, places_of, rows_of, standing, IsIndexOf, IsPlaceOf};
+ghost use Rattle.std.specs.Prelude.{◌≡◌, ◌≢◌, is_some};
+ghost use Rattle.rr_table.specs.Places.{of_number, places_of, rows_of, standing, vacant_number, IsIndexOf, IsPlaceOf};
 
 use crate::place::Place;
 use crate::table::{Entry, VACANT};
@@ -29,6 +29,20 @@ pub(crate) fn entry_at<E: Copy>(
         }
     }
     None
+}
+
+/// Returns whether a number, which is not the vacant one, stands in a place.
+#[inline(always)]
+pub(crate) fn is_number_at<E: Copy>(rows: &Vec<Vec<Entry<E>>>, number: u64, place: Place) -> bool
+    requires { number ≢ vacant_number }
+    ensures { result ≡ is_some (of_number number (standing (rows_of rows.now) place)) }
+{
+    if place.row < rows.len() {
+        if place.index < rows[place.row].len() {
+            return rows[place.row][place.index].number == number;
+        }
+    }
+    false
 }
 
 /// The place of a number: the hint where the number stands there, and else what a walk over the rows finds. None where

@@ -6,7 +6,7 @@ ghost use Rattle.rr_table.specs.Places.{entry, vacant_number};
 ghost use Rattle.rr_table.specs.TableView.{value_at, value_in, empty_table, table_entry, inserted, removed, IsAt, IsInside, IsVacant, with_row, IsRenewed};
 
 use crate::place::Place;
-use crate::seek::{entry_at, seek};
+use crate::seek::{entry_at, is_number_at, seek};
 use std::alloc::{AllocError, Global};
 use std::marker::Model;
 
@@ -115,6 +115,16 @@ impl<E: Copy> Table<E> {
         ensures elsewhere { IsAt self.now number place → result ≡ true }
     {
         entry_at(&self.rows, number, place).is_some()
+    }
+
+    /// Returns whether a number that stands somewhere stands in this place. Looks at no other place.
+    #[inline(always)]
+    pub fn is_place_of(&self, number: u64, place: Place) -> bool
+        requires { map.get self.now.entries number ≢ None }
+        ensures there { result ≡ true → IsAt self.now number place }
+        ensures elsewhere { IsAt self.now number place → result ≡ true }
+    {
+        is_number_at(&self.rows, number, place)
     }
 
     /// Returns the value under a number from the place where it stands.

@@ -2,3 +2,4 @@ pub mod Request
 pub mod Response
 pub mod Initialising
 pub mod Hinting
+pub mod Whole

@@ -1,13 +1,12 @@
 //! Requests: loaned, written and sent by a client, received and read by a server.
-ghost use Rattle.std.specs.Prelude.{◌≡◌, ◌<◌, ◌≤◌, ◌+◌, not, true, Some, IsTrue, IsSomeAnd, IfOk, IfSome, if◌then◌else◌, option_and_then};
+ghost use Rattle.std.specs.Prelude.{◌≡◌, ◌<◌, ◌≤◌, ◌+◌, true, Some, IsTrue, IsSomeAnd, IfOk, IfSome, option_and_then};
 ghost use Rattle.rr_slots.specs.Families.{takes_len};
 ghost use Rattle.rr_protocol.specs.declared.kind.Kind.TheVariants as kind;
 ghost use Rattle.rr_protocol.specs.Loans.{LoansRequest};
 ghost use Rattle.rr_protocol.specs.Messages.{request_in};
 ghost use Rattle.rr_protocol.specs.Receives.{ReceivesRequest};
 ghost use Rattle.rr_protocol.specs.Sends.{SendsRequest};
-ghost use Rattle.rr_protocol.specs.State.{handle_at, numbers_left, with_changed};
-ghost use Rattle.rr_protocol.specs.Writing.{is_complete, with_element, with_request_content};
+ghost use Rattle.rr_protocol.specs.State.{handle_at, numbers_left};
 ghost use Rattle.rr_hub.specs.Writing.{is_ready};
 ghost use Rattle.rr_bench.specs.Kinds.{Names, KeepsKinds, KeepsOtherKinds};
 
@@ -40,11 +39,23 @@ pub fn loan_request<B: Body>(
 #[tactic(auto, unfolding(crate::specs::Kinds::Names))]
 pub fn push_request<B: Body>(core: &mut Bodies<B>, id: &HandleId, item: B::Item) -> bool
     requires { Names core.old id.now kind.RequestMutUninit }
-    ensures pushes { IsSomeAnd (option_and_then request_in (handle_at core.old id.now)) (λ m. (result ≡ not (is_complete m.content)) × (core.new ≡ (if result then with_changed core.old id.now (with_request_content (with_element item)) else core.old))) }
     ensures kinds { KeepsKinds core.old core.new }
     ensures numbers { numbers_left core.new ≡ numbers_left core.old }
 {
     core.push_request(id, item)
+}
+
+/// Makes an element the only one of a request of one element that is being written, and the request one that can be sent.
+#[inline(always)]
+#[tactic(auto, unfolding(crate::specs::Kinds::Names))]
+pub fn write_request<B: Body>(core: &mut Bodies<B>, id: &HandleId, element: B::Item)
+    requires kind { Names core.old id.now kind.RequestMutUninit }
+    requires asked { IsSomeAnd (option_and_then request_in (handle_at core.old id.now)) (λ m. m.content.asked_len ≡ 1) }
+    ensures kind { Names core.new id.now kind.RequestMut }
+    ensures others { KeepsOtherKinds kind.RequestMutUninit core.old core.new }
+    ensures numbers { numbers_left core.new ≡ numbers_left core.old }
+{
+    core.write_request(id, element);
 }
 
 /// Makes a request that is being written, and complete, one that can be sent.

@@ -228,3 +228,38 @@ fn a_request_is_written_again(rt: HostRuntime) -> Result<(), Fail> {
     assert!(rt; rewritten == Some(([true, false, true], Some(321), 7)));
     Ok(())
 }
+
+/// Writes a request whole, if the handle is one of one element that is being written. Returns whether it was.
+fn write_whole(core: &mut TypedCore, id: &HandleId, element: u64) -> bool {
+    match core.kind(id) {
+        Some(Kind::RequestMutUninit) => {
+            if core.request_body(id).asked_len() != 1 {
+                return false;
+            }
+            core.write_request(id, element);
+            true
+        }
+        _ => false,
+    }
+}
+
+/// Writes a request whole that has an element, twice. Returns whether it was written each time, and what it says then.
+fn written_whole(core: &mut TypedCore) -> Option<([bool; 2], Option<u64>)> {
+    let request = loan(core, 0)?.ok()?;
+    push(core, &request, 123)?;
+    let writes = [
+        write_whole(core, &request, 456),
+        write_whole(core, &request, 789),
+    ];
+    match core.kind(&request) {
+        Some(Kind::RequestMut) => Some((writes, *core.request_body(&request))),
+        _ => None,
+    }
+}
+
+#[test]
+fn a_request_is_written_whole(rt: HostRuntime) -> Result<(), Fail> {
+    let written = written_whole(&mut connected(rt.alloc())?);
+    assert!(rt; written == Some(([true, false], Some(456))));
+    Ok(())
+}

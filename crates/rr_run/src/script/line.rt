@@ -33,12 +33,11 @@ pub(crate) enum Line {
     Command(ScriptCommand),
 }
 
-/// What a line says. `None` for a line that is none.
-pub(crate) fn line_of(text: &str) -> Option<Line> {
-    let mut words = Words::new(text);
-    let line = match words.take()? {
-        "hub" => Line::Hub(family(words.take()?)?, limits(&mut words)?),
-        name => Line::Command(command(name, &mut words)?),
+/// Returns what a line says, by its first word and those after it. Returns `None` if it isn't one of the script's lines.
+pub(crate) fn line_of(first: &str, words: &mut Words) -> Option<Line> {
+    let line = match first {
+        "hub" => Line::Hub(family(words.take()?)?, limits(words)?),
+        name => Line::Command(command(name, words)?),
     };
     if words.is_done() { Some(line) } else { None }
 }

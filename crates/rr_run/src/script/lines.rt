@@ -22,12 +22,12 @@ impl<R: BufRead + Drop> Lines<R> {
         }
     }
 
-    /// That the line that was read last is none.
+    /// Returns that the line that was read last isn't one of the script's.
     pub(crate) fn bad_line(&self) -> Stop {
         Stop::BadLine(self.number)
     }
 
-    /// The next line that has words, if there is one.
+    /// Returns what the next line that has words says, or `None` if no such line is left.
     pub(crate) fn read(&mut self) -> Result<Option<Line>, Stop> {
         for _ in 0..u64::MAX {
             if !self.advance()? {
@@ -36,8 +36,9 @@ impl<R: BufRead + Drop> Lines<R> {
             let Some(text) = self.source.text() else {
                 return Err(self.bad_line());
             };
-            if !Words::new(text).is_done() {
-                return match line_of(text) {
+            let mut words = Words::new(text);
+            if let Some(first) = words.take() {
+                return match line_of(first, &mut words) {
                     Some(line) => Ok(Some(line)),
                     None => Err(self.bad_line()),
                 };

@@ -4,13 +4,13 @@ use std::io::{self, Write};
 /// Why a program ended early.
 #[derive(Clone, Copy, Debug, PartialEq, Eq)]
 pub(crate) enum Stop {
-    /// This line, counted from 1, is none.
+    /// This line, counted from 1, isn't one of the script's.
     BadLine(u64),
     /// A read failed.
     ReadFault,
     /// A write failed.
     WriteFault,
-    /// The words after the program's name are none that it knows.
+    /// The program doesn't know the words after its name.
     Usage,
     /// The hub was refused.
     Refused,

@@ -50,7 +50,7 @@ impl<'a> Words<'a> {
         Some(counts)
     }
 
-    /// Whether no word is left.
+    /// Takes a word, and returns whether none was left.
     pub(crate) fn is_done(&mut self) -> bool {
         self.take().is_none()
     }

@@ -40,15 +40,15 @@ impl<B: Body, N: Copy, H: Drop> Sender<B, N, H> {
         requires fits { uses self.old slot + 1 < 2 ^ 64 }
         ensures { self.new ≡ with_queue self.old receiver channel (queue_at self.old receiver channel ++ slot ∷ []) }
     {
-        self.pool.hold(slot);
         self.links.push(receiver, channel, slot);
+        self.pool.hold(slot);
     }
 
     /// Makes a handle's hold of a slot the hold of an entry at the end of a queue, of which the capacity is not zero. A full queue
     /// gives up its oldest entry with `overflow`; without, it stays as it is, and the hold is given back. With the last use of a
     /// slot, what stood in it is dropped.
     ///
-    /// One step less than `put` and `give_back`: the slot is held as often as before.
+    /// Does what `put` and `give_back` do in turn, and writes the slot's holders only if the hold is given back.
     #[inline(always)]
     pub fn hand_over(&mut self, receiver: usize, channel: usize, slot: usize, overflow: bool)
         requires receiver { receiver < length self.old.queues }

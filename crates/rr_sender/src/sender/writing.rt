@@ -1,5 +1,5 @@
 //! Writing what stands in a slot, and its user header.
-ghost use Rattle.std.specs.Prelude.{◌≡◌, ◌<◌, [], Some, length, slice_get};
+ghost use Rattle.std.specs.Prelude.{◌≡◌, ◌<◌, [], ◌∷◌, Some, length, slice_get};
 ghost use Rattle.std.specs.Borrow.{sem};
 ghost use Rattle.rr_slots.specs.Pools.{appended, with_elements};
 ghost use Rattle.rr_sender.specs.Senders.{content_at, with_changed_at};
@@ -34,6 +34,15 @@ impl<B: Body, N: Copy, H: Drop> Sender<B, N, H> {
         ensures { self.new ≡ with_changed_at self.old slot (with_elements []) }
     {
         self.pool.clear(slot);
+    }
+
+    /// Makes an element the only one in a slot, where one is asked for at least. Old ones are dropped.
+    pub fn write(&mut self, slot: usize, element: B::Item)
+        requires slot { slot < length self.old.held }
+        requires asked { 0 < (content_at self.old slot).asked_len }
+        ensures { self.new ≡ with_changed_at self.old slot (with_elements (element ∷ [])) }
+    {
+        self.pool.write(slot, element);
     }
 
     /// Lends an element in a slot for writing.

@@ -1,5 +1,5 @@
 //! Writing what stands in a slot.
-ghost use Rattle.std.specs.Prelude.{◌≡◌, ◌<◌, [], length, slice_get, Some};
+ghost use Rattle.std.specs.Prelude.{◌≡◌, ◌<◌, [], ◌∷◌, length, slice_get, Some};
 ghost use Rattle.std.specs.Borrow.{sem, Lends};
 ghost use Rattle.rr_slots.specs.Pools.{content_at, appended, with_changed_at, with_elements};
 
@@ -26,6 +26,17 @@ impl<B: Body> Pool<B> {
     {
         let body = &mut self.bodies[slot];
         body.clear();
+    }
+
+    /// Makes an element the only one in a slot, where one is asked for at least. Old ones are dropped.
+    pub fn write(&mut self, slot: usize, element: B::Item)
+        requires slot { slot < length self.old.contents }
+        requires asked { 0 < (content_at self.old slot).asked_len }
+        ensures { self.new ≡ with_changed_at self.old slot (with_elements (element ∷ [])) }
+    {
+        let target = &mut self.bodies[slot];
+        target.clear();
+        target.push(element);
     }
 
     /// Lends an element in a slot for writing.

@@ -11,8 +11,8 @@ use crate::{HandleEntry, OwnedSender, ResponseDetails, Stage};
 use rr_slots::Body;
 use rr_table::{Place, Table};
 
-/// Returns where the active request of a response stands, if it stands. `receiver` is its server. Returns `None` if no sender
-/// stands where the response says, or no row has so many places.
+/// Returns the one place where the active request of a response can stand. `receiver` is the index of its server among the
+/// receivers of clients. Returns `None` if no sender stands where the response says, or no row has so many places.
 #[inline(always)]
 pub fn asked_place<B: Body, N: Copy, H: Drop>(
     senders: &[OwnedSender<B, N, H>],

@@ -12,7 +12,7 @@ use rr_protocol::BackpressureFn;
 use rr_sender::Sender;
 use rr_slots::Body;
 
-/// Whether the queue to a receiver's first channel can take no more, and drops nothing for it.
+/// Returns whether the queue to a receiver's first channel is full and may not overflow.
 #[inline(always)]
 pub fn is_blocked<B: Body, N: Copy, H: Drop>(
     messages: &Sender<B, N, H>,
@@ -25,7 +25,7 @@ pub fn is_blocked<B: Body, N: Copy, H: Drop>(
     !overflow && messages.is_full(receiver, 0)
 }
 
-/// Whether the queue to some server can take no more.
+/// Returns whether the queue to some server is full and may not overflow.
 #[inline(always)]
 pub fn is_any_blocked<B: Body, N: Copy, H: Drop, K: Drop>(
     messages: &Sender<B, N, H>,
@@ -43,7 +43,7 @@ pub fn is_any_blocked<B: Body, N: Copy, H: Drop, K: Drop>(
     false
 }
 
-/// Whether the queue to some server can take no more, and the sender doesn't pass it over.
+/// Returns whether the queue to some server is full, may not overflow, and is not passed over.
 #[inline(always)]
 pub fn is_refused<B: Body, N: Copy, H: Drop, K: BackpressureFn>(
     messages: &Sender<B, N, H>,
@@ -62,7 +62,7 @@ pub fn is_refused<B: Body, N: Copy, H: Drop, K: BackpressureFn>(
     false
 }
 
-/// To how many servers the queue takes one more.
+/// Returns to how many servers the queue takes one more.
 #[inline(always)]
 pub fn open_count<B: Body, N: Copy, H: Drop, K: Drop>(
     messages: &Sender<B, N, H>,
@@ -81,7 +81,8 @@ pub fn open_count<B: Body, N: Copy, H: Drop, K: Drop>(
     count
 }
 
-/// Puts a slot of a sender into the queue to each server, and notes that these may answer.
+/// Puts a slot of a sender into the queue to each server, but for queues that are full and may not overflow, and notes that each
+/// of the servers may answer.
 #[inline(always)]
 pub fn queue_in<B: Body, N: Copy, H: Drop, K: Drop>(
     senders: &mut Vec<OwnedSender<B, N, H>>,
@@ -101,7 +102,7 @@ pub fn queue_in<B: Body, N: Copy, H: Drop, K: Drop>(
     set_marks(&mut sender.may_answer, slot, receivers, servers);
 }
 
-/// Puts a slot into the queue to each server.
+/// Puts a slot into the queue to each server, but for queues that are full and may not overflow.
 #[inline(always)]
 pub fn put_all<B: Body, N: Copy, H: Drop, K: Drop>(
     messages: &mut Sender<B, N, H>,

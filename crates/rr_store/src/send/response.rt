@@ -29,7 +29,7 @@ pub fn reached_receiver<B: Body, N: Copy, H: Drop>(
     }
 }
 
-/// Whether the queue that a response reaches can take no more, and drops nothing for it.
+/// Returns whether the queue that a response reaches is full and may not overflow. Returns `false` if it reaches none.
 #[inline(always)]
 pub fn is_blocked<B: Body, N: Copy, H: Drop>(
     messages: &Sender<B, N, H>,

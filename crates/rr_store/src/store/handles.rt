@@ -29,6 +29,16 @@ impl<QB: Body, QH: Default + Drop, PB: Body, PH: Default + Drop, K: Backpressure
         self.table.is_at(number, place)
     }
 
+    /// Returns whether a handle, which stands somewhere, stands in this place.
+    #[inline(always)]
+    pub fn is_place_of(&self, number: u64, place: Place) -> bool
+        requires { IsSome (handle_at (state_of self.now) number) }
+        ensures there { result ≡ true → IsAt self.now.table number place }
+        ensures elsewhere { IsAt self.now.table number place → result ≡ true }
+    {
+        self.table.is_place_of(number, place)
+    }
+
     /// Returns where a handle stands. Walks over the table.
     #[cold]
     pub fn place_of(&self, number: u64) -> Place

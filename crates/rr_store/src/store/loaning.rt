@@ -68,7 +68,8 @@ impl<QB: Body, QH: Default + Drop, PB: Body, PH: Default + Drop, K: Backpressure
         self.servers[index].port.sender
     }
 
-    /// Returns whether a request of `len` elements is too long for a client, or the client has too many on loan.
+    /// Returns the first reason against one more request of `len` elements: it is too long for the client, or the client has as
+    /// many on loan as it may. Returns `None` if there is no such reason.
     #[inline(always)]
     pub fn request_loan_limit(&self, index: usize, len: usize) -> Option<LoanError>
         requires { IsSomeAnd (slice_get self.now.clients index) (λ c. c.sender < length self.now.client_senders) }
@@ -84,8 +85,8 @@ impl<QB: Body, QH: Default + Drop, PB: Body, PH: Default + Drop, K: Backpressure
         None
     }
 
-    /// Returns whether a response of `len` elements is too long for a server, or too many are on loan from the server or from
-    /// an active request that has `loans`.
+    /// Returns the first reason against one more response of `len` elements: it is too long for the server, or as many are on
+    /// loan as may be, from the server or from an active request that has `loans`. Returns `None` if there is no such reason.
     #[inline(always)]
     pub fn response_loan_limit(&self, index: usize, len: usize, loans: usize) -> Option<LoanError>
         requires { IsSomeAnd (slice_get self.now.servers index) (λ s. s.sender < length self.now.server_senders) }

@@ -42,7 +42,8 @@ impl<QB: Body, QH: Default + Drop, PB: Body, PH: Default + Drop, K: Backpressure
         query::is_value(self.servers.as_slice(), number)
     }
 
-    /// Returns whether the value of the client at an index lives, or it has a handle. Looks at each server's sender and channel.
+    /// Returns whether the value of the client at an index lives, or it has a handle. Looks at most once at each server's sender
+    /// and channel.
     #[cold]
     pub fn is_client_used(&self, index: usize) -> bool
         requires index { IsSomeAnd (slice_get self.now.clients index) (λ c. c.sender < length self.now.client_senders) }
@@ -57,7 +58,7 @@ impl<QB: Body, QH: Default + Drop, PB: Body, PH: Default + Drop, K: Backpressure
         query::is_borrowing(self.server_senders.as_slice(), port.receiver)
     }
 
-    /// Returns whether the value of the server at an index lives, or it has a handle. Looks at each client's sender.
+    /// Returns whether the value of the server at an index lives, or it has a handle. Looks at most once at each client's sender.
     #[cold]
     pub fn is_server_used(&self, index: usize) -> bool
         requires index { IsSomeAnd (slice_get self.now.servers index) (λ s. s.sender < length self.now.server_senders) }

@@ -21,7 +21,8 @@ impl<QB: Body, QH: Default + Drop, PB: Body, PH: Default + Drop, K: Backpressure
     PH,
     K,
 > {
-    /// Returns whether a request waits for the server that is a receiver. Looks at most once at each client's sender.
+    /// Returns whether a request waits for the server with an index among the receivers of clients. Looks at most once at each
+    /// client's sender.
     #[inline(always)]
     pub fn has_requests(&self, receiver: usize) -> bool
         requires { Reaches self.now.client_senders receiver 0 }
@@ -30,8 +31,8 @@ impl<QB: Body, QH: Default + Drop, PB: Body, PH: Default + Drop, K: Backpressure
         is_waiting(self.client_senders.as_slice(), receiver, 0)
     }
 
-    /// Returns whether a response waits for the client that is a receiver, on a channel. Looks at most once at each server's
-    /// sender.
+    /// Returns whether a response waits, on a channel, for the client with an index among the receivers of servers. Looks at most
+    /// once at each server's sender.
     #[inline(always)]
     pub fn has_responses(&self, receiver: usize, channel: usize) -> bool
         requires { Reaches self.now.server_senders receiver channel }

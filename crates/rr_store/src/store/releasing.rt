@@ -63,7 +63,8 @@ impl<QB: Body, QH: Default + Drop, PB: Body, PH: Default + Drop, K: Backpressure
         self.server_senders[sender].messages.give_back(slot);
     }
 
-    /// Gives back a hold on a request that a server received. What stands in the slot is dropped with the last use.
+    /// Gives back a hold on a request that a server received, and counts one less that the server has of its client. What stands
+    /// in the slot is dropped with the last use.
     #[inline(always)]
     pub fn end_request_borrow(&mut self, sender: usize, receiver: usize, slot: usize)
         requires sender { sender < length self.old.client_senders }
@@ -74,7 +75,8 @@ impl<QB: Body, QH: Default + Drop, PB: Body, PH: Default + Drop, K: Backpressure
         release::end_borrow_in(&mut self.client_senders, sender, receiver, 0, slot);
     }
 
-    /// Gives back a hold on a response that a client received. What stands in the slot is dropped with the last use.
+    /// Gives back a hold on a response that a client received, and counts one less that the client has from its channel. What
+    /// stands in the slot is dropped with the last use.
     #[inline(always)]
     pub fn end_response_borrow(
         &mut self,
@@ -153,7 +155,7 @@ impl<QB: Body, QH: Default + Drop, PB: Body, PH: Default + Drop, K: Backpressure
     }
 
     /// Counts one response less on loan from the active request of a response, if that is not released yet. `receiver` is the
-    /// response's server.
+    /// index of the response's server among the receivers of clients.
     #[inline(always)]
     pub fn end_loan_from(&mut self, details: ResponseDetails, receiver: usize)
         ensures rest { self.new ≡ record self.old { table = self.new.table } }

@@ -62,7 +62,8 @@ impl<QB: Body, QH: Default + Drop, PB: Body, PH: Default + Drop, K: Backpressure
         None
     }
 
-    /// Puts a request into the queue to each connected server, and notes that these may answer it.
+    /// Puts a request into the queue to each connected server, but for queues that are full and may not overflow, and notes that
+    /// each connected server may answer it.
     #[inline(always)]
     pub fn queue_request(&mut self, sender: usize, slot: usize)
         requires sender { sender < length self.old.client_senders }
@@ -126,8 +127,8 @@ impl<QB: Body, QH: Default + Drop, PB: Body, PH: Default + Drop, K: Backpressure
         !server.port.discards(details.client)
     }
 
-    /// Makes the hold of a response's handle the hold of an entry in the queue that it reaches, or gives it back if the response
-    /// reaches none. What stands in a slot is dropped with the last use.
+    /// Makes the hold of a response's handle the hold of an entry in the queue that it reaches. Gives it back if the response
+    /// reaches none, or one that is full and may not overflow. What stands in a slot is dropped with the last use.
     #[inline(always)]
     pub fn hand_over_response(&mut self, entry: HandleEntry, channel: usize, reach: Option<usize>)
         requires sender { entry.sender < length self.old.server_senders }

@@ -1,6 +1,6 @@
 //! What a write changes.
-ghost use Rattle.std.specs.Prelude.{◌≡◌, ◌<◌, not, true, length, nat_lt, if◌then◌else◌};
-ghost use Rattle.rr_slots.specs.Pools.{appended, with_element_at};
+ghost use Rattle.std.specs.Prelude.{◌≡◌, ◌<◌, [], ◌∷◌, not, true, length, nat_lt, if◌then◌else◌};
+ghost use Rattle.rr_slots.specs.Pools.{appended, with_element_at, with_elements};
 ghost use Rattle.rr_sender.specs.Senders.{content_at, with_changed_at, with_user_header};
 ghost use Rattle.rr_store.specs.Changes.{with_requests, with_responses};
 ghost use Rattle.rr_store.specs.Views.{sender_of};
@@ -38,6 +38,28 @@ impl<QB: Body, QH: Default + Drop, PB: Body, PH: Default + Drop, K: Backpressure
         ensures pushed { self.new ≡ (if result then with_responses self.old sender (λ m. with_changed_at m slot (appended item)) else self.old) }
     {
         write::push_in(&mut self.server_senders, sender, slot, item)
+    }
+
+    /// Makes an element the only one of the request in a slot, of which one is asked for at least. Old ones are dropped.
+    #[inline(always)]
+    pub fn write_request(&mut self, sender: usize, slot: usize, element: QB::Item)
+        requires sender { sender < length self.old.client_senders }
+        requires slot { slot < length (sender_of sender self.old.client_senders).messages.held }
+        requires asked { 0 < (content_at (sender_of sender self.old.client_senders).messages slot).asked_len }
+        ensures { self.new ≡ with_requests self.old sender (λ m. with_changed_at m slot (with_elements (element ∷ []))) }
+    {
+        write::write_in(&mut self.client_senders, sender, slot, element);
+    }
+
+    /// Makes an element the only one of the response in a slot, of which one is asked for at least. Old ones are dropped.
+    #[inline(always)]
+    pub fn write_response(&mut self, sender: usize, slot: usize, element: PB::Item)
+        requires sender { sender < length self.old.server_senders }
+        requires slot { slot < length (sender_of sender self.old.server_senders).messages.held }
+        requires asked { 0 < (content_at (sender_of sender self.old.server_senders).messages slot).asked_len }
+        ensures { self.new ≡ with_responses self.old sender (λ m. with_changed_at m slot (with_elements (element ∷ []))) }
+    {
+        write::write_in(&mut self.server_senders, sender, slot, element);
     }
 
     /// Makes another user header the one of the request in a slot. The old one is dropped.

@@ -1,7 +1,7 @@
 use Rattle.std.proofs.Common.{◌≡◌}
 use Rattle.rr_protocol.specs.State.{numbers_left}
 use Rattle.rr_bench.specs.Kinds.{KeepsKinds}
-use Rattle.rr_bench.proofs.trip.write_response.Given as goal
+use Rattle.rr_bench.proofs.trip.fill_response.Given as goal
 
 -- every number names what it named, and none was given
 abbrev pub invariant-loop : goal.invariant-loop

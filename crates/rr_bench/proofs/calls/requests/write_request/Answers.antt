@@ -1,0 +1,14 @@
+use Rattle.rr_protocol.specs.declared.kind.Kind.{Kind}
+use Rattle.rr_bench.specs.Kinds.{Names}
+use Rattle.rr_bench.proofs.Writes.{written_request_names, written_request_others}
+use Rattle.rr_bench.proofs.calls.requests.write_request.Goals as goal
+
+pub returns-clause-kind : goal.returns-clause-kind
+unfolding Names
+returns-clause-kind g c =
+    written_request_names c.args.core.now c.write_request.new.self c.args.id.now c.args.element c.requires.kind c.write_request.ensures
+
+pub returns-clause-others : goal.returns-clause-others
+unfolding Names
+returns-clause-others g c =
+    written_request_others c.args.core.now c.write_request.new.self c.args.id.now c.args.element c.requires.kind c.write_request.ensures
