@@ -6,4 +6,3 @@ pub mod Writes
 pub mod Releases
 pub mod Sends
 pub mod Receives
-pub mod Copies

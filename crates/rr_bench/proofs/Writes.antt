@@ -1,14 +1,12 @@
 -- What numbers name after writes.
-use Rattle.std.proofs.Common.{◌≡◌, ◌≢◌, [], ◌∷◌, ℕ, Bool, true, false, cond, not, Some, refl, ap, ◌∙◌}
-use Rattle.std.specs.Prelude.{IsSomeAnd, option_and_then}
+use Rattle.std.proofs.Common.{◌≡◌, ◌≢◌, ℕ, Some, refl, ap, ◌∙◌}
 use Rattle.rr_protocol.specs.declared.kind.Kind.{Kind}
 use Rattle.rr_protocol.specs.declared.kind.Kind.TheVariants as kind
-use Rattle.rr_protocol.specs.Messages.{Content, Handle, RequestMutUninit, RequestMut, PendingResponse, ActiveRequest, ResponseMutUninit, ResponseMut, Response, request_in, response_in}
-use Rattle.rr_protocol.specs.State.{State, handle_at, with_changed, numbers_left}
+use Rattle.rr_protocol.specs.Messages.{Content, Handle, RequestMutUninit, RequestMut, PendingResponse, ActiveRequest, ResponseMutUninit, ResponseMut, Response}
+use Rattle.rr_protocol.specs.State.{State, with_changed}
 use Rattle.rr_protocol.specs.Queries.{kind_of, kind_at}
-use Rattle.rr_protocol.specs.Writing.{is_complete, with_element, with_elements, with_request_content, with_response_content, after_init}
-use Rattle.rr_laws.proofs.Opening.{some_and}
-use Rattle.rr_bench.specs.Kinds.{Names, KeepsKinds, KeepsOtherKinds}
+use Rattle.rr_protocol.specs.Writing.{filled, with_request_content, with_response_content, after_init}
+use Rattle.rr_bench.specs.Kinds.{Names, KeepsOtherKinds}
 use Rattle.rr_bench.proofs.Numbers.{handle_no_port, some_handle, keeps_others, changed_other, changed_own, changed_same}
 
 -- a kind once a message is complete
@@ -50,30 +48,6 @@ module _ {Q QH P PH : Type 0} where
   initialised (Response m) = refl
 
 module _ {Q QH P PH K : Type 0} (old new : State Q QH P PH K) where
-  -- a call changed a handle that kept its kind, or nothing
-  either : (wrote : Bool) (n : ℕ) (f : Handle Q QH P PH → Handle Q QH P PH) → ((h : Handle Q QH P PH) → kind_of (f h) ≡ kind_of h)
-      → new ≡ cond wrote (with_changed old n f) old → KeepsKinds old new × (numbers_left new ≡ numbers_left old)
-  unfolding KeepsKinds
-  either true n f same e =
-      (λ m k names. ap (λ s. kind_at s m) e ∙ changed_same old n f same m ∙ names, ap (λ s. numbers_left s) e)
-  either false n f same e = (λ m k names. ap (λ s. kind_at s m) e ∙ names, ap (λ s. numbers_left s) e)
-
-  pub request_pushed : (wrote : Bool) (n : ℕ) (item : Q)
-      → IsSomeAnd (option_and_then request_in (handle_at old n)) (λ m.
-      (wrote ≡ not (is_complete m.content)) × (new ≡ cond wrote (with_changed old n (with_request_content (with_element item))) old))
-      → KeepsKinds old new × (numbers_left new ≡ numbers_left old)
-  request_pushed wrote n item pushed =
-      either wrote n (with_request_content (with_element item)) (request_written (with_element item))
-      (some_and (option_and_then request_in (handle_at old n)) _ pushed).2.1
-
-  pub response_pushed : (wrote : Bool) (n : ℕ) (item : P)
-      → IsSomeAnd (option_and_then response_in (handle_at old n)) (λ m.
-      (wrote ≡ not (is_complete m.content)) × (new ≡ cond wrote (with_changed old n (with_response_content (with_element item))) old))
-      → KeepsKinds old new × (numbers_left new ≡ numbers_left old)
-  response_pushed wrote n item pushed =
-      either wrote n (with_response_content (with_element item)) (response_written (with_element item))
-      (some_and (option_and_then response_in (handle_at old n)) _ pushed).2.1
-
   -- a message became complete
   module _ (k : Kind) (client : Kind.Client ≢ k) (server : Kind.Server ≢ k) (n : ℕ) (is : kind_at old n ≡ Some k)
       (finished : new ≡ with_changed old n after_init) where
@@ -90,13 +64,8 @@ module _ {Q QH P PH K : Type 0} (old new : State Q QH P PH K) where
         let h = some_handle old n k (handle_no_port old n k client server is).1 in
         keeps_others n k old new is (λ m other. ap (λ s. kind_at s m) finished ∙ changed_other old n after_init h.0 h.1 m other)
 
-  -- a message that was not complete stays
-  pub unfinished : (k : Kind) → new ≡ old → KeepsOtherKinds k old new
-  unfolding KeepsOtherKinds
-  unfinished k same n j other names = ap (λ s. kind_at s n) same ∙ names
-
 module _ {Q QH P PH K : Type 0} (old new : State Q QH P PH K) where
-  -- a message of one element was written whole
+  -- a message was written whole
   module _ (k : Kind) (client : Kind.Client ≢ k) (server : Kind.Server ≢ k) (n : ℕ) (change : Handle Q QH P PH → Handle Q QH P PH)
       (same : (h : Handle Q QH P PH) → kind_of (change h) ≡ kind_of h) (is : kind_at old n ≡ Some k)
       (written : new ≡ with_changed (with_changed old n change) n after_init) where
@@ -112,21 +81,21 @@ module _ {Q QH P PH K : Type 0} (old new : State Q QH P PH K) where
         (changed_same old n change same j ∙ names)
 
   module _ (n : ℕ) (element : Q) (is : kind_at old n ≡ Some Kind.RequestMutUninit)
-      (written : new ≡ with_changed (with_changed old n (with_request_content (with_elements (element ∷ [])))) n after_init) where
+      (written : new ≡ with_changed (with_changed old n (with_request_content (filled element))) n after_init) where
     pub written_request_names : Names new n Kind.RequestMut
-    written_request_names = written_names Kind.RequestMutUninit (λ e. cc) (λ e. cc) n (with_request_content (with_elements (element ∷ [])))
-        (request_written (with_elements (element ∷ []))) is written
+    written_request_names = written_names Kind.RequestMutUninit (λ e. cc) (λ e. cc) n (with_request_content (filled element))
+        (request_written (filled element)) is written
 
     pub written_request_others : KeepsOtherKinds Kind.RequestMutUninit old new
-    written_request_others = written_others Kind.RequestMutUninit (λ e. cc) (λ e. cc) n (with_request_content (with_elements (element ∷ [])))
-        (request_written (with_elements (element ∷ []))) is written
+    written_request_others = written_others Kind.RequestMutUninit (λ e. cc) (λ e. cc) n (with_request_content (filled element))
+        (request_written (filled element)) is written
 
   module _ (n : ℕ) (element : P) (is : kind_at old n ≡ Some Kind.ResponseMutUninit)
-      (written : new ≡ with_changed (with_changed old n (with_response_content (with_elements (element ∷ [])))) n after_init) where
+      (written : new ≡ with_changed (with_changed old n (with_response_content (filled element))) n after_init) where
     pub written_response_names : Names new n Kind.ResponseMut
-    written_response_names = written_names Kind.ResponseMutUninit (λ e. cc) (λ e. cc) n (with_response_content (with_elements (element ∷ [])))
-        (response_written (with_elements (element ∷ []))) is written
+    written_response_names = written_names Kind.ResponseMutUninit (λ e. cc) (λ e. cc) n (with_response_content (filled element))
+        (response_written (filled element)) is written
 
     pub written_response_others : KeepsOtherKinds Kind.ResponseMutUninit old new
-    written_response_others = written_others Kind.ResponseMutUninit (λ e. cc) (λ e. cc) n (with_response_content (with_elements (element ∷ [])))
-        (response_written (with_elements (element ∷ []))) is written
+    written_response_others = written_others Kind.ResponseMutUninit (λ e. cc) (λ e. cc) n (with_response_content (filled element))
+        (response_written (filled element)) is written

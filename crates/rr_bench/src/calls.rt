@@ -8,11 +8,5 @@ mod responses;
 
 pub use create::{create_client, create_server};
 pub use release::{release_active, release_client, release_pending, release_response};
-pub use requests::{
-    finish_request, init_request, loan_request, push_request, receive_request, request_body,
-    send_request, write_request,
-};
-pub use responses::{
-    finish_response, init_response, loan_response, push_response, receive_response, response_body,
-    send_response, write_response,
-};
+pub use requests::{fill_request, loan_request, receive_request, request_body, send_request};
+pub use responses::{fill_response, loan_response, receive_response, response_body, send_response};

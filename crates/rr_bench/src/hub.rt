@@ -9,14 +9,14 @@ ghost use Rattle.rr_bench.specs.Kinds.{Names, AreServers, HasPorts, KeepsPorts};
 use crate::calls;
 use crate::payload::Payload;
 use crate::shapes::Shape;
-use crate::trip::round_trip;
+use crate::trip::trips;
 use crate::trip_error::TripError;
 use rr_hub::Core;
 use rr_protocol::{
     AllocationStrategy, BackpressureAction, BackpressureFn, BackpressureInfo, BackpressureStrategy,
     ClientSettings, ServerSettings, UniqueNodeId,
 };
-use rr_slots::Body;
+use rr_slots::{Body, FillBody};
 use std::alloc::Global;
 
 /// A handler that refuses.
@@ -71,7 +71,7 @@ fn server(len: usize) -> ServerSettings<Refuses>
 }
 
 /// Creates a client, which makes one round trip with the server and leaves.
-fn pass<T: Payload, B: Body<Item = T>>(
+fn pass<T: Payload, B: FillBody<Item = T>>(
     core: &mut Bodies<B>,
     server: u64,
     len: usize,
@@ -81,16 +81,13 @@ fn pass<T: Payload, B: Body<Item = T>>(
     ensures { IfOk result (λ _. Names core.new server kind.Server) }
 {
     let client = calls::create_client(core, client(len))?;
-    if core.numbers_left() < 3 {
-        return Err(TripError::NoNumbersLeft.into());
-    }
-    round_trip(core, client, server, len, 0)?;
+    trips(core, client, server, &[], len, 1)?;
     calls::release_client(core, client);
     Ok(())
 }
 
 /// Lets clients come one after another, make a round trip with the server and leave.
-fn let_pass<T: Payload, B: Body<Item = T>>(
+fn let_pass<T: Payload, B: FillBody<Item = T>>(
     core: &mut Bodies<B>,
     server: u64,
     shape: &Shape,
@@ -156,7 +153,7 @@ fn hold<B: Body>(core: &mut Bodies<B>, client: u64, shape: &Shape) -> anyhow::Re
 
 /// Creates a hub with as many ports as the shape has, after those that only pass. The client stands in the middle of the
 /// clients, and holds its loans.
-pub fn make_hub<T: Payload, B: Body<Item = T>>(
+pub fn make_hub<T: Payload, B: FillBody<Item = T>>(
     alloc: Global,
     shape: &Shape,
 ) -> anyhow::Result<Hub<B>>

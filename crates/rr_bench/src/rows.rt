@@ -11,10 +11,10 @@ use crate::shapes::{
     CLIENTS, HANDLES, LARGE, LARGE_SLICE, PAGE, PAGE_SLICE, PAIR, PASSED, POOLS, SERVERS, SLICE,
     Shape,
 };
-use crate::trip::{look, round_trip};
+use crate::trip::trips;
 use crate::trip_error::TripError;
 use anyhow::bail;
-use rr_slots::{Body, SliceBody};
+use rr_slots::{FillBody, SliceBody};
 use std::time::Instant;
 
 /// The samples of a row.
@@ -23,26 +23,8 @@ const SAMPLES: usize = 7;
 /// The round trips that are made to check their sum.
 const CHECKED: u64 = 10;
 
-/// Makes a round trip with a word. Returns the word that came back.
-#[inline(always)]
-fn trip<T: Payload, B: Body<Item = T>>(
-    hub: &mut Hub<B>,
-    len: usize,
-    word: u64,
-) -> Result<u64, TripError>
-    requires ports { HasPorts hub.old.core hub.old.client hub.old.server hub.old.onlookers.items }
-    requires len { IsTrue (takes_len B.family len) }
-    ensures { HasPorts hub.new.core hub.new.client hub.new.server hub.new.onlookers.items }
-{
-    if hub.core.numbers_left() < 3 {
-        return Err(TripError::NoNumbersLeft);
-    }
-    round_trip(&mut hub.core, hub.client, hub.server, len, word)
-}
-
 /// Makes round trips, each with the sum so far, to which the word that comes back is added. Returns the sum.
-#[inline(never)]
-fn trips<T: Payload, B: Body<Item = T>>(
+fn sum_of<T: Payload, B: FillBody<Item = T>>(
     hub: &mut Hub<B>,
     len: usize,
     count: u64,
@@ -51,12 +33,8 @@ fn trips<T: Payload, B: Body<Item = T>>(
     requires len { IsTrue (takes_len B.family len) }
     ensures { HasPorts hub.new.core hub.new.client hub.new.server hub.new.onlookers.items }
 {
-    let mut sum = 0u64;
-    for _ in 0..count {
-        sum = sum.wrapping_add(trip(hub, len, sum)?);
-        look(&mut hub.core, hub.onlookers.as_slice())?;
-    }
-    Ok(sum)
+    let onlookers = hub.onlookers.as_slice();
+    trips(&mut hub.core, hub.client, hub.server, onlookers, len, count)
 }
 
 /// Returns what so many round trips come to: one less than a power of two.
@@ -71,7 +49,7 @@ fn expected_sum(count: u64) -> u64
 }
 
 /// Makes round trips and checks their sum.
-fn checked<T: Payload, B: Body<Item = T>>(
+fn checked<T: Payload, B: FillBody<Item = T>>(
     hub: &mut Hub<B>,
     len: usize,
     count: u64,
@@ -80,7 +58,7 @@ fn checked<T: Payload, B: Body<Item = T>>(
     requires len { IsTrue (takes_len B.family len) }
     ensures { HasPorts hub.new.core hub.new.client hub.new.server hub.new.onlookers.items }
 {
-    let sum = trips(hub, len, count)?;
+    let sum = sum_of(hub, len, count)?;
     if sum != expected_sum(count) {
         bail!("{count} round trips came to {sum}");
     }
@@ -88,7 +66,7 @@ fn checked<T: Payload, B: Body<Item = T>>(
 }
 
 /// Makes a few round trips of a shape and checks their sum.
-fn check<T: Payload, B: Body<Item = T>>(rt: &HostRuntime, shape: &Shape) -> anyhow::Result<()>
+fn check<T: Payload, B: FillBody<Item = T>>(rt: &HostRuntime, shape: &Shape) -> anyhow::Result<()>
     requires { IsTrue (takes_len B.family shape.now.len) }
 {
     let mut hub: Hub<B> = make_hub(rt.alloc(), shape)?;
@@ -96,7 +74,7 @@ fn check<T: Payload, B: Body<Item = T>>(rt: &HostRuntime, shape: &Shape) -> anyh
 }
 
 /// Prints the samples of a shape.
-fn sample<T: Payload, B: Body<Item = T>>(rt: &HostRuntime, shape: &Shape) -> anyhow::Result<()>
+fn sample<T: Payload, B: FillBody<Item = T>>(rt: &HostRuntime, shape: &Shape) -> anyhow::Result<()>
     requires { IsTrue (takes_len B.family shape.now.len) }
 {
     let mut hub: Hub<B> = make_hub(rt.alloc(), shape)?;
@@ -166,7 +144,7 @@ pub fn grow(rt: &HostRuntime) -> anyhow::Result<()> {
 pub fn count(rt: &HostRuntime, count: u64, passed: u64) -> anyhow::Result<()> {
     let shape = Shape { passed, ..PAIR };
     let mut hub: Hub<Option<u64>> = make_hub(rt.alloc(), &shape)?;
-    let sum = trips(&mut hub, 1, count)?;
+    let sum = sum_of(&mut hub, 1, count)?;
     println!(rt; "{sum}")?;
     Ok(())
 }

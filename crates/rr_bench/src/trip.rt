@@ -12,7 +12,7 @@ use crate::hub::Bodies;
 use crate::payload::Payload;
 use crate::trip_error::TripError;
 use rr_hub::HandleId;
-use rr_slots::{Body, Family};
+use rr_slots::{Body, FillBody};
 
 /// Returns the last word of a body.
 #[inline(always)]
@@ -24,95 +24,9 @@ fn read<T: Payload, B: Body<Item = T>>(body: &B) -> Result<u64, TripError> {
     Ok(body.get(len - 1).last_word())
 }
 
-/// Loans a request of one element, and writes it.
-#[inline(always)]
-fn request_of_one<T: Payload, B: Body<Item = T>>(
-    core: &mut Bodies<B>,
-    client: u64,
-    word: u64,
-) -> Result<HandleId, TripError>
-    requires client { Names core.old client kind.Client }
-    requires numbers { 0 < numbers_left core.old }
-    requires len { IsTrue (takes_len B.family 1) }
-    ensures kind { IfOk result (λ request. Names core.new request kind.RequestMut) }
-    ensures others { KeepsOtherKinds kind.RequestMutUninit core.old core.new }
-    ensures numbers { numbers_left core.old ≤ numbers_left core.new + 1 }
-{
-    let request = calls::loan_request(core, client, 1)?;
-    calls::write_request(core, &request, T::filled(word));
-    Ok(request)
-}
-
-/// Loans a response of one element, and writes it.
-#[inline(always)]
-fn response_of_one<T: Payload, B: Body<Item = T>>(
-    core: &mut Bodies<B>,
-    active: &HandleId,
-    word: u64,
-) -> Result<HandleId, TripError>
-    requires active { Names core.old active.now kind.ActiveRequest }
-    requires numbers { 0 < numbers_left core.old }
-    requires len { IsTrue (takes_len B.family 1) }
-    ensures kind { IfOk result (λ response. Names core.new response kind.ResponseMut) }
-    ensures others { KeepsOtherKinds kind.ResponseMutUninit core.old core.new }
-    ensures numbers { numbers_left core.old ≤ numbers_left core.new + 1 }
-{
-    let response = calls::loan_response(core, active, 1)?;
-    calls::write_response(core, &response, T::filled(word));
-    Ok(response)
-}
-
-/// Fills a request with elements of one word.
-#[inline(always)]
-fn fill_request<T: Payload, B: Body<Item = T>>(
-    core: &mut Bodies<B>,
-    id: &HandleId,
-    len: usize,
-    word: u64,
-) -> Result<(), TripError>
-    requires { Names core.old id.now kind.RequestMutUninit }
-    ensures kind { IfOk result (λ _. Names core.new id.now kind.RequestMut) }
-    ensures others { KeepsOtherKinds kind.RequestMutUninit core.old core.new }
-    ensures numbers { numbers_left core.new ≡ numbers_left core.old }
-{
-    for _ in 0..len {
-        if !calls::push_request(core, id, T::filled(word)) {
-            return Err(TripError::Length);
-        }
-    }
-    if !calls::finish_request(core, id) {
-        return Err(TripError::Length);
-    }
-    Ok(())
-}
-
-/// Fills a response with elements of one word.
-#[inline(always)]
-fn fill_response<T: Payload, B: Body<Item = T>>(
-    core: &mut Bodies<B>,
-    id: &HandleId,
-    len: usize,
-    word: u64,
-) -> Result<(), TripError>
-    requires { Names core.old id.now kind.ResponseMutUninit }
-    ensures kind { IfOk result (λ _. Names core.new id.now kind.ResponseMut) }
-    ensures others { KeepsOtherKinds kind.ResponseMutUninit core.old core.new }
-    ensures numbers { numbers_left core.new ≡ numbers_left core.old }
-{
-    for _ in 0..len {
-        if !calls::push_response(core, id, T::filled(word)) {
-            return Err(TripError::Length);
-        }
-    }
-    if !calls::finish_response(core, id) {
-        return Err(TripError::Length);
-    }
-    Ok(())
-}
-
 /// Loans a request of `len` elements, and fills it with elements of one word.
 #[inline(always)]
-fn written_request<T: Payload, B: Body<Item = T>>(
+fn written_request<T: Payload, B: FillBody<Item = T>>(
     core: &mut Bodies<B>,
     client: u64,
     len: usize,
@@ -125,19 +39,14 @@ fn written_request<T: Payload, B: Body<Item = T>>(
     ensures others { KeepsOtherKinds kind.RequestMutUninit core.old core.new }
     ensures numbers { numbers_left core.old ≤ numbers_left core.new + 1 }
 {
-    match B::family() {
-        Family::Typed => request_of_one(core, client, word),
-        Family::Sliced => {
-            let request = calls::loan_request(core, client, len)?;
-            fill_request(core, &request, len, word)?;
-            Ok(request)
-        }
-    }
+    let request = calls::loan_request(core, client, len)?;
+    calls::fill_request(core, &request, T::filled(word));
+    Ok(request)
 }
 
 /// Sends a request of `len` elements, each filled with a word. Returns the pending response.
 #[inline(always)]
-fn ask<T: Payload, B: Body<Item = T>>(
+fn ask<T: Payload, B: FillBody<Item = T>>(
     core: &mut Bodies<B>,
     client: u64,
     len: usize,
@@ -157,7 +66,7 @@ fn ask<T: Payload, B: Body<Item = T>>(
 
 /// Loans a response of `len` elements, and fills it with elements of one word.
 #[inline(always)]
-fn written_response<T: Payload, B: Body<Item = T>>(
+fn written_response<T: Payload, B: FillBody<Item = T>>(
     core: &mut Bodies<B>,
     active: &HandleId,
     len: usize,
@@ -170,19 +79,14 @@ fn written_response<T: Payload, B: Body<Item = T>>(
     ensures others { KeepsOtherKinds kind.ResponseMutUninit core.old core.new }
     ensures numbers { numbers_left core.old ≤ numbers_left core.new + 1 }
 {
-    match B::family() {
-        Family::Typed => response_of_one(core, active, word),
-        Family::Sliced => {
-            let response = calls::loan_response(core, active, len)?;
-            fill_response(core, &response, len, word)?;
-            Ok(response)
-        }
-    }
+    let response = calls::loan_response(core, active, len)?;
+    calls::fill_response(core, &response, T::filled(word));
+    Ok(response)
 }
 
 /// Receives a request, and sends a response that is filled with one more than the word that came.
 #[inline(always)]
-fn answer<T: Payload, B: Body<Item = T>>(
+fn answer<T: Payload, B: FillBody<Item = T>>(
     core: &mut Bodies<B>,
     server: u64,
     len: usize,
@@ -205,7 +109,7 @@ fn answer<T: Payload, B: Body<Item = T>>(
 
 /// Receives and releases the response, and releases the pending response. Returns the word that came.
 #[inline(always)]
-fn conclude<T: Payload, B: Body<Item = T>>(
+fn conclude<T: Payload, B: FillBody<Item = T>>(
     core: &mut Bodies<B>,
     pending: &HandleId,
 ) -> Result<u64, TripError>
@@ -224,7 +128,7 @@ fn conclude<T: Payload, B: Body<Item = T>>(
 
 /// Makes a round trip with a word. Returns the word that came back.
 #[inline(always)]
-pub fn round_trip<T: Payload, B: Body<Item = T>>(
+fn round_trip<T: Payload, B: FillBody<Item = T>>(
     core: &mut Bodies<B>,
     client: u64,
     server: u64,
@@ -243,7 +147,7 @@ pub fn round_trip<T: Payload, B: Body<Item = T>>(
 }
 
 /// Lets servers look for requests, and releases those that come.
-pub fn look<B: Body>(core: &mut Bodies<B>, servers: &[u64]) -> Result<(), TripError>
+fn look<B: Body>(core: &mut Bodies<B>, servers: &[u64]) -> Result<(), TripError>
     requires { AreServers core.old servers.now }
     ensures { KeepsPorts core.old core.new }
 {
@@ -256,4 +160,32 @@ pub fn look<B: Body>(core: &mut Bodies<B>, servers: &[u64]) -> Result<(), TripEr
         }
     }
     Ok(())
+}
+
+/// Makes round trips, each with the sum so far, to which the word that comes back is added, and lets the onlookers look after
+/// each. Returns the sum.
+#[inline(never)]
+pub fn trips<T: Payload, B: FillBody<Item = T>>(
+    core: &mut Bodies<B>,
+    client: u64,
+    server: u64,
+    onlookers: &[u64],
+    len: usize,
+    count: u64,
+) -> Result<u64, TripError>
+    requires client { Names core.old client kind.Client }
+    requires server { Names core.old server kind.Server }
+    requires onlookers { AreServers core.old onlookers.now }
+    requires len { IsTrue (takes_len B.family len) }
+    ensures { KeepsPorts core.old core.new }
+{
+    let mut sum = 0u64;
+    for _ in 0..count {
+        if core.numbers_left() < 3 {
+            return Err(TripError::NoNumbersLeft);
+        }
+        sum = sum.wrapping_add(round_trip(core, client, server, len, sum)?);
+        look(core, onlookers)?;
+    }
+    Ok(sum)
 }

@@ -1,1 +1,2 @@
+pub mod CoreLends
 pub use Rattle.rr_store.specs.Writing

@@ -3,6 +3,7 @@
 
 mod create;
 mod header;
+mod lend;
 mod loan;
 mod making;
 mod query;

@@ -3,17 +3,18 @@ ghost use Rattle.std.specs.Prelude.{◌≡◌, ◌⊎◌, [], ◌∷◌, not, tr
 ghost use Rattle.rr_protocol.specs.Messages.{request_in, response_in, with_hint};
 ghost use Rattle.rr_protocol.specs.Queries.{kind_at};
 ghost use Rattle.rr_protocol.specs.State.{handle_at, with_changed};
-ghost use Rattle.rr_protocol.specs.Writing.{is_complete, with_element, with_element_at, with_elements, with_request_content, with_response_content, with_user_header, after_init};
+ghost use Rattle.rr_protocol.specs.Writing.{is_complete, with_element, with_element_at, with_elements, filled, with_request_content, with_response_content, with_user_header, after_init};
 ghost use Rattle.rr_store.specs.Writing.{is_ready};
 
 use crate::state::Core;
 use rr_protocol::{BackpressureFn, Kind};
-use rr_slots::Body;
+use rr_slots::{Body, FillBody};
 use rr_store::HandleId;
 use rr_writing::{
-    assume_init_at, push_request_at, push_response_at, set_disconnect_hint_at, write_request_at,
-    write_request_element_at, write_request_user_header_at, write_response_at,
-    write_response_element_at, write_response_user_header_at,
+    assume_init_at, fill_request_at, fill_response_at, push_request_at, push_response_at,
+    set_disconnect_hint_at, write_request_at, write_request_element_at,
+    write_request_user_header_at, write_response_at, write_response_element_at,
+    write_response_user_header_at,
 };
 
 impl<QB: Body, QH: Default + Drop, PB: Body, PH: Default + Drop, K: BackpressureFn> Core<
@@ -199,6 +200,60 @@ impl<QB: Body, QH: Default + Drop, PB: Body, PH: Default + Drop, K: Backpressure
         } else {
             let place = self.parts.place_of(id.number());
             write_response_user_header_at(&mut self.parts, id.number(), place, header);
+        }
+    }
+}
+
+impl<QB: FillBody, QH: Default + Drop, PB: Body, PH: Default + Drop, K: BackpressureFn> Core<
+    QB,
+    QH,
+    PB,
+    PH,
+    K,
+> {
+    /// Makes an element each of those that are asked for of a request that is being written, and the request one that can be sent.
+    /// Elements that were written before are dropped.
+    ///
+    /// After iceoryx2's `RequestMutUninit::write_from_fn` with a function that always returns this element; with a default element it is what
+    /// `loan_slice` does.
+    #[inline(always)]
+    pub fn fill_request(&mut self, id: &HandleId, element: QB::Item)
+        requires { kind_at self.old id.now ≡ Some Kind.RequestMutUninit }
+        ensures { self.new ≡ with_changed (with_changed self.old id.now (with_request_content (filled element))) id.now after_init }
+    {
+        let hint = id.hint();
+        if self.parts.is_place_of(id.number(), hint) {
+            fill_request_at(&mut self.parts, id.number(), hint, element);
+        } else {
+            let place = self.parts.place_of(id.number());
+            fill_request_at(&mut self.parts, id.number(), place, element);
+        }
+    }
+}
+
+impl<QB: Body, QH: Default + Drop, PB: FillBody, PH: Default + Drop, K: BackpressureFn> Core<
+    QB,
+    QH,
+    PB,
+    PH,
+    K,
+> {
+    /// Makes an element each of those that are asked for of a response that is being written, and the response one that can be sent.
+    /// Elements that were written before are dropped.
+    ///
+    /// After iceoryx2's `ResponseMutUninit::write_from_fn` with a function that always returns this element; with a default element it is what
+    /// `loan_slice` does.
+    #[inline(always)]
+    pub fn fill_response(&mut self, id: &HandleId, element: PB::Item)
+        requires { kind_at self.old id.now ≡ Some Kind.ResponseMutUninit }
+        ensures { self.new ≡ with_changed (with_changed self.old id.now (with_response_content (filled element))) id.now after_init }
+    {
+        let hint = id.hint();
+        if self.parts.is_place_of(id.number(), hint) {
+            fill_response_at(&mut self.parts, id.number(), hint, element);
+        } else {
+            let place = self.parts.place_of(id.number());
+            fill_response_at(&mut self.parts, id.number(), place, element);
         }
     }
 }

@@ -16,6 +16,7 @@ use std::alloc::Global;
 use std::test::Fail;
 use std::thread;
 
+mod lending;
 mod queries;
 mod requests;
 mod responses;

@@ -1,5 +1,5 @@
 -- What writing does to the content of a message, and to the handle in which it stands.
-use Rattle.std.specs.Prelude.{ℕ, Bool, ◌==◌, List, [], ◌∷◌, ◌++◌, length, slice_set}
+use Rattle.std.specs.Prelude.{ℕ, Bool, ◌==◌, List, [], ◌∷◌, ◌++◌, length, replicate, slice_set}
 use Rattle.rr_protocol.specs.Messages.{Content, Handle, RequestMutUninit, RequestMut, ResponseMutUninit, ResponseMut}
 
 module _ {T H : Type 0} where
@@ -18,6 +18,10 @@ module _ {T H : Type 0} where
   -- after all elements became others
   abbrev pub with_elements : List T → Content T H → Content T H
   with_elements elements c = record c { elements = elements }
+
+  -- after each element that is asked for became this one
+  abbrev pub filled : T → Content T H → Content T H
+  filled element c = with_elements (replicate c.asked_len element) c
 
   -- after the user header became another
   abbrev pub with_user_header : H → Content T H → Content T H

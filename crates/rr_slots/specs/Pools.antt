@@ -39,6 +39,10 @@ module _ {T : Type 0} where
   abbrev pub with_elements : List T → Written T → Written T
   with_elements items w = record w { elements = items }
 
+  -- as many elements as are asked for, each this one
+  abbrev pub filled : T → Written T → Written T
+  filled element w = with_elements (replicate w.asked_len element) w
+
   -- the element at an index became another
   abbrev pub with_element_at : ℕ → T → Written T → Written T
   with_element_at index item w = record w { elements = slice_set w.elements index item }

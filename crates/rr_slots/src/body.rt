@@ -104,3 +104,14 @@ pub trait Body: Drop {
     /// It keeps the room.
     ghost keeps_room: { (body : Self) (index : ℕ) (item : Self.Item) → room (with_element_at body index item) ≡ room body };
 }
+
+/// A body whose elements can be copied.
+pub trait FillBody: Body {
+    ghost use Rattle.std.specs.Prelude.{replicate};
+
+    /// Makes an element each of those that are asked for. Old ones are dropped.
+    fn fill(&mut self, element: Self::Item)
+        ensures elements { Self.elements self.new ≡ replicate (Self.asked_len self.old) element }
+        ensures asked { Self.asked_len self.new ≡ Self.asked_len self.old }
+        ensures room { Self.room self.old ≤ Self.room self.new };
+}

@@ -14,7 +14,7 @@ mod pool;
 mod slice_body;
 mod slot;
 
-pub use body::Body;
+pub use body::{Body, FillBody};
 pub use channel_state::{ChannelState, RequestId};
 pub use channel_table::{Channel, ChannelTable};
 pub use connection::Connection;

@@ -1,5 +1,5 @@
 //! A body of one element.
-use crate::body::Body;
+use crate::body::{Body, FillBody};
 use crate::family::Family;
 use std::alloc::{AllocError, Global};
 
@@ -74,5 +74,11 @@ impl<T: Drop> Body for Option<T> {
             Some(item) => item,
             None => unreachable!(),
         }
+    }
+}
+
+impl<T: Copy> FillBody for Option<T> {
+    fn fill(&mut self, element: T) {
+        *self = Some(element);
     }
 }

@@ -2,7 +2,7 @@
 ghost use Rattle.std.specs.Prelude.{◌≡◌};
 ghost use Rattle.std.specs.Borrow.{sem};
 
-use crate::body::Body;
+use crate::body::{Body, FillBody};
 use crate::family::Family;
 use std::alloc::{AllocError, Global};
 use std::marker::Model;
@@ -107,5 +107,13 @@ impl<T: Drop> Body for SliceBody<T> {
 
     fn get_mut(&mut self, index: usize) -> &mut T {
         &mut self.items[index]
+    }
+}
+
+impl<T: Copy> FillBody for SliceBody<T> {
+    fn fill(&mut self, element: T) {
+        self.items.clear();
+        // There is room for as many as are asked for.
+        let _ = self.items.resize(self.asked, element);
     }
 }

@@ -31,3 +31,4 @@ pub mod Inside
 pub mod Reaching
 pub mod Changes
 pub mod Draining
+pub mod StoreLends

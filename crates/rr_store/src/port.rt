@@ -63,6 +63,8 @@ pub struct OwnedSender<B: Body, N: Copy, H: Drop> {
     // Apart from the loans: a send changes both, and the compiler would read two neighbours as one before the first is stored.
     pub pendings: usize,
     pub messages: Sender<B, N, H>,
+    // With it a sender has 256 bytes, and stands where a shift of its index says and no product.
+    pub padding: [u64; 7],
 }
 
 /// A port that left: its number, and the index of the sender from which it sent.

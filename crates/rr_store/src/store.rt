@@ -10,6 +10,7 @@ use std::marker::Model;
 mod creating;
 mod handles;
 mod leaving;
+mod lending;
 mod loaning;
 mod querying;
 mod queues;

@@ -1,12 +1,12 @@
 //! Writing what a loaned message says, before it is sent.
 ghost use Rattle.std.specs.Prelude.{◌≡◌, ◌<◌, [], ◌∷◌, not, true, length, nat_lt, IsSomeAnd, if◌then◌else◌, slice_get, slice_set};
-ghost use Rattle.rr_slots.specs.Pools.{appended, with_element_at, with_elements};
+ghost use Rattle.rr_slots.specs.Pools.{appended, filled, with_element_at, with_elements};
 ghost use Rattle.rr_sender.specs.Senders.{content_at, with_changed_at};
 ghost use Rattle.rr_protocol.specs.Writing.{is_complete};
 ghost use Rattle.rr_store.specs.Writing.{is_written, with_messages};
 
 use crate::OwnedSender;
-use rr_slots::Body;
+use rr_slots::{Body, FillBody};
 
 /// Appends an element to what stands in a slot of a sender, unless it is complete, and returns whether it did.
 #[inline(always)]
@@ -61,4 +61,18 @@ pub fn write_in<B: Body, N: Copy, H: Drop>(
     ensures { IsSomeAnd (slice_get senders.old.items sender) (λ l. senders.new.items ≡ slice_set senders.old.items sender (with_messages l (with_changed_at l.messages slot (with_elements (element ∷ []))))) }
 {
     senders[sender].messages.write(slot, element);
+}
+
+/// Makes an element each of those that are asked for of what stands in a slot of a sender. Old ones are dropped.
+#[inline(always)]
+pub fn fill_in<B: FillBody, N: Copy, H: Drop>(
+    senders: &mut Vec<OwnedSender<B, N, H>>,
+    sender: usize,
+    slot: usize,
+    element: B::Item,
+)
+    requires { IsSomeAnd (slice_get senders.old.items sender) (λ l. slot < length l.messages.held) }
+    ensures { IsSomeAnd (slice_get senders.old.items sender) (λ l. senders.new.items ≡ slice_set senders.old.items sender (with_messages l (with_changed_at l.messages slot (filled element)))) }
+{
+    senders[sender].messages.fill(slot, element);
 }

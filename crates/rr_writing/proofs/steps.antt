@@ -3,3 +3,4 @@ pub mod Response
 pub mod Initialising
 pub mod Hinting
 pub mod Whole
+pub mod Lent

@@ -1,15 +1,15 @@
-//! Messages of one element, written whole.
+//! Messages that are written whole.
 ghost use Rattle.std.specs.Prelude.{◌≡◌, [], ◌∷◌, Some, IsSomeAnd, option_and_then};
 ghost use Rattle.rr_protocol.specs.Messages.{request_in, response_in};
 ghost use Rattle.rr_protocol.specs.Queries.{kind_at};
 ghost use Rattle.rr_protocol.specs.State.{handle_at, with_changed};
-ghost use Rattle.rr_protocol.specs.Writing.{after_init, with_elements, with_request_content, with_response_content};
+ghost use Rattle.rr_protocol.specs.Writing.{after_init, filled, with_elements, with_request_content, with_response_content};
 ghost use Rattle.rr_store.specs.Reaching.{IsCore};
 ghost use Rattle.rr_store.specs.Views.{state_of};
 ghost use Rattle.rr_table.specs.TableView.{IsAt};
 
 use rr_protocol::{BackpressureFn, Kind};
-use rr_slots::Body;
+use rr_slots::{Body, FillBody};
 use rr_store::{HandleEntry, Stage, Store};
 use rr_table::Place;
 
@@ -59,6 +59,58 @@ pub fn write_response_at<
 {
     let entry = store.at(number, place);
     store.write_response(entry.sender, entry.slot, element);
+    let ready = HandleEntry {
+        stage: Stage::ResponseMut,
+        sender: entry.sender,
+        slot: entry.slot,
+    };
+    store.replace(number, place, ready);
+}
+
+/// Makes an element each of those that are asked for of the request that is being written in this place, which can be sent then. Those
+/// that were written before are dropped.
+#[inline(always)]
+pub fn fill_request_at<
+    QB: FillBody,
+    QH: Default + Drop,
+    PB: Body,
+    PH: Default + Drop,
+    K: BackpressureFn,
+>(store: &mut Store<QB, QH, PB, PH, K>, number: u64, place: Place, element: QB::Item)
+    requires core { IsCore store.old }
+    requires at { IsAt store.old.table number place }
+    requires kind { kind_at (state_of store.old) number ≡ Some Kind.RequestMutUninit }
+    ensures core { IsCore store.new }
+    ensures view { state_of store.new ≡ with_changed (with_changed (state_of store.old) number (with_request_content (filled element))) number after_init }
+{
+    let entry = store.at(number, place);
+    store.fill_request(entry.sender, entry.slot, element);
+    let ready = HandleEntry {
+        stage: Stage::RequestMut,
+        sender: entry.sender,
+        slot: entry.slot,
+    };
+    store.replace(number, place, ready);
+}
+
+/// Makes an element each of those that are asked for of the response that is being written in this place, which can be sent then. Those
+/// that were written before are dropped.
+#[inline(always)]
+pub fn fill_response_at<
+    QB: Body,
+    QH: Default + Drop,
+    PB: FillBody,
+    PH: Default + Drop,
+    K: BackpressureFn,
+>(store: &mut Store<QB, QH, PB, PH, K>, number: u64, place: Place, element: PB::Item)
+    requires core { IsCore store.old }
+    requires at { IsAt store.old.table number place }
+    requires kind { kind_at (state_of store.old) number ≡ Some Kind.ResponseMutUninit }
+    ensures core { IsCore store.new }
+    ensures view { state_of store.new ≡ with_changed (with_changed (state_of store.old) number (with_response_content (filled element))) number after_init }
+{
+    let entry = store.at(number, place);
+    store.fill_response(entry.sender, entry.slot, element);
     let ready = HandleEntry {
         stage: Stage::ResponseMut,
         sender: entry.sender,

@@ -7,13 +7,12 @@ ghost use Rattle.rr_protocol.specs.Messages.{request_in};
 ghost use Rattle.rr_protocol.specs.Receives.{ReceivesRequest};
 ghost use Rattle.rr_protocol.specs.Sends.{SendsRequest};
 ghost use Rattle.rr_protocol.specs.State.{handle_at, numbers_left};
-ghost use Rattle.rr_hub.specs.Writing.{is_ready};
 ghost use Rattle.rr_bench.specs.Kinds.{Names, KeepsKinds, KeepsOtherKinds};
 
 use crate::hub::{Bodies, Refuses};
 use rr_hub::HandleId;
 use rr_protocol::{BackpressureFn, LoanError, ReceiveError, RequestSendError};
-use rr_slots::Body;
+use rr_slots::{Body, FillBody};
 
 /// Loans a request from a client.
 #[inline(always)]
@@ -34,57 +33,16 @@ pub fn loan_request<B: Body>(
     core.loan_request(client, len)
 }
 
-/// Appends an element to a request that is being written. Returns `false` if it is complete.
+/// Makes an element each of those of a request that is being written, and the request one that can be sent.
 #[inline(always)]
 #[tactic(auto, unfolding(crate::specs::Kinds::Names))]
-pub fn push_request<B: Body>(core: &mut Bodies<B>, id: &HandleId, item: B::Item) -> bool
+pub fn fill_request<B: FillBody>(core: &mut Bodies<B>, id: &HandleId, element: B::Item)
     requires { Names core.old id.now kind.RequestMutUninit }
-    ensures kinds { KeepsKinds core.old core.new }
-    ensures numbers { numbers_left core.new ≡ numbers_left core.old }
-{
-    core.push_request(id, item)
-}
-
-/// Makes an element the only one of a request of one element that is being written, and the request one that can be sent.
-#[inline(always)]
-#[tactic(auto, unfolding(crate::specs::Kinds::Names))]
-pub fn write_request<B: Body>(core: &mut Bodies<B>, id: &HandleId, element: B::Item)
-    requires kind { Names core.old id.now kind.RequestMutUninit }
-    requires asked { IsSomeAnd (option_and_then request_in (handle_at core.old id.now)) (λ m. m.content.asked_len ≡ 1) }
     ensures kind { Names core.new id.now kind.RequestMut }
     ensures others { KeepsOtherKinds kind.RequestMutUninit core.old core.new }
     ensures numbers { numbers_left core.new ≡ numbers_left core.old }
 {
-    core.write_request(id, element);
-}
-
-/// Makes a request that is being written, and complete, one that can be sent.
-#[inline(always)]
-#[tactic(auto, unfolding(crate::specs::Kinds::Names))]
-pub fn init_request<B: Body>(core: &mut Bodies<B>, id: &HandleId)
-    requires kind { Names core.old id.now kind.RequestMutUninit }
-    requires complete { IsSomeAnd (handle_at core.old id.now) (λ handle. is_ready handle ≡ true) }
-    ensures kind { Names core.new id.now kind.RequestMut }
-    ensures others { KeepsOtherKinds kind.RequestMutUninit core.old core.new }
-    ensures numbers { numbers_left core.new ≡ numbers_left core.old }
-{
-    core.assume_init(id);
-}
-
-/// Makes a request that is being written one that can be sent. Returns `false` if it is not complete.
-#[inline(always)]
-#[tactic(auto, unfolding(crate::specs::Kinds::Names))]
-pub fn finish_request<B: Body>(core: &mut Bodies<B>, id: &HandleId) -> bool
-    requires { Names core.old id.now kind.RequestMutUninit }
-    ensures kind { IsTrue result → Names core.new id.now kind.RequestMut }
-    ensures others { KeepsOtherKinds kind.RequestMutUninit core.old core.new }
-    ensures numbers { numbers_left core.new ≡ numbers_left core.old }
-{
-    let complete = core.request_body(id).is_complete();
-    if complete {
-        init_request(core, id);
-    }
-    complete
+    core.fill_request(id, element);
 }
 
 /// Sends a request.

@@ -7,13 +7,12 @@ ghost use Rattle.rr_protocol.specs.Messages.{response_in};
 ghost use Rattle.rr_protocol.specs.Receives.{ReceivesResponse};
 ghost use Rattle.rr_protocol.specs.Sends.{SendsResponse};
 ghost use Rattle.rr_protocol.specs.State.{handle_at, numbers_left};
-ghost use Rattle.rr_hub.specs.Writing.{is_ready};
 ghost use Rattle.rr_bench.specs.Kinds.{Names, KeepsKinds, KeepsOtherKinds};
 
 use crate::hub::{Bodies, Refuses};
 use rr_hub::HandleId;
 use rr_protocol::{BackpressureFn, LoanError, ReceiveError, SendError};
-use rr_slots::Body;
+use rr_slots::{Body, FillBody};
 
 /// Loans a response from an active request.
 #[inline(always)]
@@ -34,57 +33,16 @@ pub fn loan_response<B: Body>(
     core.loan_response(active, len)
 }
 
-/// Appends an element to a response that is being written. Returns `false` if it is complete.
+/// Makes an element each of those of a response that is being written, and the response one that can be sent.
 #[inline(always)]
 #[tactic(auto, unfolding(crate::specs::Kinds::Names))]
-pub fn push_response<B: Body>(core: &mut Bodies<B>, id: &HandleId, item: B::Item) -> bool
+pub fn fill_response<B: FillBody>(core: &mut Bodies<B>, id: &HandleId, element: B::Item)
     requires { Names core.old id.now kind.ResponseMutUninit }
-    ensures kinds { KeepsKinds core.old core.new }
-    ensures numbers { numbers_left core.new ≡ numbers_left core.old }
-{
-    core.push_response(id, item)
-}
-
-/// Makes an element the only one of a response of one element that is being written, and the response one that can be sent.
-#[inline(always)]
-#[tactic(auto, unfolding(crate::specs::Kinds::Names))]
-pub fn write_response<B: Body>(core: &mut Bodies<B>, id: &HandleId, element: B::Item)
-    requires kind { Names core.old id.now kind.ResponseMutUninit }
-    requires asked { IsSomeAnd (option_and_then response_in (handle_at core.old id.now)) (λ m. m.content.asked_len ≡ 1) }
     ensures kind { Names core.new id.now kind.ResponseMut }
     ensures others { KeepsOtherKinds kind.ResponseMutUninit core.old core.new }
     ensures numbers { numbers_left core.new ≡ numbers_left core.old }
 {
-    core.write_response(id, element);
-}
-
-/// Makes a response that is being written, and complete, one that can be sent.
-#[inline(always)]
-#[tactic(auto, unfolding(crate::specs::Kinds::Names))]
-pub fn init_response<B: Body>(core: &mut Bodies<B>, id: &HandleId)
-    requires kind { Names core.old id.now kind.ResponseMutUninit }
-    requires complete { IsSomeAnd (handle_at core.old id.now) (λ handle. is_ready handle ≡ true) }
-    ensures kind { Names core.new id.now kind.ResponseMut }
-    ensures others { KeepsOtherKinds kind.ResponseMutUninit core.old core.new }
-    ensures numbers { numbers_left core.new ≡ numbers_left core.old }
-{
-    core.assume_init(id);
-}
-
-/// Makes a response that is being written one that can be sent. Returns `false` if it is not complete.
-#[inline(always)]
-#[tactic(auto, unfolding(crate::specs::Kinds::Names))]
-pub fn finish_response<B: Body>(core: &mut Bodies<B>, id: &HandleId) -> bool
-    requires { Names core.old id.now kind.ResponseMutUninit }
-    ensures kind { IsTrue result → Names core.new id.now kind.ResponseMut }
-    ensures others { KeepsOtherKinds kind.ResponseMutUninit core.old core.new }
-    ensures numbers { numbers_left core.new ≡ numbers_left core.old }
-{
-    let complete = core.response_body(id).is_complete();
-    if complete {
-        init_response(core, id);
-    }
-    complete
+    core.fill_response(id, element);
 }
 
 /// Sends a response, and releases its handle.

@@ -6,7 +6,7 @@ use rr_slots::Body;
 use std::test::Fail;
 
 /// Loans a request of one element from a client, if the number is a client's and a number is left.
-fn loan(core: &mut TypedCore, client: u64) -> Option<Result<HandleId, LoanError>> {
+pub(super) fn loan(core: &mut TypedCore, client: u64) -> Option<Result<HandleId, LoanError>> {
     match core.kind(&HandleId::new(client, SOMEWHERE)) {
         Some(Kind::Client) => {
             if core.numbers_left() == 0 {
@@ -27,7 +27,7 @@ fn push(core: &mut TypedCore, id: &HandleId, element: u64) -> Option<bool> {
 }
 
 /// Makes a request that is being written, and complete, one that can be sent. Returns whether it did.
-fn assume_init(core: &mut TypedCore, id: &HandleId) -> bool {
+pub(super) fn assume_init(core: &mut TypedCore, id: &HandleId) -> bool {
     match core.kind(id) {
         Some(Kind::RequestMutUninit) => {
             if !core.request_body(id).is_complete() {

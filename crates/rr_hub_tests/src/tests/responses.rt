@@ -7,7 +7,7 @@ use rr_slots::Body;
 use std::test::Fail;
 
 /// Loans a response of one element, if the handle is an active request and a number is left.
-fn loan(core: &mut TypedCore, active: &HandleId) -> Option<Result<HandleId, LoanError>> {
+pub(super) fn loan(core: &mut TypedCore, active: &HandleId) -> Option<Result<HandleId, LoanError>> {
     match core.kind(active) {
         Some(Kind::ActiveRequest) => {
             if core.numbers_left() == 0 {
@@ -28,7 +28,7 @@ fn push(core: &mut TypedCore, id: &HandleId, element: u64) -> Option<bool> {
 }
 
 /// Makes a response that is being written, and complete, one that can be sent. Returns whether it did.
-fn assume_init(core: &mut TypedCore, id: &HandleId) -> bool {
+pub(super) fn assume_init(core: &mut TypedCore, id: &HandleId) -> bool {
     match core.kind(id) {
         Some(Kind::ResponseMutUninit) => {
             if !core.response_body(id).is_complete() {

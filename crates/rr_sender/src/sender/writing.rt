@@ -1,11 +1,11 @@
 //! Writing what stands in a slot, and its user header.
 ghost use Rattle.std.specs.Prelude.{◌≡◌, ◌<◌, [], ◌∷◌, Some, length, slice_get};
 ghost use Rattle.std.specs.Borrow.{sem};
-ghost use Rattle.rr_slots.specs.Pools.{appended, with_elements};
+ghost use Rattle.rr_slots.specs.Pools.{appended, filled, with_elements};
 ghost use Rattle.rr_sender.specs.Senders.{content_at, with_changed_at};
 
 use crate::sender::Sender;
-use rr_slots::{Body, SliceBody};
+use rr_slots::{Body, FillBody, SliceBody};
 
 impl<B: Body, N: Copy, H: Drop> Sender<B, N, H> {
     ghost use Rattle.rr_sender.specs.SenderLends.{lends_user_header, lends_element};
@@ -52,6 +52,16 @@ impl<B: Body, N: Copy, H: Drop> Sender<B, N, H> {
         ensures value { slice_get (content_at self.old slot).elements index ≡ Some result.now }
     {
         self.pool.get_mut(slot, index)
+    }
+}
+
+impl<B: FillBody, N: Copy, H: Drop> Sender<B, N, H> {
+    /// Makes an element each of those that are asked for in a slot. Old ones are dropped.
+    pub fn fill(&mut self, slot: usize, element: B::Item)
+        requires { slot < length self.old.held }
+        ensures { self.new ≡ with_changed_at self.old slot (filled element) }
+    {
+        self.pool.fill(slot, element);
     }
 }
 

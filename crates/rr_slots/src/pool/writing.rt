@@ -1,9 +1,9 @@
 //! Writing what stands in a slot.
 ghost use Rattle.std.specs.Prelude.{◌≡◌, ◌<◌, [], ◌∷◌, length, slice_get, Some};
 ghost use Rattle.std.specs.Borrow.{sem, Lends};
-ghost use Rattle.rr_slots.specs.Pools.{content_at, appended, with_changed_at, with_elements};
+ghost use Rattle.rr_slots.specs.Pools.{content_at, appended, filled, with_changed_at, with_elements};
 
-use crate::body::Body;
+use crate::body::{Body, FillBody};
 use crate::pool::Pool;
 use crate::slice_body::SliceBody;
 
@@ -47,6 +47,17 @@ impl<B: Body> Pool<B> {
     {
         let body = &mut self.bodies[slot];
         body.get_mut(index)
+    }
+}
+
+impl<B: FillBody> Pool<B> {
+    /// Makes an element each of those that are asked for in a slot. Old ones are dropped.
+    pub fn fill(&mut self, slot: usize, element: B::Item)
+        requires { slot < length self.old.contents }
+        ensures { self.new ≡ with_changed_at self.old slot (filled element) }
+    {
+        let whole = &mut self.bodies[slot];
+        whole.fill(element);
     }
 }
 

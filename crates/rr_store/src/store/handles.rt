@@ -3,6 +3,7 @@ ghost use Rattle.std.specs.Prelude.{◌≡◌, ◌+◌, ◌<◌, ◌^◌, true, 
 ghost use Rattle.std.specs.FinMap as fin_map;
 ghost use Rattle.rr_protocol.specs.State.{handle_at};
 ghost use Rattle.rr_table.specs.TableView.{IsAt, table_entry};
+ghost use Rattle.rr_table.specs.declared.place.Place.{Place};
 ghost use Rattle.rr_store.specs.Asked.{CanInsert};
 ghost use Rattle.rr_store.specs.Changes.{with_handle, with_new_handle, without_handle};
 ghost use Rattle.rr_store.specs.Views.{state_of};
@@ -58,6 +59,19 @@ impl<QB: Body, QH: Default + Drop, PB: Body, PH: Default + Drop, K: Backpressure
         ensures { fin_map.get self.now.table.entries number ≡ Some (table_entry place result) }
     {
         self.table.at(number, place)
+    }
+
+    /// Returns a handle, which stands somewhere. Looks where it may stand, and walks over the table if it stands elsewhere.
+    #[inline(always)]
+    pub fn look_up(&self, number: u64, hint: Place) -> HandleEntry
+        requires { IsSome (handle_at (state_of self.now) number) }
+        ensures { (place : Place) × (fin_map.get self.now.table.entries number ≡ Some (table_entry place result)) }
+    {
+        if self.is_place_of(number, hint) {
+            self.at(number, hint)
+        } else {
+            self.at(number, self.place_of(number))
+        }
     }
 
     /// Replaces the handle that stands in this place.

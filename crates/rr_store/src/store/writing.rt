@@ -1,6 +1,6 @@
 //! What a write changes.
 ghost use Rattle.std.specs.Prelude.{◌≡◌, ◌<◌, [], ◌∷◌, not, true, length, nat_lt, if◌then◌else◌};
-ghost use Rattle.rr_slots.specs.Pools.{appended, with_element_at, with_elements};
+ghost use Rattle.rr_slots.specs.Pools.{appended, filled, with_element_at, with_elements};
 ghost use Rattle.rr_sender.specs.Senders.{content_at, with_changed_at, with_user_header};
 ghost use Rattle.rr_store.specs.Changes.{with_requests, with_responses};
 ghost use Rattle.rr_store.specs.Views.{sender_of};
@@ -9,7 +9,7 @@ ghost use Rattle.rr_store.specs.Writing.{is_written};
 use crate::store::Store;
 use crate::write;
 use rr_protocol::BackpressureFn;
-use rr_slots::Body;
+use rr_slots::{Body, FillBody};
 
 impl<QB: Body, QH: Default + Drop, PB: Body, PH: Default + Drop, K: BackpressureFn> Store<
     QB,
@@ -116,5 +116,41 @@ impl<QB: Body, QH: Default + Drop, PB: Body, PH: Default + Drop, K: Backpressure
         ensures written { self.new ≡ (if result then with_responses self.old sender (λ m. with_changed_at m slot (with_element_at index element)) else self.old) }
     {
         write::write_element_in(&mut self.server_senders, sender, slot, index, element)
+    }
+}
+
+impl<QB: FillBody, QH: Default + Drop, PB: Body, PH: Default + Drop, K: BackpressureFn> Store<
+    QB,
+    QH,
+    PB,
+    PH,
+    K,
+> {
+    /// Makes an element each of those that are asked for of the request in a slot. Old ones are dropped.
+    #[inline(always)]
+    pub fn fill_request(&mut self, sender: usize, slot: usize, element: QB::Item)
+        requires sender { sender < length self.old.client_senders }
+        requires slot { slot < length (sender_of sender self.old.client_senders).messages.held }
+        ensures { self.new ≡ with_requests self.old sender (λ m. with_changed_at m slot (filled element)) }
+    {
+        write::fill_in(&mut self.client_senders, sender, slot, element);
+    }
+}
+
+impl<QB: Body, QH: Default + Drop, PB: FillBody, PH: Default + Drop, K: BackpressureFn> Store<
+    QB,
+    QH,
+    PB,
+    PH,
+    K,
+> {
+    /// Makes an element each of those that are asked for of the response in a slot. Old ones are dropped.
+    #[inline(always)]
+    pub fn fill_response(&mut self, sender: usize, slot: usize, element: PB::Item)
+        requires sender { sender < length self.old.server_senders }
+        requires slot { slot < length (sender_of sender self.old.server_senders).messages.held }
+        ensures { self.new ≡ with_responses self.old sender (λ m. with_changed_at m slot (filled element)) }
+    {
+        write::fill_in(&mut self.server_senders, sender, slot, element);
     }
 }

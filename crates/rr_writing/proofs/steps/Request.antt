@@ -1,36 +1,40 @@
 -- What stands in the slot of a request that was not sent is written, or nothing is.
 use Rattle.std.proofs.Common.{◌≡◌, ◌<◌, ℕ, Bool, true, cond, not, Some, length, refl, sym, ap, ◌∙◌, subst, ⊎_elim}
-use Rattle.std.specs.Prelude.{◌⊎◌, IsSomeAnd, option_and_then, nat_lt}
+use Rattle.std.specs.Prelude.{◌⊎◌, IsSomeAnd, option_and_then, nat_lt, slice_get}
 use Rattle.std.specs.FinMap as fin_map
+use Rattle.std.proofs.lemmas.Option.{get_or_from_slice_get}
 use Rattle.rr_slots.specs.Pools.{Written, appended}
 use Rattle.rr_slots.specs.Pools as slot
 use Rattle.rr_table.specs.TableView.{table_entry, value_at}
 use Rattle.rr_table.specs.declared.place.Place.{Place}
-use Rattle.rr_sender.specs.Senders.{content_at, with_changed_at}
+use Rattle.rr_sender.specs.Senders.{Messages, content_at, with_changed_at}
 use Rattle.rr_sender.specs.Senders as sender
 use Rattle.rr_protocol.specs.declared.kind.Kind.{Kind}
-use Rattle.rr_protocol.specs.Messages.{Content, RequestMessage, request_in}
+use Rattle.rr_protocol.specs.Messages.{Content, Handle, RequestMessage, RequestMutUninit, request_in}
 use Rattle.rr_protocol.specs.Queries.{kind_at}
 use Rattle.rr_protocol.specs.State.{handle_at, with_changed}
 use Rattle.rr_protocol.specs.Writing.{is_complete, with_element, with_element_at, with_request_content, with_user_header}
-use Rattle.rr_laws.specs.Complete.{MessagesComplete}
+use Rattle.rr_laws.specs.Complete.{HasComplete, MessagesComplete}
 use Rattle.rr_laws.proofs.CompleteCalls.{push_request_complete}
-use Rattle.rr_laws.proofs.CompleteMessages.{changed_complete, element_keeps, header_keeps, pushed_complete, request_content_complete}
+use Rattle.rr_laws.proofs.CompleteMessages.{KeepsComplete, changed_complete, element_keeps, header_keeps, pushed_complete, request_content_complete}
 use Rattle.rr_laws.proofs.Changing.{push_reached, request_content_role}
+use Rattle.rr_store.specs.declared.details.RequestDetails.{RequestDetails}
 use Rattle.rr_store.specs.declared.handle_entry.HandleEntry.{HandleEntry}
 use Rattle.rr_store.specs.Changes.{with_requests}
 use Rattle.rr_store.specs.Parts.{Parts}
 use Rattle.rr_store.specs.Reaching.{IsCore}
 use Rattle.rr_store.specs.Sound.{IsSound, empty_hand, is_request_loan}
-use Rattle.rr_store.specs.Views.{request_at, sender_of, state_of}
+use Rattle.rr_store.specs.Views.{handle_in, request_at, sender_of, state_of}
 use Rattle.rr_store.specs.Writing.{is_written}
 use Rattle.rr_store.proofs.base.hands.Stages.{loan_is_request}
+use Rattle.rr_store.proofs.base.lookups.Looking.{shown}
 use Rattle.rr_store.proofs.base.lookups.Placed.{value_there}
 use Rattle.rr_store.proofs.base.lookups.Shown.{of_request}
 use Rattle.rr_store.proofs.base.senders.Written.{whole_or}
 use Rattle.rr_store.proofs.base.views.Unseen.{with_slot}
 use Rattle.rr_store.proofs.querying.Connected.{of_kind}
 use Rattle.rr_store.proofs.writing.Push.{request_mut_stage, request_ready_loan, request_there, says, changed_request_sound, changed_request_view, request_header_sound, request_header_view}
+use Rattle.rr_writing.proofs.steps.Lent.{both}
 
 module _ {Q QH P PH K : Type 0} (p : Parts Q QH P PH K) (n : ℕ) (place : Place) (entry : HandleEntry)
     (at : fin_map.get p.table.entries n ≡ Some (table_entry place entry)) where
@@ -49,6 +53,15 @@ module _ {Q QH P PH K : Type 0} (p : Parts Q QH P PH K) (n : ℕ) (place : Place
       ⊎_elim loan_uninit
       (λ k. request_ready_loan entry.stage (of_kind p (state_of p) n n refl refl Kind.RequestMut (λ e. cc) (λ e. cc) k entry here))
       kind
+
+  -- a request that is being written is shown as one
+  uninit_shown : kind_at (state_of p) n ≡ Some Kind.RequestMutUninit → (h : Handle Q QH P PH) → handle_at (state_of p) n ≡ Some h
+      → RequestMutUninit (request_at p entry.sender entry.slot) ≡ h
+  uninit_shown kind h e =
+      let g = request_mut_stage entry.stage (of_kind p (state_of p) n n refl refl Kind.RequestMutUninit (λ e. cc) (λ e. cc) kind entry here) in
+      let f : Some (handle_in p entry.stage entry.sender entry.slot) ≡ Some h = sym (shown p n entry here) ∙ e in
+      let s : handle_in p entry.stage entry.sender entry.slot ≡ RequestMutUninit (request_at p entry.sender entry.slot) = ap (λ x. handle_in p x entry.sender entry.slot) g in
+      cc
 
   module _ (core : IsCore p) (loan : is_request_loan entry.stage ≡ true) where
     -- its sender and its slot are there
@@ -138,3 +151,68 @@ module _ {Q QH P PH K : Type 0} (p : Parts Q QH P PH K) (n : ℕ) (place : Place
             (changed_complete (state_of p) n (with_request_content (with_user_header header))
             (λ h e c. request_content_complete (with_user_header header) (header_keeps header) h c) core.complete);
       }
+
+    -- what was lent of its sender has been written
+    module _ (messages : Messages Q RequestDetails QH) (is : messages ≡ (sender_of entry.sender p.client_senders).messages) where
+      -- the sender is there, and so is the slot
+      pub slot_lent : entry.slot < length messages.held
+      slot_lent = subst (λ m. entry.slot < length m.held) (sym is) slot_asked
+
+      -- what stands in the slot is what the request says
+      pub content_lent : (R : Written Q → Type 0) → R (content_at messages entry.slot)
+          → IsSomeAnd (option_and_then request_in (handle_at (state_of p) n))
+          (λ m. R (record { asked_len = m.content.asked_len; elements = m.content.elements }))
+      content_lent R told = of_request p (state_of p) n n refl refl entry here
+          (λ (m : RequestMessage Q QH). R (record { asked_len = m.content.asked_len; elements = m.content.elements }))
+          (loan_is_request entry.stage loan)
+          (subst (λ m. R (content_at m entry.slot)) is told)
+
+      -- and the other way round
+      pub content_seen : (R : Written Q → Type 0) → IsSomeAnd (option_and_then request_in (handle_at (state_of p) n))
+          (λ m. R (record { asked_len = m.content.asked_len; elements = m.content.elements })) → R (content_at messages entry.slot)
+      content_seen R told = subst (λ m. R (content_at m entry.slot)) (sym is)
+          (both (option_and_then request_in (handle_at (state_of p) n)) (request_at p entry.sender entry.slot)
+          (λ (m : RequestMessage Q QH). R (record { asked_len = m.content.asked_len; elements = m.content.elements }))
+          (of_request p (state_of p) n n refl refl entry here (λ (m : RequestMessage Q QH). m ≡ request_at p entry.sender entry.slot)
+          (loan_is_request entry.stage loan) refl) told)
+
+      -- its user header too
+      pub header_lent : (header : QH) → slice_get messages.user_headers entry.slot ≡ Some header
+          → IsSomeAnd (option_and_then request_in (handle_at (state_of p) n)) (λ m. m.content.user_header ≡ header)
+      header_lent header at = of_request p (state_of p) n n refl refl entry here (λ (m : RequestMessage Q QH). m.content.user_header ≡ header)
+          (loan_is_request entry.stage loan)
+          (get_or_from_slice_get (sender_of entry.sender p.client_senders).messages.user_headers entry.slot header p.spare_request_header
+          (ap (λ m. slice_get m.user_headers entry.slot) (sym is) ∙ at))
+
+      lent : (change : Written Q → Written Q) → with_requests p entry.sender (λ _. with_changed_at messages entry.slot change)
+          ≡ with_requests p entry.sender (λ m. with_changed_at m entry.slot change)
+      lent change = ap (λ x. with_requests p entry.sender (λ _. with_changed_at x entry.slot change)) is
+
+      -- contracts see what stands in the slot changed, and what is true stays true
+      module _ (change : Written Q → Written Q) (seen : Content Q QH → Content Q QH)
+          (alike : (header : QH) (w : Written Q) → says header (change w) ≡ seen (says header w)) where
+        pub lent_view : state_of (with_requests p entry.sender (λ _. with_changed_at messages entry.slot change))
+            ≡ with_changed (state_of p) n (with_request_content seen)
+        lent_view = state_then true change seen alike _ (lent change)
+
+        lent_core_if : ((h : Handle Q QH P PH) → handle_at (state_of p) n ≡ Some h → HasComplete h → HasComplete (with_request_content seen h))
+            → IsCore (with_requests p entry.sender (λ _. with_changed_at messages entry.slot change))
+        lent_core_if keeps = core_after true change seen alike _ (lent change)
+            (pushed_complete (state_of p) n (with_request_content seen) true _ lent_view (λ h e c yes. keeps h e c) core.complete)
+
+        -- where it stays complete
+        pub lent_core : KeepsComplete seen → IsCore (with_requests p entry.sender (λ _. with_changed_at messages entry.slot change))
+        lent_core keeps = lent_core_if (λ h e c. request_content_complete seen keeps h c)
+
+        -- and where it need not be complete
+        pub lent_core_uninit : kind_at (state_of p) n ≡ Some Kind.RequestMutUninit
+            → IsCore (with_requests p entry.sender (λ _. with_changed_at messages entry.slot change))
+        lent_core_uninit kind = lent_core_if (λ h e c. subst (λ (x : Handle Q QH P PH). HasComplete (with_request_content seen x)) (uninit_shown kind h e) tt)
+
+      -- the same of its user header
+      pub header_lent_view : (header : QH) → state_of (with_requests p entry.sender (λ _. sender.with_user_header messages entry.slot header))
+          ≡ with_changed (state_of p) n (with_request_content (with_user_header header))
+      header_lent_view header = header_view header _ (ap (λ x. with_requests p entry.sender (λ _. sender.with_user_header x entry.slot header)) is)
+
+      pub header_lent_core : (header : QH) → IsCore (with_requests p entry.sender (λ _. sender.with_user_header messages entry.slot header))
+      header_lent_core header = header_core header _ (ap (λ x. with_requests p entry.sender (λ _. sender.with_user_header x entry.slot header)) is)

@@ -1,18 +1,19 @@
 -- A message is written whole, and can be sent then.
-use Rattle.std.proofs.Common.{◌≡◌, ◌<◌, ◌==◌, [], ◌∷◌, ℕ, true, Some, length, refl, sym, ap, ◌∙◌, subst, inl, inr, arith}
+use Rattle.std.proofs.Common.{◌≡◌, ◌<◌, ◌==◌, [], ◌∷◌, ℕ, true, Some, length, replicate, refl, sym, ap, ◌∙◌, subst, inl, inr, arith}
 use Rattle.std.specs.Prelude.{IsSomeAnd, option_and_then}
 use Rattle.std.specs.FinMap as fin_map
-use Rattle.std.proofs.lemmas.Bool.{false≢true}
-use Rattle.rr_slots.specs.Pools as slot
+use Rattle.std.proofs.lemmas.Bool.{eq-eqb, false≢true}
+use Rattle.std.proofs.lemmas.List.{length-replicate}
+use Rattle.rr_slots.specs.Pools.{Written}
 use Rattle.rr_table.specs.TableView.{table_entry}
 use Rattle.rr_table.specs.declared.place.Place.{Place}
 use Rattle.rr_sender.specs.Senders.{content_at, with_changed_at}
 use Rattle.rr_maps.proofs.MapLaws.{get-insert_same}
 use Rattle.rr_protocol.specs.declared.kind.Kind.{Kind}
-use Rattle.rr_protocol.specs.Messages.{ActiveRequest, Handle, PendingResponse, RequestMessage, RequestMut, RequestMutUninit, Response, ResponseMessage, ResponseMut, ResponseMutUninit, request_in, response_in}
+use Rattle.rr_protocol.specs.Messages.{ActiveRequest, Content, Handle, PendingResponse, RequestMessage, RequestMut, RequestMutUninit, Response, ResponseMessage, ResponseMut, ResponseMutUninit, request_in, response_in}
 use Rattle.rr_protocol.specs.Queries.{kind_at}
 use Rattle.rr_protocol.specs.State.{handle_at, with_changed}
-use Rattle.rr_protocol.specs.Writing.{after_init, with_elements, with_request_content, with_response_content}
+use Rattle.rr_protocol.specs.Writing.{after_init, filled, is_complete, with_elements, with_request_content, with_response_content}
 use Rattle.rr_laws.specs.Complete.{HasComplete, MessagesComplete}
 use Rattle.rr_laws.specs.Roles.{role_of}
 use Rattle.rr_laws.proofs.CompleteMessages.{changed_complete, changed_there}
@@ -29,7 +30,7 @@ use Rattle.rr_store.specs.Writing.{initialised, is_ready}
 use Rattle.rr_store.proofs.base.lookups.Looking.{shown}
 use Rattle.rr_store.proofs.base.lookups.Placed.{value_there}
 use Rattle.rr_store.proofs.querying.Connected.{of_kind}
-use Rattle.rr_store.proofs.writing.Push.{changed_request_sound, changed_request_view, changed_response_sound, changed_response_view, request_mut_stage, request_there, response_mut_stage, response_there}
+use Rattle.rr_store.proofs.writing.Push.{changed_request_sound, changed_request_view, changed_response_sound, changed_response_view, request_mut_stage, request_there, response_mut_stage, response_there, says}
 use Rattle.rr_writing.proofs.steps.Initialising.{IsBeingWritten, core_then, view_then}
 
 module _ {Q QH P PH : Type 0} where
@@ -78,9 +79,8 @@ module _ {Q QH P PH K : Type 0} (p : Parts Q QH P PH K) (core : IsCore p) (n : �
       whole_core : IsCore r
       whole_core = core_then q n place entry kept ready_stage is r replaced core_between uninit ready_between
 
-  -- a request of one element
-  module _ (kind : kind_at (state_of p) n ≡ Some Kind.RequestMutUninit)
-      (asked : IsSomeAnd (option_and_then request_in (handle_at (state_of p) n)) (λ m. m.content.asked_len ≡ 1)) where
+  -- a request that is being written
+  module _ (kind : kind_at (state_of p) n ≡ Some Kind.RequestMutUninit) where
     request_stage : entry.stage ≡ stage.RequestMutUninit
     request_stage = request_mut_stage entry.stage
         (of_kind p (state_of p) n n refl refl Kind.RequestMutUninit (λ e. cc) (λ e. cc) kind entry (value_there p.table n place entry at))
@@ -91,52 +91,62 @@ module _ {Q QH P PH K : Type 0} (p : Parts Q QH P PH K) (core : IsCore p) (n : �
     request_shown : handle_in p entry.stage entry.sender entry.slot ≡ RequestMutUninit (request_at p entry.sender entry.slot)
     request_shown = ap (λ g. handle_in p g entry.sender entry.slot) request_stage
 
-    request_asked : (request_at p entry.sender entry.slot).content.asked_len ≡ 1
-    request_asked = subst (λ o. IsSomeAnd (option_and_then request_in o) (λ (m : RequestMessage Q QH). m.content.asked_len ≡ 1))
-        (there ∙ ap Some request_shown) asked
-
-    -- its sender and its slot are there, and one element is asked for
+    -- its sender and its slot are there
     pub request_sender : entry.sender < length p.client_senders
     request_sender = (request_there p core.sound n entry (value_there p.table n place entry at) request_loan).0
 
     pub request_slot : entry.slot < length (sender_of entry.sender p.client_senders).messages.held
     request_slot = (request_there p core.sound n entry (value_there p.table n place entry at) request_loan).1
 
-    pub request_room : 0 < (content_at (sender_of entry.sender p.client_senders).messages entry.slot).asked_len
-    request_room = omega (arith, request_asked)
-
-    module _ (element : Q) (q r : Parts Q QH P PH K)
-        (written : q ≡ with_requests p entry.sender (λ m. with_changed_at m entry.slot (slot.with_elements (element ∷ []))))
+    -- what stands in the slot becomes complete
+    module _ (change : Written Q → Written Q) (seen : Content Q QH → Content Q QH)
+        (alike : (header : QH) (w : Written Q) → says header (change w) ≡ seen (says header w))
+        (complete : is_complete (seen (request_at p entry.sender entry.slot).content) ≡ true) (q r : Parts Q QH P PH K)
+        (written : q ≡ with_requests p entry.sender (λ m. with_changed_at m entry.slot change))
         (replaced : r ≡ with_handle q n place (record { stage = stage.RequestMut; sender = entry.sender; slot = entry.slot })) where
-      abbrev request_change : Handle Q QH P PH → Handle Q QH P PH
-      request_change = with_request_content (with_elements (element ∷ []))
-
-      request_ready : is_ready (request_change (handle_in p entry.stage entry.sender entry.slot)) ≡ true
-      request_ready = ap (λ h. is_ready (request_change h)) request_shown ∙ ap (λ k. 1 == k) request_asked
+      request_ready : is_ready (with_request_content seen (handle_in p entry.stage entry.sender entry.slot)) ≡ true
+      request_ready = ap (λ h. is_ready (with_request_content seen h)) request_shown ∙ complete
 
       request_written : IsSound q empty_hand
       request_written = subst (λ x. IsSound x empty_hand) (sym written)
-          (changed_request_sound p core.sound n entry (value_there p.table n place entry at) request_loan (slot.with_elements (element ∷ [])) true)
+          (changed_request_sound p core.sound n entry (value_there p.table n place entry at) request_loan change true)
 
-      request_view : state_of q ≡ with_changed (state_of p) n request_change
+      request_view : state_of q ≡ with_changed (state_of p) n (with_request_content seen)
       request_view = ap state_of written
-          ∙ changed_request_view p core.sound n entry (value_there p.table n place entry at) request_loan
-          (slot.with_elements (element ∷ [])) (with_elements (element ∷ [])) (λ header w. refl) true
+          ∙ changed_request_view p core.sound n entry (value_there p.table n place entry at) request_loan change seen alike true
 
       request_kept : fin_map.get q.table.entries n ≡ Some (table_entry place entry)
       request_kept = ap (λ (x : Parts Q QH P PH K). fin_map.get x.table.entries n) written ∙ at
 
-      pub whole_request_view : state_of r ≡ with_changed (with_changed (state_of p) n request_change) n after_init
-      whole_request_view = whole_view request_change (request_content_role (with_elements (element ∷ []))) request_ready q request_written request_view request_kept
+      pub whole_request_view : state_of r ≡ with_changed (with_changed (state_of p) n (with_request_content seen)) n after_init
+      whole_request_view = whole_view (with_request_content seen) (request_content_role seen) request_ready q request_written request_view request_kept
           (inl request_stage) stage.RequestMut (sym (ap initialised request_stage)) r replaced
 
       pub whole_request_core : IsCore r
-      whole_request_core = whole_core request_change (request_content_role (with_elements (element ∷ []))) request_ready q request_written request_view request_kept
+      whole_request_core = whole_core (with_request_content seen) (request_content_role seen) request_ready q request_written request_view request_kept
           (inl request_stage) stage.RequestMut (sym (ap initialised request_stage)) r replaced
 
-  -- a response of one element
-  module _ (kind : kind_at (state_of p) n ≡ Some Kind.ResponseMutUninit)
-      (asked : IsSomeAnd (option_and_then response_in (handle_at (state_of p) n)) (λ m. m.content.asked_len ≡ 1)) where
+    -- one that is filled is complete
+    pub request_filled : (element : Q) → is_complete (filled element (request_at p entry.sender entry.slot).content) ≡ true
+    request_filled element =
+        let asked = (request_at p entry.sender entry.slot).content.asked_len in
+        eq-eqb (length (replicate asked element)) asked (length-replicate asked element)
+
+    -- one of one element
+    module _ (asked : IsSomeAnd (option_and_then request_in (handle_at (state_of p) n)) (λ m. m.content.asked_len ≡ 1)) where
+      request_asked : (request_at p entry.sender entry.slot).content.asked_len ≡ 1
+      request_asked = subst (λ o. IsSomeAnd (option_and_then request_in o) (λ (m : RequestMessage Q QH). m.content.asked_len ≡ 1))
+          (there ∙ ap Some request_shown) asked
+
+      pub request_room : 0 < (content_at (sender_of entry.sender p.client_senders).messages entry.slot).asked_len
+      request_room = omega (arith, request_asked)
+
+      -- is complete with one
+      pub request_of_one : (element : Q) → is_complete (with_elements (element ∷ []) (request_at p entry.sender entry.slot).content) ≡ true
+      request_of_one element = ap (λ k. 1 == k) request_asked
+
+  -- a response that is being written
+  module _ (kind : kind_at (state_of p) n ≡ Some Kind.ResponseMutUninit) where
     response_stage : entry.stage ≡ stage.ResponseMutUninit
     response_stage = response_mut_stage entry.stage
         (of_kind p (state_of p) n n refl refl Kind.ResponseMutUninit (λ e. cc) (λ e. cc) kind entry (value_there p.table n place entry at))
@@ -147,45 +157,56 @@ module _ {Q QH P PH K : Type 0} (p : Parts Q QH P PH K) (core : IsCore p) (n : �
     response_shown : handle_in p entry.stage entry.sender entry.slot ≡ ResponseMutUninit (response_at p entry.sender entry.slot)
     response_shown = ap (λ g. handle_in p g entry.sender entry.slot) response_stage
 
-    response_asked : (response_at p entry.sender entry.slot).content.asked_len ≡ 1
-    response_asked = subst (λ o. IsSomeAnd (option_and_then response_in o) (λ (m : ResponseMessage P PH). m.content.asked_len ≡ 1))
-        (there ∙ ap Some response_shown) asked
-
-    -- its sender and its slot are there, and one element is asked for
+    -- its sender and its slot are there
     pub response_sender : entry.sender < length p.server_senders
     response_sender = (response_there p core.sound n entry (value_there p.table n place entry at) response_loan).0
 
     pub response_slot : entry.slot < length (sender_of entry.sender p.server_senders).messages.held
     response_slot = (response_there p core.sound n entry (value_there p.table n place entry at) response_loan).1
 
-    pub response_room : 0 < (content_at (sender_of entry.sender p.server_senders).messages entry.slot).asked_len
-    response_room = omega (arith, response_asked)
-
-    module _ (element : P) (q r : Parts Q QH P PH K)
-        (written : q ≡ with_responses p entry.sender (λ m. with_changed_at m entry.slot (slot.with_elements (element ∷ []))))
+    -- what stands in the slot becomes complete
+    module _ (change : Written P → Written P) (seen : Content P PH → Content P PH)
+        (alike : (header : PH) (w : Written P) → says header (change w) ≡ seen (says header w))
+        (complete : is_complete (seen (response_at p entry.sender entry.slot).content) ≡ true) (q r : Parts Q QH P PH K)
+        (written : q ≡ with_responses p entry.sender (λ m. with_changed_at m entry.slot change))
         (replaced : r ≡ with_handle q n place (record { stage = stage.ResponseMut; sender = entry.sender; slot = entry.slot })) where
-      abbrev response_change : Handle Q QH P PH → Handle Q QH P PH
-      response_change = with_response_content (with_elements (element ∷ []))
-
-      response_ready : is_ready (response_change (handle_in p entry.stage entry.sender entry.slot)) ≡ true
-      response_ready = ap (λ h. is_ready (response_change h)) response_shown ∙ ap (λ k. 1 == k) response_asked
+      response_ready : is_ready (with_response_content seen (handle_in p entry.stage entry.sender entry.slot)) ≡ true
+      response_ready = ap (λ h. is_ready (with_response_content seen h)) response_shown ∙ complete
 
       response_written : IsSound q empty_hand
       response_written = subst (λ x. IsSound x empty_hand) (sym written)
-          (changed_response_sound p core.sound n entry (value_there p.table n place entry at) response_loan (slot.with_elements (element ∷ [])) true)
+          (changed_response_sound p core.sound n entry (value_there p.table n place entry at) response_loan change true)
 
-      response_view : state_of q ≡ with_changed (state_of p) n response_change
+      response_view : state_of q ≡ with_changed (state_of p) n (with_response_content seen)
       response_view = ap state_of written
-          ∙ changed_response_view p core.sound n entry (value_there p.table n place entry at) response_loan
-          (slot.with_elements (element ∷ [])) (with_elements (element ∷ [])) (λ header w. refl) true
+          ∙ changed_response_view p core.sound n entry (value_there p.table n place entry at) response_loan change seen alike true
 
       response_kept : fin_map.get q.table.entries n ≡ Some (table_entry place entry)
       response_kept = ap (λ (x : Parts Q QH P PH K). fin_map.get x.table.entries n) written ∙ at
 
-      pub whole_response_view : state_of r ≡ with_changed (with_changed (state_of p) n response_change) n after_init
-      whole_response_view = whole_view response_change (response_content_role (with_elements (element ∷ []))) response_ready q response_written response_view response_kept
+      pub whole_response_view : state_of r ≡ with_changed (with_changed (state_of p) n (with_response_content seen)) n after_init
+      whole_response_view = whole_view (with_response_content seen) (response_content_role seen) response_ready q response_written response_view response_kept
           (inr response_stage) stage.ResponseMut (sym (ap initialised response_stage)) r replaced
 
       pub whole_response_core : IsCore r
-      whole_response_core = whole_core response_change (response_content_role (with_elements (element ∷ []))) response_ready q response_written response_view response_kept
+      whole_response_core = whole_core (with_response_content seen) (response_content_role seen) response_ready q response_written response_view response_kept
           (inr response_stage) stage.ResponseMut (sym (ap initialised response_stage)) r replaced
+
+    -- one that is filled is complete
+    pub response_filled : (element : P) → is_complete (filled element (response_at p entry.sender entry.slot).content) ≡ true
+    response_filled element =
+        let asked = (response_at p entry.sender entry.slot).content.asked_len in
+        eq-eqb (length (replicate asked element)) asked (length-replicate asked element)
+
+    -- one of one element
+    module _ (asked : IsSomeAnd (option_and_then response_in (handle_at (state_of p) n)) (λ m. m.content.asked_len ≡ 1)) where
+      response_asked : (response_at p entry.sender entry.slot).content.asked_len ≡ 1
+      response_asked = subst (λ o. IsSomeAnd (option_and_then response_in o) (λ (m : ResponseMessage P PH). m.content.asked_len ≡ 1))
+          (there ∙ ap Some response_shown) asked
+
+      pub response_room : 0 < (content_at (sender_of entry.sender p.server_senders).messages entry.slot).asked_len
+      response_room = omega (arith, response_asked)
+
+      -- is complete with one
+      pub response_of_one : (element : P) → is_complete (with_elements (element ∷ []) (response_at p entry.sender entry.slot).content) ≡ true
+      response_of_one element = ap (λ k. 1 == k) response_asked

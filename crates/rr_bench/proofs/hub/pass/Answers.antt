@@ -6,5 +6,5 @@ use Rattle.rr_bench.proofs.hub.pass.Goals as goal
 pub returns : goal.returns
 returns g c =
     kept_other _ _ Kind.Client c.args.server Kind.Server c.release_client.ensures.others refl
-    (kept_port _ _ c.args.server Kind.Server c.round_trip.ensures refl
+    (kept_port _ _ c.args.server Kind.Server c.trips.ensures refl
     (kept _ _ c.args.server Kind.Server c.create_client.ensures.kinds c.requires.server))
