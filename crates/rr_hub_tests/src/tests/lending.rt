@@ -35,21 +35,23 @@ fn write_request_option(core: &mut TypedCore, id: &HandleId, element: u64) -> bo
     }
 }
 
-/// Writes the element and the user header that are lent of a request that can be sent. Returns what they were before.
-fn rewrite_request(
-    core: &mut TypedCore,
-    id: &HandleId,
-    element: u64,
-    header: u64,
-) -> Option<(u64, u64)> {
+/// Writes the element that is lent of a request that can be sent. Returns what it was before.
+fn rewrite_request_element(core: &mut TypedCore, id: &HandleId, element: u64) -> Option<u64> {
     match core.kind(id) {
         Some(Kind::RequestMut) => {
             if core.request_body(id).len() == 0 {
                 return None;
             }
-            let old = replace(core.request_element_mut(id, 0), element);
-            Some((old, replace(core.request_user_header_mut(id), header)))
+            Some(replace(core.request_element_mut(id, 0), element))
         }
+        _ => None,
+    }
+}
+
+/// Writes the user header that is lent of a request that can be sent. Returns what it was before.
+fn rewrite_request_header(core: &mut TypedCore, id: &HandleId, header: u64) -> Option<u64> {
+    match core.kind(id) {
+        Some(Kind::RequestMut) => Some(replace(core.request_user_header_mut(id), header)),
         _ => None,
     }
 }
@@ -103,21 +105,23 @@ fn write_response_option(core: &mut TypedCore, id: &HandleId, element: u64) -> b
     }
 }
 
-/// Writes the element and the user header that are lent of a response that can be sent. Returns what they were before.
-fn rewrite_response(
-    core: &mut TypedCore,
-    id: &HandleId,
-    element: u64,
-    header: u64,
-) -> Option<(u64, u64)> {
+/// Writes the element that is lent of a response that can be sent. Returns what it was before.
+fn rewrite_response_element(core: &mut TypedCore, id: &HandleId, element: u64) -> Option<u64> {
     match core.kind(id) {
         Some(Kind::ResponseMut) => {
             if core.response_body(id).len() == 0 {
                 return None;
             }
-            let old = replace(core.response_element_mut(id, 0), element);
-            Some((old, replace(core.response_user_header_mut(id), header)))
+            Some(replace(core.response_element_mut(id, 0), element))
         }
+        _ => None,
+    }
+}
+
+/// Writes the user header that is lent of a response that can be sent. Returns what it was before.
+fn rewrite_response_header(core: &mut TypedCore, id: &HandleId, header: u64) -> Option<u64> {
+    match core.kind(id) {
+        Some(Kind::ResponseMut) => Some(replace(core.response_user_header_mut(id), header)),
         _ => None,
     }
 }
@@ -213,8 +217,14 @@ fn lent_request(core: &mut TypedCore) -> Option<[(u64, u64); 2]> {
         return None;
     }
     Some([
-        rewrite_request(core, &request, 6, 7)?,
-        rewrite_request(core, &request, 8, 9)?,
+        (
+            rewrite_request_element(core, &request, 6)?,
+            rewrite_request_header(core, &request, 7)?,
+        ),
+        (
+            rewrite_request_element(core, &request, 8)?,
+            rewrite_request_header(core, &request, 9)?,
+        ),
     ])
 }
 
@@ -234,8 +244,14 @@ fn lent_response(core: &mut TypedCore) -> Option<[(u64, u64); 2]> {
         return None;
     }
     Some([
-        rewrite_response(core, &response, 6, 7)?,
-        rewrite_response(core, &response, 8, 9)?,
+        (
+            rewrite_response_element(core, &response, 6)?,
+            rewrite_response_header(core, &response, 7)?,
+        ),
+        (
+            rewrite_response_element(core, &response, 8)?,
+            rewrite_response_header(core, &response, 9)?,
+        ),
     ])
 }
 
