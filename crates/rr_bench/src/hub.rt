@@ -71,7 +71,7 @@ fn server(len: usize) -> ServerSettings<Refuses>
 }
 
 /// Creates a client, which makes one round trip with the server and leaves.
-fn pass<T: Payload, B: FillBody<Item = T>>(
+fn come_and_leave<T: Payload, B: FillBody<Item = T>>(
     core: &mut Bodies<B>,
     server: u64,
     len: usize,
@@ -97,7 +97,7 @@ fn let_pass<T: Payload, B: FillBody<Item = T>>(
     ensures { IfOk result (λ _. Names core.new server kind.Server) }
 {
     for _ in 0..shape.passed {
-        pass(core, server, shape.len)?;
+        come_and_leave(core, server, shape.len)?;
     }
     Ok(())
 }

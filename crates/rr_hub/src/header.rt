@@ -29,9 +29,9 @@ impl<QB: Body, QH: Default + Drop, PB: Body, PH: Default + Drop, K: Backpressure
         requires { IsSome (option_and_then request_in (handle_at self.now id.now)) }
         ensures { IsSomeAnd (option_and_then request_in (handle_at self.now id.now)) (λ m. result ≡ request_header self.now m) }
     {
-        let hint = id.hint();
-        if self.parts.is_place_of(id.number(), hint) {
-            request_header_at(&self.parts, id.number(), hint)
+        let place = id.place();
+        if self.parts.is_place_of(id.number(), place) {
+            request_header_at(&self.parts, id.number(), place)
         } else {
             let place = self.parts.place_of(id.number());
             request_header_at(&self.parts, id.number(), place)
@@ -44,9 +44,9 @@ impl<QB: Body, QH: Default + Drop, PB: Body, PH: Default + Drop, K: Backpressure
         requires { IsSome (option_and_then response_in (handle_at self.now id.now)) }
         ensures { IsSomeAnd (option_and_then response_in (handle_at self.now id.now)) (λ m. result ≡ response_header self.now m) }
     {
-        let hint = id.hint();
-        if self.parts.is_place_of(id.number(), hint) {
-            response_header_at(&self.parts, id.number(), hint)
+        let place = id.place();
+        if self.parts.is_place_of(id.number(), place) {
+            response_header_at(&self.parts, id.number(), place)
         } else {
             let place = self.parts.place_of(id.number());
             response_header_at(&self.parts, id.number(), place)
@@ -60,9 +60,9 @@ impl<QB: Body, QH: Default + Drop, PB: Body, PH: Default + Drop, K: Backpressure
         requires { IsSome (option_and_then request_in (handle_at self.now id.now)) }
         ensures { IsSomeAnd (option_and_then request_in (handle_at self.now id.now)) (λ m. result.now ≡ m.content.user_header) }
     {
-        let hint = id.hint();
-        if self.parts.is_place_of(id.number(), hint) {
-            request_user_header_at(&self.parts, id.number(), hint)
+        let place = id.place();
+        if self.parts.is_place_of(id.number(), place) {
+            request_user_header_at(&self.parts, id.number(), place)
         } else {
             let place = self.parts.place_of(id.number());
             request_user_header_at(&self.parts, id.number(), place)
@@ -76,9 +76,9 @@ impl<QB: Body, QH: Default + Drop, PB: Body, PH: Default + Drop, K: Backpressure
         requires { IsSome (option_and_then response_in (handle_at self.now id.now)) }
         ensures { IsSomeAnd (option_and_then response_in (handle_at self.now id.now)) (λ m. result.now ≡ m.content.user_header) }
     {
-        let hint = id.hint();
-        if self.parts.is_place_of(id.number(), hint) {
-            response_user_header_at(&self.parts, id.number(), hint)
+        let place = id.place();
+        if self.parts.is_place_of(id.number(), place) {
+            response_user_header_at(&self.parts, id.number(), place)
         } else {
             let place = self.parts.place_of(id.number());
             response_user_header_at(&self.parts, id.number(), place)
@@ -91,9 +91,9 @@ impl<QB: Body, QH: Default + Drop, PB: Body, PH: Default + Drop, K: Backpressure
         requires { kind_at self.now id.now ≡ Some Kind.ActiveRequest }
         ensures { IsSomeAnd (active_at self.now id.now) (λ active. result.0 ≡ active.message.client) }
     {
-        let hint = id.hint();
-        if self.parts.is_place_of(id.number(), hint) {
-            request_origin_at(&self.parts, id.number(), hint)
+        let place = id.place();
+        if self.parts.is_place_of(id.number(), place) {
+            request_origin_at(&self.parts, id.number(), place)
         } else {
             let place = self.parts.place_of(id.number());
             request_origin_at(&self.parts, id.number(), place)
@@ -106,9 +106,9 @@ impl<QB: Body, QH: Default + Drop, PB: Body, PH: Default + Drop, K: Backpressure
         requires { kind_at self.now id.now ≡ Some Kind.Response }
         ensures { IsSomeAnd (option_and_then response_in (handle_at self.now id.now)) (λ m. result.0 ≡ m.server) }
     {
-        let hint = id.hint();
-        if self.parts.is_place_of(id.number(), hint) {
-            response_origin_at(&self.parts, id.number(), hint)
+        let place = id.place();
+        if self.parts.is_place_of(id.number(), place) {
+            response_origin_at(&self.parts, id.number(), place)
         } else {
             let place = self.parts.place_of(id.number());
             response_origin_at(&self.parts, id.number(), place)

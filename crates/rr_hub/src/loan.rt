@@ -62,9 +62,9 @@ impl<QB: Body, QH: Default + Drop, PB: Body, PH: Default + Drop, K: Backpressure
         ensures unnamed { IfOk result (λ number. kind_at self.old number ≡ None) }
         ensures unreduced { ServerHasPool self.old.limits self.old active.now len → result ≢ Err LoanError.OutOfMemory }
     {
-        let hint = active.hint();
-        if self.parts.is_place_of(active.number(), hint) {
-            loan_response_at(&mut self.parts, active.number(), hint, len)
+        let place = active.place();
+        if self.parts.is_place_of(active.number(), place) {
+            loan_response_at(&mut self.parts, active.number(), place, len)
         } else {
             let place = self.parts.place_of(active.number());
             loan_response_at(&mut self.parts, active.number(), place, len)

@@ -1,15 +1,16 @@
 //! What a core tells of its ports and handles. No query changes it.
-ghost use Rattle.std.specs.Prelude.{◌≡◌, false, nat_lt, length, Some, IsSome, IsSomeAnd, option_and_then};
+ghost use Rattle.std.specs.Prelude.{◌≡◌, false, nat_lt, length, None, Some, IsSome, IsSomeAnd, if◌then◌else◌, option_and_then};
 ghost use Rattle.rr_protocol.specs.Counts.{is_alive};
 ghost use Rattle.rr_protocol.specs.Messages.{request_in, response_in};
 ghost use Rattle.rr_protocol.specs.Queries.{has_disconnect_hint, kind_at};
-ghost use Rattle.rr_protocol.specs.State.{handle_at, pending_at, active_at};
+ghost use Rattle.rr_protocol.specs.State.{handle_at, pending_at, active_at, is_client_value, is_server_value};
 
 use crate::state::Core;
 use rr_protocol::{BackpressureFn, Kind};
 use rr_querying::{
     has_disconnect_hint_at, is_active_connected_at, is_pending_connected_at, kind_of,
-    number_of_server_connections_at, request_body_at, request_number_at, response_body_at,
+    number_of_server_connections_at, port_kind_of, request_body_at, request_number_at,
+    response_body_at,
 };
 use rr_slots::Body;
 use rr_store::HandleId;
@@ -22,13 +23,22 @@ impl<QB: Body, QH: Default + Drop, PB: Body, PH: Default + Drop, K: Backpressure
     K,
 > {
     /// Returns what a number names: a client or a server whose value lives, or a handle. Returns `None` if it names nothing.
-    /// Finds a handle at its hint, and a port among about ten of 1,000; walks over the table at last, where the hint is wrong or
+    /// Finds a handle where its id says, and a port among about ten of 1,000; walks over the table at last, where the id is wrong or
     /// the number names nothing. Our own.
     #[inline(always)]
     pub fn kind(&self, id: &HandleId) -> Option<Kind>
         ensures { result ≡ kind_at self.now id.now }
     {
-        kind_of(&self.parts, id.number(), id.hint())
+        kind_of(&self.parts, id.number(), id.place())
+    }
+
+    /// Returns which port a number names: a client or a server whose value lives. Returns `None` if it names none, also if it
+    /// names a handle. Looks at about ten of 1,000 ports, and never walks over the table. Our own.
+    #[inline(always)]
+    pub fn port_kind(&self, number: u64) -> Option<Kind>
+        ensures { result ≡ (if is_client_value self.now number then Some Kind.Client else if is_server_value self.now number then Some Kind.Server else None) }
+    {
+        port_kind_of(&self.parts, number)
     }
 
     /// Returns the body of a handle's request, as far as it was written. After iceoryx2's `payload` of `RequestMut`,
@@ -39,9 +49,9 @@ impl<QB: Body, QH: Default + Drop, PB: Body, PH: Default + Drop, K: Backpressure
         ensures asked { IsSomeAnd (option_and_then request_in (handle_at self.now id.now)) (λ m. QB.asked_len result.now ≡ m.content.asked_len) }
         ensures elements { IsSomeAnd (option_and_then request_in (handle_at self.now id.now)) (λ m. QB.elements result.now ≡ m.content.elements) }
     {
-        let hint = id.hint();
-        if self.parts.is_place_of(id.number(), hint) {
-            request_body_at(&self.parts, id.number(), hint)
+        let place = id.place();
+        if self.parts.is_place_of(id.number(), place) {
+            request_body_at(&self.parts, id.number(), place)
         } else {
             let place = self.parts.place_of(id.number());
             request_body_at(&self.parts, id.number(), place)
@@ -56,9 +66,9 @@ impl<QB: Body, QH: Default + Drop, PB: Body, PH: Default + Drop, K: Backpressure
         ensures asked { IsSomeAnd (option_and_then response_in (handle_at self.now id.now)) (λ m. PB.asked_len result.now ≡ m.content.asked_len) }
         ensures elements { IsSomeAnd (option_and_then response_in (handle_at self.now id.now)) (λ m. PB.elements result.now ≡ m.content.elements) }
     {
-        let hint = id.hint();
-        if self.parts.is_place_of(id.number(), hint) {
-            response_body_at(&self.parts, id.number(), hint)
+        let place = id.place();
+        if self.parts.is_place_of(id.number(), place) {
+            response_body_at(&self.parts, id.number(), place)
         } else {
             let place = self.parts.place_of(id.number());
             response_body_at(&self.parts, id.number(), place)
@@ -72,9 +82,9 @@ impl<QB: Body, QH: Default + Drop, PB: Body, PH: Default + Drop, K: Backpressure
         requires { kind_at self.now id.now ≡ Some Kind.PendingResponse }
         ensures { IsSomeAnd (pending_at self.now id.now) (λ pending. result ≡ nat_lt 0 (length pending.servers)) }
     {
-        let hint = id.hint();
-        if self.parts.is_place_of(id.number(), hint) {
-            is_pending_connected_at(&self.parts, id.number(), hint)
+        let place = id.place();
+        if self.parts.is_place_of(id.number(), place) {
+            is_pending_connected_at(&self.parts, id.number(), place)
         } else {
             let place = self.parts.place_of(id.number());
             is_pending_connected_at(&self.parts, id.number(), place)
@@ -88,9 +98,9 @@ impl<QB: Body, QH: Default + Drop, PB: Body, PH: Default + Drop, K: Backpressure
         requires { kind_at self.now id.now ≡ Some Kind.ActiveRequest }
         ensures { IsSomeAnd (active_at self.now id.now) (λ active. result ≡ is_alive self.now active.message.number) }
     {
-        let hint = id.hint();
-        if self.parts.is_place_of(id.number(), hint) {
-            is_active_connected_at(&self.parts, id.number(), hint)
+        let place = id.place();
+        if self.parts.is_place_of(id.number(), place) {
+            is_active_connected_at(&self.parts, id.number(), place)
         } else {
             let place = self.parts.place_of(id.number());
             is_active_connected_at(&self.parts, id.number(), place)
@@ -104,9 +114,9 @@ impl<QB: Body, QH: Default + Drop, PB: Body, PH: Default + Drop, K: Backpressure
         requires { IsSome (active_at self.now id.now) }
         ensures { IsSomeAnd (active_at self.now id.now) (λ active. result ≡ active.message.number) }
     {
-        let hint = id.hint();
-        if self.parts.is_place_of(id.number(), hint) {
-            request_number_at(&self.parts, id.number(), hint)
+        let place = id.place();
+        if self.parts.is_place_of(id.number(), place) {
+            request_number_at(&self.parts, id.number(), place)
         } else {
             let place = self.parts.place_of(id.number());
             request_number_at(&self.parts, id.number(), place)
@@ -120,9 +130,9 @@ impl<QB: Body, QH: Default + Drop, PB: Body, PH: Default + Drop, K: Backpressure
         requires { kind_at self.now id.now ≡ Some Kind.PendingResponse }
         ensures { IsSomeAnd (pending_at self.now id.now) (λ pending. result ≡ pending.connections) }
     {
-        let hint = id.hint();
-        if self.parts.is_place_of(id.number(), hint) {
-            number_of_server_connections_at(&self.parts, id.number(), hint)
+        let place = id.place();
+        if self.parts.is_place_of(id.number(), place) {
+            number_of_server_connections_at(&self.parts, id.number(), place)
         } else {
             let place = self.parts.place_of(id.number());
             number_of_server_connections_at(&self.parts, id.number(), place)
@@ -136,9 +146,9 @@ impl<QB: Body, QH: Default + Drop, PB: Body, PH: Default + Drop, K: Backpressure
         requires { kind_at self.now id.now ≡ Some Kind.ActiveRequest }
         ensures { IsSomeAnd (active_at self.now id.now) (λ active. result ≡ has_disconnect_hint self.now active.message.number) }
     {
-        let hint = id.hint();
-        if self.parts.is_place_of(id.number(), hint) {
-            has_disconnect_hint_at(&self.parts, id.number(), hint)
+        let place = id.place();
+        if self.parts.is_place_of(id.number(), place) {
+            has_disconnect_hint_at(&self.parts, id.number(), place)
         } else {
             let place = self.parts.place_of(id.number());
             has_disconnect_hint_at(&self.parts, id.number(), place)

@@ -40,9 +40,9 @@ impl<QB: Body, QH: Default + Drop, PB: Body, PH: Default + Drop, K: Backpressure
         requires { kind_at self.now id.now ≡ Some Kind.PendingResponse }
         ensures { IsSomeAnd (pending_at self.now id.now) (λ pending. IsTrue result ↔ HasResponse self.now pending) }
     {
-        let hint = id.hint();
-        if self.parts.is_place_of(id.number(), hint) {
-            has_response_at(&self.parts, id.number(), hint)
+        let place = id.place();
+        if self.parts.is_place_of(id.number(), place) {
+            has_response_at(&self.parts, id.number(), place)
         } else {
             let place = self.parts.place_of(id.number());
             has_response_at(&self.parts, id.number(), place)
@@ -56,9 +56,9 @@ impl<QB: Body, QH: Default + Drop, PB: Body, PH: Default + Drop, K: Backpressure
         requires { kind_at self.now id.now ≡ Some Kind.RequestMut }
         ensures { IsSomeAnd (request_at self.now id.now) (λ m. result ≡ is_request_deliverable self.now m) }
     {
-        let hint = id.hint();
-        if self.parts.is_place_of(id.number(), hint) {
-            is_request_deliverable_at(&self.parts, id.number(), hint)
+        let place = id.place();
+        if self.parts.is_place_of(id.number(), place) {
+            is_request_deliverable_at(&self.parts, id.number(), place)
         } else {
             let place = self.parts.place_of(id.number());
             is_request_deliverable_at(&self.parts, id.number(), place)
@@ -72,9 +72,9 @@ impl<QB: Body, QH: Default + Drop, PB: Body, PH: Default + Drop, K: Backpressure
         requires { kind_at self.now id.now ≡ Some Kind.ResponseMut }
         ensures { IsSomeAnd (response_at self.now id.now) (λ m. result ≡ is_response_deliverable self.now m) }
     {
-        let hint = id.hint();
-        if self.parts.is_place_of(id.number(), hint) {
-            is_response_deliverable_at(&self.parts, id.number(), hint)
+        let place = id.place();
+        if self.parts.is_place_of(id.number(), place) {
+            is_response_deliverable_at(&self.parts, id.number(), place)
         } else {
             let place = self.parts.place_of(id.number());
             is_response_deliverable_at(&self.parts, id.number(), place)

@@ -31,9 +31,9 @@ impl<QB: Body, QH: Default + Drop, PB: Body, PH: Default + Drop, K: Backpressure
         ensures receives { ReceivesResponse self.old id.now result self.new }
         ensures unnamed { IfOk result (λ handle. IfSome handle (λ number. kind_at self.old number ≡ None)) }
     {
-        let hint = id.hint();
-        if self.parts.is_place_of(id.number(), hint) {
-            receive_response_at(&mut self.parts, id.number(), hint)
+        let place = id.place();
+        if self.parts.is_place_of(id.number(), place) {
+            receive_response_at(&mut self.parts, id.number(), place)
         } else {
             let place = self.parts.place_of(id.number());
             receive_response_at(&mut self.parts, id.number(), place)

@@ -56,9 +56,9 @@ impl<QB: Body, QH: Default + Drop, PB: Body, PH: Default + Drop, K: Backpressure
         requires { IsSome (handle_at self.old id.now) }
         ensures { self.new ≡ after_release self.old id.now }
     {
-        let hint = id.hint();
-        if self.parts.is_place_of(id.number(), hint) {
-            release_at(&mut self.parts, id.number(), hint);
+        let place = id.place();
+        if self.parts.is_place_of(id.number(), place) {
+            release_at(&mut self.parts, id.number(), place);
         } else {
             let place = self.parts.place_of(id.number());
             release_at(&mut self.parts, id.number(), place);
@@ -72,9 +72,9 @@ impl<QB: Body, QH: Default + Drop, PB: Body, PH: Default + Drop, K: Backpressure
         requires { kind_at self.old id.now ≡ Some kind.PendingResponse }
         ensures { self.new ≡ after_release self.old id.now }
     {
-        let hint = id.hint();
-        if self.parts.is_place_of(id.number(), hint) {
-            release_pending_at(&mut self.parts, id.number(), hint);
+        let place = id.place();
+        if self.parts.is_place_of(id.number(), place) {
+            release_pending_at(&mut self.parts, id.number(), place);
         } else {
             let place = self.parts.place_of(id.number());
             release_pending_at(&mut self.parts, id.number(), place);
@@ -88,9 +88,9 @@ impl<QB: Body, QH: Default + Drop, PB: Body, PH: Default + Drop, K: Backpressure
         requires { kind_at self.old id.now ≡ Some kind.ActiveRequest }
         ensures { self.new ≡ after_release self.old id.now }
     {
-        let hint = id.hint();
-        if self.parts.is_place_of(id.number(), hint) {
-            release_active_at(&mut self.parts, id.number(), hint);
+        let place = id.place();
+        if self.parts.is_place_of(id.number(), place) {
+            release_active_at(&mut self.parts, id.number(), place);
         } else {
             let place = self.parts.place_of(id.number());
             release_active_at(&mut self.parts, id.number(), place);
@@ -104,9 +104,9 @@ impl<QB: Body, QH: Default + Drop, PB: Body, PH: Default + Drop, K: Backpressure
         requires { kind_at self.old id.now ≡ Some kind.Response }
         ensures { self.new ≡ after_release self.old id.now }
     {
-        let hint = id.hint();
-        if self.parts.is_place_of(id.number(), hint) {
-            release_received_at(&mut self.parts, id.number(), hint);
+        let place = id.place();
+        if self.parts.is_place_of(id.number(), place) {
+            release_received_at(&mut self.parts, id.number(), place);
         } else {
             let place = self.parts.place_of(id.number());
             release_received_at(&mut self.parts, id.number(), place);
@@ -120,9 +120,9 @@ impl<QB: Body, QH: Default + Drop, PB: Body, PH: Default + Drop, K: Backpressure
         requires { (kind_at self.old id.now ≡ Some kind.RequestMutUninit) ⊎ (kind_at self.old id.now ≡ Some kind.RequestMut) }
         ensures { self.new ≡ after_release self.old id.now }
     {
-        let hint = id.hint();
-        if self.parts.is_place_of(id.number(), hint) {
-            release_request_at(&mut self.parts, id.number(), hint);
+        let place = id.place();
+        if self.parts.is_place_of(id.number(), place) {
+            release_request_at(&mut self.parts, id.number(), place);
         } else {
             let place = self.parts.place_of(id.number());
             release_request_at(&mut self.parts, id.number(), place);
@@ -136,9 +136,9 @@ impl<QB: Body, QH: Default + Drop, PB: Body, PH: Default + Drop, K: Backpressure
         requires { (kind_at self.old id.now ≡ Some kind.ResponseMutUninit) ⊎ (kind_at self.old id.now ≡ Some kind.ResponseMut) }
         ensures { self.new ≡ after_release self.old id.now }
     {
-        let hint = id.hint();
-        if self.parts.is_place_of(id.number(), hint) {
-            release_response_loan_at(&mut self.parts, id.number(), hint);
+        let place = id.place();
+        if self.parts.is_place_of(id.number(), place) {
+            release_response_loan_at(&mut self.parts, id.number(), place);
         } else {
             let place = self.parts.place_of(id.number());
             release_response_loan_at(&mut self.parts, id.number(), place);

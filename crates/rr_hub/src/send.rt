@@ -31,9 +31,9 @@ impl<QB: Body, QH: Default + Drop, PB: Body, PH: Default + Drop, K: Backpressure
         requires { kind_at self.old id.now ≡ Some kind.RequestMut }
         ensures { SendsRequest K.action self.old id.now result self.new }
     {
-        let hint = id.hint();
-        if self.parts.is_place_of(id.number(), hint) {
-            send_request_at(&mut self.parts, id.number(), hint)
+        let place = id.place();
+        if self.parts.is_place_of(id.number(), place) {
+            send_request_at(&mut self.parts, id.number(), place)
         } else {
             let place = self.parts.place_of(id.number());
             send_request_at(&mut self.parts, id.number(), place)
@@ -54,15 +54,15 @@ impl<QB: Body, QH: Default + Drop, PB: Body, PH: Default + Drop, K: Backpressure
         requires { kind_at self.old id.now ≡ Some kind.ResponseMut }
         ensures { SendsResponse K.action self.old id.now result self.new }
     {
-        let hint = id.hint();
-        if self.parts.is_place_of(id.number(), hint) {
-            send_response_at(&mut self.parts, id.number(), hint)
+        let place = id.place();
+        if self.parts.is_place_of(id.number(), place) {
+            send_response_at(&mut self.parts, id.number(), place)
         } else {
             self.send_response_far(id.number())
         }
     }
 
-    /// Sends a response whose handle doesn't stand at its hint. Walks over the table.
+    /// Sends a response whose handle doesn't stand where its id says. Walks over the table.
     #[cold]
     fn send_response_far(&mut self, number: u64) -> Result<(), SendError>
         requires { kind_at self.old number ≡ Some kind.ResponseMut }

@@ -33,9 +33,9 @@ impl<QB: Body, QH: Default + Drop, PB: Body, PH: Default + Drop, K: Backpressure
         requires { kind_at self.old id.now ≡ Some Kind.RequestMutUninit }
         ensures { IsSomeAnd (option_and_then request_in (handle_at self.old id.now)) (λ m. (result ≡ not (is_complete m.content)) × (self.new ≡ (if result then with_changed self.old id.now (with_request_content (with_element item)) else self.old))) }
     {
-        let hint = id.hint();
-        if self.parts.is_place_of(id.number(), hint) {
-            push_request_at(&mut self.parts, id.number(), hint, item)
+        let place = id.place();
+        if self.parts.is_place_of(id.number(), place) {
+            push_request_at(&mut self.parts, id.number(), place, item)
         } else {
             let place = self.parts.place_of(id.number());
             push_request_at(&mut self.parts, id.number(), place, item)
@@ -51,9 +51,9 @@ impl<QB: Body, QH: Default + Drop, PB: Body, PH: Default + Drop, K: Backpressure
         requires { kind_at self.old id.now ≡ Some Kind.ResponseMutUninit }
         ensures { IsSomeAnd (option_and_then response_in (handle_at self.old id.now)) (λ m. (result ≡ not (is_complete m.content)) × (self.new ≡ (if result then with_changed self.old id.now (with_response_content (with_element item)) else self.old))) }
     {
-        let hint = id.hint();
-        if self.parts.is_place_of(id.number(), hint) {
-            push_response_at(&mut self.parts, id.number(), hint, item)
+        let place = id.place();
+        if self.parts.is_place_of(id.number(), place) {
+            push_response_at(&mut self.parts, id.number(), place, item)
         } else {
             let place = self.parts.place_of(id.number());
             push_response_at(&mut self.parts, id.number(), place, item)
@@ -69,9 +69,9 @@ impl<QB: Body, QH: Default + Drop, PB: Body, PH: Default + Drop, K: Backpressure
         requires complete { IsSomeAnd (handle_at self.old id.now) (λ handle. is_ready handle ≡ true) }
         ensures { self.new ≡ with_changed self.old id.now after_init }
     {
-        let hint = id.hint();
-        if self.parts.is_place_of(id.number(), hint) {
-            assume_init_at(&mut self.parts, id.number(), hint);
+        let place = id.place();
+        if self.parts.is_place_of(id.number(), place) {
+            assume_init_at(&mut self.parts, id.number(), place);
         } else {
             let place = self.parts.place_of(id.number());
             assume_init_at(&mut self.parts, id.number(), place);
@@ -88,9 +88,9 @@ impl<QB: Body, QH: Default + Drop, PB: Body, PH: Default + Drop, K: Backpressure
         requires asked { IsSomeAnd (option_and_then request_in (handle_at self.old id.now)) (λ m. m.content.asked_len ≡ 1) }
         ensures { self.new ≡ with_changed (with_changed self.old id.now (with_request_content (with_elements (element ∷ [])))) id.now after_init }
     {
-        let hint = id.hint();
-        if self.parts.is_place_of(id.number(), hint) {
-            write_request_at(&mut self.parts, id.number(), hint, element);
+        let place = id.place();
+        if self.parts.is_place_of(id.number(), place) {
+            write_request_at(&mut self.parts, id.number(), place, element);
         } else {
             let place = self.parts.place_of(id.number());
             write_request_at(&mut self.parts, id.number(), place, element);
@@ -107,9 +107,9 @@ impl<QB: Body, QH: Default + Drop, PB: Body, PH: Default + Drop, K: Backpressure
         requires asked { IsSomeAnd (option_and_then response_in (handle_at self.old id.now)) (λ m. m.content.asked_len ≡ 1) }
         ensures { self.new ≡ with_changed (with_changed self.old id.now (with_response_content (with_elements (element ∷ [])))) id.now after_init }
     {
-        let hint = id.hint();
-        if self.parts.is_place_of(id.number(), hint) {
-            write_response_at(&mut self.parts, id.number(), hint, element);
+        let place = id.place();
+        if self.parts.is_place_of(id.number(), place) {
+            write_response_at(&mut self.parts, id.number(), place, element);
         } else {
             let place = self.parts.place_of(id.number());
             write_response_at(&mut self.parts, id.number(), place, element);
@@ -124,9 +124,9 @@ impl<QB: Body, QH: Default + Drop, PB: Body, PH: Default + Drop, K: Backpressure
         requires { kind_at self.old id.now ≡ Some Kind.PendingResponse }
         ensures { self.new ≡ with_changed self.old id.now with_hint }
     {
-        let hint = id.hint();
-        if self.parts.is_place_of(id.number(), hint) {
-            set_disconnect_hint_at(&mut self.parts, id.number(), hint);
+        let place = id.place();
+        if self.parts.is_place_of(id.number(), place) {
+            set_disconnect_hint_at(&mut self.parts, id.number(), place);
         } else {
             let place = self.parts.place_of(id.number());
             set_disconnect_hint_at(&mut self.parts, id.number(), place);
@@ -142,9 +142,9 @@ impl<QB: Body, QH: Default + Drop, PB: Body, PH: Default + Drop, K: Backpressure
         requires { (kind_at self.old id.now ≡ Some Kind.RequestMutUninit) ⊎ (kind_at self.old id.now ≡ Some Kind.RequestMut) }
         ensures { IsSomeAnd (option_and_then request_in (handle_at self.old id.now)) (λ m. (result ≡ nat_lt index (length m.content.elements)) × (self.new ≡ (if result then with_changed self.old id.now (with_request_content (with_element_at index element)) else self.old))) }
     {
-        let hint = id.hint();
-        if self.parts.is_place_of(id.number(), hint) {
-            write_request_element_at(&mut self.parts, id.number(), hint, index, element)
+        let place = id.place();
+        if self.parts.is_place_of(id.number(), place) {
+            write_request_element_at(&mut self.parts, id.number(), place, index, element)
         } else {
             let place = self.parts.place_of(id.number());
             write_request_element_at(&mut self.parts, id.number(), place, index, element)
@@ -159,9 +159,9 @@ impl<QB: Body, QH: Default + Drop, PB: Body, PH: Default + Drop, K: Backpressure
         requires { (kind_at self.old id.now ≡ Some Kind.RequestMutUninit) ⊎ (kind_at self.old id.now ≡ Some Kind.RequestMut) }
         ensures { self.new ≡ with_changed self.old id.now (with_request_content (with_user_header header)) }
     {
-        let hint = id.hint();
-        if self.parts.is_place_of(id.number(), hint) {
-            write_request_user_header_at(&mut self.parts, id.number(), hint, header);
+        let place = id.place();
+        if self.parts.is_place_of(id.number(), place) {
+            write_request_user_header_at(&mut self.parts, id.number(), place, header);
         } else {
             let place = self.parts.place_of(id.number());
             write_request_user_header_at(&mut self.parts, id.number(), place, header);
@@ -177,9 +177,9 @@ impl<QB: Body, QH: Default + Drop, PB: Body, PH: Default + Drop, K: Backpressure
         requires { (kind_at self.old id.now ≡ Some Kind.ResponseMutUninit) ⊎ (kind_at self.old id.now ≡ Some Kind.ResponseMut) }
         ensures { IsSomeAnd (option_and_then response_in (handle_at self.old id.now)) (λ m. (result ≡ nat_lt index (length m.content.elements)) × (self.new ≡ (if result then with_changed self.old id.now (with_response_content (with_element_at index element)) else self.old))) }
     {
-        let hint = id.hint();
-        if self.parts.is_place_of(id.number(), hint) {
-            write_response_element_at(&mut self.parts, id.number(), hint, index, element)
+        let place = id.place();
+        if self.parts.is_place_of(id.number(), place) {
+            write_response_element_at(&mut self.parts, id.number(), place, index, element)
         } else {
             let place = self.parts.place_of(id.number());
             write_response_element_at(&mut self.parts, id.number(), place, index, element)
@@ -194,9 +194,9 @@ impl<QB: Body, QH: Default + Drop, PB: Body, PH: Default + Drop, K: Backpressure
         requires { (kind_at self.old id.now ≡ Some Kind.ResponseMutUninit) ⊎ (kind_at self.old id.now ≡ Some Kind.ResponseMut) }
         ensures { self.new ≡ with_changed self.old id.now (with_response_content (with_user_header header)) }
     {
-        let hint = id.hint();
-        if self.parts.is_place_of(id.number(), hint) {
-            write_response_user_header_at(&mut self.parts, id.number(), hint, header);
+        let place = id.place();
+        if self.parts.is_place_of(id.number(), place) {
+            write_response_user_header_at(&mut self.parts, id.number(), place, header);
         } else {
             let place = self.parts.place_of(id.number());
             write_response_user_header_at(&mut self.parts, id.number(), place, header);
@@ -221,9 +221,9 @@ impl<QB: FillBody, QH: Default + Drop, PB: Body, PH: Default + Drop, K: Backpres
         requires { kind_at self.old id.now ≡ Some Kind.RequestMutUninit }
         ensures { self.new ≡ with_changed (with_changed self.old id.now (with_request_content (filled element))) id.now after_init }
     {
-        let hint = id.hint();
-        if self.parts.is_place_of(id.number(), hint) {
-            fill_request_at(&mut self.parts, id.number(), hint, element);
+        let place = id.place();
+        if self.parts.is_place_of(id.number(), place) {
+            fill_request_at(&mut self.parts, id.number(), place, element);
         } else {
             let place = self.parts.place_of(id.number());
             fill_request_at(&mut self.parts, id.number(), place, element);
@@ -248,9 +248,9 @@ impl<QB: Body, QH: Default + Drop, PB: FillBody, PH: Default + Drop, K: Backpres
         requires { kind_at self.old id.now ≡ Some Kind.ResponseMutUninit }
         ensures { self.new ≡ with_changed (with_changed self.old id.now (with_response_content (filled element))) id.now after_init }
     {
-        let hint = id.hint();
-        if self.parts.is_place_of(id.number(), hint) {
-            fill_response_at(&mut self.parts, id.number(), hint, element);
+        let place = id.place();
+        if self.parts.is_place_of(id.number(), place) {
+            fill_response_at(&mut self.parts, id.number(), place, element);
         } else {
             let place = self.parts.place_of(id.number());
             fill_response_at(&mut self.parts, id.number(), place, element);

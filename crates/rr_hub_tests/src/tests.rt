@@ -52,7 +52,7 @@ const LIMITS: Limits = Limits {
     server_expired_connection_buffer: 1,
 };
 
-/// A hint that is wrong for most handles.
+/// A place where few handles stand.
 const SOMEWHERE: Place = Place { row: 7, index: 7 };
 
 fn client() -> ClientSettings<Refuses>
@@ -121,10 +121,10 @@ fn ports_take_the_next_numbers(rt: HostRuntime) {
 }
 
 #[test]
-fn a_handle_has_its_number_and_its_hint(rt: HostRuntime) {
+fn an_id_has_its_number_and_its_place(rt: HostRuntime) {
     let id = HandleId::new(3, SOMEWHERE);
     assert!(rt; id.number() == 3);
-    assert!(rt; id.hint() == SOMEWHERE);
+    assert!(rt; id.place() == SOMEWHERE);
 }
 
 /// A core with a client 0 and a server 1.

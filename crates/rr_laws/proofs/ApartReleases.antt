@@ -54,7 +54,7 @@ module _ {Q QH P PH K : Type 0} where
   either_apart true x y e f = e
   either_apart false x y e f = f
 
-  clients_handles : (client : ℕ) (servers : List ℕ) (s : State Q QH P PH K)
+  pub clients_handles : (client : ℕ) (servers : List ℕ) (s : State Q QH P PH K)
       → (fold (with_expired_client client) s servers).handles ≡ s.handles
   clients_handles client [] s = refl
   clients_handles client (server ∷ servers) s = clients_handles client servers (with_expired_client client s server)
@@ -66,7 +66,7 @@ module _ {Q QH P PH K : Type 0} where
   clients_responses client (server ∷ servers) s = clients_responses client servers (with_expired_client client s server)
       ∙ either_responses (has_requests_from s server client) _ s s refl refl
 
-  servers_handles : (server : ℕ) (clients : List ℕ) (s : State Q QH P PH K)
+  pub servers_handles : (server : ℕ) (clients : List ℕ) (s : State Q QH P PH K)
       → (fold (with_expired_server server) s clients).handles ≡ s.handles
   servers_handles server [] s = refl
   servers_handles server (client ∷ clients) s = servers_handles server clients (with_expired_server server s client)

@@ -12,7 +12,7 @@ use rr_store::Store;
 /// Lets the client of a sender leave, if neither its value nor one of its handles lives. Looks at the sender alone while the
 /// value lives.
 #[inline(always)]
-pub fn leave_client_if_unused<
+pub fn leave_client_of_sender_if_unused<
     QB: Body,
     QH: Default + Drop,
     PB: Body,
@@ -25,13 +25,13 @@ pub fn leave_client_if_unused<
     ensures view { state_of store.new ≡ without_unused_port (state_of store.old) (sender_of sender store.old.client_senders).owner }
 {
     if !store.client_has_value(sender) {
-        leave_unused_client(store, sender);
+        leave_client_without_value(store, sender);
     }
 }
 
-/// Lets the client of a sender leave, if neither its value nor one of its handles lives.
+/// Lets the client of a sender leave once its value is gone, if none of its handles lives.
 #[cold]
-fn leave_unused_client<
+fn leave_client_without_value<
     QB: Body,
     QH: Default + Drop,
     PB: Body,
@@ -44,11 +44,11 @@ fn leave_unused_client<
     ensures view { state_of store.new ≡ without_unused_port (state_of store.old) (sender_of sender store.old.client_senders).owner }
 {
     let index = store.client_of_sender(sender);
-    leave_client_unless_used(store, index);
+    leave_client_if_unused(store, index);
 }
 
 /// Lets the client at an index leave, if neither its value nor one of its handles lives.
-pub fn leave_client_unless_used<
+pub fn leave_client_if_unused<
     QB: Body,
     QH: Default + Drop,
     PB: Body,

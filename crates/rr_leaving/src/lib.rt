@@ -4,5 +4,5 @@
 mod client;
 mod server;
 
-pub use client::{leave_client_if_unused, leave_client_unless_used};
-pub use server::{leave_server_if_unused, leave_server_unless_used};
+pub use client::{leave_client_if_unused, leave_client_of_sender_if_unused};
+pub use server::{leave_server_if_unused, leave_server_of_sender_if_unused};

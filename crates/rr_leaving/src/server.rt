@@ -12,7 +12,7 @@ use rr_store::Store;
 /// Lets the server of a sender leave, if neither its value nor one of its handles lives. Looks at the sender alone while the
 /// value lives.
 #[inline(always)]
-pub fn leave_server_if_unused<
+pub fn leave_server_of_sender_if_unused<
     QB: Body,
     QH: Default + Drop,
     PB: Body,
@@ -25,13 +25,13 @@ pub fn leave_server_if_unused<
     ensures view { state_of store.new ≡ without_unused_port (state_of store.old) (sender_of sender store.old.server_senders).owner }
 {
     if !store.server_has_value(sender) {
-        leave_unused_server(store, sender);
+        leave_server_without_value(store, sender);
     }
 }
 
-/// Lets the server of a sender leave, if neither its value nor one of its handles lives.
+/// Lets the server of a sender leave once its value is gone, if none of its handles lives.
 #[cold]
-fn leave_unused_server<
+fn leave_server_without_value<
     QB: Body,
     QH: Default + Drop,
     PB: Body,
@@ -44,11 +44,11 @@ fn leave_unused_server<
     ensures view { state_of store.new ≡ without_unused_port (state_of store.old) (sender_of sender store.old.server_senders).owner }
 {
     let index = store.server_of_sender(sender);
-    leave_server_unless_used(store, index);
+    leave_server_if_unused(store, index);
 }
 
 /// Lets the server at an index leave, if neither its value nor one of its handles lives.
-pub fn leave_server_unless_used<
+pub fn leave_server_if_unused<
     QB: Body,
     QH: Default + Drop,
     PB: Body,

@@ -68,8 +68,8 @@ pub fn loan_response_at<
                 sender,
                 slot: own.index,
             };
-            let number = store.add(own, entry);
-            Ok(HandleId::new(number, own))
+            let loaned = store.add(own, entry);
+            Ok(HandleId::new(loaned, own))
         }
         Err(_) => Err(LoanError::OutOfMemory),
     }

@@ -1,6 +1,8 @@
 //! What a number names.
-ghost use Rattle.std.specs.Prelude.{◌≡◌};
+ghost use Rattle.std.specs.Prelude.{◌≡◌, None, Some, if◌then◌else◌};
+ghost use Rattle.rr_protocol.specs.declared.kind.Kind.TheVariants as kind;
 ghost use Rattle.rr_protocol.specs.Queries.{kind_at};
+ghost use Rattle.rr_protocol.specs.State.{is_client_value, is_server_value};
 ghost use Rattle.rr_store.specs.Reaching.{IsCore};
 ghost use Rattle.rr_store.specs.Views.{state_of};
 
@@ -11,27 +13,44 @@ use rr_table::Place;
 
 /// Returns what a number names: a client or a server whose value lives, or a handle. Returns `None` if it names nothing.
 ///
-/// Looks at the hint, then at about ten of 1,000 clients and of as many servers, and walks over the table at last.
+/// Looks in the place, then at about ten of 1,000 clients and of as many servers, and walks over the table at last.
 #[inline(always)]
 pub fn kind_of<QB: Body, QH: Default + Drop, PB: Body, PH: Default + Drop, K: BackpressureFn>(
     store: &Store<QB, QH, PB, PH, K>,
     number: u64,
-    hint: Place,
+    place: Place,
 ) -> Option<Kind>
     requires { IsCore store.now }
     ensures { result ≡ kind_at (state_of store.now) number }
 {
-    if store.is_at(number, hint) {
-        return Some(store.at(number, hint).stage.kind());
+    if store.is_at(number, place) {
+        return Some(store.at(number, place).stage.kind());
     }
+    if let Some(kind) = port_kind_of(store, number) {
+        return Some(kind);
+    }
+    match store.find(number) {
+        Some(place) => Some(store.at(number, place).stage.kind()),
+        None => None,
+    }
+}
+
+/// Returns which port a number names: a client or a server whose value lives. Returns `None` if it names none.
+///
+/// Looks at about ten of 1,000 clients and of as many servers, and at no handle.
+#[inline(always)]
+pub fn port_kind_of<QB: Body, QH: Default + Drop, PB: Body, PH: Default + Drop, K: BackpressureFn>(
+    store: &Store<QB, QH, PB, PH, K>,
+    number: u64,
+) -> Option<Kind>
+    requires { IsCore store.now }
+    ensures { result ≡ (if is_client_value (state_of store.now) number then Some kind.Client else if is_server_value (state_of store.now) number then Some kind.Server else None) }
+{
     if store.is_client_value(number) {
         return Some(Kind::Client);
     }
     if store.is_server_value(number) {
         return Some(Kind::Server);
     }
-    match store.find(number) {
-        Some(place) => Some(store.at(number, place).stage.kind()),
-        None => None,
-    }
+    None
 }

@@ -18,7 +18,7 @@ pub use connected::{is_active_connected_at, is_pending_connected_at};
 pub use deliverable::{is_request_deliverable_at, is_response_deliverable_at};
 pub use headers::{request_header_at, response_header_at};
 pub use hints::{has_disconnect_hint_at, number_of_server_connections_at};
-pub use kinds::kind_of;
+pub use kinds::{kind_of, port_kind_of};
 pub use numbers::request_number_at;
 pub use origins::{request_origin_at, response_origin_at};
 pub use settings::{

@@ -7,7 +7,7 @@ ghost use Rattle.rr_store.specs.Reaching.{IsCore};
 ghost use Rattle.rr_store.specs.Sound.{IsSound, empty_hand};
 ghost use Rattle.rr_store.specs.Views.{state_of};
 
-use rr_leaving::leave_client_unless_used;
+use rr_leaving::leave_client_if_unused;
 use rr_protocol::BackpressureFn;
 use rr_slots::Body;
 use rr_store::Store;
@@ -26,7 +26,7 @@ pub fn release_client<
     ensures view { state_of store.new ≡ after_release (state_of store.old) client }
 {
     let index = end_client_value(store, client);
-    leave_client_unless_used(store, index);
+    leave_client_if_unused(store, index);
 }
 
 /// Notes that the value of a client is gone, and returns where among the clients it stands.

@@ -9,7 +9,7 @@ ghost use Rattle.rr_store.specs.Sound.{HasPort, IsSound, empty_hand};
 ghost use Rattle.rr_store.specs.Views.{sender_of, state_of};
 ghost use Rattle.rr_table.specs.TableView.{IsAt};
 
-use rr_leaving::leave_client_if_unused;
+use rr_leaving::leave_client_of_sender_if_unused;
 use rr_protocol::BackpressureFn;
 use rr_slots::Body;
 use rr_store::Store;
@@ -32,7 +32,7 @@ pub fn release_pending_at<
     ensures view { state_of store.new ≡ after_release (state_of store.old) number }
 {
     let sender = end_pending(store, number, place);
-    leave_client_if_unused(store, sender);
+    leave_client_of_sender_if_unused(store, sender);
 }
 
 /// Takes the pending response out of its place, counts one less for its client, drops the responses on its channel, and gives

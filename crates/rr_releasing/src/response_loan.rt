@@ -8,7 +8,7 @@ ghost use Rattle.rr_store.specs.Sound.{HasPort, IsSound, empty_hand};
 ghost use Rattle.rr_store.specs.Views.{sender_of, state_of};
 ghost use Rattle.rr_table.specs.TableView.{IsAt};
 
-use rr_leaving::leave_server_if_unused;
+use rr_leaving::leave_server_of_sender_if_unused;
 use rr_protocol::BackpressureFn;
 use rr_slots::Body;
 use rr_store::Store;
@@ -31,7 +31,7 @@ pub fn release_response_loan_at<
     ensures view { state_of store.new ≡ after_release (state_of store.old) number }
 {
     let sender = end_response(store, number, place);
-    leave_server_if_unused(store, sender);
+    leave_server_of_sender_if_unused(store, sender);
 }
 
 /// Takes the response on loan out of its place, gives its slot back, and counts one less for its server and for its active

@@ -7,7 +7,7 @@ ghost use Rattle.rr_store.specs.Reaching.{IsCore};
 ghost use Rattle.rr_store.specs.Sound.{IsSound, empty_hand};
 ghost use Rattle.rr_store.specs.Views.{state_of};
 
-use rr_leaving::leave_server_unless_used;
+use rr_leaving::leave_server_if_unused;
 use rr_protocol::BackpressureFn;
 use rr_slots::Body;
 use rr_store::Store;
@@ -26,7 +26,7 @@ pub fn release_server<
     ensures view { state_of store.new ≡ after_release (state_of store.old) server }
 {
     let index = end_server_value(store, server);
-    leave_server_unless_used(store, index);
+    leave_server_if_unused(store, index);
 }
 
 /// Notes that the value of a server is gone, and returns where among the servers it stands.

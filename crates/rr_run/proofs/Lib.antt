@@ -5,3 +5,7 @@ pub mod Received
 pub mod Running
 pub mod Continuing
 pub mod Memory
+pub mod Handles
+pub mod HandleSteps
+pub mod Knowing
+pub mod Added

@@ -3,7 +3,7 @@
 
 mod commands;
 mod error;
-mod hints;
+mod places;
 mod runner;
 mod script;
 

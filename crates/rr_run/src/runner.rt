@@ -1,11 +1,13 @@
 //! A runner of commands over a hub's core.
-ghost use Rattle.std.specs.Prelude.{◌≡◌, ◌≢◌, true};
+ghost use Rattle.std.specs.Prelude.{◌≡◌, ◌≢◌, None, true};
 ghost use Rattle.rr_protocol.specs.Creation.{CreatesHub};
 ghost use Rattle.rr_protocol.specs.Queries.{kind_at};
+ghost use Rattle.rr_run.specs.Known.{Notes};
 ghost use Rattle.rr_run.specs.Memory.{copies_elements, goes_without};
 ghost use Rattle.rr_commands.specs.Step.{Step};
 
-use crate::hints::Hints;
+use crate::places::Places;
+use crate::runner::numbers::number_in;
 use rr_commands::{Command, Reply};
 use rr_hub::Core;
 use rr_protocol::{BackpressureFn, HubCreateError, Kind, Limits, UniqueNodeId};
@@ -17,6 +19,7 @@ mod answers;
 mod creation;
 mod defaults;
 mod loans;
+mod numbers;
 mod ports;
 mod queries;
 mod receives;
@@ -31,7 +34,7 @@ mod writes;
 pub struct Runner<T: Copy + Default, B: Body<Item = T>, H: Copy + Default, K: BackpressureFn> {
     alloc: Global,
     core: Core<B, H, B, H, K>,
-    hints: Hints,
+    places: Places,
 }
 
 impl<T: Copy + Default, B: Body<Item = T>, H: Copy + Default, K: BackpressureFn> Model
@@ -43,7 +46,11 @@ impl<T: Copy + Default, B: Body<Item = T>, H: Copy + Default, K: BackpressureFn>
 
     ghost coded = { state_code T.code H.code T.code H.code K.code };
 
+    ghost use Rattle.rr_run.specs.Known.{KnowsHandles};
+
     ghost view = { λ r. r.core };
+
+    ghost invariant = { λ r. KnowsHandles r.places r.core };
 }
 
 impl<T: Copy + Default, B: Body<Item = T>, H: Copy + Default, K: BackpressureFn> Runner<
@@ -65,24 +72,28 @@ impl<T: Copy + Default, B: Body<Item = T>, H: Copy + Default, K: BackpressureFn>
         Ok(Runner {
             alloc,
             core,
-            hints: Hints::new(alloc),
+            places: Places::new(alloc),
         })
     }
 
     /// Returns what a number names: a client or a server whose value lives, or a handle. Returns `None` if it names nothing.
     ///
-    /// Our own.
+    /// Looks at one place of a handle and at about ten of 1,000 ports, unless a place was lost because no memory was found to keep
+    /// it. Our own.
     pub fn kind(&self, number: u64) -> Option<Kind>
         ensures { result ≡ kind_at self.now number }
     {
-        self.core.kind(&self.hints.id_of(number))
+        match self.places.find(number) {
+            Some(id) => self.core.kind(&id),
+            None => self.core.port_kind(number),
+        }
     }
 
     /// Carries out a command, and returns its reply.
     ///
     /// A refusal leaves everything as it was; it is the first that holds, in this order: `Unknown`, `WrongKind`,
     /// `NumbersExhausted`, `Incomplete`. `NoMemory` leaves everything as it was too, and is returned for `Payload` alone, if no
-    /// memory was found for a copy of the elements. Beside the memory that the call itself takes, a hint may be kept for each
+    /// memory was found for a copy of the elements. Beside the memory that the call itself takes, a place may be kept for each
     /// handle. Our own: iceoryx2 has the calls alone.
     pub fn apply(&mut self, command: Command<T, H, K>) -> Reply<T, H>
         ensures step { Step K.action T.is_default H.is_default B.family self.old command result self.new }
@@ -96,40 +107,62 @@ impl<T: Copy + Default, B: Body<Item = T>, H: Copy + Default, K: BackpressureFn>
         ensures step { Step K.action T.is_default H.is_default B.family self.old command result self.new }
         ensures memory { goes_without command ≡ true → result ≢ Reply.NoMemory }
     {
-        let core = &mut self.core;
-        let hints = &mut self.hints;
-        match command {
-            Command::CreateClient(settings) => creation::create_client(core, settings),
-            Command::CreateServer(settings) => creation::create_server(core, settings),
-            Command::Loan(number, len) => loans::loan(core, hints, number, len),
-            Command::LoanDefault(number, len) => {
-                defaults::loan_default(core, hints, number, len)
+        if let Some(number) = number_in(&command) {
+            if self.names_nothing(number) {
+                return Reply::Unknown;
             }
-            Command::SendCopy(number, item) => sends::send_copy(core, hints, number, item),
-            Command::Push(number, item) => writes::push(core, &hints.id_of(number), item),
-            Command::Set(number, index, item) => {
-                writes::set(core, &hints.id_of(number), index, item)
-            }
-            Command::SetUserHeader(number, header) => {
-                writes::set_user_header(core, &hints.id_of(number), header)
-            }
-            Command::AssumeInit(number) => writes::assume_init(core, &hints.id_of(number)),
-            Command::Send(number) => sends::send(core, hints, number),
-            Command::Receive(number) => receives::receive(core, hints, number),
-            Command::SetHint(number) => writes::set_hint(core, &hints.id_of(number)),
-            Command::Release(number) => releases::release(core, hints, number),
-            Command::IsDeliverable(_)
-            | Command::HasEntries(_)
-            | Command::IsConnected(_)
-            | Command::HasHint(_)
-            | Command::Servers(_)
-            | Command::Header(_)
-            | Command::UserHeader(_)
-            | Command::Payload(_)
-            | Command::Origin(_)
-            | Command::Strategy(_)
-            | Command::MaxSliceLen(_)
-            | Command::UpdateConnections(_) => answers::answer(core, self.alloc, hints, command),
         }
+        act(&mut self.core, self.alloc, &mut self.places, command)
+    }
+
+    /// Returns whether a number names nothing, as far as that is known without a walk.
+    fn names_nothing(&self, number: u64) -> bool
+        ensures { result ≡ true → kind_at self.now number ≡ None }
+    {
+        self.places.find(number).is_none() && self.core.port_kind(number).is_none()
+    }
+}
+
+/// Carries out a command on a core, and keeps where the handle stands that it gives.
+fn act<T: Copy + Default, B: Body<Item = T>, H: Copy + Default, K: BackpressureFn>(
+    core: &mut Core<B, H, B, H, K>,
+    alloc: Global,
+    places: &mut Places,
+    command: Command<T, H, K>,
+) -> Reply<T, H>
+    ensures step { Step K.action T.is_default H.is_default B.family core.old command result core.new }
+    ensures memory { goes_without command ≡ true → result ≢ Reply.NoMemory }
+    ensures places { Notes places.old command result core.new places.new }
+{
+    match command {
+        Command::CreateClient(settings) => creation::create_client(core, settings),
+        Command::CreateServer(settings) => creation::create_server(core, settings),
+        Command::Loan(number, len) => loans::loan(core, places, number, len),
+        Command::LoanDefault(number, len) => { defaults::loan_default(core, places, number, len) }
+        Command::SendCopy(number, item) => sends::send_copy(core, places, number, item),
+        Command::Push(number, item) => writes::push(core, &places.id_of(number), item),
+        Command::Set(number, index, item) => {
+            writes::set(core, &places.id_of(number), index, item)
+        }
+        Command::SetUserHeader(number, header) => {
+            writes::set_user_header(core, &places.id_of(number), header)
+        }
+        Command::AssumeInit(number) => writes::assume_init(core, &places.id_of(number)),
+        Command::Send(number) => sends::send(core, places, number),
+        Command::Receive(number) => receives::receive(core, places, number),
+        Command::SetHint(number) => writes::set_hint(core, &places.id_of(number)),
+        Command::Release(number) => releases::release(core, places, number),
+        Command::IsDeliverable(_)
+        | Command::HasEntries(_)
+        | Command::IsConnected(_)
+        | Command::HasHint(_)
+        | Command::Servers(_)
+        | Command::Header(_)
+        | Command::UserHeader(_)
+        | Command::Payload(_)
+        | Command::Origin(_)
+        | Command::Strategy(_)
+        | Command::MaxSliceLen(_)
+        | Command::UpdateConnections(_) => answers::answer(core, alloc, places, command),
     }
 }

@@ -176,8 +176,8 @@ module _ {T N H : Type 0} (pool : Slots T) (heads : List (Head N H)) (s : Sent) 
       times-at_two s.queues receiver channel at inside k,
     )
 
-    pub sound-pass : IsSound pool heads (with_entries s receiver channel longer)
-    sound-pass = record {
+    pub sound-append : IsSound pool heads (with_entries s receiver channel longer)
+    sound-append = record {
       covered = λ k. ⊎_elim
           (λ e. omega (
             arith,
@@ -194,9 +194,9 @@ module _ {T N H : Type 0} (pool : Slots T) (heads : List (Head N H)) (s : Sent) 
       one_head_each = sound.one_head_each;
     }
 
-    pub state-pass : messages pool heads (with_entries s receiver channel longer)
+    pub state-append : messages pool heads (with_entries s receiver channel longer)
         ≡ with_held (with_queue (messages pool heads s) receiver channel longer) slot (get_or (held_of pool.holders s.queues) slot 0 - 1)
-    state-pass = ap (λ hs. record (with_queue (messages pool heads s) receiver channel longer) { held = hs })
+    state-append = ap (λ hs. record (with_queue (messages pool heads s) receiver channel longer) { held = hs })
         (held_becomes pool.holders pool.holders s.queues (set_two s.queues receiver channel longer) refl slot
         (get_or (held_of pool.holders s.queues) slot 0 - 1)
         (within_holders pool heads s sound slot (omega (arith, held, held_is pool heads s sound slot)))

@@ -7,7 +7,7 @@ ghost use Rattle.rr_store.specs.Reaching.{IsCore};
 ghost use Rattle.rr_store.specs.Views.{state_of};
 ghost use Rattle.rr_table.specs.TableView.{IsAt};
 
-use rr_leaving::leave_server_if_unused;
+use rr_leaving::leave_server_of_sender_if_unused;
 use rr_protocol::{BackpressureFn, SendError};
 use rr_releasing::release_response_loan_at;
 use rr_slots::Body;
@@ -46,6 +46,6 @@ pub fn send_response_at<
     store.hand_over_response(entry, details.channel, reach);
     let receiver = store.end_response_loan(entry.sender);
     store.end_loan_from(details, receiver);
-    leave_server_if_unused(store, entry.sender);
+    leave_server_of_sender_if_unused(store, entry.sender);
     Ok(())
 }

@@ -35,10 +35,10 @@ module _ {T N H : Type 0} where
 
 module _ {T N H : Type 0} (senders : List (Sender T N H)) (receiver channel most : ℕ) where
   -- of the first senders, none has an entry and room; and whether one has an entry
-  pub record IsLookedThrough (n : ℕ) (is_blocked : Bool) : Type 0 where
+  pub record IsLookedThrough (n : ℕ) (is_at_limit : Bool) : Type 0 where
     pub passed : (sender : ℕ) → sender < n → borrowed_from senders receiver channel sender < most → queue_from senders receiver channel sender ≡ []
-    pub clear : is_blocked ≡ false → (sender : ℕ) → sender < n → queue_from senders receiver channel sender ≡ []
-    pub blocked : is_blocked ≡ true → (sender : ℕ) × (sender < n) × (most ≤ borrowed_from senders receiver channel sender) × (queue_from senders receiver channel sender ≢ [])
+    pub clear : is_at_limit ≡ false → (sender : ℕ) → sender < n → queue_from senders receiver channel sender ≡ []
+    pub at_limit : is_at_limit ≡ true → (sender : ℕ) × (sender < n) × (most ≤ borrowed_from senders receiver channel sender) × (queue_from senders receiver channel sender ≢ [])
 
 module _ {Q QH P PH K : Type 0} (p : Parts Q QH P PH K) where
   -- the handle of a response that was received

@@ -6,11 +6,11 @@ use std::marker::Model;
 
 /// The number of a handle, and where it is kept. Contracts see the number alone.
 ///
-/// The place is a hint: it is tried first and checked, so that a wrong one costs a walk and nothing else. Our own.
+/// The place is tried first and checked, so that a wrong one costs a walk and nothing else. Our own.
 #[derive(Drop)]
 pub struct HandleId {
     number: u64,
-    hint: Place,
+    place: Place,
 }
 
 impl Model for HandleId {
@@ -23,10 +23,10 @@ impl Model for HandleId {
 
 impl HandleId {
     /// The id of the handle with this number, which is looked for here first.
-    pub fn new(number: u64, hint: Place) -> Self
+    pub fn new(number: u64, place: Place) -> Self
         ensures { result ≡ number }
     {
-        HandleId { number, hint }
+        HandleId { number, place }
     }
 
     /// The number.
@@ -39,7 +39,7 @@ impl HandleId {
 
     /// Where it is looked for first.
     #[inline(always)]
-    pub fn hint(&self) -> Place {
-        self.hint
+    pub fn place(&self) -> Place {
+        self.place
     }
 }

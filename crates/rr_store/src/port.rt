@@ -204,10 +204,24 @@ impl<K: Drop> ConnectedPort for ServerPort<K> {
     }
 }
 
-/// Returns where among the ports, whose numbers rise, the one with this number stands. Looks at about as many ports as their
-/// count can be halved: at 10 of 1,000.
+/// Returns where among the ports, whose numbers rise, the one with this number stands. Looks at the one in the middle, and then
+/// halves: at 11 of 1,000 at most.
 #[inline(always)]
 pub fn index_of<P: ConnectedPort>(ports: &[P], id: u64) -> Option<usize>
+    requires { IsRising P.id ports.now }
+    ensures { result ≡ position (λ p. P.id p == id) ports.now }
+{
+    let middle = ports.len() / 2;
+    if middle < ports.len() {
+        if ports[middle].id() == id {
+            return Some(middle);
+        }
+    }
+    index_by_halving(ports, id)
+}
+
+/// Returns the same. Looks at about as many ports as their count can be halved: at 10 of 1,000.
+fn index_by_halving<P: ConnectedPort>(ports: &[P], id: u64) -> Option<usize>
     requires { IsRising P.id ports.now }
     ensures { result ≡ position (λ p. P.id p == id) ports.now }
 {

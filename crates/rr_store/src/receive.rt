@@ -22,16 +22,16 @@ pub fn next_sender<B: Body, N: Copy, H: Drop>(
     requires { Reaches (map sender_part senders.now.items) receiver channel }
     ensures { IsNextSender (map sender_part senders.now.items) receiver channel most result }
 {
-    let mut is_blocked = false;
+    let mut is_at_limit = false;
     for sender in 0..senders.len() {
         if senders[sender].messages.has_entries(receiver, channel) {
             if senders[sender].messages.borrowed(receiver, channel) < most {
                 return Ok(Some(sender));
             }
-            is_blocked = true;
+            is_at_limit = true;
         }
     }
-    if is_blocked {
+    if is_at_limit {
         return Err(ReceiveError::ExceedsMaxBorrows);
     }
     Ok(None)

@@ -5,3 +5,4 @@ pub mod Rows
 pub mod Vectors
 pub mod TableLaws
 pub mod Here
+pub mod Values

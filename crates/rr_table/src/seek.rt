@@ -45,14 +45,14 @@ pub(crate) fn is_number_at<E: Copy>(rows: &Vec<Vec<Entry<E>>>, number: u64, plac
     false
 }
 
-/// The place of a number: the hint where the number stands there, and else what a walk over the rows finds. None where
+/// The place of a number: `first` where the number stands there, and else what a walk over the rows finds. None where
 /// the number stands nowhere.
 #[cold]
-pub(crate) fn seek<E: Copy>(rows: &Vec<Vec<Entry<E>>>, number: u64, hint: Place) -> Option<Place>
+pub(crate) fn seek<E: Copy>(rows: &Vec<Vec<Entry<E>>>, number: u64, first: Place) -> Option<Place>
     ensures { IsPlaceOf (rows_of rows.now) number result }
 {
-    if entry_at(rows, number, hint).is_some() {
-        return Some(hint);
+    if entry_at(rows, number, first).is_some() {
+        return Some(first);
     }
     for row in 0..rows.len() {
         if let Some(index) = seek_in_row(&rows[row], number) {

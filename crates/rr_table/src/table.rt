@@ -82,12 +82,12 @@ impl<E: Copy> Table<E> {
         Ok(())
     }
 
-    /// The value under a number, or None where there is none. The hint is the place that is tried first: it changes how
+    /// The value under a number, or None where there is none. The place `first` is tried first: it changes how
     /// long the call takes, and never the answer.
-    pub fn get(&self, number: u64, hint: Place) -> Option<E>
+    pub fn get(&self, number: u64, first: Place) -> Option<E>
         ensures { result ≡ value_at self.now number }
     {
-        match seek(&self.rows, number, hint) {
+        match seek(&self.rows, number, first) {
             Some(place) => match entry_at(&self.rows, number, place) {
                 Some(entry) => Some(entry.value),
                 None => None,
@@ -143,7 +143,8 @@ impl<E: Copy> Table<E> {
         requires { IsAt self.old number place }
         ensures { self.new ≡ inserted self.old number place value }
     {
-        self.rows[place.row][place.index] = Entry { number, value };
+        let _ = number;
+        self.rows[place.row][place.index].value = value;
     }
 
     /// Takes a number and its value out of the place where they stand, which is vacant then.
@@ -180,23 +181,23 @@ impl<E: Copy> Table<E> {
         self.rows[place.row][place.index] = entry;
     }
 
-    /// Replaces the value under a number, which keeps its place. The hint is the place that is tried first.
-    pub fn set(&mut self, number: u64, hint: Place, value: E)
+    /// Replaces the value under a number, which keeps its place. The place `first` is tried first.
+    pub fn set(&mut self, number: u64, first: Place, value: E)
         requires { map.get self.old.entries number ≢ None }
         ensures { IfSome (map.get self.old.entries number) (λ s. self.new ≡ inserted self.old number s.place value) }
     {
-        if let Some(place) = seek(&self.rows, number, hint) {
+        if let Some(place) = seek(&self.rows, number, first) {
             self.rows[place.row][place.index] = Entry { number, value };
         }
     }
 
-    /// Takes away a number and its value, so that its place is vacant. The hint is the place that is tried first.
-    pub fn remove(&mut self, number: u64, hint: Place)
+    /// Takes away a number and its value, so that its place is vacant. The place `first` is tried first.
+    pub fn remove(&mut self, number: u64, first: Place)
         requires { map.get self.old.entries number ≢ None }
         ensures gone { self.new ≡ removed self.old number }
         ensures vacated { IfSome (map.get self.old.entries number) (λ s. IsVacant self.new s.place) }
     {
-        if let Some(place) = seek(&self.rows, number, hint) {
+        if let Some(place) = seek(&self.rows, number, first) {
             self.rows[place.row][place.index].number = VACANT;
         }
     }

@@ -31,13 +31,12 @@ pub fn write_request_at<
     ensures view { state_of store.new ≡ with_changed (with_changed (state_of store.old) number (with_request_content (with_elements (element ∷ [])))) number after_init }
 {
     let entry = store.at(number, place);
-    store.write_request(entry.sender, entry.slot, element);
     let ready = HandleEntry {
         stage: Stage::RequestMut,
-        sender: entry.sender,
-        slot: entry.slot,
+        ..entry
     };
     store.replace(number, place, ready);
+    store.write_request(entry.sender, entry.slot, element);
 }
 
 /// Makes an element the only one of the response of one element that is being written in this place, which can be sent then. One that
@@ -58,13 +57,12 @@ pub fn write_response_at<
     ensures view { state_of store.new ≡ with_changed (with_changed (state_of store.old) number (with_response_content (with_elements (element ∷ [])))) number after_init }
 {
     let entry = store.at(number, place);
-    store.write_response(entry.sender, entry.slot, element);
     let ready = HandleEntry {
         stage: Stage::ResponseMut,
-        sender: entry.sender,
-        slot: entry.slot,
+        ..entry
     };
     store.replace(number, place, ready);
+    store.write_response(entry.sender, entry.slot, element);
 }
 
 /// Makes an element each of those that are asked for of the request that is being written in this place, which can be sent then. Those
@@ -84,13 +82,12 @@ pub fn fill_request_at<
     ensures view { state_of store.new ≡ with_changed (with_changed (state_of store.old) number (with_request_content (filled element))) number after_init }
 {
     let entry = store.at(number, place);
-    store.fill_request(entry.sender, entry.slot, element);
     let ready = HandleEntry {
         stage: Stage::RequestMut,
-        sender: entry.sender,
-        slot: entry.slot,
+        ..entry
     };
     store.replace(number, place, ready);
+    store.fill_request(entry.sender, entry.slot, element);
 }
 
 /// Makes an element each of those that are asked for of the response that is being written in this place, which can be sent then. Those
@@ -110,11 +107,10 @@ pub fn fill_response_at<
     ensures view { state_of store.new ≡ with_changed (with_changed (state_of store.old) number (with_response_content (filled element))) number after_init }
 {
     let entry = store.at(number, place);
-    store.fill_response(entry.sender, entry.slot, element);
     let ready = HandleEntry {
         stage: Stage::ResponseMut,
-        sender: entry.sender,
-        slot: entry.slot,
+        ..entry
     };
     store.replace(number, place, ready);
+    store.fill_response(entry.sender, entry.slot, element);
 }

@@ -80,7 +80,7 @@ pub(super) fn asked(core: &mut TypedCore) -> Option<(HandleId, HandleId)> {
     Some((request, active))
 }
 
-/// Loans a request. Returns its number, its kind, and that under a wrong hint.
+/// Loans a request. Returns its number, its kind, and that under an id with a wrong place.
 fn loaned(core: &mut TypedCore) -> Option<(u64, Option<Kind>, Option<Kind>)> {
     let request = loan(core, 0)?.ok()?;
     let elsewhere = HandleId::new(request.number(), SOMEWHERE);
@@ -91,6 +91,23 @@ fn loaned(core: &mut TypedCore) -> Option<(u64, Option<Kind>, Option<Kind>)> {
 fn a_request_is_loaned(rt: HostRuntime) -> Result<(), Fail> {
     let kind = Some(Kind::RequestMutUninit);
     assert!(rt; loaned(&mut connected(rt.alloc())?) == Some((2, kind, kind)));
+    Ok(())
+}
+
+/// Loans a request. Returns which ports the numbers of the client, the server and the request name.
+fn ports(core: &mut TypedCore) -> Option<[Option<Kind>; 3]> {
+    let request = loan(core, 0)?.ok()?;
+    Some([
+        core.port_kind(0),
+        core.port_kind(1),
+        core.port_kind(request.number()),
+    ])
+}
+
+#[test]
+fn a_request_has_no_ports_number(rt: HostRuntime) -> Result<(), Fail> {
+    let kinds = [Some(Kind::Client), Some(Kind::Server), None];
+    assert!(rt; ports(&mut connected(rt.alloc())?) == Some(kinds));
     Ok(())
 }
 
@@ -153,7 +170,7 @@ fn a_request_is_received(rt: HostRuntime) -> Result<(), Fail> {
     Ok(())
 }
 
-/// Releases a pending response by a wrong hint. Returns its kind then, and what its active request returns.
+/// Releases a pending response by an id with a wrong place. Returns its kind then, and what its active request returns.
 fn released(core: &mut TypedCore) -> Option<(Option<Kind>, (u64, Option<u64>, bool))> {
     let (pending, active) = asked(core)?;
     let elsewhere = HandleId::new(pending.number(), SOMEWHERE);

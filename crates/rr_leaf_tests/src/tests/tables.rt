@@ -1,4 +1,4 @@
-//! Each call of a table once, wrong hints, and what is left where there is no memory.
+//! Each call of a table once, wrong places, and what is left where there is no memory.
 ghost use Rattle.std.specs.Prelude.{◌≡◌, ◌<◌, IfOk, length};
 ghost use Rattle.rr_table.specs.TableView.{empty_table, with_row, inserted};
 ghost use Rattle.rr_table.specs.Places.{place};
@@ -19,7 +19,7 @@ fn two_rows(alloc: Global) -> Result<Table<u32>, AllocError>
 }
 
 /// Where 7 stands, a vacant place, where 9 stands, and a place outside the rows.
-const HINTS: [Place; 4] = [
+const PLACES: [Place; 4] = [
     Place { row: 0, index: 1 },
     Place { row: 0, index: 0 },
     Place { row: 1, index: 0 },
@@ -27,15 +27,19 @@ const HINTS: [Place; 4] = [
 ];
 
 /// Returns what is found under 7, 9 and 8.
-fn found(table: &Table<u32>, hint: Place) -> [Option<u32>; 3] {
-    [table.get(7, hint), table.get(9, hint), table.get(8, hint)]
+fn found(table: &Table<u32>, first: Place) -> [Option<u32>; 3] {
+    [
+        table.get(7, first),
+        table.get(9, first),
+        table.get(8, first),
+    ]
 }
 
 #[test]
-fn gets_what_was_inserted_whatever_the_hint(rt: HostRuntime) -> Result<(), AllocError> {
+fn gets_what_was_inserted_whatever_place_is_tried_first(rt: HostRuntime) -> Result<(), AllocError> {
     let table = two_rows(rt.alloc())?;
-    for hint in HINTS {
-        assert!(rt; found(&table, hint) == [Some(70), Some(90), None]);
+    for first in PLACES {
+        assert!(rt; found(&table, first) == [Some(70), Some(90), None]);
     }
     Ok(())
 }
@@ -44,11 +48,11 @@ fn gets_what_was_inserted_whatever_the_hint(rt: HostRuntime) -> Result<(), Alloc
 fn found_at(alloc: Global) -> Result<[Option<u32>; 5], AllocError> {
     let table = two_rows(alloc)?;
     Ok([
-        table.get_at(7, HINTS[0]),
-        table.get_at(7, HINTS[1]),
-        table.get_at(7, HINTS[2]),
-        table.get_at(7, HINTS[3]),
-        table.get_at(9, HINTS[2]),
+        table.get_at(7, PLACES[0]),
+        table.get_at(7, PLACES[1]),
+        table.get_at(7, PLACES[2]),
+        table.get_at(7, PLACES[3]),
+        table.get_at(9, PLACES[2]),
     ])
 }
 
@@ -63,17 +67,17 @@ fn taken_from_its_place(
 ) -> Result<(Option<Place>, [bool; 4], Option<u32>), AllocError> {
     let mut table = two_rows(alloc)?;
     let stands = [
-        table.is_at(7, HINTS[0]),
-        table.is_at(7, HINTS[1]),
-        table.is_at(7, HINTS[2]),
-        table.is_at(7, HINTS[3]),
+        table.is_at(7, PLACES[0]),
+        table.is_at(7, PLACES[1]),
+        table.is_at(7, PLACES[2]),
+        table.is_at(7, PLACES[3]),
     ];
     let found = table.find(7);
-    if table.is_at(7, HINTS[0]) {
-        table.set_at(7, HINTS[0], 71);
+    if table.is_at(7, PLACES[0]) {
+        table.set_at(7, PLACES[0], 71);
     }
-    if table.is_at(7, HINTS[0]) {
-        let value = table.take_at(7, HINTS[0]);
+    if table.is_at(7, PLACES[0]) {
+        let value = table.take_at(7, PLACES[0]);
         return Ok((found, stands, Some(value)));
     }
     Ok((found, stands, None))
@@ -81,7 +85,7 @@ fn taken_from_its_place(
 
 #[test]
 fn takes_a_value_from_its_place(rt: HostRuntime) {
-    let expected = (Some(HINTS[0]), [true, false, false, false], Some(71));
+    let expected = (Some(PLACES[0]), [true, false, false, false], Some(71));
     assert!(rt; taken_from_its_place(rt.alloc()) == Ok(expected));
 }
 
@@ -99,35 +103,35 @@ fn numbers_its_rows(rt: HostRuntime) {
     assert!(rt; row_numbers(rt.alloc()) == Ok([0, 1, 2]));
 }
 
-/// Returns what is found under 7 and 9 once 9 was set by the hint of 7.
-fn set_by_a_wrong_hint(alloc: Global) -> Result<[Option<u32>; 2], AllocError> {
+/// Returns what is found under 7 and 9 once 9 was set by the place of 7.
+fn set_by_a_wrong_place(alloc: Global) -> Result<[Option<u32>; 2], AllocError> {
     let mut table = two_rows(alloc)?;
-    if table.get(9, HINTS[2]).is_some() {
-        table.set(9, HINTS[0], 91);
+    if table.get(9, PLACES[2]).is_some() {
+        table.set(9, PLACES[0], 91);
     }
-    Ok([table.get(7, HINTS[0]), table.get(9, HINTS[2])])
+    Ok([table.get(7, PLACES[0]), table.get(9, PLACES[2])])
 }
 
-/// Returns what is found under 7 and 9 once 7 was removed by the hint of 9.
-fn removed_by_a_wrong_hint(alloc: Global) -> Result<[Option<u32>; 2], AllocError> {
+/// Returns what is found under 7 and 9 once 7 was removed by the place of 9.
+fn removed_by_a_wrong_place(alloc: Global) -> Result<[Option<u32>; 2], AllocError> {
     let mut table = two_rows(alloc)?;
-    if table.get(7, HINTS[0]).is_some() {
-        table.remove(7, HINTS[2]);
+    if table.get(7, PLACES[0]).is_some() {
+        table.remove(7, PLACES[2]);
     }
-    Ok([table.get(7, HINTS[0]), table.get(9, HINTS[2])])
+    Ok([table.get(7, PLACES[0]), table.get(9, PLACES[2])])
 }
 
 #[test]
-fn sets_and_removes_by_a_wrong_hint(rt: HostRuntime) {
-    assert!(rt; set_by_a_wrong_hint(rt.alloc()) == Ok([Some(70), Some(91)]));
-    assert!(rt; removed_by_a_wrong_hint(rt.alloc()) == Ok([None, Some(90)]));
+fn sets_and_removes_by_a_wrong_place(rt: HostRuntime) {
+    assert!(rt; set_by_a_wrong_place(rt.alloc()) == Ok([Some(70), Some(91)]));
+    assert!(rt; removed_by_a_wrong_place(rt.alloc()) == Ok([None, Some(90)]));
 }
 
 /// Returns whether what stands in the two rows stays, while eight rows are added, as far as memory goes.
 fn is_kept_as_rows_are_added(table: &mut Table<u32>, alloc: Global) -> bool {
     for _ in 0..8 {
         let _ = table.add_row(alloc, 3, 0);
-        if found(table, HINTS[3]) != [Some(70), Some(90), None] {
+        if found(table, PLACES[3]) != [Some(70), Some(90), None] {
             return false;
         }
     }
@@ -146,8 +150,8 @@ fn renewed(table: &mut Table<u32>, alloc: Global) -> Result<[Option<u32>; 3], [O
     requires { 0 < length table.old.rows }
 {
     match table.renew_row(alloc, 0, 3, 0) {
-        Ok(()) => Ok(found(table, HINTS[3])),
-        Err(AllocError) => Err(found(table, HINTS[3])),
+        Ok(()) => Ok(found(table, PLACES[3])),
+        Err(AllocError) => Err(found(table, PLACES[3])),
     }
 }
 

@@ -1,6 +1,6 @@
--- What a number names is looked for at a hint, among the clients, among the servers and among all handles.
-use Rattle.std.proofs.Common.{◌≡◌, ℕ, Bool, true, false, Option, None, Some, sym, ap, ◌∙◌}
-use Rattle.std.specs.Prelude.{option_map}
+-- What a number names is looked for in a place, among the ports and among all handles.
+use Rattle.std.proofs.Common.{◌≡◌, ℕ, Bool, true, false, Option, None, Some, refl, sym, ap, ◌∙◌}
+use Rattle.std.specs.Prelude.{if◌then◌else◌, option_map}
 use Rattle.std.specs.FinMap as fin_map
 use Rattle.rr_table.specs.TableView.{TableEntry, table_entry}
 use Rattle.rr_table.specs.declared.place.Place.{Place}
@@ -34,20 +34,31 @@ module _ {Q QH P PH K : Type 0} (p : Parts Q QH P PH K) (core : IsCore p) (n : �
       ap Some (tells ∙ sym (kind-handle_in p entry.stage entry.sender entry.slot))
       ∙ sym (handle_named (state_of p) core.reached n _ (shown p n entry (value_there p.table n place entry at)))
 
-  module _ (client : Bool) (of_client : client ≡ is_client_value (state_of p) n) where
-    -- the number names a client
-    pub client_then : client ≡ true → Some Kind.Client ≡ kind_at (state_of p) n
-    client_then h = kind_client (state_of p) n (sym of_client ∙ h)
+  -- what the search among ports returns, in terms of whether the number names a client or a server
+  abbrev pub port_kind : Bool → Bool → Option Kind
+  port_kind client server = if client then Some Kind.Client else if server then Some Kind.Server else None
 
-    module _ (no_client : client ≡ false) (server : Bool) (of_server : server ≡ is_server_value (state_of p) n) where
-      -- the number names a server
-      pub server_then : server ≡ true → Some Kind.Server ≡ kind_at (state_of p) n
-      server_then h = kind_server (state_of p) n (sym of_client ∙ no_client) (sym of_server ∙ h)
+  -- the number names a port
+  pub port_then : (found : Option Kind) → found ≡ port_kind (is_client_value (state_of p) n) (is_server_value (state_of p) n)
+      → (kind : Kind) → found ≡ Some kind → Some kind ≡ kind_at (state_of p) n
+  port_then found looked kind is = go (is_client_value (state_of p) n) (is_server_value (state_of p) n) refl refl (sym is ∙ looked)
+    where
+      go : (client server : Bool) → is_client_value (state_of p) n ≡ client → is_server_value (state_of p) n ≡ server
+          → Some kind ≡ port_kind client server → Some kind ≡ kind_at (state_of p) n
+      go true server e f named = named ∙ kind_client (state_of p) n e
+      go false true e f named = named ∙ kind_server (state_of p) n e f
+      go false false e f named = absurd (cc)
 
-      -- the number names nothing
-      pub none_then : server ≡ false → (found : Option Place)
-          → found ≡ option_map (λ (s : TableEntry HandleEntry). s.place) (fin_map.get p.table.entries n)
-          → found ≡ None → None ≡ kind_at (state_of p) n
-      none_then no_server found looked none =
-          sym (ap (option_map kind_of) (nothing_shown p n (found_none p.table n (sym looked ∙ none))))
-          ∙ kind_handle (state_of p) n (sym of_client ∙ no_client) (sym of_server ∙ no_server)
+  -- the number names nothing
+  pub none_then : (found : Option Kind) → found ≡ port_kind (is_client_value (state_of p) n) (is_server_value (state_of p) n)
+      → found ≡ None → (at : Option Place) → at ≡ option_map (λ (s : TableEntry HandleEntry). s.place) (fin_map.get p.table.entries n)
+      → at ≡ None → None ≡ kind_at (state_of p) n
+  none_then found looked none at walked nowhere =
+      go (is_client_value (state_of p) n) (is_server_value (state_of p) n) refl refl (sym none ∙ looked)
+    where
+      go : (client server : Bool) → is_client_value (state_of p) n ≡ client → is_server_value (state_of p) n ≡ server
+          → None ≡ port_kind client server → None ≡ kind_at (state_of p) n
+      go true server e f unnamed = absurd (cc)
+      go false true e f unnamed = absurd (cc)
+      go false false e f unnamed =
+          sym (ap (option_map kind_of) (nothing_shown p n (found_none p.table n (sym walked ∙ nowhere)))) ∙ kind_handle (state_of p) n e f

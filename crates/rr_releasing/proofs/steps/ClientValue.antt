@@ -1,6 +1,6 @@
 -- The value of a client goes.
-use Rattle.std.proofs.Common.{◌≡◌, ◌<◌, ℕ, None, Some, Option, length, map, false, refl, sym, ap, ◌∙◌, subst, arith}
-use Rattle.std.specs.Prelude.{◌==◌, IsSome, IsSomeAnd, find, option_map, slice_get, slice_set}
+use Rattle.std.proofs.Common.{◌≡◌, ◌<◌, ℕ, None, Some, Option, length, false, refl, sym, ap, ◌∙◌, subst, arith}
+use Rattle.std.specs.Prelude.{◌==◌, IsSome, IsSomeAnd, option_map, slice_get, slice_set}
 use Rattle.std.specs.List.{position}
 use Rattle.std.proofs.lemmas.Bool.{eqb-true}
 use Rattle.std.proofs.lemmas.List.{get_or-set_same, length-set}
@@ -9,13 +9,13 @@ use Rattle.rr_protocol.specs.declared.kind.Kind.TheVariants as kind
 use Rattle.rr_protocol.specs.Ports.{Client}
 use Rattle.rr_protocol.specs.Queries.{kind_at}
 use Rattle.rr_protocol.specs.Releases.{without_port_value}
-use Rattle.rr_store.specs.Leaving.{valueless, without_client_value}
+use Rattle.rr_store.specs.Leaving.{without_client_value}
 use Rattle.rr_store.specs.Order.{IsRising}
 use Rattle.rr_store.specs.Parts.{ClientPart, Parts}
 use Rattle.rr_store.specs.Reaching.{IsCore}
-use Rattle.rr_store.specs.Sound.{HasPort, IsSound, empty_hand}
-use Rattle.rr_store.specs.Views.{client_of, no_sender, sender_of, state_of}
-use Rattle.rr_store.proofs.base.lists.Replaced.{Standing, find_mapped, set_alike, standing, standing_nowhere}
+use Rattle.rr_store.specs.Sound.{IsSound, empty_hand}
+use Rattle.rr_store.specs.Views.{client_of, state_of}
+use Rattle.rr_store.proofs.base.lists.Replaced.{Standing, find_mapped, standing, standing_nowhere}
 use Rattle.rr_store.proofs.base.lookups.Numbers.{client_there}
 use Rattle.rr_store.proofs.base.senders.Owners.{clients_rise}
 use Rattle.rr_store.proofs.base.views.Counts.{listed}

@@ -5,8 +5,9 @@ ghost use Rattle.rr_protocol.specs.Queries.{kind_at};
 ghost use Rattle.rr_commands.specs.declared.command.Command.{Command};
 ghost use Rattle.rr_commands.specs.Step.{Step};
 ghost use Rattle.rr_run.specs.Defaults.{IsBlank, FillsWithDefaults};
+ghost use Rattle.rr_run.specs.Known.{Remembers, given};
 
-use crate::hints::Hints;
+use crate::places::Places;
 use crate::runner::loans::takes_len;
 use rr_commands::Reply;
 use rr_hub::{Core, HandleId};
@@ -19,14 +20,15 @@ pub(crate) fn loan_default<
     B: Body<Item = T>,
     H: Copy + Default,
     K: BackpressureFn,
->(core: &mut Core<B, H, B, H, K>, hints: &mut Hints, number: u64, len: usize) -> Reply<T, H>
+>(core: &mut Core<B, H, B, H, K>, places: &mut Places, number: u64, len: usize) -> Reply<T, H>
     ensures step { Step K.action T.is_default H.is_default B.family core.old (Command.LoanDefault number len) result core.new }
     ensures memory { result ≢ Reply.NoMemory }
+    ensures places { Remembers places.old (given {K = K} (Command.LoanDefault number len) result) places.new }
 {
-    let id = hints.id_of(number);
+    let id = places.id_of(number);
     match core.kind(&id) {
-        Some(Kind::Client) => loan_default_request(core, hints, number, len),
-        Some(Kind::ActiveRequest) => loan_default_response(core, hints, &id, len),
+        Some(Kind::Client) => loan_default_request(core, places, number, len),
+        Some(Kind::ActiveRequest) => loan_default_response(core, places, &id, len),
         Some(_) => Reply::WrongKind,
         None => Reply::Unknown,
     }
@@ -35,13 +37,14 @@ pub(crate) fn loan_default<
 /// Loans a request of default elements.
 fn loan_default_request<T: Copy + Default, B: Body<Item = T>, H: Copy + Default, K: BackpressureFn>(
     core: &mut Core<B, H, B, H, K>,
-    hints: &mut Hints,
+    places: &mut Places,
     client: u64,
     len: usize,
 ) -> Reply<T, H>
     requires { kind_at core.old client ≡ Some kind.Client }
     ensures step { Step K.action T.is_default H.is_default B.family core.old (Command.LoanDefault client len) result core.new }
     ensures memory { result ≢ Reply.NoMemory }
+    ensures places { Remembers places.old (given {K = K} (Command.LoanDefault client len) result) places.new }
 {
     if !takes_len(B::family(), len) {
         return Reply::WrongKind;
@@ -52,7 +55,7 @@ fn loan_default_request<T: Copy + Default, B: Body<Item = T>, H: Copy + Default,
     match core.loan_request(client, len) {
         Ok(id) => {
             fill_request(core, &id, len);
-            hints.remember(&id);
+            places.remember(&id);
             Reply::Loaned(id.number())
         }
         Err(error) => Reply::LoanError(error),
@@ -65,10 +68,11 @@ fn loan_default_response<
     B: Body<Item = T>,
     H: Copy + Default,
     K: BackpressureFn,
->(core: &mut Core<B, H, B, H, K>, hints: &mut Hints, active: &HandleId, len: usize) -> Reply<T, H>
+>(core: &mut Core<B, H, B, H, K>, places: &mut Places, active: &HandleId, len: usize) -> Reply<T, H>
     requires { kind_at core.old active.now ≡ Some kind.ActiveRequest }
     ensures step { Step K.action T.is_default H.is_default B.family core.old (Command.LoanDefault active.now len) result core.new }
     ensures memory { result ≢ Reply.NoMemory }
+    ensures places { Remembers places.old (given {K = K} (Command.LoanDefault active.now len) result) places.new }
 {
     if !takes_len(B::family(), len) {
         return Reply::WrongKind;
@@ -79,7 +83,7 @@ fn loan_default_response<
     match core.loan_response(active, len) {
         Ok(id) => {
             fill_response(core, &id, len);
-            hints.remember(&id);
+            places.remember(&id);
             Reply::Loaned(id.number())
         }
         Err(error) => Reply::LoanError(error),

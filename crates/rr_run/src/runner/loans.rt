@@ -5,8 +5,9 @@ ghost use Rattle.rr_protocol.specs.declared.kind.Kind.TheVariants as kind;
 ghost use Rattle.rr_protocol.specs.Queries.{kind_at};
 ghost use Rattle.rr_commands.specs.declared.command.Command.{Command};
 ghost use Rattle.rr_commands.specs.Step.{Step};
+ghost use Rattle.rr_run.specs.Known.{Remembers, given};
 
-use crate::hints::Hints;
+use crate::places::Places;
 use rr_commands::Reply;
 use rr_hub::{Core, HandleId};
 use rr_protocol::{BackpressureFn, Kind};
@@ -15,17 +16,18 @@ use rr_slots::{Body, Family};
 /// Loans a message of `len` elements: a request of a client, or a response of an active request.
 pub(crate) fn loan<T: Copy + Default, B: Body<Item = T>, H: Copy + Default, K: BackpressureFn>(
     core: &mut Core<B, H, B, H, K>,
-    hints: &mut Hints,
+    places: &mut Places,
     number: u64,
     len: usize,
 ) -> Reply<T, H>
     ensures step { Step K.action T.is_default H.is_default B.family core.old (Command.Loan number len) result core.new }
     ensures memory { result ≢ Reply.NoMemory }
+    ensures places { Remembers places.old (given {K = K} (Command.Loan number len) result) places.new }
 {
-    let id = hints.id_of(number);
+    let id = places.id_of(number);
     match core.kind(&id) {
-        Some(Kind::Client) => loan_request(core, hints, number, len),
-        Some(Kind::ActiveRequest) => loan_response(core, hints, &id, len),
+        Some(Kind::Client) => loan_request(core, places, number, len),
+        Some(Kind::ActiveRequest) => loan_response(core, places, &id, len),
         Some(_) => Reply::WrongKind,
         None => Reply::Unknown,
     }
@@ -34,13 +36,14 @@ pub(crate) fn loan<T: Copy + Default, B: Body<Item = T>, H: Copy + Default, K: B
 /// Loans a request of a client.
 fn loan_request<T: Copy + Default, B: Body<Item = T>, H: Copy + Default, K: BackpressureFn>(
     core: &mut Core<B, H, B, H, K>,
-    hints: &mut Hints,
+    places: &mut Places,
     client: u64,
     len: usize,
 ) -> Reply<T, H>
     requires { kind_at core.old client ≡ Some kind.Client }
     ensures step { Step K.action T.is_default H.is_default B.family core.old (Command.Loan client len) result core.new }
     ensures memory { result ≢ Reply.NoMemory }
+    ensures places { Remembers places.old (given {K = K} (Command.Loan client len) result) places.new }
 {
     if !takes_len(B::family(), len) {
         return Reply::WrongKind;
@@ -50,7 +53,7 @@ fn loan_request<T: Copy + Default, B: Body<Item = T>, H: Copy + Default, K: Back
     }
     match core.loan_request(client, len) {
         Ok(id) => {
-            hints.remember(&id);
+            places.remember(&id);
             Reply::Loaned(id.number())
         }
         Err(error) => Reply::LoanError(error),
@@ -60,13 +63,14 @@ fn loan_request<T: Copy + Default, B: Body<Item = T>, H: Copy + Default, K: Back
 /// Loans a response of an active request.
 fn loan_response<T: Copy + Default, B: Body<Item = T>, H: Copy + Default, K: BackpressureFn>(
     core: &mut Core<B, H, B, H, K>,
-    hints: &mut Hints,
+    places: &mut Places,
     active: &HandleId,
     len: usize,
 ) -> Reply<T, H>
     requires { kind_at core.old active.now ≡ Some kind.ActiveRequest }
     ensures step { Step K.action T.is_default H.is_default B.family core.old (Command.Loan active.now len) result core.new }
     ensures memory { result ≢ Reply.NoMemory }
+    ensures places { Remembers places.old (given {K = K} (Command.Loan active.now len) result) places.new }
 {
     if !takes_len(B::family(), len) {
         return Reply::WrongKind;
@@ -76,7 +80,7 @@ fn loan_response<T: Copy + Default, B: Body<Item = T>, H: Copy + Default, K: Bac
     }
     match core.loan_response(active, len) {
         Ok(id) => {
-            hints.remember(&id);
+            places.remember(&id);
             Reply::Loaned(id.number())
         }
         Err(error) => Reply::LoanError(error),

@@ -2,8 +2,9 @@
 ghost use Rattle.std.specs.Prelude.{◌≡◌};
 ghost use Rattle.rr_commands.specs.declared.command.Command.{Command};
 ghost use Rattle.rr_commands.specs.Step.{Step};
+ghost use Rattle.rr_run.specs.Known.{ForgetsGone};
 
-use crate::hints::Hints;
+use crate::places::Places;
 use rr_commands::Reply;
 use rr_hub::Core;
 use rr_protocol::{BackpressureFn, Kind};
@@ -12,18 +13,19 @@ use rr_slots::Body;
 /// Releases a port or a handle.
 pub(crate) fn release<T: Copy + Default, B: Body<Item = T>, H: Copy + Default, K: BackpressureFn>(
     core: &mut Core<B, H, B, H, K>,
-    hints: &mut Hints,
+    places: &mut Places,
     number: u64,
 ) -> Reply<T, H>
-    ensures { Step K.action T.is_default H.is_default B.family core.old (Command.Release number) result core.new }
+    ensures step { Step K.action T.is_default H.is_default B.family core.old (Command.Release number) result core.new }
+    ensures places { ForgetsGone places.old number core.new places.new }
 {
-    let id = hints.id_of(number);
+    let id = places.id_of(number);
     match core.kind(&id) {
         Some(Kind::Client) => core.release_client(number),
         Some(Kind::Server) => core.release_server(number),
         Some(_) => {
             core.release(&id);
-            hints.forget(number);
+            places.forget(number);
         }
         None => return Reply::Unknown,
     }

@@ -1,13 +1,14 @@
 //! Sends.
-ghost use Rattle.std.specs.Prelude.{◌≡◌, ◌≢◌, ◌<◌, Some};
+ghost use Rattle.std.specs.Prelude.{◌≡◌, ◌≢◌, ◌<◌, None, Some};
 ghost use Rattle.rr_protocol.specs.declared.kind.Kind.TheVariants as kind;
 ghost use Rattle.rr_protocol.specs.Queries.{kind_at};
 ghost use Rattle.rr_protocol.specs.State.{numbers_left};
 ghost use Rattle.rr_commands.specs.declared.command.Command.{Command};
 ghost use Rattle.rr_commands.specs.Step.{Step};
+ghost use Rattle.rr_run.specs.Known.{ForgetsGone, Remembers, given};
 ghost use Rattle.rr_run.specs.Written.{WritesRequest, WritesResponse};
 
-use crate::hints::Hints;
+use crate::places::Places;
 use rr_commands::Reply;
 use rr_hub::{Core, HandleId};
 use rr_protocol::{BackpressureFn, Kind, LoanError, RequestSendError, SendError};
@@ -16,22 +17,23 @@ use rr_slots::Body;
 /// Sends a request or a response.
 pub(crate) fn send<T: Copy + Default, B: Body<Item = T>, H: Copy + Default, K: BackpressureFn>(
     core: &mut Core<B, H, B, H, K>,
-    hints: &mut Hints,
+    places: &mut Places,
     number: u64,
 ) -> Reply<T, H>
-    ensures { Step K.action T.is_default H.is_default B.family core.old (Command.Send number) result core.new }
+    ensures step { Step K.action T.is_default H.is_default B.family core.old (Command.Send number) result core.new }
+    ensures places { ForgetsGone places.old number core.new places.new }
 {
-    let id = hints.id_of(number);
+    let id = places.id_of(number);
     match core.kind(&id) {
         Some(Kind::RequestMut) => match core.send_request(&id) {
             Ok(connections) => Reply::Pending(number, connections),
             Err(error) => {
-                hints.forget(number);
+                places.forget(number);
                 Reply::RequestError(error)
             }
         },
         Some(Kind::ResponseMut) => {
-            hints.forget(number);
+            places.forget(number);
             match core.send_response(&id) {
                 Ok(()) => Reply::Sent(number),
                 Err(error) => Reply::SendError(error),
@@ -45,16 +47,17 @@ pub(crate) fn send<T: Copy + Default, B: Body<Item = T>, H: Copy + Default, K: B
 /// Loans a message of one element, writes this one and sends it: a request of a client, or a response of an active request.
 pub(crate) fn send_copy<T: Copy + Default, B: Body<Item = T>, H: Copy + Default, K: BackpressureFn>(
     core: &mut Core<B, H, B, H, K>,
-    hints: &mut Hints,
+    places: &mut Places,
     number: u64,
     item: T,
 ) -> Reply<T, H>
     ensures step { Step K.action T.is_default H.is_default B.family core.old (Command.SendCopy number item) result core.new }
     ensures memory { result ≢ Reply.NoMemory }
+    ensures places { Remembers places.old (given {K = K} (Command.SendCopy number item) result) places.new }
 {
-    let id = hints.id_of(number);
+    let id = places.id_of(number);
     match core.kind(&id) {
-        Some(Kind::Client) => send_request_copy(core, hints, number, item),
+        Some(Kind::Client) => send_request_copy(core, places, number, item),
         Some(Kind::ActiveRequest) => send_response_copy(core, &id, item),
         Some(_) => Reply::WrongKind,
         None => Reply::Unknown,
@@ -64,13 +67,14 @@ pub(crate) fn send_copy<T: Copy + Default, B: Body<Item = T>, H: Copy + Default,
 /// Sends a request of one element.
 fn send_request_copy<T: Copy + Default, B: Body<Item = T>, H: Copy + Default, K: BackpressureFn>(
     core: &mut Core<B, H, B, H, K>,
-    hints: &mut Hints,
+    places: &mut Places,
     client: u64,
     item: T,
 ) -> Reply<T, H>
     requires { kind_at core.old client ≡ Some kind.Client }
     ensures step { Step K.action T.is_default H.is_default B.family core.old (Command.SendCopy client item) result core.new }
     ensures memory { result ≢ Reply.NoMemory }
+    ensures places { Remembers places.old (given {K = K} (Command.SendCopy client item) result) places.new }
 {
     if core.numbers_left() == 0 {
         return Reply::NumbersExhausted;
@@ -83,7 +87,7 @@ fn send_request_copy<T: Copy + Default, B: Body<Item = T>, H: Copy + Default, K:
     };
     match core.send_request(&id) {
         Ok(connections) => {
-            hints.remember(&id);
+            places.remember(&id);
             Reply::Pending(id.number(), connections)
         }
         Err(error) => Reply::RequestError(error),
@@ -99,6 +103,7 @@ fn send_response_copy<T: Copy + Default, B: Body<Item = T>, H: Copy + Default, K
     requires { kind_at core.old active.now ≡ Some kind.ActiveRequest }
     ensures step { Step K.action T.is_default H.is_default B.family core.old (Command.SendCopy active.now item) result core.new }
     ensures memory { result ≢ Reply.NoMemory }
+    ensures given { given {K = K} (Command.SendCopy active.now item) result ≡ None }
 {
     if core.numbers_left() == 0 {
         return Reply::NumbersExhausted;

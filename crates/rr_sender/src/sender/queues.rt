@@ -60,18 +60,18 @@ impl<B: Body, N: Copy, H: Drop> Sender<B, N, H> {
         if self.is_full(receiver, channel) {
             if overflow {
                 self.drop_first(receiver, channel);
-                self.pass(receiver, channel, slot);
+                self.append(receiver, channel, slot);
             } else {
                 self.give_back(slot);
             }
         } else {
-            self.pass(receiver, channel, slot);
+            self.append(receiver, channel, slot);
         }
     }
 
     /// Makes a handle's hold of a slot the hold of an entry at the end of a queue that is not full.
     #[inline(always)]
-    fn pass(&mut self, receiver: usize, channel: usize, slot: usize)
+    fn append(&mut self, receiver: usize, channel: usize, slot: usize)
         requires receiver { receiver < length self.old.queues }
         requires channel { channel < length (slice_index_or self.old.queues receiver []) }
         requires room { length (queue_at self.old receiver channel) < self.old.capacity }

@@ -10,7 +10,7 @@ module _ {T N H : Type 0} (senders : List (Sender T N H)) (receiver channel most
   looked_at_none = record {
     passed = λ l h. absurd (omega (arith, h));
     clear = λ _ l h. absurd (omega (arith, h));
-    blocked = λ e. absurd (false≢true e);
+    at_limit = λ e. absurd (false≢true e);
   }
 
   -- one more, or one of those before
@@ -26,18 +26,18 @@ module _ {T N H : Type 0} (senders : List (Sender T N H)) (receiver channel most
   looked_at_empty n b so none = record {
     passed = λ l h room. last_or_before n l h (λ g. so.passed l g room) (λ e. ap (queue_from senders receiver channel) e ∙ none);
     clear = λ e l h. last_or_before n l h (λ g. so.clear e l g) (λ f. ap (queue_from senders receiver channel) f ∙ none);
-    blocked = λ e. let r = so.blocked e in (r.0, omega (arith, r.1), r.2, r.3);
+    at_limit = λ e. let r = so.at_limit e in (r.0, omega (arith, r.1), r.2, r.3);
   }
 
   -- the next one has no room
-  pub looked_at_blocked : (n : ℕ) (b : Bool) → IsLookedThrough senders receiver channel most n b → most ≤ borrowed_from senders receiver
+  pub looked_at_limit : (n : ℕ) (b : Bool) → IsLookedThrough senders receiver channel most n b → most ≤ borrowed_from senders receiver
       channel n
       → (queue_from senders receiver channel n ≡ [] → ⊥) → IsLookedThrough senders receiver channel most (n + 1) true
-  looked_at_blocked n b so full some = record {
+  looked_at_limit n b so full some = record {
     passed = λ l h room. last_or_before n l h (λ g. so.passed l g room)
         (λ e. absurd (omega (arith, full, room, ap (borrowed_from senders receiver channel) e)));
     clear = λ e. absurd (false≢true (sym e));
-    blocked = λ _. (n, omega arith, full, some);
+    at_limit = λ _. (n, omega arith, full, some);
   }
 
 -- a list without elements

@@ -61,14 +61,14 @@ impl<QB: Body, QH: Default + Drop, PB: Body, PH: Default + Drop, K: Backpressure
         self.table.at(number, place)
     }
 
-    /// Returns a handle, which stands somewhere. Looks where it may stand, and walks over the table if it stands elsewhere.
+    /// Returns a handle, which stands somewhere. Looks in a place first, and walks over the table if it stands elsewhere.
     #[inline(always)]
-    pub fn look_up(&self, number: u64, hint: Place) -> HandleEntry
+    pub fn look_up(&self, number: u64, place: Place) -> HandleEntry
         requires { IsSome (handle_at (state_of self.now) number) }
-        ensures { (place : Place) × (fin_map.get self.now.table.entries number ≡ Some (table_entry place result)) }
+        ensures { (at : Place) × (fin_map.get self.now.table.entries number ≡ Some (table_entry at result)) }
     {
-        if self.is_place_of(number, hint) {
-            self.at(number, hint)
+        if self.is_place_of(number, place) {
+            self.at(number, place)
         } else {
             self.at(number, self.place_of(number))
         }

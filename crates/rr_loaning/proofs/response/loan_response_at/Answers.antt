@@ -85,8 +85,8 @@ replace-requires g c =
     c.server_sender-sender.ensures _ c.new_response_details-details.ensures _ c.in-Ok.own _ c.in-Ok.ensures.row c.in-Ok.ensures.free
     c.in-Ok.ensures.unused c.in-Ok.ensures.ok _ c.count_response_loan.ensures
 
-pub add-number-requires : goal.add-number-requires
-add-number-requires g c =
+pub add-loaned-requires : goal.add-loaned-requires
+add-loaned-requires g c =
     add_asked c.args.store.now c.requires.core c.args.number c.args.place c.at-active.result c.at-active.ensures c.requires.kind _ _
     (sym c.active.ensures ∙ c.in-Some.is) _ c.server_index-index.ensures _ _ c.response_loan_limit.ensures c.in_default.is _
     c.server_sender-sender.ensures _ c.new_response_details-details.ensures _ c.in-Ok.own _ c.in-Ok.ensures.row c.in-Ok.ensures.free
@@ -98,7 +98,7 @@ returns-in-Ok-clause-core g c =
     c.active.ensures ∙ c.in-Some.is) _ c.server_index-index.ensures _ _ c.response_loan_limit.ensures c.in_default.is _
     c.server_sender-sender.ensures _ c.new_response_details-details.ensures _ c.in-Ok.own _ c.in-Ok.ensures.row c.in-Ok.ensures.free
     c.in-Ok.ensures.unused c.in-Ok.ensures.ok _ c.count_response_loan.ensures _ c.replace.ensures c.in-Ok.ensures.full c.requires.number _
-    c.add-number.ensures.number _ c.add-number.ensures.added g.PH.Default.is_default c.default.ensures
+    c.add-loaned.ensures.number _ c.add-loaned.ensures.added g.PH.Default.is_default c.default.ensures
 
 pub returns-in-Ok-clause-loans : goal.returns-in-Ok-clause-loans
 returns-in-Ok-clause-loans g c =
@@ -106,7 +106,7 @@ returns-in-Ok-clause-loans g c =
     c.active.ensures ∙ c.in-Some.is) _ c.server_index-index.ensures _ _ c.response_loan_limit.ensures c.in_default.is _
     c.server_sender-sender.ensures _ c.new_response_details-details.ensures _ c.in-Ok.own _ c.in-Ok.ensures.row c.in-Ok.ensures.free
     c.in-Ok.ensures.unused c.in-Ok.ensures.ok _ c.count_response_loan.ensures _ c.replace.ensures c.in-Ok.ensures.full c.requires.number _
-    (c.new.ensures ∙ c.add-number.ensures.number) _ c.add-number.ensures.added g.PH.Default.is_default c.default.ensures
+    (c.new.ensures ∙ c.add-loaned.ensures.number) _ c.add-loaned.ensures.added g.PH.Default.is_default c.default.ensures
 
 pub returns-in-Err-clause-core : goal.returns-in-Err-clause-core
 returns-in-Err-clause-core g c =

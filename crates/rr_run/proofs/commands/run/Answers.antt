@@ -1,4 +1,4 @@
-use Rattle.std.proofs.Common.{◌+◌, length, sym, subst, arith}
+use Rattle.std.proofs.Common.{◌+◌, sym, subst, arith}
 use Rattle.rr_run.proofs.Continuing.{bounded, goes_on, never_dry}
 use Rattle.rr_run.proofs.Running.{IsRunning, run_starts, run_goes_on, run_ends}
 use Rattle.rr_run.proofs.commands.run.Goals as goal

@@ -84,15 +84,15 @@ end_response_loan-receiver-requires-clause-counted g c =
     g.K.BackpressureFn.action _ c.response_details-details.ensures _ c.reached_receiver-reach.ensures _ c.is_response_refused.ensures _
     c.take.ensures.gone _ c.hand_over_response.ensures
 
-pub leave_server_if_unused-requires-clause-sound : goal.leave_server_if_unused-requires-clause-sound
-leave_server_if_unused-requires-clause-sound g c =
+pub leave_server_of_sender_if_unused-requires-clause-sound : goal.leave_server_of_sender_if_unused-requires-clause-sound
+leave_server_of_sender_if_unused-requires-clause-sound g c =
     sound_then c.args.store.now c.requires.core c.args.number c.args.place c.at-entry.result c.at-entry.ensures c.requires.kind
     g.K.BackpressureFn.action _ c.response_details-details.ensures _ c.reached_receiver-reach.ensures _ c.is_response_refused.ensures _
     c.take.ensures.gone _ c.hand_over_response.ensures _ _ c.end_response_loan-receiver.ensures.receiver
     c.end_response_loan-receiver.ensures.counted _ c.end_loan_from.ensures.rest c.end_loan_from.ensures.ended
 
-pub leave_server_if_unused-requires-clause-port : goal.leave_server_if_unused-requires-clause-port
-leave_server_if_unused-requires-clause-port g c =
+pub leave_server_of_sender_if_unused-requires-clause-port : goal.leave_server_of_sender_if_unused-requires-clause-port
+leave_server_of_sender_if_unused-requires-clause-port g c =
     port_then c.args.store.now c.requires.core c.args.number c.args.place c.at-entry.result c.at-entry.ensures c.requires.kind
     g.K.BackpressureFn.action _ c.response_details-details.ensures _ c.reached_receiver-reach.ensures _ c.is_response_refused.ensures _
     c.take.ensures.gone _ c.hand_over_response.ensures _ _ c.end_response_loan-receiver.ensures.receiver
@@ -104,7 +104,7 @@ returns-clause-core g c =
     g.K.BackpressureFn.action _ c.response_details-details.ensures _ c.reached_receiver-reach.ensures _ c.is_response_refused.ensures _
     c.take.ensures.gone _ c.hand_over_response.ensures _ _ c.end_response_loan-receiver.ensures.receiver
     c.end_response_loan-receiver.ensures.counted c.end_loan_from.new.self c.end_loan_from.ensures.rest c.end_loan_from.ensures.ended
-    c.leave_server_if_unused.new.store c.leave_server_if_unused.ensures.view c.leave_server_if_unused.ensures.sound c.if-is_response_refused.false
+    c.leave_server_of_sender_if_unused.new.store c.leave_server_of_sender_if_unused.ensures.view c.leave_server_of_sender_if_unused.ensures.sound c.if-is_response_refused.false
 
 pub returns-clause-sends : goal.returns-clause-sends
 returns-clause-sends g c =
@@ -112,4 +112,4 @@ returns-clause-sends g c =
     g.K.BackpressureFn.action _ c.response_details-details.ensures _ c.reached_receiver-reach.ensures _ c.is_response_refused.ensures _
     c.take.ensures.gone _ c.hand_over_response.ensures _ _ c.end_response_loan-receiver.ensures.receiver
     c.end_response_loan-receiver.ensures.counted c.end_loan_from.new.self c.end_loan_from.ensures.rest c.end_loan_from.ensures.ended
-    c.leave_server_if_unused.new.store c.leave_server_if_unused.ensures.view c.if-is_response_refused.false
+    c.leave_server_of_sender_if_unused.new.store c.leave_server_of_sender_if_unused.ensures.view c.if-is_response_refused.false

@@ -8,7 +8,7 @@ use Rattle.std.proofs.lemmas.List.{length-map}
 use Rattle.rr_store.specs.Receiving.{IsLookedThrough, queue_from, borrowed_from}
 use Rattle.rr_store.specs.Views.{sender_of}
 use Rattle.rr_store.proofs.base.lookups.Asking.{sender_is}
-use Rattle.rr_store.proofs.receiving.NextSender.{looked_at_none, looked_at_empty, looked_at_blocked, empty_of, some_of}
+use Rattle.rr_store.proofs.receiving.NextSender.{looked_at_none, looked_at_empty, looked_at_limit, empty_of, some_of}
 use Rattle.rr_store.proofs.receive.next_sender.Goals as goal
 use Rattle.rr_store.proofs.receive.next_sender.Goals.{After-index-then-has_entries, In-loop-sender}
 use Rattle.rr_store.proofs.receive.next_sender.Goals.{After-index, then-has_entries+else-borrowed-most, else-has_entries}
@@ -110,21 +110,21 @@ loop-sender-preserved g c =
           ) in
           let some : 0 < length (queue_at c.index.result.now.messages c.args.receiver c.args.channel) = c.has_entries.ensures.0
           w.if-has_entries.true in
-          subst (IsLookedThrough ls c.args.receiver c.args.channel c.args.most (c.loop-sender.sender + 1)) (sym w.is_blocked-is)
-          (looked_at_blocked ls c.args.receiver c.args.channel c.args.most c.loop-sender.sender c.loop-sender.is_blocked
+          subst (IsLookedThrough ls c.args.receiver c.args.channel c.args.most (c.loop-sender.sender + 1)) (sym w.is_at_limit-is)
+          (looked_at_limit ls c.args.receiver c.args.channel c.args.most c.loop-sender.sender c.loop-sender.is_at_limit
           c.loop-sender.invariant full
           (some_of (queue_from ls c.args.receiver c.args.channel c.loop-sender.sender) (omega (arith, some, ap length queue))))
       | else-has_entries w ↦
           let none : queue_at c.index.result.now.messages c.args.receiver c.args.channel ≡ [] = empty_of _
           (λ h. false≢true (sym w.if-has_entries.false ∙ c.has_entries.ensures.1 h)) in
-          subst (IsLookedThrough ls c.args.receiver c.args.channel c.args.most (c.loop-sender.sender + 1)) (sym w.is_blocked-is)
-          (looked_at_empty ls c.args.receiver c.args.channel c.args.most c.loop-sender.sender c.loop-sender.is_blocked
+          subst (IsLookedThrough ls c.args.receiver c.args.channel c.args.most (c.loop-sender.sender + 1)) (sym w.is_at_limit-is)
+          (looked_at_empty ls c.args.receiver c.args.channel c.args.most c.loop-sender.sender c.loop-sender.is_at_limit
           c.loop-sender.invariant
           (queue ∙ none))
     ]
 
-pub returns-then-is_blocked : goal.returns-then-is_blocked
-returns-then-is_blocked g c =
+pub returns-then-is_at_limit : goal.returns-then-is_at_limit
+returns-then-is_at_limit g c =
     let senders = c.args.senders.now.items in
     let all : length (map sender_part senders) ≤ c.loop-sender.sender = omega (
       arith,
@@ -133,7 +133,7 @@ returns-then-is_blocked g c =
       c.args.senders.now.ok.0,
       length-map senders sender_part,
     ) in
-    let b = c.loop-sender.invariant.blocked c.if-is_blocked.true in (
+    let b = c.loop-sender.invariant.at_limit c.if-is_at_limit.true in (
       (λ l h room. c.loop-sender.invariant.passed l (omega (arith, h, all)) room),
       (
         b.0,
@@ -160,4 +160,4 @@ returns g c l h =
       c.args.senders.now.ok.0,
       length-map senders sender_part,
     ) in
-    c.loop-sender.invariant.clear c.if-is_blocked.false l (omega (arith, h, all))
+    c.loop-sender.invariant.clear c.if-is_at_limit.false l (omega (arith, h, all))

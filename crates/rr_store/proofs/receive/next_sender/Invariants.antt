@@ -5,4 +5,4 @@ use Rattle.rr_store.proofs.receive.next_sender.Given as goal
 
 -- the senders so far were looked through
 abbrev pub invariant-loop-sender : goal.invariant-loop-sender
-invariant-loop-sender g l = IsLookedThrough (map sender_part l.senders.items) l.receiver l.channel l.most l.sender l.is_blocked
+invariant-loop-sender g l = IsLookedThrough (map sender_part l.senders.items) l.receiver l.channel l.most l.sender l.is_at_limit

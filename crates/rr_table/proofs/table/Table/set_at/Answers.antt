@@ -1,8 +1,8 @@
 use Rattle.std.proofs.Common.{sym, ap, ◌∙◌, subst, arith}
-use Rattle.rr_table.proofs.Here.{entry_here, within_here, place_here, set_here}
+use Rattle.rr_table.proofs.Here.{within_here, place_here, set_here}
 use Rattle.rr_table.proofs.Standing.{set_distinct}
-use Rattle.rr_table.proofs.Vectors.{within_vectors, index_within, occupied_at}
-use Rattle.rr_table.proofs.Entries.{standing_number}
+use Rattle.rr_table.proofs.Values.{value_written}
+use Rattle.rr_table.proofs.Vectors.{within_vectors, index_within}
 use Rattle.rr_table.specs.Places.{rows_of, table_of, IsDistinct}
 use Rattle.rr_table.proofs.table.Table.set_at.Goals as goal
 
@@ -24,16 +24,14 @@ pub invariant_of-self : goal.invariant_of-self
 invariant_of-self g c =
     let rows = rows_of c.self.inside.rows in
     let there = rw (← c.self.view_is) at c.requires in
-    let is = occupied_at c.self.inside.rows.items c.args.place c.index_mut.result.now _
-    (standing_number c.self.inside.rows.items _ _ _ (entry_here rows _ _ there)) (within_here rows _ _ c.self.invariant there)
-    c.index_mut.ensures.value in
+    let is = value_written c.self.inside.rows.items c.args.number c.args.place c.self.invariant there c.index_mut.result.now
+    c.index_mut-2.result.now c.index_mut.ensures.value c.index_mut-2.ensures.value c.args.value in
     subst IsDistinct (sym is) (set_distinct rows _ _ c.self.invariant (place_here rows _ _ there) _)
 
 pub returns : goal.returns
 returns g c =
     let rows = rows_of c.self.inside.rows in
     let there = rw (← c.self.view_is) at c.requires in
-    let is = occupied_at c.self.inside.rows.items c.args.place c.index_mut.result.now _
-    (standing_number c.self.inside.rows.items _ _ _ (entry_here rows _ _ there)) (within_here rows _ _ c.self.invariant there)
-    c.index_mut.ensures.value in
+    let is = value_written c.self.inside.rows.items c.args.number c.args.place c.self.invariant there c.index_mut.result.now
+    c.index_mut-2.result.now c.index_mut.ensures.value c.index_mut-2.ensures.value c.args.value in
     rw (← c.self.view_is) (ap table_of is ∙ set_here rows _ _ c.self.invariant there _)

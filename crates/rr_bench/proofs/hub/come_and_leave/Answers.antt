@@ -1,7 +1,7 @@
 use Rattle.std.proofs.Common.{refl}
 use Rattle.rr_protocol.specs.declared.kind.Kind.{Kind}
 use Rattle.rr_bench.proofs.Frames.{kept, kept_other, kept_port}
-use Rattle.rr_bench.proofs.hub.pass.Goals as goal
+use Rattle.rr_bench.proofs.hub.come_and_leave.Goals as goal
 
 pub returns : goal.returns
 returns g c =

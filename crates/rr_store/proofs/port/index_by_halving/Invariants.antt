@@ -1,6 +1,6 @@
 use Rattle.std.proofs.Common.{◌-◌}
 use Rattle.rr_store.proofs.base.lists.Bisected.{IsBetween}
-use Rattle.rr_store.proofs.port.index_of.Given as goal
+use Rattle.rr_store.proofs.port.index_by_halving.Given as goal
 
 -- what was looked at says where the number may stand
 abbrev pub invariant-loop-low : goal.invariant-loop-low
