@@ -1,17 +1,15 @@
 -- A runner that knows the place of each handle knows it after a step too.
-use Rattle.std.proofs.Common.{◌≡◌, ℕ, Option, Some, None, sym, ap, ◌∙◌, subst, ⊎_elim, inr, Result}
+use Rattle.std.proofs.Common.{◌≡◌, ℕ, Option, Some, None, sym, ap, ◌∙◌, subst, ⊎_elim, inr}
 use Rattle.std.proofs.lemmas.Bool.{cases_eq}
 use Rattle.rr_slots.specs.declared.family.Family.{Family}
 use Rattle.rr_protocol.specs.declared.settings.BackpressureAction.{BackpressureAction}
-use Rattle.rr_protocol.specs.declared.error.SendError.{SendError}
-use Rattle.rr_protocol.specs.Sends.{SendsResponse}
 use Rattle.rr_protocol.specs.State.{State, handle_at}
 use Rattle.rr_commands.specs.declared.command.Command.{Command}
 use Rattle.rr_commands.specs.declared.reply.Reply.{Reply}
 use Rattle.rr_commands.specs.Step.{Step}
 use Rattle.rr_run.specs.declared.places.Places.{Places}
 use Rattle.rr_run.specs.Known.{Forgets, ForgetsGone, KnowsHandles, Notes, Remembers, given}
-use Rattle.rr_run.proofs.Handles.{Fewer, Gains, response_gone}
+use Rattle.rr_run.proofs.Handles.{Fewer, Gains}
 use Rattle.rr_run.proofs.HandleSteps.{step_gains}
 
 module _ {T H K : Type 0} (p q : Places) (old new : State T H T H K) (knows : KnowsHandles p old) where
@@ -45,8 +43,7 @@ module _ {T H K : Type 0} (p q : Places) (old new : State T H T H K) (knows : Kn
     still_known command reply step notes =
         remembered (given command reply) (step_gains action IsDefaultElement IsDefaultHeader family old command reply new step) notes
 
--- the place of a response goes with it, whether it was sent or not
-pub response_forgotten : {T H K U : Type 0} (action : K → ℕ → ℕ → BackpressureAction) (p q : Places) (s : State T H T H K) (k n : ℕ) → k ≡ n
-    → (result : Result U SendError) (new : State T H T H K) → SendsResponse action s k result new → Forgets p n q → ForgetsGone p n new q
-response_forgotten action p q s k n is result new sends forgets =
-    inr (forgets, subst (λ j. handle_at new j ≡ None) is (response_gone action s k result new sends))
+-- the place of a handle that is gone was forgotten
+pub forgets_gone : {T H K : Type 0} (p q : Places) (new : State T H T H K) (n k : ℕ) → k ≡ n → Forgets p k q → handle_at new n ≡ None
+    → ForgetsGone p n new q
+forgets_gone p q new n k is forgets gone = inr (subst (λ j. Forgets p j q) is forgets, gone)

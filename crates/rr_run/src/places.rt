@@ -8,7 +8,7 @@ use std::alloc::Global;
 use std::collections::HashMap;
 
 /// Where a handle is looked for of which nothing is known.
-const SOMEWHERE: Place = Place { row: 0, index: 0 };
+pub(crate) const SOMEWHERE: Place = Place { row: 0, index: 0 };
 
 /// Where handles stood last, by number.
 ///
@@ -32,17 +32,8 @@ impl Places {
         }
     }
 
-    /// Returns the id of a handle with this number, which is looked for first where it stood last.
-    pub(crate) fn id_of(&self, number: u64) -> HandleId
-        ensures { result ≡ number }
-    {
-        match self.by_number.get(&number) {
-            Some(place) => HandleId::new(number, *place),
-            None => HandleId::new(number, SOMEWHERE),
-        }
-    }
-
-    /// Returns the same, or `None` if it has no place and none was lost.
+    /// Returns the id of a handle with this number, which is looked for first where it stood last. Returns `None` if it has no
+    /// place and none was lost.
     pub(crate) fn find(&self, number: u64) -> Option<HandleId>
         ensures id { IfSome result (λ id. id ≡ number) }
         ensures none { result ≡ None → (self.now.is_complete ≡ true) × (place_of self.now number ≡ None) }

@@ -1,15 +1,16 @@
 //! A runner of commands over a hub's core.
-ghost use Rattle.std.specs.Prelude.{◌≡◌, ◌≢◌, None, true};
+ghost use Rattle.std.specs.Prelude.{◌≡◌, ◌≢◌, IfSome, None, Some, true};
 ghost use Rattle.rr_protocol.specs.Creation.{CreatesHub};
 ghost use Rattle.rr_protocol.specs.Queries.{kind_at};
 ghost use Rattle.rr_run.specs.Known.{Notes};
 ghost use Rattle.rr_run.specs.Memory.{copies_elements, goes_without};
+ghost use Rattle.rr_commands.specs.Refusals.{number_in};
 ghost use Rattle.rr_commands.specs.Step.{Step};
 
-use crate::places::Places;
+use crate::places::{Places, SOMEWHERE};
 use crate::runner::numbers::number_in;
 use rr_commands::{Command, Reply};
-use rr_hub::Core;
+use rr_hub::{Core, HandleId};
 use rr_protocol::{BackpressureFn, HubCreateError, Kind, Limits, UniqueNodeId};
 use rr_slots::Body;
 use std::alloc::Global;
@@ -107,51 +108,71 @@ impl<T: Copy + Default, B: Body<Item = T>, H: Copy + Default, K: BackpressureFn>
         ensures step { Step K.action T.is_default H.is_default B.family self.old command result self.new }
         ensures memory { goes_without command ≡ true → result ≢ Reply.NoMemory }
     {
-        if let Some(number) = number_in(&command) {
-            if self.names_nothing(number) {
-                return Reply::Unknown;
-            }
+        let Some(number) = number_in(&command) else {
+            return create(&mut self.core, command);
+        };
+        match self.find(number) {
+            Some(id) => act(&mut self.core, self.alloc, &mut self.places, &id, command),
+            None => Reply::Unknown,
         }
-        act(&mut self.core, self.alloc, &mut self.places, command)
     }
 
-    /// Returns whether a number names nothing, as far as that is known without a walk.
-    fn names_nothing(&self, number: u64) -> bool
-        ensures { result ≡ true → kind_at self.now number ≡ None }
+    /// Returns the id of what a number may name. Returns `None` if it names nothing, as far as that is known without a walk.
+    fn find(&self, number: u64) -> Option<HandleId>
+        ensures id { IfSome result (λ id. id ≡ number) }
+        ensures none { result ≡ None → kind_at self.now number ≡ None }
     {
-        self.places.find(number).is_none() && self.core.port_kind(number).is_none()
+        match self.places.find(number) {
+            Some(id) => Some(id),
+            None if self.core.port_kind(number).is_some() => {
+                Some(HandleId::new(number, SOMEWHERE))
+            }
+            None => None,
+        }
     }
 }
 
-/// Carries out a command on a core, and keeps where the handle stands that it gives.
+/// Creates a client or a server.
+fn create<T: Copy + Default, B: Body<Item = T>, H: Copy + Default, K: BackpressureFn>(
+    core: &mut Core<B, H, B, H, K>,
+    creation: Command<T, H, K>,
+) -> Reply<T, H>
+    requires { number_in creation ≡ None }
+    ensures step { Step K.action T.is_default H.is_default B.family core.old creation result core.new }
+    ensures memory { result ≢ Reply.NoMemory }
+{
+    match creation {
+        Command::CreateClient(settings) => creation::create_client(core, settings),
+        Command::CreateServer(settings) => creation::create_server(core, settings),
+        _ => unreachable!(),
+    }
+}
+
+/// Carries out a command that names a port or a handle, and keeps where the handle stands that it gives.
 fn act<T: Copy + Default, B: Body<Item = T>, H: Copy + Default, K: BackpressureFn>(
     core: &mut Core<B, H, B, H, K>,
     alloc: Global,
     places: &mut Places,
+    id: &HandleId,
     command: Command<T, H, K>,
 ) -> Reply<T, H>
+    requires { number_in command ≡ Some id.now }
     ensures step { Step K.action T.is_default H.is_default B.family core.old command result core.new }
     ensures memory { goes_without command ≡ true → result ≢ Reply.NoMemory }
     ensures places { Notes places.old command result core.new places.new }
 {
     match command {
-        Command::CreateClient(settings) => creation::create_client(core, settings),
-        Command::CreateServer(settings) => creation::create_server(core, settings),
-        Command::Loan(number, len) => loans::loan(core, places, number, len),
-        Command::LoanDefault(number, len) => { defaults::loan_default(core, places, number, len) }
-        Command::SendCopy(number, item) => sends::send_copy(core, places, number, item),
-        Command::Push(number, item) => writes::push(core, &places.id_of(number), item),
-        Command::Set(number, index, item) => {
-            writes::set(core, &places.id_of(number), index, item)
-        }
-        Command::SetUserHeader(number, header) => {
-            writes::set_user_header(core, &places.id_of(number), header)
-        }
-        Command::AssumeInit(number) => writes::assume_init(core, &places.id_of(number)),
-        Command::Send(number) => sends::send(core, places, number),
-        Command::Receive(number) => receives::receive(core, places, number),
-        Command::SetHint(number) => writes::set_hint(core, &places.id_of(number)),
-        Command::Release(number) => releases::release(core, places, number),
+        Command::Loan(_, len) => loans::loan(core, places, id, len),
+        Command::LoanDefault(_, len) => defaults::loan_default(core, places, id, len),
+        Command::SendCopy(_, item) => sends::send_copy(core, places, id, item),
+        Command::Push(_, item) => writes::push(core, id, item),
+        Command::Set(_, index, item) => writes::set(core, id, index, item),
+        Command::SetUserHeader(_, header) => writes::set_user_header(core, id, header),
+        Command::AssumeInit(_) => writes::assume_init(core, id),
+        Command::Send(_) => sends::send(core, places, id),
+        Command::Receive(_) => receives::receive(core, places, id),
+        Command::SetHint(_) => writes::set_hint(core, id),
+        Command::Release(_) => releases::release(core, places, id),
         Command::IsDeliverable(_)
         | Command::HasEntries(_)
         | Command::IsConnected(_)
@@ -163,6 +184,7 @@ fn act<T: Copy + Default, B: Body<Item = T>, H: Copy + Default, K: BackpressureF
         | Command::Origin(_)
         | Command::Strategy(_)
         | Command::MaxSliceLen(_)
-        | Command::UpdateConnections(_) => answers::answer(core, alloc, places, command),
+        | Command::UpdateConnections(_) => answers::answer(core, alloc, id, command),
+        Command::CreateClient(_) | Command::CreateServer(_) => unreachable!(),
     }
 }

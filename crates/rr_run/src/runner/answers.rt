@@ -1,12 +1,13 @@
 //! Questions of a runner, which change nothing.
+ghost use Rattle.std.specs.Prelude.{◌≡◌, Some};
 ghost use Rattle.rr_commands.specs.declared.command.Command.{Command};
+ghost use Rattle.rr_commands.specs.Refusals.{number_in};
 ghost use Rattle.rr_commands.specs.Step.{Step};
 ghost use Rattle.rr_run.specs.Questions.{IsQuestion};
 
-use crate::places::Places;
 use crate::runner::{ports, queries};
 use rr_commands::{Command, Reply};
-use rr_hub::Core;
+use rr_hub::{Core, HandleId};
 use rr_protocol::BackpressureFn;
 use rr_slots::Body;
 use std::alloc::Global;
@@ -15,27 +16,26 @@ use std::alloc::Global;
 pub(crate) fn answer<T: Copy + Default, B: Body<Item = T>, H: Copy + Default, K: BackpressureFn>(
     core: &Core<B, H, B, H, K>,
     alloc: Global,
-    places: &Places,
+    id: &HandleId,
     question: Command<T, H, K>,
 ) -> Reply<T, H>
-    requires { IsQuestion question }
+    requires question { IsQuestion question }
+    requires id { number_in question ≡ Some id.now }
     ensures { Step K.action T.is_default H.is_default B.family core.now question result core.now }
 {
     match question {
-        Command::IsDeliverable(number) => ports::is_deliverable(core, &places.id_of(number)),
-        Command::HasEntries(number) => ports::has_entries(core, &places.id_of(number)),
-        Command::IsConnected(number) => queries::is_connected(core, &places.id_of(number)),
-        Command::HasHint(number) => queries::has_hint(core, &places.id_of(number)),
-        Command::Servers(number) => queries::servers(core, &places.id_of(number)),
-        Command::Header(number) => queries::header(core, &places.id_of(number)),
-        Command::UserHeader(number) => queries::user_header(core, &places.id_of(number)),
-        Command::Payload(number) => queries::payload(core, alloc, &places.id_of(number)),
-        Command::Origin(number) => queries::origin(core, &places.id_of(number)),
-        Command::Strategy(number) => ports::strategy(core, &places.id_of(number)),
-        Command::MaxSliceLen(number) => ports::max_slice_len(core, &places.id_of(number)),
-        Command::UpdateConnections(number) => {
-            ports::update_connections(core, &places.id_of(number))
-        }
+        Command::IsDeliverable(_) => ports::is_deliverable(core, id),
+        Command::HasEntries(_) => ports::has_entries(core, id),
+        Command::IsConnected(_) => queries::is_connected(core, id),
+        Command::HasHint(_) => queries::has_hint(core, id),
+        Command::Servers(_) => queries::servers(core, id),
+        Command::Header(_) => queries::header(core, id),
+        Command::UserHeader(_) => queries::user_header(core, id),
+        Command::Payload(_) => queries::payload(core, alloc, id),
+        Command::Origin(_) => queries::origin(core, id),
+        Command::Strategy(_) => ports::strategy(core, id),
+        Command::MaxSliceLen(_) => ports::max_slice_len(core, id),
+        Command::UpdateConnections(_) => { ports::update_connections(core, id) }
         _ => unreachable!(),
     }
 }

@@ -20,15 +20,14 @@ pub(crate) fn loan_default<
     B: Body<Item = T>,
     H: Copy + Default,
     K: BackpressureFn,
->(core: &mut Core<B, H, B, H, K>, places: &mut Places, number: u64, len: usize) -> Reply<T, H>
-    ensures step { Step K.action T.is_default H.is_default B.family core.old (Command.LoanDefault number len) result core.new }
+>(core: &mut Core<B, H, B, H, K>, places: &mut Places, id: &HandleId, len: usize) -> Reply<T, H>
+    ensures step { Step K.action T.is_default H.is_default B.family core.old (Command.LoanDefault id.now len) result core.new }
     ensures memory { result ≢ Reply.NoMemory }
-    ensures places { Remembers places.old (given {K = K} (Command.LoanDefault number len) result) places.new }
+    ensures places { Remembers places.old (given {K = K} (Command.LoanDefault id.now len) result) places.new }
 {
-    let id = places.id_of(number);
-    match core.kind(&id) {
-        Some(Kind::Client) => loan_default_request(core, places, number, len),
-        Some(Kind::ActiveRequest) => loan_default_response(core, places, &id, len),
+    match core.kind(id) {
+        Some(Kind::Client) => loan_default_request(core, places, id.number(), len),
+        Some(Kind::ActiveRequest) => loan_default_response(core, places, id, len),
         Some(_) => Reply::WrongKind,
         None => Reply::Unknown,
     }

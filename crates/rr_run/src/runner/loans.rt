@@ -17,17 +17,16 @@ use rr_slots::{Body, Family};
 pub(crate) fn loan<T: Copy + Default, B: Body<Item = T>, H: Copy + Default, K: BackpressureFn>(
     core: &mut Core<B, H, B, H, K>,
     places: &mut Places,
-    number: u64,
+    id: &HandleId,
     len: usize,
 ) -> Reply<T, H>
-    ensures step { Step K.action T.is_default H.is_default B.family core.old (Command.Loan number len) result core.new }
+    ensures step { Step K.action T.is_default H.is_default B.family core.old (Command.Loan id.now len) result core.new }
     ensures memory { result ≢ Reply.NoMemory }
-    ensures places { Remembers places.old (given {K = K} (Command.Loan number len) result) places.new }
+    ensures places { Remembers places.old (given {K = K} (Command.Loan id.now len) result) places.new }
 {
-    let id = places.id_of(number);
-    match core.kind(&id) {
-        Some(Kind::Client) => loan_request(core, places, number, len),
-        Some(Kind::ActiveRequest) => loan_response(core, places, &id, len),
+    match core.kind(id) {
+        Some(Kind::Client) => loan_request(core, places, id.number(), len),
+        Some(Kind::ActiveRequest) => loan_response(core, places, id, len),
         Some(_) => Reply::WrongKind,
         None => Reply::Unknown,
     }

@@ -16,16 +16,15 @@ use rr_slots::Body;
 pub(crate) fn receive<T: Copy + Default, B: Body<Item = T>, H: Copy + Default, K: BackpressureFn>(
     core: &mut Core<B, H, B, H, K>,
     places: &mut Places,
-    number: u64,
+    id: &HandleId,
 ) -> Reply<T, H>
-    ensures step { Step K.action T.is_default H.is_default B.family core.old (Command.Receive number) result core.new }
+    ensures step { Step K.action T.is_default H.is_default B.family core.old (Command.Receive id.now) result core.new }
     ensures memory { result ≢ Reply.NoMemory }
-    ensures places { Remembers places.old (given {K = K} (Command.Receive number) result) places.new }
+    ensures places { Remembers places.old (given {K = K} (Command.Receive id.now) result) places.new }
 {
-    let id = places.id_of(number);
-    match core.kind(&id) {
-        Some(Kind::Server) => receive_request(core, places, number),
-        Some(Kind::PendingResponse) => receive_response(core, places, &id),
+    match core.kind(id) {
+        Some(Kind::Server) => receive_request(core, places, id.number()),
+        Some(Kind::PendingResponse) => receive_response(core, places, id),
         Some(_) => Reply::WrongKind,
         None => Reply::Unknown,
     }

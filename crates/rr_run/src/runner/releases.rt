@@ -6,7 +6,7 @@ ghost use Rattle.rr_run.specs.Known.{ForgetsGone};
 
 use crate::places::Places;
 use rr_commands::Reply;
-use rr_hub::Core;
+use rr_hub::{Core, HandleId};
 use rr_protocol::{BackpressureFn, Kind};
 use rr_slots::Body;
 
@@ -14,18 +14,17 @@ use rr_slots::Body;
 pub(crate) fn release<T: Copy + Default, B: Body<Item = T>, H: Copy + Default, K: BackpressureFn>(
     core: &mut Core<B, H, B, H, K>,
     places: &mut Places,
-    number: u64,
+    id: &HandleId,
 ) -> Reply<T, H>
-    ensures step { Step K.action T.is_default H.is_default B.family core.old (Command.Release number) result core.new }
-    ensures places { ForgetsGone places.old number core.new places.new }
+    ensures step { Step K.action T.is_default H.is_default B.family core.old (Command.Release id.now) result core.new }
+    ensures places { ForgetsGone places.old id.now core.new places.new }
 {
-    let id = places.id_of(number);
-    match core.kind(&id) {
-        Some(Kind::Client) => core.release_client(number),
-        Some(Kind::Server) => core.release_server(number),
+    match core.kind(id) {
+        Some(Kind::Client) => core.release_client(id.number()),
+        Some(Kind::Server) => core.release_server(id.number()),
         Some(_) => {
-            core.release(&id);
-            places.forget(number);
+            core.release(id);
+            places.forget(id.number());
         }
         None => return Reply::Unknown,
     }

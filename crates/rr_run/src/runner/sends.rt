@@ -18,24 +18,23 @@ use rr_slots::Body;
 pub(crate) fn send<T: Copy + Default, B: Body<Item = T>, H: Copy + Default, K: BackpressureFn>(
     core: &mut Core<B, H, B, H, K>,
     places: &mut Places,
-    number: u64,
+    id: &HandleId,
 ) -> Reply<T, H>
-    ensures step { Step K.action T.is_default H.is_default B.family core.old (Command.Send number) result core.new }
-    ensures places { ForgetsGone places.old number core.new places.new }
+    ensures step { Step K.action T.is_default H.is_default B.family core.old (Command.Send id.now) result core.new }
+    ensures places { ForgetsGone places.old id.now core.new places.new }
 {
-    let id = places.id_of(number);
-    match core.kind(&id) {
-        Some(Kind::RequestMut) => match core.send_request(&id) {
-            Ok(connections) => Reply::Pending(number, connections),
+    match core.kind(id) {
+        Some(Kind::RequestMut) => match core.send_request(id) {
+            Ok(connections) => Reply::Pending(id.number(), connections),
             Err(error) => {
-                places.forget(number);
+                places.forget(id.number());
                 Reply::RequestError(error)
             }
         },
         Some(Kind::ResponseMut) => {
-            places.forget(number);
-            match core.send_response(&id) {
-                Ok(()) => Reply::Sent(number),
+            places.forget(id.number());
+            match core.send_response(id) {
+                Ok(()) => Reply::Sent(id.number()),
                 Err(error) => Reply::SendError(error),
             }
         }
@@ -48,17 +47,16 @@ pub(crate) fn send<T: Copy + Default, B: Body<Item = T>, H: Copy + Default, K: B
 pub(crate) fn send_copy<T: Copy + Default, B: Body<Item = T>, H: Copy + Default, K: BackpressureFn>(
     core: &mut Core<B, H, B, H, K>,
     places: &mut Places,
-    number: u64,
+    id: &HandleId,
     item: T,
 ) -> Reply<T, H>
-    ensures step { Step K.action T.is_default H.is_default B.family core.old (Command.SendCopy number item) result core.new }
+    ensures step { Step K.action T.is_default H.is_default B.family core.old (Command.SendCopy id.now item) result core.new }
     ensures memory { result ≢ Reply.NoMemory }
-    ensures places { Remembers places.old (given {K = K} (Command.SendCopy number item) result) places.new }
+    ensures places { Remembers places.old (given {K = K} (Command.SendCopy id.now item) result) places.new }
 {
-    let id = places.id_of(number);
-    match core.kind(&id) {
-        Some(Kind::Client) => send_request_copy(core, places, number, item),
-        Some(Kind::ActiveRequest) => send_response_copy(core, &id, item),
+    match core.kind(id) {
+        Some(Kind::Client) => send_request_copy(core, places, id.number(), item),
+        Some(Kind::ActiveRequest) => send_response_copy(core, id, item),
         Some(_) => Reply::WrongKind,
         None => Reply::Unknown,
     }
