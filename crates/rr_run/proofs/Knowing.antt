@@ -27,7 +27,7 @@ module _ {T H K : Type 0} (p q : Places) (old new : State T H T H K) (knows : Kn
       (λ is. same_places is fewer)
       (λ one. λ complete k none. ⊎_elim
       (λ is. ap (handle_at new) is ∙ one.1)
-      (λ other. fewer k (knows (sym one.0.0 ∙ complete) k (sym (one.0.1 k other) ∙ none)))
+      (λ other. fewer k (knows (sym one.0.0 ∙ complete) k (sym (one.0.2 k other) ∙ none)))
       (cases_eq k n))
       gone
 

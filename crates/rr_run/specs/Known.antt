@@ -18,7 +18,7 @@ Remembers old (Some n) new = new.is_complete ≡ true → (old.is_complete ≡ t
 
 -- this place is gone, and no other
 abbrev pub Forgets : Places → ℕ → Places → Type 0
-Forgets old n new = (new.is_complete ≡ old.is_complete) × ((k : ℕ) → k ≢ n → place_of new k ≡ place_of old k)
+Forgets old n new = (new.is_complete ≡ old.is_complete) × (place_of new n ≡ None) × ((k : ℕ) → k ≢ n → place_of new k ≡ place_of old k)
 
 module _ {T H K : Type 0} where
   -- every handle has a place, unless one was lost
