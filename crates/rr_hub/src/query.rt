@@ -1,5 +1,6 @@
 //! What a core tells of its ports and handles. No query changes it.
 ghost use Rattle.std.specs.Prelude.{◌≡◌, false, nat_lt, length, None, Some, IsSome, IsSomeAnd, if◌then◌else◌, option_and_then};
+ghost use Rattle.rr_laws.specs.Complete.{HasComplete};
 ghost use Rattle.rr_protocol.specs.Counts.{is_alive};
 ghost use Rattle.rr_protocol.specs.Messages.{request_in, response_in};
 ghost use Rattle.rr_protocol.specs.Queries.{has_disconnect_hint, kind_at};
@@ -48,6 +49,9 @@ impl<QB: Body, QH: Default + Drop, PB: Body, PH: Default + Drop, K: Backpressure
         requires { IsSome (option_and_then request_in (handle_at self.now id.now)) }
         ensures asked { IsSomeAnd (option_and_then request_in (handle_at self.now id.now)) (λ m. QB.asked_len result.now ≡ m.content.asked_len) }
         ensures elements { IsSomeAnd (option_and_then request_in (handle_at self.now id.now)) (λ m. QB.elements result.now ≡ m.content.elements) }
+
+        // The payload of every handle but a `RequestMutUninit` is complete.
+        ensures complete { IsSomeAnd (handle_at self.now id.now) HasComplete }
     {
         let place = id.place();
         if self.parts.is_place_of(id.number(), place) {
@@ -65,6 +69,9 @@ impl<QB: Body, QH: Default + Drop, PB: Body, PH: Default + Drop, K: Backpressure
         requires { IsSome (option_and_then response_in (handle_at self.now id.now)) }
         ensures asked { IsSomeAnd (option_and_then response_in (handle_at self.now id.now)) (λ m. PB.asked_len result.now ≡ m.content.asked_len) }
         ensures elements { IsSomeAnd (option_and_then response_in (handle_at self.now id.now)) (λ m. PB.elements result.now ≡ m.content.elements) }
+
+        // The payload of every handle but a `ResponseMutUninit` is complete.
+        ensures complete { IsSomeAnd (handle_at self.now id.now) HasComplete }
     {
         let place = id.place();
         if self.parts.is_place_of(id.number(), place) {

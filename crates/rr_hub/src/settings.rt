@@ -1,5 +1,6 @@
 //! What a core tells of its own settings, and of those of its ports.
 ghost use Rattle.std.specs.Prelude.{◌≡◌, Some, None, IsSomeAnd};
+ghost use Rattle.rr_protocol.specs.Limits.{hub_refusal};
 ghost use Rattle.rr_protocol.specs.Queries.{kind_at};
 ghost use Rattle.rr_protocol.specs.State.{client_at, server_at};
 
@@ -21,7 +22,10 @@ impl<QB: Body, QH: Default + Drop, PB: Body, PH: Default + Drop, K: Backpressure
     /// Returns the limits. Our own: iceoryx2 has one getter for each.
     #[inline(always)]
     pub fn limits(&self) -> Limits
-        ensures { result ≡ self.now.limits }
+        ensures limits { result ≡ self.now.limits }
+
+        // They are limits that make a hub.
+        ensures makes_hub { hub_refusal result ≡ None }
     {
         self.parts.limits()
     }

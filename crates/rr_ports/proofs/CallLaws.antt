@@ -1,0 +1,392 @@
+-- What numbers name after loans, writes, sends and receives.
+use Rattle.std.proofs.Common.{◌≡◌, ◌≢◌, ℕ, ◌+◌, ◌-◌, ◌^◌, ◌≤◌, true, false, cond, List, [], ◌∷◌, map, Option, Some, None, option_map, refl, sym, ap, ◌∙◌, subst, arith, Result, Ok, Err}
+use Rattle.std.specs.Prelude.{◌&&◌, ◌||◌, ◌==◌, IfOk, IfSome}
+use Rattle.std.specs.List.{list_any}
+use Rattle.std.specs.FinMap as fin_map
+use Rattle.rr_protocol.specs.declared.kind.Kind.{Kind}
+use Rattle.rr_protocol.specs.declared.error.LoanError.{LoanError}
+use Rattle.rr_protocol.specs.declared.error.RequestSendError.{RequestSendError}
+use Rattle.rr_protocol.specs.declared.error.SendError.{SendError}
+use Rattle.rr_protocol.specs.declared.error.ReceiveError.{ReceiveError}
+use Rattle.rr_protocol.specs.declared.settings.BackpressureAction.{BackpressureAction}
+use Rattle.rr_protocol.specs.Keys.{RequestKey, request_key}
+use Rattle.rr_protocol.specs.Messages.{RequestMessage, Handle, RequestMutUninit, RequestMut, PendingResponse, ActiveRequest, ResponseMutUninit, ResponseMut, Response, with_hint}
+use Rattle.rr_protocol.specs.Messages.{Content}
+use Rattle.rr_protocol.specs.Ports.{Client}
+use Rattle.rr_protocol.specs.State.{State, client_at, pending_at, is_client_value, is_server_value, numbers_left, with_changed}
+use Rattle.rr_protocol.specs.Queries.{kind_of, kind_at}
+use Rattle.rr_protocol.specs.Loans.{LoansRequest, LoansResponse, with_loan_counted}
+use Rattle.rr_protocol.specs.Sends.{SendsRequest, SendsResponse, with_response_put}
+use Rattle.rr_protocol.specs.Receives.{ReceivesRequest, ReceivesResponse, TakesRequest, Skims}
+use Rattle.rr_protocol.specs.Releases.{after_release}
+use Rattle.rr_protocol.specs.Writing.{with_request_content, with_response_content, after_init}
+use Rattle.rr_laws.proofs.Opening.{some_and, open_request_mut, open_response_mut, open_active}
+use Rattle.rr_ports.specs.Kinds.{Names, KeepsKinds, KeepsKindsBut}
+use Rattle.rr_ports.proofs.NameLaws.{SamePorts, handle_no_port, free_no_port, some_handle, keeps_but, keeps_new, keeps_each, keeps_same, other_kind, own_kind, changed_own, changed_other, changed_keeps}
+use Rattle.rr_ports.proofs.ReleaseLaws.{SameNames, names_then, names_equal, names_ports, names_each, released_keeps, released_numbers}
+
+-- a client's value lives as before, once a loan was counted
+counted_one : {K : Type 0} (n k : ℕ) (c : Client K) → ((with_loan_counted k c).id == n && (with_loan_counted k c).has_value) ≡ (c.id == n && c.has_value)
+counted_one n k c = elim (c.id == k) as (λ b. ((cond b (record c { loans_made = c.loans_made + 1 }) c).id == n && (cond b (record c { loans_made = c.loans_made + 1 }) c).has_value) ≡ (c.id == n && c.has_value)) [
+  | true ↦ refl
+  | false ↦ refl
+]
+
+counted_values : {K : Type 0} (n k : ℕ) (clients : List (Client K))
+    → list_any (λ c. c.id == n && c.has_value) (map (with_loan_counted k) clients) ≡ list_any (λ c. c.id == n && c.has_value) clients
+counted_values n k [] = refl
+counted_values n k (c ∷ clients) =
+    ap (λ b. b || list_any (λ d. d.id == n && d.has_value) (map (with_loan_counted k) clients)) (counted_one n k c)
+    ∙ ap (λ b. (c.id == n && c.has_value) || b) (counted_values n k clients)
+
+module _ {Q QH P PH K : Type 0} where
+  -- a handle came under a new number, which is the next one after all that were given
+  pub record Gains (k : ℕ) (kind : Kind) (old new : State Q QH P PH K) : Type 0 where
+    pub handle : Handle Q QH P PH
+    pub handles : new.handles ≡ fin_map.insert old.handles k handle
+    pub is_kind : kind_of handle ≡ kind
+    pub ports : SamePorts old new
+
+  pub gains_names : (k : ℕ) (kind : Kind) (old new : State Q QH P PH K) → Gains k kind old new → kind_at old k ≡ None → Names new k kind
+  unfolding Names
+  gains_names k kind old new g free = own_kind old new g.ports k g.handle g.handles (free_no_port old k free) ∙ ap Some g.is_kind
+
+  pub gains_keeps : (k : ℕ) (kind : Kind) (old new : State Q QH P PH K) → Gains k kind old new → kind_at old k ≡ None → KeepsKinds old new
+  gains_keeps k kind old new g free = keeps_new k old new free (other_kind old new g.ports k g.handle g.handles)
+
+  -- numbers left where one was given, or none was
+  one_fewer : (old new : State Q QH P PH K) → new.next ≡ old.next + 1 → numbers_left old ≤ numbers_left new + 1
+  one_fewer old new e = omega arith
+
+  none_fewer : (old new : State Q QH P PH K) → new.next ≡ old.next → numbers_left old ≤ numbers_left new + 1
+  none_fewer old new e = omega arith
+
+  -- loans of requests
+  module _ (IsDefault : QH → Type 0) (old new : State Q QH P PH K) (n len : ℕ) where
+    pub loan_refused : (e : LoanError) → LoansRequest IsDefault old n len (Err e) new → new ≡ old
+    loan_refused e loans = (some_and (client_at old n) _ loans).2.1
+
+    pub loan_gains : (k : ℕ) → LoansRequest IsDefault old n len (Ok k) new → Gains k Kind.RequestMutUninit old new
+    loan_gains k loans =
+        let l = some_and (client_at old n) _ loans in
+        subst (λ i. Gains i Kind.RequestMutUninit old new) (sym l.2.1) (record {
+          handle = _;
+          handles = ap (λ t. t.handles) l.2.2.4;
+          is_kind = refl;
+          ports = record {
+            clients = λ i. ap (λ t. is_client_value t i) l.2.2.4 ∙ counted_values i l.0.id old.clients;
+            servers = λ i. ap (λ t. is_server_value t i) l.2.2.4;
+          };
+        })
+
+    pub loan_names : (result : Result ℕ LoanError) → LoansRequest IsDefault old n len result new → IfOk result (λ k. kind_at old k ≡ None)
+        → IfOk result (λ k. Names new k Kind.RequestMutUninit)
+    loan_names (Ok k) loans free = gains_names k Kind.RequestMutUninit old new (loan_gains k loans) free
+    loan_names (Err e) loans free = tt
+
+    pub loan_keeps : (result : Result ℕ LoanError) → LoansRequest IsDefault old n len result new → IfOk result (λ k. kind_at old k ≡ None)
+        → KeepsKinds old new
+    loan_keeps (Ok k) loans free = gains_keeps k Kind.RequestMutUninit old new (loan_gains k loans) free
+    loan_keeps (Err e) loans free = keeps_same old new (loan_refused e loans)
+
+    pub loan_numbers : (result : Result ℕ LoanError) → LoansRequest IsDefault old n len result new → numbers_left old ≤ numbers_left new + 1
+    loan_numbers (Ok k) loans = one_fewer old new (ap (λ t. t.next) (some_and (client_at old n) _ loans).2.2.4)
+    loan_numbers (Err e) loans = none_fewer old new (ap (λ t. t.next) (loan_refused e loans))
+
+  -- loans of responses
+  module _ (IsDefault : PH → Type 0) (old new : State Q QH P PH K) (n len : ℕ) where
+    pub response_loan_refused : (e : LoanError) → LoansResponse IsDefault old n len (Err e) new → new ≡ old
+    response_loan_refused e loans = (open_active old n _ loans).4.1
+
+    pub response_loan_gains : (k : ℕ) → LoansResponse IsDefault old n len (Ok k) new → Gains k Kind.ResponseMutUninit old new
+    response_loan_gains k loans =
+        let l = (open_active old n _ loans).4 in
+        subst (λ i. Gains i Kind.ResponseMutUninit old new) (sym l.1) (record {
+          handle = _;
+          handles = ap (λ t. t.handles) l.2.2;
+          is_kind = refl;
+          ports = record { clients = λ i. ap (λ t. is_client_value t i) l.2.2; servers = λ i. ap (λ t. is_server_value t i) l.2.2 };
+        })
+
+    pub response_loan_names : (result : Result ℕ LoanError) → LoansResponse IsDefault old n len result new → IfOk result (λ k. kind_at old k ≡ None)
+        → IfOk result (λ k. Names new k Kind.ResponseMutUninit)
+    response_loan_names (Ok k) loans free = gains_names k Kind.ResponseMutUninit old new (response_loan_gains k loans) free
+    response_loan_names (Err e) loans free = tt
+
+    pub response_loan_keeps : (result : Result ℕ LoanError) → LoansResponse IsDefault old n len result new → IfOk result (λ k. kind_at old k ≡ None)
+        → KeepsKinds old new
+    response_loan_keeps (Ok k) loans free = gains_keeps k Kind.ResponseMutUninit old new (response_loan_gains k loans) free
+    response_loan_keeps (Err e) loans free = keeps_same old new (response_loan_refused e loans)
+
+    pub response_loan_numbers : (result : Result ℕ LoanError) → LoansResponse IsDefault old n len result new → numbers_left old ≤ numbers_left new + 1
+    response_loan_numbers (Ok k) loans = one_fewer old new (ap (λ t. t.next) (open_active old n _ loans).4.2.2)
+    response_loan_numbers (Err e) loans = none_fewer old new (ap (λ t. t.next) (response_loan_refused e loans))
+
+-- writes
+module _ {Q QH P PH : Type 0} where
+  request_content_kind : (change : Content Q QH → Content Q QH) (h : Handle Q QH P PH) → kind_of (with_request_content change h) ≡ kind_of h
+  request_content_kind change (RequestMutUninit m) = refl
+  request_content_kind change (RequestMut m) = refl
+  request_content_kind change (PendingResponse p) = refl
+  request_content_kind change (ActiveRequest a) = refl
+  request_content_kind change (ResponseMutUninit m) = refl
+  request_content_kind change (ResponseMut m) = refl
+  request_content_kind change (Response m) = refl
+
+  response_content_kind : (change : Content P PH → Content P PH) (h : Handle Q QH P PH) → kind_of (with_response_content change h) ≡ kind_of h
+  response_content_kind change (RequestMutUninit m) = refl
+  response_content_kind change (RequestMut m) = refl
+  response_content_kind change (PendingResponse p) = refl
+  response_content_kind change (ActiveRequest a) = refl
+  response_content_kind change (ResponseMutUninit m) = refl
+  response_content_kind change (ResponseMut m) = refl
+  response_content_kind change (Response m) = refl
+
+  hint_kind : (h : Handle Q QH P PH) → kind_of (with_hint h) ≡ kind_of h
+  hint_kind (RequestMutUninit m) = refl
+  hint_kind (RequestMut m) = refl
+  hint_kind (PendingResponse p) = refl
+  hint_kind (ActiveRequest a) = refl
+  hint_kind (ResponseMutUninit m) = refl
+  hint_kind (ResponseMut m) = refl
+  hint_kind (Response m) = refl
+
+  request_init_kind : (h : Handle Q QH P PH) → kind_of h ≡ Kind.RequestMutUninit → kind_of (after_init h) ≡ Kind.RequestMut
+  request_init_kind (RequestMutUninit m) e = refl
+  request_init_kind (RequestMut m) e = absurd (let f : Kind.RequestMut ≡ Kind.RequestMutUninit = e in cc)
+  request_init_kind (PendingResponse p) e = absurd (let f : Kind.PendingResponse ≡ Kind.RequestMutUninit = e in cc)
+  request_init_kind (ActiveRequest a) e = absurd (let f : Kind.ActiveRequest ≡ Kind.RequestMutUninit = e in cc)
+  request_init_kind (ResponseMutUninit m) e = absurd (let f : Kind.ResponseMutUninit ≡ Kind.RequestMutUninit = e in cc)
+  request_init_kind (ResponseMut m) e = absurd (let f : Kind.ResponseMut ≡ Kind.RequestMutUninit = e in cc)
+  request_init_kind (Response m) e = absurd (let f : Kind.Response ≡ Kind.RequestMutUninit = e in cc)
+
+  response_init_kind : (h : Handle Q QH P PH) → kind_of h ≡ Kind.ResponseMutUninit → kind_of (after_init h) ≡ Kind.ResponseMut
+  response_init_kind (RequestMutUninit m) e = absurd (let f : Kind.RequestMutUninit ≡ Kind.ResponseMutUninit = e in cc)
+  response_init_kind (RequestMut m) e = absurd (let f : Kind.RequestMut ≡ Kind.ResponseMutUninit = e in cc)
+  response_init_kind (PendingResponse p) e = absurd (let f : Kind.PendingResponse ≡ Kind.ResponseMutUninit = e in cc)
+  response_init_kind (ActiveRequest a) e = absurd (let f : Kind.ActiveRequest ≡ Kind.ResponseMutUninit = e in cc)
+  response_init_kind (ResponseMutUninit m) e = refl
+  response_init_kind (ResponseMut m) e = absurd (let f : Kind.ResponseMut ≡ Kind.ResponseMutUninit = e in cc)
+  response_init_kind (Response m) e = absurd (let f : Kind.Response ≡ Kind.ResponseMutUninit = e in cc)
+
+module _ {Q QH P PH K : Type 0} where
+  -- a handle under a number becomes another
+  becomes : (s : State Q QH P PH K) (n : ℕ) (f : Handle Q QH P PH → Handle Q QH P PH) (k j : Kind) → Kind.Client ≢ k → Kind.Server ≢ k
+      → kind_at s n ≡ Some k → ((h : Handle Q QH P PH) → kind_of h ≡ k → kind_of (f h) ≡ j) → kind_at (with_changed s n f) n ≡ Some j
+  becomes s n f k j client server is same =
+      let port = handle_no_port s n k client server is in
+      let h = some_handle s n k port.1 in
+      changed_own s n f h.0 h.1 port.0
+      ∙ ap Some (same h.0 (let e : Some (kind_of h.0) ≡ Some k = sym (ap (option_map kind_of) h.1) ∙ port.1 in cc))
+
+  module _ (old new : State Q QH P PH K) (n : ℕ) where
+    -- a change of content
+    pub request_content_keeps : (change : Content Q QH → Content Q QH) → new ≡ with_changed old n (with_request_content change) → KeepsKinds old new
+    request_content_keeps change e =
+        keeps_each old new (λ i. ap (λ t. kind_at t i) e ∙ changed_keeps old n (with_request_content change) (request_content_kind change) i)
+
+    pub response_content_keeps : (change : Content P PH → Content P PH) → new ≡ with_changed old n (with_response_content change) → KeepsKinds old new
+    response_content_keeps change e =
+        keeps_each old new (λ i. ap (λ t. kind_at t i) e ∙ changed_keeps old n (with_response_content change) (response_content_kind change) i)
+
+    -- a hint that is set
+    pub hint_keeps : new ≡ with_changed old n with_hint → KeepsKinds old new
+    hint_keeps e = keeps_each old new (λ i. ap (λ t. kind_at t i) e ∙ changed_keeps old n with_hint hint_kind i)
+
+    -- a message that is taken as complete
+    pub init_keeps_but : new ≡ with_changed old n after_init → KeepsKindsBut n old new
+    init_keeps_but e = keeps_but n old new (λ i other. ap (λ t. kind_at t i) e ∙ changed_other old n after_init i other)
+
+    pub request_init_names : kind_at old n ≡ Some Kind.RequestMutUninit → new ≡ with_changed old n after_init → Names new n Kind.RequestMut
+    unfolding Names
+    request_init_names is e = ap (λ t. kind_at t n) e
+        ∙ becomes old n after_init Kind.RequestMutUninit Kind.RequestMut (λ e. cc) (λ e. cc) is request_init_kind
+
+    pub response_init_names : kind_at old n ≡ Some Kind.ResponseMutUninit → new ≡ with_changed old n after_init → Names new n Kind.ResponseMut
+    unfolding Names
+    response_init_names is e = ap (λ t. kind_at t n) e
+        ∙ becomes old n after_init Kind.ResponseMutUninit Kind.ResponseMut (λ e. cc) (λ e. cc) is response_init_kind
+
+    -- a message that is written whole
+    module _ (change : Content Q QH → Content Q QH)
+        (e : new ≡ with_changed (with_changed old n (with_request_content change)) n after_init) where
+      pub request_written_but : KeepsKindsBut n old new
+      request_written_but = keeps_but n old new (λ i other. ap (λ t. kind_at t i) e
+          ∙ changed_other (with_changed old n (with_request_content change)) n after_init i other
+          ∙ changed_keeps old n (with_request_content change) (request_content_kind change) i)
+
+      pub request_written_names : kind_at old n ≡ Some Kind.RequestMutUninit → Names new n Kind.RequestMut
+      unfolding Names
+      request_written_names is = then_init (changed_keeps old n (with_request_content change) (request_content_kind change) n ∙ is)
+        where
+          then_init : kind_at (with_changed old n (with_request_content change)) n ≡ Some Kind.RequestMutUninit → Names new n Kind.RequestMut
+          then_init there = ap (λ t. kind_at t n) e
+              ∙ becomes (with_changed old n (with_request_content change)) n after_init Kind.RequestMutUninit Kind.RequestMut (λ e. cc) (λ e. cc) there request_init_kind
+
+    module _ (change : Content P PH → Content P PH)
+        (e : new ≡ with_changed (with_changed old n (with_response_content change)) n after_init) where
+      pub response_written_but : KeepsKindsBut n old new
+      response_written_but = keeps_but n old new (λ i other. ap (λ t. kind_at t i) e
+          ∙ changed_other (with_changed old n (with_response_content change)) n after_init i other
+          ∙ changed_keeps old n (with_response_content change) (response_content_kind change) i)
+
+      pub response_written_names : kind_at old n ≡ Some Kind.ResponseMutUninit → Names new n Kind.ResponseMut
+      unfolding Names
+      response_written_names is = then_init (changed_keeps old n (with_response_content change) (response_content_kind change) n ∙ is)
+        where
+          then_init : kind_at (with_changed old n (with_response_content change)) n ≡ Some Kind.ResponseMutUninit → Names new n Kind.ResponseMut
+          then_init there = ap (λ t. kind_at t n) e
+              ∙ becomes (with_changed old n (with_response_content change)) n after_init Kind.ResponseMutUninit Kind.ResponseMut (λ e. cc) (λ e. cc) there response_init_kind
+
+-- sends
+module _ {Q QH P PH K : Type 0} (action : K → ℕ → ℕ → BackpressureAction) (old new : State Q QH P PH K) (n : ℕ) where
+  module _ (connections : ℕ) (sent : SendsRequest action old n (Ok connections) new) where
+    sent_gains : Gains n Kind.PendingResponse old new
+    sent_gains =
+        let e = (open_request_mut old n _ sent).4.2 in
+        record {
+          handle = _;
+          handles = ap (λ t. t.handles) e;
+          is_kind = refl;
+          ports = record { clients = λ j. ap (λ t. is_client_value t j) e; servers = λ j. ap (λ t. is_server_value t j) e };
+        }
+
+    pub sent_names : kind_at old n ≡ Some Kind.RequestMut → Names new n Kind.PendingResponse
+    unfolding Names
+    sent_names is =
+        let g = sent_gains in
+        own_kind old new g.ports n g.handle g.handles (handle_no_port old n Kind.RequestMut (λ e. cc) (λ e. cc) is).0 ∙ ap Some g.is_kind
+
+    pub sent_but : KeepsKindsBut n old new
+    sent_but = let g = sent_gains in keeps_but n old new (other_kind old new g.ports n g.handle g.handles)
+
+    pub sent_next : new.next ≡ old.next
+    sent_next = ap (λ t. t.next) (open_request_mut old n _ sent).4.2
+
+  -- a request that was refused is released
+  pub unsent : (error : RequestSendError) → SendsRequest action old n (Err error) new → new ≡ after_release old n
+  unsent error sent = (open_request_mut old n _ sent).4.1
+
+  -- a response that was sent or refused is released
+  module _ {U : Type 0} where
+    answered_is : (result : Result U SendError) → SendsResponse action old n result new → (lists : _) × (new ≡ after_release (record old { responses = lists }) n)
+    answered_is (Ok u) sent = let o = open_response_mut old n _ sent in (with_response_put old o.1, o.4.1)
+    answered_is (Err e) sent = (old.responses, (open_response_mut old n _ sent).4.2)
+
+    pub answered_but : (result : Result U SendError) → SendsResponse action old n result new → KeepsKindsBut n old new
+    unfolding KeepsKindsBut
+    answered_but result sent = let a = answered_is result sent in released_keeps (record old { responses = a.0 }) new n a.1
+
+    pub answered_numbers : (result : Result U SendError) → SendsResponse action old n result new → numbers_left new ≡ numbers_left old
+    answered_numbers result sent = let a = answered_is result sent in released_numbers (record old { responses = a.0 }) new n a.1
+
+-- receives
+module _ {Q QH P PH K : Type 0} where
+  takes_names : (old new : State Q QH P PH K) (key : RequestKey) (m : RequestMessage Q QH) → TakesRequest old key m new → SameNames old new
+  takes_names old new key m takes =
+      let e = takes.1.2 in
+      record { clients = ap (λ t. t.clients) e; servers = ap (λ t. t.servers) e; handles = ap (λ t. t.handles) e; next = ap (λ t. t.next) e }
+
+  skims_names : (clients : List ℕ) (old new : State Q QH P PH K) (server : ℕ) → Skims old server clients new → SameNames old new
+  skims_names [] old new server same = names_equal old new same
+  skims_names (client ∷ clients) old new server skims =
+      names_then old skims.1 new (takes_names old skims.1 (request_key client server) skims.0 skims.3) (skims_names clients skims.1 new server skims.4)
+
+  module _ (old new : State Q QH P PH K) (server : ℕ) where
+    -- nothing was received
+    none_names : ReceivesRequest old server (Ok None) new → SameNames old new
+    none_names receives =
+        let r = receives.1 in names_then old r.1 new (skims_names r.0 old r.1 server r.2) (names_equal r.1 new r.3.1)
+
+    refused_names : (error : ReceiveError) → ReceivesRequest old server (Err error) new → SameNames old new
+    refused_names ReceiveError.ExceedsMaxBorrows receives =
+        let r = receives.1 in names_then old r.1 new (skims_names r.0 old r.1 server r.2) (names_equal r.1 new r.3.2)
+    refused_names (ReceiveError.ConnectionFailure failure) receives = absurd (receives.1.3)
+
+    module _ (a : ℕ) (receives : ReceivesRequest old server (Ok (Some a)) new) where
+      received_gains : Gains a Kind.ActiveRequest old new
+      received_gains =
+          let r = receives.1 in
+          let u = r.3.1 in
+          let same = names_then old r.1 u.2 (skims_names r.0 old r.1 server r.2) (takes_names r.1 u.2 (request_key u.0 server) u.1 u.3) in
+          let h : Handle Q QH P PH = ActiveRequest (record { message = u.1; server = server }) in
+          record {
+            handle = h;
+            handles = ap (λ t. t.handles) u.5 ∙ ap (λ hs. fin_map.insert hs u.2.next h) same.handles
+                ∙ ap (λ i. fin_map.insert old.handles i h) (same.next ∙ sym (r.3.0 ∙ (skims_names r.0 old r.1 server r.2).next));
+            is_kind = refl;
+            ports = record {
+              clients = λ j. ap (λ t. is_client_value t j) u.5 ∙ (names_ports old u.2 same).clients j;
+              servers = λ j. ap (λ t. is_server_value t j) u.5 ∙ (names_ports old u.2 same).servers j;
+            };
+          }
+
+      received_next : new.next ≡ old.next + 1
+      received_next =
+          let r = receives.1 in
+          let u = r.3.1 in
+          let same = names_then old r.1 u.2 (skims_names r.0 old r.1 server r.2) (takes_names r.1 u.2 (request_key u.0 server) u.1 u.3) in
+          ap (λ t. t.next) u.5 ∙ ap (λ i. i + 1) same.next
+
+    pub received_names : (result : Result (Option ℕ) ReceiveError) → ReceivesRequest old server result new
+        → IfOk result (λ o. IfSome o (λ k. kind_at old k ≡ None)) → IfOk result (λ o. IfSome o (λ k. Names new k Kind.ActiveRequest))
+    received_names (Ok (Some k)) receives free = gains_names k Kind.ActiveRequest old new (received_gains k receives) free
+    received_names (Ok None) receives free = tt
+    received_names (Err e) receives free = tt
+
+    pub received_keeps : (result : Result (Option ℕ) ReceiveError) → ReceivesRequest old server result new
+        → IfOk result (λ o. IfSome o (λ k. kind_at old k ≡ None)) → KeepsKinds old new
+    received_keeps (Ok (Some k)) receives free = gains_keeps k Kind.ActiveRequest old new (received_gains k receives) free
+    received_keeps (Ok None) receives free = keeps_each old new (names_each old new (none_names receives)).kinds
+    received_keeps (Err e) receives free = keeps_each old new (names_each old new (refused_names e receives)).kinds
+
+    pub received_numbers : (result : Result (Option ℕ) ReceiveError) → ReceivesRequest old server result new
+        → numbers_left old ≤ numbers_left new + 1
+    received_numbers (Ok (Some k)) receives = one_fewer old new (received_next k receives)
+    received_numbers (Ok None) receives = none_fewer old new (none_names receives).next
+    received_numbers (Err e) receives = none_fewer old new (refused_names e receives).next
+
+  -- receives of responses
+  module _ (old new : State Q QH P PH K) (n : ℕ) where
+    no_response : ReceivesResponse old n (Ok None) new → new ≡ old
+    no_response receives = (some_and (pending_at old n) _ receives).2.1
+
+    response_refused : (error : ReceiveError) → ReceivesResponse old n (Err error) new → new ≡ old
+    response_refused ReceiveError.ExceedsMaxBorrows receives = (some_and (pending_at old n) _ receives).2.2
+    response_refused (ReceiveError.ConnectionFailure failure) receives = absurd receives
+
+    module _ (k : ℕ) (receives : ReceivesResponse old n (Ok (Some k)) new) where
+      came_gains : Gains k Kind.Response old new
+      came_gains =
+          let p = some_and (pending_at old n) _ receives in
+          let e = p.2.5 in
+          let t = p.2.3.1.2 in
+          record {
+            handle = Response p.2.1;
+            handles = ap (λ x. x.handles) e ∙ ap (λ hs. fin_map.insert hs k (Response p.2.1)) (ap (λ x. x.handles) t);
+            is_kind = refl;
+            ports = record {
+              clients = λ j. ap (λ x. is_client_value x j) e ∙ ap (λ x. is_client_value x j) t;
+              servers = λ j. ap (λ x. is_server_value x j) e ∙ ap (λ x. is_server_value x j) t;
+            };
+          }
+
+      came_next : new.next ≡ old.next
+      came_next = let p = some_and (pending_at old n) _ receives in ap (λ x. x.next) p.2.5 ∙ ap (λ x. x.next) p.2.3.1.2
+
+    pub came_names : (result : Result (Option ℕ) ReceiveError) → ReceivesResponse old n result new
+        → IfOk result (λ o. IfSome o (λ k. kind_at old k ≡ None)) → IfOk result (λ o. IfSome o (λ k. Names new k Kind.Response))
+    came_names (Ok (Some k)) receives free = gains_names k Kind.Response old new (came_gains k receives) free
+    came_names (Ok None) receives free = tt
+    came_names (Err e) receives free = tt
+
+    pub came_keeps : (result : Result (Option ℕ) ReceiveError) → ReceivesResponse old n result new
+        → IfOk result (λ o. IfSome o (λ k. kind_at old k ≡ None)) → KeepsKinds old new
+    came_keeps (Ok (Some k)) receives free = gains_keeps k Kind.Response old new (came_gains k receives) free
+    came_keeps (Ok None) receives free = keeps_same old new (no_response receives)
+    came_keeps (Err e) receives free = keeps_same old new (response_refused e receives)
+
+    pub came_numbers : (result : Result (Option ℕ) ReceiveError) → ReceivesResponse old n result new → numbers_left new ≡ numbers_left old
+    came_numbers (Ok (Some k)) receives = ap (λ i. 2 ^ 62 - i) (came_next k receives)
+    came_numbers (Ok None) receives = ap numbers_left (no_response receives)
+    came_numbers (Err e) receives = ap numbers_left (response_refused e receives)

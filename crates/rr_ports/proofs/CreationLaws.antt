@@ -1,0 +1,127 @@
+-- What numbers name after the creation of a port.
+use Rattle.std.proofs.Common.{◌≡◌, ◌≢◌, ℕ, ◌+◌, ◌≤◌, Bool, true, false, cond, List, [], ◌∷◌, ◌++◌, Some, None, refl, sym, ap, ◌∙◌, arith, Result, Ok, Err}
+use Rattle.std.specs.Prelude.{◌&&◌, ◌||◌, ◌==◌, IfOk}
+use Rattle.std.specs.List.{list_any}
+use Rattle.std.proofs.lemmas.Bool.{eq-eqb, eqb-true}
+use Rattle.rr_protocol.specs.declared.kind.Kind.{Kind}
+use Rattle.rr_protocol.specs.declared.error.ClientCreateError.{ClientCreateError}
+use Rattle.rr_protocol.specs.declared.error.ServerCreateError.{ServerCreateError}
+use Rattle.rr_protocol.specs.declared.settings.ClientSettings.{ClientSettings}
+use Rattle.rr_protocol.specs.declared.settings.ServerSettings.{ServerSettings}
+use Rattle.rr_protocol.specs.Creation.{CreatesClient, CreatesServer}
+use Rattle.rr_protocol.specs.Ports.{Client, Server}
+use Rattle.rr_protocol.specs.State.{State, is_client_value, is_server_value, numbers_left}
+use Rattle.rr_protocol.specs.Queries.{kind_at}
+use Rattle.rr_ports.specs.Kinds.{Names, KeepsKinds}
+use Rattle.rr_ports.proofs.NameLaws.{handle_kind, same_at, free_no_port, keeps_new, keeps_same}
+
+or_false : (b : Bool) → (b || false) ≡ b
+or_false true = refl
+or_false false = refl
+
+or_true : (b : Bool) → (b || true) ≡ true
+or_true true = refl
+or_true false = refl
+
+or_assoc : (a b d : Bool) → (a || (b || d)) ≡ ((a || b) || d)
+or_assoc true b d = refl
+or_assoc false b d = refl
+
+any_append : {X : Type 0} (t : X → Bool) (xs : List X) (x : X) → list_any t (xs ++ x ∷ []) ≡ (list_any t xs || t x)
+any_append t [] x = or_false (t x)
+any_append t (y ∷ ys) x = ap (λ b. t y || b) (any_append t ys x) ∙ or_assoc (t y) (list_any t ys) (t x)
+
+other_number : (a b : ℕ) → b ≢ a → (a == b && true) ≡ false
+other_number a b other = go (a == b) refl
+  where
+    go : (d : Bool) → (a == b) ≡ d → (d && true) ≡ false
+    go true e = absurd (other (sym (eqb-true a b e)))
+    go false e = refl
+
+own_number : (a : ℕ) → (a == a && true) ≡ true
+own_number a = ap (λ b. b && true) (eq-eqb a a refl)
+
+module _ {Q QH P PH K : Type 0} (old new : State Q QH P PH K) where
+  module _ (settings : ClientSettings K) (k : ℕ) (creates : CreatesClient old settings (Ok k) new) (free : kind_at old k ≡ None) where
+    client_value : (n : ℕ) → is_client_value new n ≡ (is_client_value old n || (old.next == n && true))
+    client_value n = ap (λ t. is_client_value t n) creates.2 ∙ any_append (λ (c : Client K). c.id == n && c.has_value) old.clients _
+
+    client_keeps : KeepsKinds old new
+    client_keeps =
+        keeps_new k old new free (λ n other.
+        same_at old new n
+        (client_value n ∙ ap (λ b. is_client_value old n || b) (other_number old.next n (λ e. other (e ∙ sym creates.1))) ∙ or_false (is_client_value old n))
+        (ap (λ t. is_server_value t n) creates.2) (ap (λ t. handle_kind t n) creates.2))
+
+    client_names : Names new k Kind.Client
+    unfolding Names
+    client_names =
+        ap (kind_at new) creates.1
+        ∙ ap (λ b. cond b (Some Kind.Client) (cond (is_server_value new old.next) (Some Kind.Server) (handle_kind new old.next)))
+        (client_value old.next ∙ ap (λ b. is_client_value old old.next || b) (own_number old.next) ∙ or_true (is_client_value old old.next))
+
+  module _ (settings : ServerSettings K) (k : ℕ) (creates : CreatesServer old settings (Ok k) new) (free : kind_at old k ≡ None) where
+    server_value : (n : ℕ) → is_server_value new n ≡ (is_server_value old n || (old.next == n && true))
+    server_value n = ap (λ t. is_server_value t n) creates.2 ∙ any_append (λ (c : Server K). c.id == n && c.has_value) old.servers _
+
+    server_keeps : KeepsKinds old new
+    server_keeps =
+        keeps_new k old new free (λ n other.
+        same_at old new n
+        (ap (λ t. is_client_value t n) creates.2)
+        (server_value n ∙ ap (λ b. is_server_value old n || b) (other_number old.next n (λ e. other (e ∙ sym creates.1))) ∙ or_false (is_server_value old n))
+        (ap (λ t. handle_kind t n) creates.2))
+
+    server_names : Names new k Kind.Server
+    unfolding Names
+    server_names =
+        ap (kind_at new) creates.1
+        ∙ ap (λ b. cond b (Some Kind.Client) (cond (is_server_value new old.next) (Some Kind.Server) (handle_kind new old.next)))
+        (ap (λ t. is_client_value t old.next) creates.2 ∙ ap (is_client_value old) (sym creates.1) ∙ (free_no_port old k free).client)
+        ∙ ap (λ b. cond b (Some Kind.Server) (handle_kind new old.next))
+        (server_value old.next ∙ ap (λ b. is_server_value old old.next || b) (own_number old.next) ∙ or_true (is_server_value old old.next))
+
+  -- whatever creation returned
+  module _ (settings : ClientSettings K) (result : Result ℕ ClientCreateError) where
+    pub created_client_names : CreatesClient old settings result new → IfOk result (λ k. kind_at old k ≡ None) → IfOk result (λ k. Names new k Kind.Client)
+    created_client_names = go result
+      where
+        go : (r : Result ℕ ClientCreateError) → CreatesClient old settings r new → IfOk r (λ k. kind_at old k ≡ None) → IfOk r (λ k. Names new k Kind.Client)
+        go (Ok k) creates free = client_names settings k creates free
+        go (Err e) creates free = tt
+
+    pub created_client_keeps : CreatesClient old settings result new → IfOk result (λ k. kind_at old k ≡ None) → KeepsKinds old new
+    created_client_keeps = go result
+      where
+        go : (r : Result ℕ ClientCreateError) → CreatesClient old settings r new → IfOk r (λ k. kind_at old k ≡ None) → KeepsKinds old new
+        go (Ok k) creates free = client_keeps settings k creates free
+        go (Err e) creates free = keeps_same old new creates.1
+
+    pub created_client_numbers : CreatesClient old settings result new → numbers_left old ≤ numbers_left new + 1
+    created_client_numbers = go result
+      where
+        go : (r : Result ℕ ClientCreateError) → CreatesClient old settings r new → numbers_left old ≤ numbers_left new + 1
+        go (Ok k) creates = let e : new.next ≡ old.next + 1 = ap (λ t. t.next) creates.2 in omega arith
+        go (Err e) creates = let e : new.next ≡ old.next = ap (λ t. t.next) creates.1 in omega arith
+
+  module _ (settings : ServerSettings K) (result : Result ℕ ServerCreateError) where
+    pub created_server_names : CreatesServer old settings result new → IfOk result (λ k. kind_at old k ≡ None) → IfOk result (λ k. Names new k Kind.Server)
+    created_server_names = go result
+      where
+        go : (r : Result ℕ ServerCreateError) → CreatesServer old settings r new → IfOk r (λ k. kind_at old k ≡ None) → IfOk r (λ k. Names new k Kind.Server)
+        go (Ok k) creates free = server_names settings k creates free
+        go (Err e) creates free = tt
+
+    pub created_server_keeps : CreatesServer old settings result new → IfOk result (λ k. kind_at old k ≡ None) → KeepsKinds old new
+    created_server_keeps = go result
+      where
+        go : (r : Result ℕ ServerCreateError) → CreatesServer old settings r new → IfOk r (λ k. kind_at old k ≡ None) → KeepsKinds old new
+        go (Ok k) creates free = server_keeps settings k creates free
+        go (Err e) creates free = keeps_same old new creates.1
+
+    pub created_server_numbers : CreatesServer old settings result new → numbers_left old ≤ numbers_left new + 1
+    created_server_numbers = go result
+      where
+        go : (r : Result ℕ ServerCreateError) → CreatesServer old settings r new → numbers_left old ≤ numbers_left new + 1
+        go (Ok k) creates = let e : new.next ≡ old.next + 1 = ap (λ t. t.next) creates.2 in omega arith
+        go (Err e) creates = let e : new.next ≡ old.next = ap (λ t. t.next) creates.1 in omega arith

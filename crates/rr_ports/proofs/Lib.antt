@@ -1,0 +1,9 @@
+pub mod Frames
+pub mod NameLaws
+pub mod Asking
+pub mod Payloads
+pub mod ReleaseLaws
+pub mod CallLaws
+pub mod CreationLaws
+pub mod CopyLaws
+pub mod FamilyLaws

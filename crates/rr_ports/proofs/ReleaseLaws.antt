@@ -1,0 +1,252 @@
+-- What numbers name after the release of a port or of a handle.
+use Rattle.std.proofs.Common.{◌≡◌, ◌≢◌, ℕ, ◌-◌, ◌^◌, Bool, true, false, cond, not, List, [], ◌∷◌, map, Option, Some, None, option_map, refl, sym, ap, ◌∙◌, subst}
+use Rattle.std.specs.Prelude.{◌&&◌, ◌||◌, ◌==◌, filter, fold, is_some}
+use Rattle.std.specs.List.{list_any}
+use Rattle.std.specs.Option.{option_map_or}
+use Rattle.std.specs.FinMap as fin_map
+use Rattle.std.specs.FinMap.{get}
+use Rattle.std.proofs.lemmas.Bool.{eqb-true}
+use Rattle.rr_maps.proofs.MapLaws.{get-remove_other}
+use Rattle.rr_protocol.proofs.HandleLaws.{get-map_handles}
+use Rattle.rr_protocol.specs.Messages.{Handle, RequestMutUninit, RequestMut, PendingResponse, ActiveRequest, ResponseMutUninit, ResponseMut, Response, port_of}
+use Rattle.rr_protocol.specs.Ports.{Client, Server}
+use Rattle.rr_protocol.specs.State.{State, client_at, handle_at, is_client_value, is_server_value, numbers_left}
+use Rattle.rr_protocol.specs.Queries.{kind_of, kind_at}
+use Rattle.rr_protocol.specs.Counts.{is_in_use}
+use Rattle.rr_protocol.specs.Releases.{after_release, after_handle_gone, without_unused_port, without_port_value, without_value, after_client_left, after_server_left, without_server, with_expired_client, with_expired_server, map_handles, has_requests_from, has_responses_from}
+use Rattle.rr_ports.specs.Kinds.{KeepsKindsBut}
+use Rattle.rr_ports.proofs.NameLaws.{SamePorts, same_at, same_kind, keeps_but, changed_keeps}
+
+module _ {Q QH P PH : Type 0} where
+  without_server_kind : (server : ℕ) (h : Handle Q QH P PH) → kind_of (without_server server h) ≡ kind_of h
+  without_server_kind server (RequestMutUninit m) = refl
+  without_server_kind server (RequestMut m) = refl
+  without_server_kind server (PendingResponse p) = refl
+  without_server_kind server (ActiveRequest a) = refl
+  without_server_kind server (ResponseMutUninit m) = refl
+  without_server_kind server (ResponseMut m) = refl
+  without_server_kind server (Response m) = refl
+
+  mapped_kind : (server : ℕ) (o : Option (Handle Q QH P PH)) → option_map kind_of (option_map (without_server server) o) ≡ option_map kind_of o
+  mapped_kind server None = refl
+  mapped_kind server (Some h) = ap Some (without_server_kind server h)
+
+or_first : (a b : Bool) → (a || b) ≡ false → a ≡ false
+or_first true b e = absurd (cc)
+or_first false b e = refl
+
+or_second : (a b : Bool) → (a || b) ≡ false → b ≡ false
+or_second true b e = absurd (cc)
+or_second false b e = e
+
+and_false : (a h : Bool) → h ≡ false → (a && h) ≡ false
+and_false true h e = e
+and_false false h e = refl
+
+-- of ports by number: the one that goes has no value
+module _ {X : Type 0} (id : X → ℕ) (has_value : X → Bool) where
+  pub gone_same : (n gone : ℕ) (ports : List X) → list_any (λ c. id c == gone && has_value c) ports ≡ false
+      → list_any (λ c. id c == n && has_value c) (filter (λ c. not (id c == gone)) ports) ≡ list_any (λ c. id c == n && has_value c) ports
+  gone_same n gone [] none = refl
+  gone_same n gone (c ∷ cs) none = go (gone_same n gone cs) (id c == gone) none
+    where
+      go : (list_any (λ d. id d == gone && has_value d) cs ≡ false → list_any (λ d. id d == n && has_value d) (filter (λ d. not (id d == gone)) cs)
+          ≡ list_any (λ d. id d == n && has_value d) cs) → (a : Bool) → ((a && has_value c) || list_any (λ d. id d == gone && has_value d) cs) ≡ false
+          → list_any (λ d. id d == n && has_value d) (cond (not a) (c ∷ filter (λ d. not (id d == gone)) cs) (filter (λ d. not (id d == gone)) cs))
+          ≡ ((id c == n && has_value c) || list_any (λ d. id d == n && has_value d) cs)
+      go ih true e = ih (or_second (has_value c) _ e)
+          ∙ sym (ap (λ b. b || list_any (λ d. id d == n && has_value d) cs) (and_false (id c == n) (has_value c) (or_first (has_value c) _ e)))
+      go ih false e = ap (λ b. (id c == n && has_value c) || b) (ih e)
+
+-- the value of one port goes
+module _ {K : Type 0} where
+  valueless_client : (n m : ℕ) (c : Client K) → n ≢ m
+      → ((without_value m c.port).id == n && (without_value m c.port).has_value) ≡ (c.id == n && c.has_value)
+  valueless_client n m c other = go (c.id == m) refl
+    where
+      go : (b : Bool) → (c.id == m) ≡ b
+          → ((cond b (record c.port { has_value = false }) c.port).id == n && (cond b (record c.port { has_value = false }) c.port).has_value) ≡ (c.id == n && c.has_value)
+      go true is = and_same (c.id == n) refl
+        where
+          and_same : (a : Bool) → (c.id == n) ≡ a → (a && false) ≡ (a && c.has_value)
+          and_same true e = absurd (other (sym (eqb-true c.id n e) ∙ eqb-true c.id m is))
+          and_same false e = refl
+      go false is = refl
+
+  clients_valueless : (n m : ℕ) (cs : List (Client K)) → n ≢ m
+      → list_any (λ c. c.id == n && c.has_value) (map (λ (c : Client K). record c { port = without_value m c.port }) cs) ≡ list_any (λ c. c.id == n && c.has_value) cs
+  clients_valueless n m [] other = refl
+  clients_valueless n m (c ∷ cs) other =
+      ap (λ b. b || list_any (λ d. d.id == n && d.has_value) (map (λ (c : Client K). record c { port = without_value m c.port }) cs)) (valueless_client n m c other)
+      ∙ ap (λ b. (c.id == n && c.has_value) || b) (clients_valueless n m cs other)
+
+  valueless_server : (n m : ℕ) (c : Server K) → n ≢ m
+      → ((without_value m c.port).id == n && (without_value m c.port).has_value) ≡ (c.id == n && c.has_value)
+  valueless_server n m c other = go (c.id == m) refl
+    where
+      go : (b : Bool) → (c.id == m) ≡ b
+          → ((cond b (record c.port { has_value = false }) c.port).id == n && (cond b (record c.port { has_value = false }) c.port).has_value) ≡ (c.id == n && c.has_value)
+      go true is = and_same (c.id == n) refl
+        where
+          and_same : (a : Bool) → (c.id == n) ≡ a → (a && false) ≡ (a && c.has_value)
+          and_same true e = absurd (other (sym (eqb-true c.id n e) ∙ eqb-true c.id m is))
+          and_same false e = refl
+      go false is = refl
+
+  servers_valueless : (n m : ℕ) (cs : List (Server K)) → n ≢ m
+      → list_any (λ c. c.id == n && c.has_value) (map (λ (c : Server K). record c { port = without_value m c.port }) cs) ≡ list_any (λ c. c.id == n && c.has_value) cs
+  servers_valueless n m [] other = refl
+  servers_valueless n m (c ∷ cs) other =
+      ap (λ b. b || list_any (λ d. d.id == n && d.has_value) (map (λ (c : Server K). record c { port = without_value m c.port }) cs)) (valueless_server n m c other)
+      ∙ ap (λ b. (c.id == n && c.has_value) || b) (servers_valueless n m cs other)
+
+module _ {Q QH P PH K : Type 0} where
+  -- every number but one names what it named, and no number was given
+  pub record KeepsAllBut (m : ℕ) (old new : State Q QH P PH K) : Type 0 where
+    pub kinds : (n : ℕ) → n ≢ m → kind_at new n ≡ kind_at old n
+    pub next : new.next ≡ old.next
+
+  -- every number does
+  pub record KeepsEach (old new : State Q QH P PH K) : Type 0 where
+    pub kinds : (n : ℕ) → kind_at new n ≡ kind_at old n
+    pub next : new.next ≡ old.next
+
+  pub each_itself : (s : State Q QH P PH K) → KeepsEach s s
+  each_itself s = record { kinds = λ n. refl; next = refl }
+
+  pub each_then : (a b d : State Q QH P PH K) → KeepsEach a b → KeepsEach b d → KeepsEach a d
+  each_then a b d f g = record { kinds = λ n. g.kinds n ∙ f.kinds n; next = g.next ∙ f.next }
+
+  but_then : (m : ℕ) (a b d : State Q QH P PH K) → KeepsAllBut m a b → KeepsEach b d → KeepsAllBut m a d
+  but_then m a b d f g = record { kinds = λ n other. g.kinds n ∙ f.kinds n other; next = g.next ∙ f.next }
+
+  -- a test that chooses between two states that keep
+  chosen : (b : Bool) (old x y : State Q QH P PH K) → KeepsEach old x → (b ≡ false → KeepsEach old y) → KeepsEach old (cond b x y)
+  chosen true old x y f g = f
+  chosen false old x y f g = g refl
+
+  -- ports, handles and the next number are the same
+  pub record SameNames (old new : State Q QH P PH K) : Type 0 where
+    pub clients : new.clients ≡ old.clients
+    pub servers : new.servers ≡ old.servers
+    pub handles : new.handles ≡ old.handles
+    pub next : new.next ≡ old.next
+
+  pub names_itself : (s : State Q QH P PH K) → SameNames s s
+  names_itself s = record { clients = refl; servers = refl; handles = refl; next = refl }
+
+  pub names_then : (a b d : State Q QH P PH K) → SameNames a b → SameNames b d → SameNames a d
+  names_then a b d f g =
+      record { clients = g.clients ∙ f.clients; servers = g.servers ∙ f.servers; handles = g.handles ∙ f.handles; next = g.next ∙ f.next }
+
+  pub names_equal : (old new : State Q QH P PH K) → new ≡ old → SameNames old new
+  names_equal old new same =
+      record { clients = ap (λ t. t.clients) same; servers = ap (λ t. t.servers) same; handles = ap (λ t. t.handles) same; next = ap (λ t. t.next) same }
+
+  pub names_ports : (old new : State Q QH P PH K) → SameNames old new → SamePorts old new
+  names_ports old new same =
+      record {
+        clients = λ i. ap (list_any (λ (c : Client K). c.id == i && c.has_value)) same.clients;
+        servers = λ i. ap (list_any (λ (c : Server K). c.id == i && c.has_value)) same.servers;
+      }
+
+  pub names_each : (old new : State Q QH P PH K) → SameNames old new → KeepsEach old new
+  names_each old new same =
+      record { kinds = λ n. same_kind old new (names_ports old new same) n (ap (λ h. option_map kind_of (get h n)) same.handles); next = same.next }
+
+  names_either : (b : Bool) (old x y : State Q QH P PH K) → SameNames old x → SameNames old y → SameNames old (cond b x y)
+  names_either true old x y f g = f
+  names_either false old x y f g = g
+
+  -- what a handle takes along
+  gone_keeps : (s : State Q QH P PH K) (h : Handle Q QH P PH) → KeepsEach s (after_handle_gone s h)
+  gone_keeps s (RequestMutUninit m) = each_itself s
+  gone_keeps s (RequestMut m) = each_itself s
+  gone_keeps s (PendingResponse p) = names_each s (after_handle_gone s (PendingResponse p)) (record { clients = refl; servers = refl; handles = refl; next = refl })
+  gone_keeps s (ActiveRequest a) = record { kinds = changed_keeps s a.message.number (without_server a.server) (without_server_kind a.server); next = refl }
+  gone_keeps s (ResponseMutUninit m) = each_itself s
+  gone_keeps s (ResponseMut m) = each_itself s
+  gone_keeps s (Response m) = each_itself s
+
+  expired_clients : (client : ℕ) (servers : List ℕ) (s : State Q QH P PH K) → SameNames s (fold (with_expired_client client) s servers)
+  expired_clients client [] s = names_itself s
+  expired_clients client (server ∷ servers) s =
+      names_then s (with_expired_client client s server) _
+      (names_either (has_requests_from s server client) s _ s (record { clients = refl; servers = refl; handles = refl; next = refl }) (names_itself s))
+      (expired_clients client servers (with_expired_client client s server))
+
+  expired_servers : (server : ℕ) (clients : List ℕ) (s : State Q QH P PH K) → SameNames s (fold (with_expired_server server) s clients)
+  expired_servers server [] s = names_itself s
+  expired_servers server (client ∷ clients) s =
+      names_then s (with_expired_server server s client) _
+      (names_either (has_responses_from s client server) s _ s (record { clients = refl; servers = refl; handles = refl; next = refl }) (names_itself s))
+      (expired_servers server clients (with_expired_server server s client))
+
+  client_left_keeps : (s : State Q QH P PH K) (port : ℕ) → is_client_value s port ≡ false → KeepsEach s (after_client_left s port)
+  client_left_keeps s port none =
+      let l = expired_clients port (map (λ (c : Server K). c.id) s.servers) s in
+      record {
+        kinds = λ n. same_kind s (after_client_left s port) (record {
+          clients = λ i. ap (λ cs. list_any (λ (c : Client K). c.id == i && c.has_value) (filter (λ (c : Client K). not (c.id == port)) cs)) l.clients
+              ∙ gone_same (λ (c : Client K). c.id) (λ (c : Client K). c.has_value) i port s.clients none;
+          servers = λ i. ap (list_any (λ (c : Server K). c.id == i && c.has_value)) l.servers;
+        }) n (ap (λ h. option_map kind_of (get h n)) l.handles);
+        next = l.next;
+      }
+
+  server_left_keeps : (s : State Q QH P PH K) (port : ℕ) → is_server_value s port ≡ false → KeepsEach s (after_server_left s port)
+  server_left_keeps s port none =
+      let l = expired_servers port (map (λ (c : Client K). c.id) s.clients) s in
+      record {
+        kinds = λ n. same_kind s (after_server_left s port) (record {
+          clients = λ i. ap (list_any (λ (c : Client K). c.id == i && c.has_value)) l.clients;
+          servers = λ i. ap (λ cs. list_any (λ (c : Server K). c.id == i && c.has_value) (filter (λ (c : Server K). not (c.id == port)) cs)) l.servers
+              ∙ gone_same (λ (c : Server K). c.id) (λ (c : Server K). c.has_value) i port s.servers none;
+        }) n
+            (ap (λ h. option_map kind_of (get (map_handles (without_server port) h) n)) l.handles
+            ∙ ap (option_map kind_of) (get-map_handles (without_server port) s.handles n)
+            ∙ mapped_kind port (get s.handles n));
+        next = l.next;
+      }
+
+  unused_keeps : (s : State Q QH P PH K) (port : ℕ) → KeepsEach s (without_unused_port s port)
+  unused_keeps s port =
+      chosen (is_in_use s port) s s _ (each_itself s) (λ unused.
+      chosen (is_some (client_at s port)) s (after_client_left s port) (after_server_left s port)
+      (client_left_keeps s port (or_first (is_client_value s port) (is_server_value s port) (or_first (is_client_value s port || is_server_value s port) _ unused)))
+      (λ e. server_left_keeps s port (or_second (is_client_value s port) (is_server_value s port) (or_first (is_client_value s port || is_server_value s port) _ unused))))
+
+  -- a value of a port goes
+  valueless_keeps : (s : State Q QH P PH K) (n : ℕ) → KeepsAllBut n s (without_port_value s n)
+  valueless_keeps s n =
+      record {
+        kinds = λ i other. same_at s (without_port_value s n) i (clients_valueless i n s.clients other) (servers_valueless i n s.servers other) refl;
+        next = refl;
+      }
+
+  -- the release of a port or of a handle
+  pub release_keeps : (s : State Q QH P PH K) (n : ℕ) → KeepsAllBut n s (after_release s n)
+  release_keeps s n = go (handle_at s n) refl
+    where
+      go : (o : Option (Handle Q QH P PH)) → handle_at s n ≡ o → KeepsAllBut n s (option_map_or
+          (λ handle. without_unused_port (after_handle_gone (record s { handles = fin_map.remove s.handles n }) handle) (port_of handle)) o
+          (without_unused_port (without_port_value s n) n))
+      go None is = but_then n s (without_port_value s n) _ (valueless_keeps s n) (unused_keeps (without_port_value s n) n)
+      go (Some h) is =
+          but_then n s (record s { handles = fin_map.remove s.handles n }) _
+          (record {
+            kinds = λ i other. same_kind s (record s { handles = fin_map.remove s.handles n }) (record { clients = λ j. refl; servers = λ j. refl }) i (ap (option_map kind_of) (get-remove_other s.handles n i other));
+            next = refl;
+          })
+          (each_then _ (after_handle_gone (record s { handles = fin_map.remove s.handles n }) h) _ (gone_keeps (record s { handles = fin_map.remove s.handles n }) h)
+          (unused_keeps (after_handle_gone (record s { handles = fin_map.remove s.handles n }) h) (port_of h)))
+
+  module _ (old new : State Q QH P PH K) (n : ℕ) (released : new ≡ after_release old n) where
+    pub released_keeps : KeepsKindsBut n old new
+    released_keeps = keeps_but n old new (subst (KeepsAllBut n old) (sym released) (release_keeps old n)).kinds
+
+    pub released_next : new.next ≡ old.next
+    released_next = (subst (KeepsAllBut n old) (sym released) (release_keeps old n)).next
+
+    pub released_numbers : numbers_left new ≡ numbers_left old
+    released_numbers = ap (λ k. 2 ^ 62 - k) released_next

@@ -1,0 +1,4 @@
+pub mod Kinds
+pub mod Sending
+pub mod Loaning
+pub mod Factories

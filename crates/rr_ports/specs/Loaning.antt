@@ -1,0 +1,61 @@
+-- Loans whose payload is written at once, and those that are sent at once.
+use Rattle.std.specs.Prelude.{◌≡◌, ◌⊎◌, ℕ, List, [], ◌∷◌, replicate, Result, Ok, Err}
+use Rattle.rr_protocol.specs.declared.settings.BackpressureAction.{BackpressureAction}
+use Rattle.rr_protocol.specs.declared.error.LoanError.{LoanError}
+use Rattle.rr_protocol.specs.declared.error.RequestSendError.{RequestSendError}
+use Rattle.rr_protocol.specs.declared.error.SendError.{SendError}
+use Rattle.rr_protocol.specs.Loans.{LoansRequest, LoansResponse}
+use Rattle.rr_protocol.specs.Sends.{SendsRequest, SendsResponse}
+use Rattle.rr_protocol.specs.State.{State, with_changed}
+use Rattle.rr_protocol.specs.Writing.{after_init, with_elements, with_request_content, with_response_content}
+
+-- the elements are one default
+abbrev pub IsOneDefault : {T : Type 0} → (T → Type 0) → List T → Type 0
+IsOneDefault {T} IsDefault elements = (value : T) × IsDefault value × (elements ≡ value ∷ [])
+
+-- the elements are as many times the same default
+abbrev pub AreDefaults : {T : Type 0} → (T → Type 0) → ℕ → List T → Type 0
+AreDefaults {T} IsDefault len elements = (value : T) × IsDefault value × (elements ≡ replicate len value)
+
+module _ {Q QH P PH K : Type 0} where
+  -- after a request got its elements and was made one that can be sent
+  abbrev pub with_complete_request : State Q QH P PH K → ℕ → List Q → State Q QH P PH K
+  with_complete_request s n elements = with_changed (with_changed s n (with_request_content (with_elements elements))) n after_init
+
+  -- after a response did
+  abbrev pub with_complete_response : State Q QH P PH K → ℕ → List P → State Q QH P PH K
+  with_complete_response s n elements = with_changed (with_changed s n (with_response_content (with_elements elements))) n after_init
+
+  -- a client loans a request, whose elements are written at once; or nothing changes
+  abbrev pub LoansComplete : (QH → Type 0) → (List Q → Type 0) → State Q QH P PH K → ℕ → ℕ → Result ℕ LoanError → State Q QH P PH K → Type 0
+  LoansComplete IsDefault Are old n len (Ok number) new =
+      (mid : State Q QH P PH K) × (elements : List Q) × LoansRequest IsDefault old n len (Ok number) mid × Are elements
+      × (new ≡ with_complete_request mid number elements)
+  LoansComplete IsDefault Are old n len (Err error) new = LoansRequest IsDefault old n len (Err error) new
+
+  -- an active request loans a response, and so on
+  abbrev pub LoansResponseComplete : (PH → Type 0) → (List P → Type 0) → State Q QH P PH K → ℕ → ℕ → Result ℕ LoanError → State Q QH P PH K → Type 0
+  LoansResponseComplete IsDefault Are old n len (Ok number) new =
+      (mid : State Q QH P PH K) × (elements : List P) × LoansResponse IsDefault old n len (Ok number) mid × Are elements
+      × (new ≡ with_complete_response mid number elements)
+  LoansResponseComplete IsDefault Are old n len (Err error) new = LoansResponse IsDefault old n len (Err error) new
+
+  -- a client loans a request of one element, which is written and sent; or the loan is refused; or the send is, and the request is gone
+  abbrev pub SendsCopy : (QH → Type 0) → (K → ℕ → ℕ → BackpressureAction) → State Q QH P PH K → ℕ → Q → Result ℕ RequestSendError → State Q QH P PH K → Type 0
+  SendsCopy IsDefault action old n value (Ok pending) new =
+      (mid : State Q QH P PH K) × LoansRequest IsDefault old n 1 (Ok pending) mid
+      × ((connections : ℕ) × SendsRequest action (with_complete_request mid pending (value ∷ [])) pending (Ok connections) new)
+  SendsCopy IsDefault action old n value (Err error) new =
+      ((loan : LoanError) × (error ≡ RequestSendError.SendError (SendError.LoanError loan)) × LoansRequest IsDefault old n 1 (Err loan) new)
+      ⊎ ((mid : State Q QH P PH K) × (number : ℕ) × LoansRequest IsDefault old n 1 (Ok number) mid
+      × SendsRequest action (with_complete_request mid number (value ∷ [])) number (Err error) new)
+
+  -- an active request loans a response of one element, and so on
+  abbrev pub SendsResponseCopy : {U : Type 0} → (PH → Type 0) → (K → ℕ → ℕ → BackpressureAction) → State Q QH P PH K → ℕ → P → Result U SendError → State Q QH P PH K → Type 0
+  SendsResponseCopy IsDefault action old n value (Ok unit) new =
+      (mid : State Q QH P PH K) × (number : ℕ) × LoansResponse IsDefault old n 1 (Ok number) mid
+      × SendsResponse action (with_complete_response mid number (value ∷ [])) number (Ok unit) new
+  SendsResponseCopy {U} IsDefault action old n value (Err error) new =
+      ((loan : LoanError) × (error ≡ SendError.LoanError loan) × LoansResponse IsDefault old n 1 (Err loan) new)
+      ⊎ ((mid : State Q QH P PH K) × (number : ℕ) × LoansResponse IsDefault old n 1 (Ok number) mid
+      × SendsResponse {U = U} action (with_complete_response mid number (value ∷ [])) number (Err error) new)

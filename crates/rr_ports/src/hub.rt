@@ -1,0 +1,83 @@
+//! What owns all ports of a service.
+ghost use Rattle.std.specs.Prelude.{◌≡◌, ◌↔◌, None, IsTrue};
+ghost use Rattle.rr_protocol.specs.Creation.{CreatesHub};
+ghost use Rattle.rr_protocol.specs.State.{numbers_left};
+ghost use Rattle.rr_ports.specs.Factories.{client_defaults, server_defaults};
+ghost use Rattle.rr_ports.specs.Kinds.{Names};
+
+use crate::handle::Handle;
+use crate::port_factory::{PortFactoryClient, PortFactoryServer};
+use rr_hub::{BackpressureFn, Core, HubCreateError, Limits, UniqueNodeId};
+use rr_slots::Body;
+use std::alloc::Global;
+use std::marker::Model;
+
+/// All ports, handles and messages of a service. Contracts see the state of the message machine.
+#[derive(Drop)]
+pub struct Hub<QB: Body, QH: Default + Drop, PB: Body, PH: Default + Drop, K: BackpressureFn> {
+    pub(crate) core: Core<QB, QH, PB, PH, K>,
+}
+
+impl<QB: Body, QH: Default + Drop, PB: Body, PH: Default + Drop, K: BackpressureFn> Model
+    for Hub<QB, QH, PB, PH, K> {
+    ghost use Rattle.rr_protocol.specs.State.{State};
+    ghost use Rattle.rr_protocol.specs.Codes.{state_code};
+
+    ghost Value = { State QB.Item QH PB.Item PH K };
+
+    ghost coded = { state_code QB.Item.code QH.code PB.Item.code PH.code K.code };
+
+    ghost view = { λ hub. hub.core };
+}
+
+impl<QB: Body, QH: Default + Drop, PB: Body, PH: Default + Drop, K: BackpressureFn> Hub<
+    QB,
+    QH,
+    PB,
+    PH,
+    K,
+> {
+    /// Makes a hub without ports. Takes no memory. Our own.
+    ///
+    /// # Errors
+    ///
+    /// - `ZeroLimit` if a limit is below its least value.
+    /// - `LimitsTooLarge` if a worst-case size is more than a `usize` counts.
+    pub fn new(alloc: Global, limits: Limits, node_id: UniqueNodeId) -> Result<Self, HubCreateError>
+        ensures { CreatesHub limits node_id.0 result }
+    {
+        match Core::new(alloc, limits, node_id) {
+            Ok(core) => Ok(Hub { core }),
+            Err(refusal) => Err(refusal),
+        }
+    }
+
+    /// Returns how many numbers the hub can still give. Our own.
+    pub fn numbers_left(&self) -> u64
+        ensures { result ≡ numbers_left self.now }
+    {
+        self.core.numbers_left()
+    }
+
+    /// Returns whether the hub has a port or a handle: its number names one of its kind here. A port or a handle of another hub
+    /// that agrees in both can't be told apart. Our own.
+    pub fn holds<H: Handle>(&self, handle: &H) -> bool
+        ensures { IsTrue result ↔ Names self.now (H.number handle.now) H.kind }
+    {
+        handle.is_in(self)
+    }
+
+    /// Returns a factory of clients with the default settings. After iceoryx2's `PortFactory::client_builder`.
+    pub fn client_builder(&self) -> PortFactoryClient<QB, K>
+        ensures { result ≡ record { settings = client_defaults; preallocation = None } }
+    {
+        PortFactoryClient::new()
+    }
+
+    /// Returns a factory of servers with the default settings. After iceoryx2's `PortFactory::server_builder`.
+    pub fn server_builder(&self) -> PortFactoryServer<PB, K>
+        ensures { result ≡ record { settings = server_defaults; preallocation = None } }
+    {
+        PortFactoryServer::new()
+    }
+}

@@ -1,0 +1,17 @@
+//! The handler of a hub without handlers.
+use rr_hub::{BackpressureAction, BackpressureFn, BackpressureInfo};
+
+/// A handler that leaves each full queue to the port's strategy, for hubs whose ports have no handler. Our own: iceoryx2's
+/// handlers are boxed.
+#[derive(Clone, Copy, Debug, PartialEq, Eq)]
+pub struct NoHandler;
+
+impl BackpressureFn for NoHandler {
+    ghost use Rattle.rr_protocol.specs.declared.settings.BackpressureAction.TheVariants.{FollowBackpressureStrategy};
+
+    ghost action = { λ _ _ _. FollowBackpressureStrategy };
+
+    fn act(&self, _info: &BackpressureInfo) -> BackpressureAction {
+        BackpressureAction::FollowBackpressureStrategy
+    }
+}

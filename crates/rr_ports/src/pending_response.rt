@@ -1,0 +1,166 @@
+//! A request that was sent, and whose responses are received.
+#![tactic(auto, using(crate::proofs::Asking::asks), unfolding(crate::specs::Kinds::Names))]
+
+ghost use Rattle.std.specs.Prelude.{◌↔◌, ◌≡◌, IfOk, IfSome, IsSomeAnd, IsTrue, option_and_then, length, nat_lt};
+ghost use Rattle.rr_protocol.specs.declared.kind.Kind.TheVariants as kind;
+ghost use Rattle.rr_ports.specs.Kinds.{Names, NamesNothing, KeepsKinds, KeepsKindsBut};
+ghost use Rattle.rr_protocol.specs.Messages.{request_in, with_hint};
+ghost use Rattle.rr_protocol.specs.Queries.{request_header, HasResponse};
+ghost use Rattle.rr_protocol.specs.Receives.{ReceivesResponse};
+ghost use Rattle.rr_protocol.specs.Releases.{after_release};
+ghost use Rattle.rr_protocol.specs.State.{handle_at, pending_at, numbers_left, with_changed};
+
+use crate::handle::Handle;
+use crate::hub::Hub;
+use crate::response;
+use crate::response::Response;
+use rr_hub::{BackpressureFn, HandleId, Kind, ReceiveError, RequestHeader};
+use rr_slots::Body;
+use std::marker::{Model, PhantomData};
+
+/// A request that was sent, and whose responses are received. It is not dropped: `release` ends it.
+#[must_use]
+pub struct PendingResponse<QB> {
+    pub(crate) id: HandleId,
+    pub(crate) of: PhantomData<QB>,
+}
+
+impl<QB> Model for PendingResponse<QB> {
+    ghost use Rattle.std.specs.Prelude.{ℕ};
+
+    ghost Value = { ℕ };
+
+    ghost view = { λ handle. handle.id };
+}
+
+impl<QB: Body> PendingResponse<QB> {
+    /// Returns the header of the request. After iceoryx2's `PendingResponse::header`.
+    #[inline(always)]
+    pub fn header<QH: Default + Drop, PB: Body, PH: Default + Drop, K: BackpressureFn>(
+        &self,
+        hub: &Hub<QB, QH, PB, PH, K>,
+    ) -> RequestHeader
+        requires { Names hub.now self.now kind.PendingResponse }
+        ensures { IsSomeAnd (option_and_then request_in (handle_at hub.now self.now)) (λ m. result ≡ request_header hub.now m) }
+    {
+        hub.core.request_header(&self.id)
+    }
+
+    /// Returns the user header of the request. After iceoryx2's `PendingResponse::user_header`.
+    #[inline(always)]
+    pub fn user_header<'a, QH: Default + Drop, PB: Body, PH: Default + Drop, K: BackpressureFn>(
+        &self,
+        hub: &'a Hub<QB, QH, PB, PH, K>,
+    ) -> &'a QH
+        requires { Names hub.now self.now kind.PendingResponse }
+        ensures { IsSomeAnd (option_and_then request_in (handle_at hub.now self.now)) (λ m. result.now ≡ m.content.user_header) }
+    {
+        hub.core.request_user_header(&self.id)
+    }
+
+    /// Tells the servers that the client wants no more responses to this request: `has_disconnect_hint` returns `true` for its
+    /// active requests from then on. After iceoryx2's `PendingResponse::set_disconnect_hint`.
+    #[inline(always)]
+    pub fn set_disconnect_hint<QH: Default + Drop, PB: Body, PH: Default + Drop, K: BackpressureFn>(
+        &self,
+        hub: &mut Hub<QB, QH, PB, PH, K>,
+    )
+        requires { Names hub.old self.now kind.PendingResponse }
+        ensures hinted { hub.new ≡ with_changed hub.old self.now with_hint }
+        ensures kinds { KeepsKinds hub.old hub.new }
+        ensures numbers { numbers_left hub.new ≡ numbers_left hub.old }
+    {
+        hub.core.set_disconnect_hint(&self.id);
+    }
+
+    /// Returns whether a connected server may still answer the request. After iceoryx2's `PendingResponse::is_connected`.
+    #[inline(always)]
+    pub fn is_connected<QH: Default + Drop, PB: Body, PH: Default + Drop, K: BackpressureFn>(
+        &self,
+        hub: &Hub<QB, QH, PB, PH, K>,
+    ) -> bool
+        requires { Names hub.now self.now kind.PendingResponse }
+        ensures { IsSomeAnd (pending_at hub.now self.now) (λ pending. result ≡ nat_lt 0 (length pending.servers)) }
+    {
+        hub.core.is_pending_connected(&self.id)
+    }
+
+    /// Returns how many queues of servers took the request as it was sent. After iceoryx2's
+    /// `PendingResponse::number_of_server_connections`.
+    #[inline(always)]
+    pub fn number_of_server_connections<
+        QH: Default + Drop,
+        PB: Body,
+        PH: Default + Drop,
+        K: BackpressureFn,
+    >(&self, hub: &Hub<QB, QH, PB, PH, K>) -> usize
+        requires { Names hub.now self.now kind.PendingResponse }
+        ensures { IsSomeAnd (pending_at hub.now self.now) (λ pending. result ≡ pending.connections) }
+    {
+        hub.core.number_of_server_connections(&self.id)
+    }
+
+    /// Returns whether a response is queued. After iceoryx2's `PendingResponse::has_response`.
+    #[inline(always)]
+    pub fn has_response<QH: Default + Drop, PB: Body, PH: Default + Drop, K: BackpressureFn>(
+        &self,
+        hub: &Hub<QB, QH, PB, PH, K>,
+    ) -> bool
+        requires { Names hub.now self.now kind.PendingResponse }
+        ensures { IsSomeAnd (pending_at hub.now self.now) (λ pending. IsTrue result ↔ HasResponse hub.now pending) }
+    {
+        hub.core.has_response(&self.id)
+    }
+
+    /// Receives the oldest response that some server's queue to this request has. Returns `None` if no response is queued. Takes
+    /// no memory. After iceoryx2's `PendingResponse::receive`.
+    ///
+    /// # Errors
+    ///
+    /// - `ExceedsMaxBorrows` if every queue that has a response is at its borrow limit. The hub stays as it was.
+    #[inline(always)]
+    pub fn receive<QH: Default + Drop, PB: Body, PH: Default + Drop, K: BackpressureFn>(
+        &self,
+        hub: &mut Hub<QB, QH, PB, PH, K>,
+    ) -> Result<Option<Response<PB>>, ReceiveError>
+        requires { Names hub.old self.now kind.PendingResponse }
+        ensures receives { ReceivesResponse hub.old self.now result hub.new }
+        ensures fresh { IfOk result (λ received. IfSome received (λ response. NamesNothing hub.old response)) }
+        ensures kind { IfOk result (λ received. IfSome received (λ response. Names hub.new response kind.Response)) }
+        ensures kinds { KeepsKinds hub.old hub.new }
+        ensures numbers { numbers_left hub.new ≡ numbers_left hub.old }
+    {
+        response::received(hub.core.receive_response(&self.id))
+    }
+
+    /// Releases the pending response. Responses that were not received go, and nobody waits for the request any more. After the
+    /// drop of iceoryx2's `PendingResponse`.
+    #[inline(always)]
+    pub fn release<QH: Default + Drop, PB: Body, PH: Default + Drop, K: BackpressureFn>(
+        self,
+        hub: &mut Hub<QB, QH, PB, PH, K>,
+    )
+        requires { Names hub.old self kind.PendingResponse }
+        ensures released { hub.new ≡ after_release hub.old self }
+        ensures kinds { KeepsKindsBut self hub.old hub.new }
+        ensures numbers { numbers_left hub.new ≡ numbers_left hub.old }
+    {
+        let PendingResponse { id, of: _ } = self;
+        hub.core.release_pending(&id);
+    }
+}
+
+impl<QB> Handle for PendingResponse<QB> {
+    ghost use Rattle.rr_protocol.specs.declared.kind.Kind.TheVariants.{PendingResponse as the_kind};
+
+    ghost number = { λ handle. handle };
+
+    ghost kind = { the_kind };
+
+    fn is_in<QC: Body, QH: Default + Drop, PC: Body, PH: Default + Drop, K: BackpressureFn>(
+        &self,
+        hub: &Hub<QC, QH, PC, PH, K>,
+    ) -> bool {
+        hub.core.kind(&self.id) == Some(Kind::PendingResponse)
+    }
+}

@@ -1,0 +1,149 @@
+//! How a client is created.
+#![tactic(auto, using(crate::proofs::FamilyLaws::takes_one), unfolding(crate::specs::Kinds::Names))]
+
+ghost use Rattle.std.specs.Prelude.{◌≡◌, ◌+◌, ◌≤◌, None, Some, IfOk};
+ghost use Rattle.std.specs.Option.{ForSome};
+ghost use Rattle.rr_protocol.specs.declared.kind.Kind.TheVariants as kind;
+ghost use Rattle.rr_protocol.specs.Limits.{worst_case_requests};
+ghost use Rattle.rr_protocol.specs.State.{numbers_left};
+ghost use Rattle.rr_ports.specs.Factories.{client_defaults, CreatesClientBy};
+ghost use Rattle.rr_ports.specs.Kinds.{Names, NamesNothing, KeepsKinds};
+
+use super::{chosen, request_slots};
+use crate::client;
+use crate::client::Client;
+use crate::hub::Hub;
+use rr_hub::{
+    AllocationStrategy, BackpressureFn, BackpressureStrategy, ClientCreateError, ClientSettings,
+};
+use rr_slots::{Body, SliceBody};
+use std::marker::{Model, PhantomData};
+
+/// How a client is created: it passes full queues over, has no handler and a pool of the worst-case size, unless it is set
+/// otherwise. `F` is the type of an override of the pool's size. After iceoryx2's `PortFactoryClient`.
+#[derive(Drop)]
+#[must_use]
+pub struct PortFactoryClient<QB: Body, K, F = fn(usize) -> usize> {
+    settings: ClientSettings<K>,
+    preallocation: Option<F>,
+    of: PhantomData<QB>,
+}
+
+impl<QB: Body, K, F> Model for PortFactoryClient<QB, K, F> {
+    ghost use Rattle.std.specs.Prelude.{IsTrue, None};
+    ghost use Rattle.rr_slots.specs.Families.{takes_len};
+    ghost use Rattle.rr_protocol.specs.declared.settings.ClientSettings.{ClientSettings};
+    ghost use Rattle.rr_ports.specs.Factories.{Factory};
+
+    ghost Value = { Factory (ClientSettings K) F };
+
+    ghost view = { λ f. record { settings = f.settings; preallocation = f.preallocation } };
+
+    ghost invariant = { λ f. IsTrue (takes_len QB.family f.settings.initial_max_slice_len) };
+}
+
+impl<QB: Body, K: BackpressureFn> PortFactoryClient<QB, K> {
+    pub(crate) fn new() -> Self
+        ensures { result ≡ record { settings = client_defaults; preallocation = None } }
+    {
+        PortFactoryClient {
+            settings: ClientSettings {
+                strategy: BackpressureStrategy::DiscardData,
+                initial_max_slice_len: 1,
+                allocation_strategy: AllocationStrategy::Static,
+                pool: None,
+                handler: None,
+            },
+            preallocation: None,
+            of: PhantomData,
+        }
+    }
+}
+
+impl<QB: Body, K: BackpressureFn, F: Drop> PortFactoryClient<QB, K, F> {
+    /// Sets what the client's sends do at a full queue that may not overflow. After iceoryx2's
+    /// `PortFactoryClient::backpressure_strategy`.
+    pub fn backpressure_strategy(mut self, value: BackpressureStrategy) -> Self
+        ensures { result ≡ record self { settings = record self.settings { strategy = value } } }
+    {
+        self.settings.strategy = value;
+        self
+    }
+
+    /// Sets the handler that is asked at a full queue before the strategy. After iceoryx2's
+    /// `PortFactoryClient::set_backpressure_handler`.
+    pub fn set_backpressure_handler(mut self, handler: K) -> Self
+        ensures { result ≡ record self { settings = record self.settings { handler = Some handler } } }
+    {
+        self.settings.handler = Some(handler);
+        self
+    }
+    /// Has a callback choose how many slots the client's pool has: it is called once, on the worst-case number of requests, and what it
+    /// returns counts at least as 1 and at most as the worst case. After iceoryx2's `PortFactoryClient::override_request_preallocation`.
+    pub fn override_request_preallocation<G: Fn(usize) -> usize>(
+        self,
+        callback: G,
+    ) -> PortFactoryClient<QB, K, G>
+        ensures { result ≡ record { settings = self.settings; preallocation = Some callback } }
+    {
+        let PortFactoryClient {
+            settings,
+            preallocation: _,
+            of: _,
+        } = self;
+        PortFactoryClient {
+            settings,
+            preallocation: Some(callback),
+            of: PhantomData,
+        }
+    }
+
+    /// Creates the client under the hub's next number. After iceoryx2's `PortFactoryClient::create`.
+    ///
+    /// # Errors
+    ///
+    /// An error leaves the hub as it was.
+    /// - `UnableToCreatePortTag` if no number is left.
+    /// - `ExceedsMaxSupportedClients` if as many clients are connected as may be.
+    /// - `UnableToCreateDataSegment` if memory was refused.
+    pub fn create<QH: Default + Drop, PB: Body, PH: Default + Drop>(
+        self,
+        hub: &mut Hub<QB, QH, PB, PH, K>,
+    ) -> Result<Client<QB>, ClientCreateError>
+    where
+        F: Fn(usize) -> usize,
+        requires { ForSome self.preallocation (λ f. F.pre f (worst_case_requests hub.old.limits)) }
+        ensures creates { CreatesClientBy F.post hub.old self result hub.new }
+        ensures fresh { IfOk result (λ client. NamesNothing hub.old client) }
+        ensures kind { IfOk result (λ client. Names hub.new client kind.Client) }
+        ensures kinds { KeepsKinds hub.old hub.new }
+        ensures numbers { numbers_left hub.old ≤ numbers_left hub.new + 1 }
+    {
+        let PortFactoryClient {
+            settings,
+            preallocation,
+            of: _,
+        } = self;
+        let limits = hub.core.limits();
+        let pool = chosen(preallocation, request_slots(&limits));
+        client::created(hub.core.create_client(ClientSettings { pool, ..settings }))
+    }
+}
+
+impl<T: Drop, K: BackpressureFn, F: Drop> PortFactoryClient<SliceBody<T>, K, F> {
+    /// Sets for how many elements each slot has room from the start. After iceoryx2's `PortFactoryClient::initial_max_slice_len`.
+    pub fn initial_max_slice_len(mut self, value: usize) -> Self
+        ensures { result ≡ record self { settings = record self.settings { initial_max_slice_len = value } } }
+    {
+        self.settings.initial_max_slice_len = value;
+        self
+    }
+
+    /// Sets whether slots may grow for longer slices. After iceoryx2's `PortFactoryClient::allocation_strategy`.
+    pub fn allocation_strategy(mut self, value: AllocationStrategy) -> Self
+        ensures { result ≡ record self { settings = record self.settings { allocation_strategy = value } } }
+    {
+        self.settings.allocation_strategy = value;
+        self
+    }
+}

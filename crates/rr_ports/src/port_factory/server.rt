@@ -1,0 +1,167 @@
+//! How a server is created.
+#![tactic(auto, using(crate::proofs::FamilyLaws::takes_one), unfolding(crate::specs::Kinds::Names))]
+
+ghost use Rattle.std.specs.Prelude.{◌≡◌, ◌+◌, ◌≤◌, None, Some, IfOk};
+ghost use Rattle.std.specs.Option.{ForSome};
+ghost use Rattle.rr_protocol.specs.declared.kind.Kind.TheVariants as kind;
+ghost use Rattle.rr_protocol.specs.Creation.{loans_of};
+ghost use Rattle.rr_protocol.specs.Limits.{worst_case_responses};
+ghost use Rattle.rr_protocol.specs.State.{numbers_left};
+ghost use Rattle.rr_ports.specs.Factories.{server_defaults, CreatesServerBy};
+ghost use Rattle.rr_ports.specs.Kinds.{Names, NamesNothing, KeepsKinds};
+
+use super::{chosen, response_slots};
+use crate::hub::Hub;
+use crate::server;
+use crate::server::Server;
+use rr_hub::{
+    AllocationStrategy, BackpressureFn, BackpressureStrategy, ServerCreateError, ServerSettings,
+};
+use rr_slots::{Body, SliceBody};
+use std::marker::{Model, PhantomData};
+
+/// How a server is created: it passes full queues over, has no handler and a pool of the worst-case size, unless it is set
+/// otherwise. `F` is the type of an override of the pool's size. After iceoryx2's `PortFactoryServer`.
+#[derive(Drop)]
+#[must_use]
+pub struct PortFactoryServer<PB: Body, K, F = fn(usize) -> usize> {
+    settings: ServerSettings<K>,
+    preallocation: Option<F>,
+    of: PhantomData<PB>,
+}
+
+impl<PB: Body, K, F> Model for PortFactoryServer<PB, K, F> {
+    ghost use Rattle.std.specs.Prelude.{IsTrue, None};
+    ghost use Rattle.rr_slots.specs.Families.{takes_len};
+    ghost use Rattle.rr_protocol.specs.declared.settings.ServerSettings.{ServerSettings};
+    ghost use Rattle.rr_ports.specs.Factories.{Factory};
+
+    ghost Value = { Factory (ServerSettings K) F };
+
+    ghost view = { λ f. record { settings = f.settings; preallocation = f.preallocation } };
+
+    ghost invariant = { λ f. IsTrue (takes_len PB.family f.settings.initial_max_slice_len) };
+}
+
+/// Returns how many responses may be on loan for each request: 0 counts as 1.
+fn loans<K>(settings: &ServerSettings<K>) -> usize
+    ensures { result ≡ loans_of settings.now }
+{
+    settings.loans.max(1)
+}
+
+impl<PB: Body, K: BackpressureFn> PortFactoryServer<PB, K> {
+    pub(crate) fn new() -> Self
+        ensures { result ≡ record { settings = server_defaults; preallocation = None } }
+    {
+        PortFactoryServer {
+            settings: ServerSettings {
+                strategy: BackpressureStrategy::DiscardData,
+                initial_max_slice_len: 1,
+                allocation_strategy: AllocationStrategy::Static,
+                pool: None,
+                handler: None,
+                loans: 1,
+            },
+            preallocation: None,
+            of: PhantomData,
+        }
+    }
+}
+
+impl<PB: Body, K: BackpressureFn, F: Drop> PortFactoryServer<PB, K, F> {
+    /// Sets what the server's sends do at a full queue that may not overflow. After iceoryx2's
+    /// `PortFactoryServer::backpressure_strategy`.
+    pub fn backpressure_strategy(mut self, value: BackpressureStrategy) -> Self
+        ensures { result ≡ record self { settings = record self.settings { strategy = value } } }
+    {
+        self.settings.strategy = value;
+        self
+    }
+
+    /// Sets the handler that is asked at a full queue before the strategy. After iceoryx2's
+    /// `PortFactoryServer::set_backpressure_handler`.
+    pub fn set_backpressure_handler(mut self, handler: K) -> Self
+        ensures { result ≡ record self { settings = record self.settings { handler = Some handler } } }
+    {
+        self.settings.handler = Some(handler);
+        self
+    }
+
+    /// Sets how many responses may be on loan at one time for each request. 0 counts as 1. After iceoryx2's
+    /// `PortFactoryServer::max_loaned_responses_per_request`.
+    pub fn max_loaned_responses_per_request(mut self, value: usize) -> Self
+        ensures { result ≡ record self { settings = record self.settings { loans = value } } }
+    {
+        self.settings.loans = value;
+        self
+    }
+    /// Has a callback choose how many slots the server's pool has: it is called once, on the worst-case number of responses, and what it
+    /// returns counts at least as 1 and at most as the worst case. After iceoryx2's `PortFactoryServer::override_response_preallocation`.
+    pub fn override_response_preallocation<G: Fn(usize) -> usize>(
+        self,
+        callback: G,
+    ) -> PortFactoryServer<PB, K, G>
+        ensures { result ≡ record { settings = self.settings; preallocation = Some callback } }
+    {
+        let PortFactoryServer {
+            settings,
+            preallocation: _,
+            of: _,
+        } = self;
+        PortFactoryServer {
+            settings,
+            preallocation: Some(callback),
+            of: PhantomData,
+        }
+    }
+
+    /// Creates the server under the hub's next number. After iceoryx2's `PortFactoryServer::create`.
+    ///
+    /// # Errors
+    ///
+    /// An error leaves the hub as it was.
+    /// - `UnableToCreatePortTag` if no number is left.
+    /// - `ExceedsMaxSupportedServers` if as many servers are connected as may be.
+    /// - `UnableToCreateDataSegment` if the worst-case number of responses is more than a `usize` counts, or memory was refused.
+    pub fn create<QB: Body, QH: Default + Drop, PH: Default + Drop>(
+        self,
+        hub: &mut Hub<QB, QH, PB, PH, K>,
+    ) -> Result<Server<PB>, ServerCreateError>
+    where
+        F: Fn(usize) -> usize,
+        requires { ForSome self.preallocation (λ f. F.pre f (worst_case_responses hub.old.limits (loans_of self.settings))) }
+        ensures creates { CreatesServerBy F.post hub.old self result hub.new }
+        ensures fresh { IfOk result (λ server. NamesNothing hub.old server) }
+        ensures kind { IfOk result (λ server. Names hub.new server kind.Server) }
+        ensures kinds { KeepsKinds hub.old hub.new }
+        ensures numbers { numbers_left hub.old ≤ numbers_left hub.new + 1 }
+    {
+        let PortFactoryServer {
+            settings,
+            preallocation,
+            of: _,
+        } = self;
+        let limits = hub.core.limits();
+        let pool = chosen(preallocation, response_slots(&limits, loans(&settings)));
+        server::created(hub.core.create_server(ServerSettings { pool, ..settings }))
+    }
+}
+
+impl<T: Drop, K: BackpressureFn, F: Drop> PortFactoryServer<SliceBody<T>, K, F> {
+    /// Sets for how many elements each slot has room from the start. After iceoryx2's `PortFactoryServer::initial_max_slice_len`.
+    pub fn initial_max_slice_len(mut self, value: usize) -> Self
+        ensures { result ≡ record self { settings = record self.settings { initial_max_slice_len = value } } }
+    {
+        self.settings.initial_max_slice_len = value;
+        self
+    }
+
+    /// Sets whether slots may grow for longer slices. After iceoryx2's `PortFactoryServer::allocation_strategy`.
+    pub fn allocation_strategy(mut self, value: AllocationStrategy) -> Self
+        ensures { result ≡ record self { settings = record self.settings { allocation_strategy = value } } }
+    {
+        self.settings.allocation_strategy = value;
+        self
+    }
+}

@@ -1,0 +1,128 @@
+//! A loaned request that can be sent.
+#![tactic(auto, using(crate::proofs::Asking::asks), unfolding(crate::specs::Kinds::Names))]
+
+ghost use Rattle.std.specs.Prelude.{◌≡◌, IfOk, IsSomeAnd, option_and_then};
+ghost use Rattle.rr_protocol.specs.declared.kind.Kind.TheVariants as kind;
+ghost use Rattle.rr_ports.specs.Kinds.{Names, KeepsKindsBut};
+ghost use Rattle.rr_ports.specs.Sending.{SendsPending};
+ghost use Rattle.rr_protocol.specs.Messages.{request_in};
+ghost use Rattle.rr_protocol.specs.Queries.{request_header};
+ghost use Rattle.rr_protocol.specs.Releases.{after_release};
+ghost use Rattle.rr_protocol.specs.Sends.{is_request_deliverable};
+ghost use Rattle.rr_protocol.specs.State.{handle_at, request_at, numbers_left};
+
+use crate::handle::Handle;
+use crate::hub::Hub;
+use crate::pending_response::PendingResponse;
+use rr_hub::{BackpressureFn, HandleId, Kind, RequestHeader, RequestSendError};
+use rr_slots::Body;
+use std::marker::{Model, PhantomData};
+
+/// A loaned request that can be sent. It is not dropped: `send` or `release` ends it.
+#[must_use]
+pub struct RequestMut<QB> {
+    pub(crate) id: HandleId,
+    pub(crate) of: PhantomData<QB>,
+}
+
+impl<QB> Model for RequestMut<QB> {
+    ghost use Rattle.std.specs.Prelude.{ℕ};
+
+    ghost Value = { ℕ };
+
+    ghost view = { λ handle. handle.id };
+}
+
+impl<QB: Body> RequestMut<QB> {
+    /// Returns the header of the request. After iceoryx2's `RequestMut::header`.
+    #[inline(always)]
+    pub fn header<QH: Default + Drop, PB: Body, PH: Default + Drop, K: BackpressureFn>(
+        &self,
+        hub: &Hub<QB, QH, PB, PH, K>,
+    ) -> RequestHeader
+        requires { Names hub.now self.now kind.RequestMut }
+        ensures { IsSomeAnd (option_and_then request_in (handle_at hub.now self.now)) (λ m. result ≡ request_header hub.now m) }
+    {
+        hub.core.request_header(&self.id)
+    }
+
+    /// Returns the user header of the request. After iceoryx2's `RequestMut::user_header`.
+    #[inline(always)]
+    pub fn user_header<'a, QH: Default + Drop, PB: Body, PH: Default + Drop, K: BackpressureFn>(
+        &self,
+        hub: &'a Hub<QB, QH, PB, PH, K>,
+    ) -> &'a QH
+        requires { Names hub.now self.now kind.RequestMut }
+        ensures { IsSomeAnd (option_and_then request_in (handle_at hub.now self.now)) (λ m. result.now ≡ m.content.user_header) }
+    {
+        hub.core.request_user_header(&self.id)
+    }
+
+    /// Returns whether a send would be taken by each queue that it reaches: no queue of a connected server that a send would reach is full, or full ones may overflow. Our own.
+    #[inline(always)]
+    pub fn is_deliverable<QH: Default + Drop, PB: Body, PH: Default + Drop, K: BackpressureFn>(
+        &self,
+        hub: &Hub<QB, QH, PB, PH, K>,
+    ) -> bool
+        requires { Names hub.now self.now kind.RequestMut }
+        ensures { IsSomeAnd (request_at hub.now self.now) (λ m. result ≡ is_request_deliverable hub.now m) }
+    {
+        hub.core.is_request_deliverable(&self.id)
+    }
+
+    /// Sends the request to every connected server. Takes no memory. After iceoryx2's `RequestMut::send`.
+    ///
+    /// # Errors
+    ///
+    /// An error releases the request, and no queue has it.
+    /// - `ExceedsMaxActiveRequests` if the client has as many pending responses as it may.
+    /// - `SendError(UnableToDeliver)` if the queue to some server is full, may not overflow, and is not passed over.
+    #[inline(always)]
+    pub fn send<QH: Default + Drop, PB: Body, PH: Default + Drop, K: BackpressureFn>(
+        self,
+        hub: &mut Hub<QB, QH, PB, PH, K>,
+    ) -> Result<PendingResponse<QB>, RequestSendError>
+        requires { Names hub.old self kind.RequestMut }
+        ensures sends { SendsPending K.action hub.old self result hub.new }
+        ensures kind { IfOk result (λ pending. Names hub.new pending kind.PendingResponse) }
+        ensures kinds { KeepsKindsBut self hub.old hub.new }
+        ensures numbers { numbers_left hub.new ≡ numbers_left hub.old }
+    {
+        let RequestMut { id, of: _ } = self;
+        let _connections = hub.core.send_request(&id)?;
+        Ok(PendingResponse {
+            id,
+            of: PhantomData,
+        })
+    }
+
+    /// Releases the request, which is never sent. After the drop of iceoryx2's `RequestMut`.
+    #[inline(always)]
+    pub fn release<QH: Default + Drop, PB: Body, PH: Default + Drop, K: BackpressureFn>(
+        self,
+        hub: &mut Hub<QB, QH, PB, PH, K>,
+    )
+        requires { Names hub.old self kind.RequestMut }
+        ensures released { hub.new ≡ after_release hub.old self }
+        ensures kinds { KeepsKindsBut self hub.old hub.new }
+        ensures numbers { numbers_left hub.new ≡ numbers_left hub.old }
+    {
+        let RequestMut { id, of: _ } = self;
+        hub.core.release_request(&id);
+    }
+}
+
+impl<QB> Handle for RequestMut<QB> {
+    ghost use Rattle.rr_protocol.specs.declared.kind.Kind.TheVariants.{RequestMut as the_kind};
+
+    ghost number = { λ handle. handle };
+
+    ghost kind = { the_kind };
+
+    fn is_in<QC: Body, QH: Default + Drop, PC: Body, PH: Default + Drop, K: BackpressureFn>(
+        &self,
+        hub: &Hub<QC, QH, PC, PH, K>,
+    ) -> bool {
+        hub.core.kind(&self.id) == Some(Kind::RequestMut)
+    }
+}

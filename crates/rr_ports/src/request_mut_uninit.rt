@@ -1,0 +1,138 @@
+//! A loaned request whose payload is being written.
+#![tactic(auto, using(crate::proofs::Asking::asks), unfolding(crate::specs::Kinds::Names))]
+
+ghost use Rattle.std.specs.Prelude.{◌≡◌, IsSomeAnd, option_and_then, true};
+ghost use Rattle.rr_protocol.specs.declared.kind.Kind.TheVariants as kind;
+ghost use Rattle.rr_ports.specs.Kinds.{Names, KeepsKindsBut};
+ghost use Rattle.rr_protocol.specs.Messages.{request_in};
+ghost use Rattle.rr_protocol.specs.Queries.{request_header};
+ghost use Rattle.rr_protocol.specs.Releases.{after_release};
+ghost use Rattle.rr_protocol.specs.State.{handle_at, numbers_left, with_changed};
+ghost use Rattle.rr_protocol.specs.Writing.{is_complete, after_init};
+
+use crate::handle::Handle;
+use crate::hub::Hub;
+use crate::request_mut::RequestMut;
+use rr_hub::{BackpressureFn, HandleId, Kind, LoanError, RequestHeader};
+use rr_slots::Body;
+use std::marker::{Model, PhantomData};
+
+/// A loaned request whose payload is being written. It is not dropped: `assume_init`, a write of the whole payload or `release` ends it.
+#[must_use]
+pub struct RequestMutUninit<QB> {
+    pub(crate) id: HandleId,
+    pub(crate) of: PhantomData<QB>,
+}
+
+impl<QB> Model for RequestMutUninit<QB> {
+    ghost use Rattle.std.specs.Prelude.{ℕ};
+
+    ghost Value = { ℕ };
+
+    ghost view = { λ handle. handle.id };
+}
+
+/// Makes the handle of a loan.
+#[inline(always)]
+pub(crate) fn loaned<QB>(id: Result<HandleId, LoanError>) -> Result<RequestMutUninit<QB>, LoanError>
+    ensures { result ≡ id }
+{
+    match id {
+        Ok(id) => Ok(RequestMutUninit {
+            id,
+            of: PhantomData,
+        }),
+        Err(error) => Err(error),
+    }
+}
+
+impl<QB: Body> RequestMutUninit<QB> {
+    /// Returns the header of the request. After iceoryx2's `RequestMutUninit::header`.
+    #[inline(always)]
+    pub fn header<QH: Default + Drop, PB: Body, PH: Default + Drop, K: BackpressureFn>(
+        &self,
+        hub: &Hub<QB, QH, PB, PH, K>,
+    ) -> RequestHeader
+        requires { Names hub.now self.now kind.RequestMutUninit }
+        ensures { IsSomeAnd (option_and_then request_in (handle_at hub.now self.now)) (λ m. result ≡ request_header hub.now m) }
+    {
+        hub.core.request_header(&self.id)
+    }
+
+    /// Returns the user header of the request. After iceoryx2's `RequestMutUninit::user_header`.
+    #[inline(always)]
+    pub fn user_header<'a, QH: Default + Drop, PB: Body, PH: Default + Drop, K: BackpressureFn>(
+        &self,
+        hub: &'a Hub<QB, QH, PB, PH, K>,
+    ) -> &'a QH
+        requires { Names hub.now self.now kind.RequestMutUninit }
+        ensures { IsSomeAnd (option_and_then request_in (handle_at hub.now self.now)) (λ m. result.now ≡ m.content.user_header) }
+    {
+        hub.core.request_user_header(&self.id)
+    }
+
+    /// Returns whether as many elements were written as were asked for. Our own.
+    #[inline(always)]
+    pub fn is_complete<QH: Default + Drop, PB: Body, PH: Default + Drop, K: BackpressureFn>(
+        &self,
+        hub: &Hub<QB, QH, PB, PH, K>,
+    ) -> bool
+        requires { Names hub.now self.now kind.RequestMutUninit }
+        ensures { IsSomeAnd (option_and_then request_in (handle_at hub.now self.now)) (λ m. result ≡ is_complete m.content) }
+    {
+        hub.core.request_body(&self.id).is_complete()
+    }
+
+    /// Makes a request whose payload is complete one that can be sent. After iceoryx2's unsafe `RequestMutUninit::assume_init`, whose
+    /// condition is the caller's here: `is_complete` tests it.
+    #[inline(always)]
+    pub fn assume_init<QH: Default + Drop, PB: Body, PH: Default + Drop, K: BackpressureFn>(
+        self,
+        hub: &mut Hub<QB, QH, PB, PH, K>,
+    ) -> RequestMut<QB>
+        requires kind { Names hub.old self kind.RequestMutUninit }
+        requires complete { IsSomeAnd (option_and_then request_in (handle_at hub.old self)) (λ m. is_complete m.content ≡ true) }
+        ensures same { result ≡ self }
+        ensures initialised { hub.new ≡ with_changed hub.old self after_init }
+        ensures kind { Names hub.new result kind.RequestMut }
+        ensures kinds { KeepsKindsBut self hub.old hub.new }
+        ensures numbers { numbers_left hub.new ≡ numbers_left hub.old }
+    {
+        let RequestMutUninit { id, of: _ } = self;
+        hub.core.assume_init(&id);
+        RequestMut {
+            id,
+            of: PhantomData,
+        }
+    }
+
+    /// Releases the request, which is never sent. After the drop of iceoryx2's `RequestMutUninit`.
+    #[inline(always)]
+    pub fn release<QH: Default + Drop, PB: Body, PH: Default + Drop, K: BackpressureFn>(
+        self,
+        hub: &mut Hub<QB, QH, PB, PH, K>,
+    )
+        requires { Names hub.old self kind.RequestMutUninit }
+        ensures released { hub.new ≡ after_release hub.old self }
+        ensures kinds { KeepsKindsBut self hub.old hub.new }
+        ensures numbers { numbers_left hub.new ≡ numbers_left hub.old }
+    {
+        let RequestMutUninit { id, of: _ } = self;
+        hub.core.release_request(&id);
+    }
+}
+
+impl<QB> Handle for RequestMutUninit<QB> {
+    ghost use Rattle.rr_protocol.specs.declared.kind.Kind.TheVariants.{RequestMutUninit as the_kind};
+
+    ghost number = { λ handle. handle };
+
+    ghost kind = { the_kind };
+
+    fn is_in<QC: Body, QH: Default + Drop, PC: Body, PH: Default + Drop, K: BackpressureFn>(
+        &self,
+        hub: &Hub<QC, QH, PC, PH, K>,
+    ) -> bool {
+        hub.core.kind(&self.id) == Some(Kind::RequestMutUninit)
+    }
+}

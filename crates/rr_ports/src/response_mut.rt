@@ -1,0 +1,121 @@
+//! A loaned response that can be sent.
+#![tactic(auto, using(crate::proofs::Asking::asks), unfolding(crate::specs::Kinds::Names))]
+
+ghost use Rattle.std.specs.Prelude.{◌≡◌, IsSomeAnd, option_and_then};
+ghost use Rattle.rr_protocol.specs.declared.kind.Kind.TheVariants as kind;
+ghost use Rattle.rr_ports.specs.Kinds.{Names, KeepsKindsBut};
+ghost use Rattle.rr_protocol.specs.Messages.{response_in};
+ghost use Rattle.rr_protocol.specs.Queries.{response_header};
+ghost use Rattle.rr_protocol.specs.Releases.{after_release};
+ghost use Rattle.rr_protocol.specs.Sends.{is_response_deliverable, SendsResponse};
+ghost use Rattle.rr_protocol.specs.State.{handle_at, response_at, numbers_left};
+
+use crate::handle::Handle;
+use crate::hub::Hub;
+use rr_hub::{BackpressureFn, HandleId, Kind, ResponseHeader, SendError};
+use rr_slots::Body;
+use std::marker::{Model, PhantomData};
+
+/// A loaned response that can be sent. It is not dropped: `send` or `release` ends it.
+#[must_use]
+pub struct ResponseMut<PB> {
+    pub(crate) id: HandleId,
+    pub(crate) of: PhantomData<PB>,
+}
+
+impl<PB> Model for ResponseMut<PB> {
+    ghost use Rattle.std.specs.Prelude.{ℕ};
+
+    ghost Value = { ℕ };
+
+    ghost view = { λ handle. handle.id };
+}
+
+impl<PB: Body> ResponseMut<PB> {
+    /// Returns the header of the response. After iceoryx2's `ResponseMut::header`.
+    #[inline(always)]
+    pub fn header<QB: Body, QH: Default + Drop, PH: Default + Drop, K: BackpressureFn>(
+        &self,
+        hub: &Hub<QB, QH, PB, PH, K>,
+    ) -> ResponseHeader
+        requires { Names hub.now self.now kind.ResponseMut }
+        ensures { IsSomeAnd (option_and_then response_in (handle_at hub.now self.now)) (λ m. result ≡ response_header hub.now m) }
+    {
+        hub.core.response_header(&self.id)
+    }
+
+    /// Returns the user header of the response. After iceoryx2's `ResponseMut::user_header`.
+    #[inline(always)]
+    pub fn user_header<'a, QB: Body, QH: Default + Drop, PH: Default + Drop, K: BackpressureFn>(
+        &self,
+        hub: &'a Hub<QB, QH, PB, PH, K>,
+    ) -> &'a PH
+        requires { Names hub.now self.now kind.ResponseMut }
+        ensures { IsSomeAnd (option_and_then response_in (handle_at hub.now self.now)) (λ m. result.now ≡ m.content.user_header) }
+    {
+        hub.core.response_user_header(&self.id)
+    }
+
+    /// Returns whether a send would be taken by each queue that it reaches: the queue that a send would reach, if there is one, is not full, or may overflow. Our own.
+    #[inline(always)]
+    pub fn is_deliverable<QB: Body, QH: Default + Drop, PH: Default + Drop, K: BackpressureFn>(
+        &self,
+        hub: &Hub<QB, QH, PB, PH, K>,
+    ) -> bool
+        requires { Names hub.now self.now kind.ResponseMut }
+        ensures { IsSomeAnd (response_at hub.now self.now) (λ m. result ≡ is_response_deliverable hub.now m) }
+    {
+        hub.core.is_response_deliverable(&self.id)
+    }
+
+    /// Sends the response to its request, if that is still a pending response of a connected client, and else releases it. Takes
+    /// no memory. After iceoryx2's `ResponseMut::send`.
+    ///
+    /// # Errors
+    ///
+    /// - `UnableToDeliver` if the queue to the request is full, may not overflow, and is not passed over. The response is released,
+    ///   and the queue stays.
+    #[inline(always)]
+    pub fn send<QB: Body, QH: Default + Drop, PH: Default + Drop, K: BackpressureFn>(
+        self,
+        hub: &mut Hub<QB, QH, PB, PH, K>,
+    ) -> Result<(), SendError>
+        requires { Names hub.old self kind.ResponseMut }
+        ensures sends { SendsResponse K.action hub.old self result hub.new }
+        ensures kinds { KeepsKindsBut self hub.old hub.new }
+        ensures numbers { numbers_left hub.new ≡ numbers_left hub.old }
+    {
+        let ResponseMut { id, of: _ } = self;
+        hub.core.send_response(&id)
+    }
+
+    /// Releases the response, which is never sent. After the drop of iceoryx2's `ResponseMut`.
+    #[inline(always)]
+    pub fn release<QB: Body, QH: Default + Drop, PH: Default + Drop, K: BackpressureFn>(
+        self,
+        hub: &mut Hub<QB, QH, PB, PH, K>,
+    )
+        requires { Names hub.old self kind.ResponseMut }
+        ensures released { hub.new ≡ after_release hub.old self }
+        ensures kinds { KeepsKindsBut self hub.old hub.new }
+        ensures numbers { numbers_left hub.new ≡ numbers_left hub.old }
+    {
+        let ResponseMut { id, of: _ } = self;
+        hub.core.release_response_loan(&id);
+    }
+}
+
+impl<PB> Handle for ResponseMut<PB> {
+    ghost use Rattle.rr_protocol.specs.declared.kind.Kind.TheVariants.{ResponseMut as the_kind};
+
+    ghost number = { λ handle. handle };
+
+    ghost kind = { the_kind };
+
+    fn is_in<QC: Body, QH: Default + Drop, PC: Body, PH: Default + Drop, K: BackpressureFn>(
+        &self,
+        hub: &Hub<QC, QH, PC, PH, K>,
+    ) -> bool {
+        hub.core.kind(&self.id) == Some(Kind::ResponseMut)
+    }
+}

@@ -1,0 +1,160 @@
+//! Servers.
+#![tactic(auto, using(crate::proofs::Asking::asks), unfolding(crate::specs::Kinds::Names))]
+
+ghost use Rattle.std.specs.Prelude.{◌↔◌, ◌+◌, ◌≤◌, ◌<◌, ◌≡◌, IfOk, IfSome, IsOk, IsSomeAnd, IsTrue};
+ghost use Rattle.rr_protocol.specs.declared.kind.Kind.TheVariants as kind;
+ghost use Rattle.rr_ports.specs.Kinds.{Names, NamesNothing, KeepsKinds, KeepsKindsBut};
+ghost use Rattle.rr_protocol.specs.Queries.{HasRequests};
+ghost use Rattle.rr_protocol.specs.Receives.{ReceivesRequest};
+ghost use Rattle.rr_protocol.specs.Releases.{after_release};
+ghost use Rattle.rr_protocol.specs.State.{server_at, numbers_left};
+
+use crate::active_request;
+use crate::active_request::ActiveRequest;
+use crate::handle::Handle;
+use crate::hub::Hub;
+use crate::update_connections::UpdateConnections;
+use rr_hub::{
+    BackpressureFn, BackpressureStrategy, ConnectionFailure, Kind, ReceiveError, ServerCreateError,
+    UniqueServerId,
+};
+use rr_slots::Body;
+use std::marker::{Model, PhantomData};
+
+/// A server: it receives requests and answers them. It is not dropped: `release` ends it.
+#[must_use]
+pub struct Server<PB> {
+    pub(crate) number: u64,
+    pub(crate) of: PhantomData<PB>,
+}
+
+impl<PB> Model for Server<PB> {
+    ghost use Rattle.std.specs.Prelude.{ℕ};
+
+    ghost Value = { ℕ };
+
+    ghost view = { λ handle. handle.number };
+}
+
+/// Makes the value of a port that was created.
+pub(crate) fn created<PB>(
+    number: Result<u64, ServerCreateError>,
+) -> Result<Server<PB>, ServerCreateError>
+    ensures { result ≡ number }
+{
+    match number {
+        Ok(number) => Ok(Server {
+            number,
+            of: PhantomData,
+        }),
+        Err(error) => Err(error),
+    }
+}
+
+impl<PB: Body> Server<PB> {
+    /// Returns the server's id, by which headers name it. After iceoryx2's `Server::id`.
+    #[inline(always)]
+    pub fn id(&self) -> UniqueServerId
+        ensures { result.0 ≡ self.now }
+    {
+        UniqueServerId(self.number)
+    }
+
+    /// Returns what the server's sends do at a full queue. After iceoryx2's `Server::backpressure_strategy`.
+    #[inline(always)]
+    pub fn backpressure_strategy<
+        QB: Body,
+        QH: Default + Drop,
+        PH: Default + Drop,
+        K: BackpressureFn,
+    >(&self, hub: &Hub<QB, QH, PB, PH, K>) -> BackpressureStrategy
+        requires { Names hub.now self.now kind.Server }
+        ensures { IsSomeAnd (server_at hub.now self.now) (λ s. result ≡ s.port.strategy) }
+    {
+        hub.core.server_backpressure_strategy(self.number)
+    }
+
+    /// Returns whether a request is queued, also one that nobody waits for. After iceoryx2's `Server::has_requests`.
+    ///
+    /// # Errors
+    ///
+    /// None comes: no connection of one process fails.
+    #[inline(always)]
+    pub fn has_requests<QB: Body, QH: Default + Drop, PH: Default + Drop, K: BackpressureFn>(
+        &self,
+        hub: &Hub<QB, QH, PB, PH, K>,
+    ) -> Result<bool, ConnectionFailure>
+        requires { Names hub.now self.now kind.Server }
+        ensures ok { IsOk result }
+        ensures waits { IfOk result (λ waits. IsTrue waits ↔ HasRequests hub.now self.now) }
+    {
+        Ok(hub.core.has_requests(self.number))
+    }
+
+    /// Receives the oldest request of some client, under the next number, of which one is left. Drops requests whose pending
+    /// responses were released first, where they are the oldest of their clients, unless the limits have fire-and-forget requests.
+    /// Returns `None` if no request is queued then. Takes no memory. After iceoryx2's `Server::receive`.
+    ///
+    /// # Errors
+    ///
+    /// - `ExceedsMaxBorrows` if every queue that has a request is at its borrow limit. Requests that were dropped stay dropped, and
+    ///   nothing else changes.
+    #[inline(always)]
+    pub fn receive<QB: Body, QH: Default + Drop, PH: Default + Drop, K: BackpressureFn>(
+        &self,
+        hub: &mut Hub<QB, QH, PB, PH, K>,
+    ) -> Result<Option<ActiveRequest<QB>>, ReceiveError>
+        requires kind { Names hub.old self.now kind.Server }
+        requires number { 0 < numbers_left hub.old }
+        ensures receives { ReceivesRequest hub.old self.now result hub.new }
+        ensures fresh { IfOk result (λ received. IfSome received (λ active. NamesNothing hub.old active)) }
+        ensures kind { IfOk result (λ received. IfSome received (λ active. Names hub.new active kind.ActiveRequest)) }
+        ensures kinds { KeepsKinds hub.old hub.new }
+        ensures numbers { numbers_left hub.old ≤ numbers_left hub.new + 1 }
+    {
+        active_request::received(hub.core.receive_request(self.number))
+    }
+
+    /// Releases the server. It stays connected as long as one of its handles lives, and leaves with the last of them. After the
+    /// drop of iceoryx2's `Server`.
+    #[inline(always)]
+    pub fn release<QB: Body, QH: Default + Drop, PH: Default + Drop, K: BackpressureFn>(
+        self,
+        hub: &mut Hub<QB, QH, PB, PH, K>,
+    )
+        requires { Names hub.old self kind.Server }
+        ensures released { hub.new ≡ after_release hub.old self }
+        ensures kinds { KeepsKindsBut self hub.old hub.new }
+        ensures numbers { numbers_left hub.new ≡ numbers_left hub.old }
+    {
+        let Server { number, of: _ } = self;
+        hub.core.release_server(number);
+    }
+}
+
+impl<PB: Body> UpdateConnections for Server<PB> {
+    fn update_connections<
+        QC: Body,
+        QH: Default + Drop,
+        PC: Body,
+        PH: Default + Drop,
+        K: BackpressureFn,
+    >(&self, _hub: &Hub<QC, QH, PC, PH, K>) -> Result<(), ConnectionFailure> {
+        Ok(())
+    }
+}
+
+impl<PB> Handle for Server<PB> {
+    ghost use Rattle.rr_protocol.specs.declared.kind.Kind.TheVariants.{Server as the_kind};
+
+    ghost number = { λ handle. handle };
+
+    ghost kind = { the_kind };
+
+    fn is_in<QC: Body, QH: Default + Drop, PC: Body, PH: Default + Drop, K: BackpressureFn>(
+        &self,
+        hub: &Hub<QC, QH, PC, PH, K>,
+    ) -> bool {
+        hub.core.port_kind(self.number) == Some(Kind::Server)
+    }
+}

@@ -1,0 +1,107 @@
+//! What a request of the typed family says, and typed responses to it.
+#![tactic(auto, using(crate::proofs::Asking::asks), unfolding(crate::specs::Kinds::Names))]
+
+ghost use Rattle.std.specs.Prelude.{◌∷◌, ◌+◌, ◌≤◌, ◌<◌, ◌≢◌, ◌≡◌, Err, IfOk, IsSomeAnd, option_and_then, []};
+ghost use Rattle.rr_protocol.specs.declared.kind.Kind.TheVariants as kind;
+ghost use Rattle.rr_laws.specs.Unreduced.{ServerHasPool};
+ghost use Rattle.rr_ports.specs.Kinds.{Names, NamesNothing, KeepsKinds};
+ghost use Rattle.rr_ports.specs.Loaning.{SendsResponseCopy, LoansResponseComplete, IsOneDefault};
+ghost use Rattle.rr_protocol.specs.Loans.{LoansResponse};
+ghost use Rattle.rr_protocol.specs.Messages.{request_in};
+ghost use Rattle.rr_protocol.specs.State.{handle_at, numbers_left};
+
+use crate::active_request::ActiveRequest;
+use crate::hub::Hub;
+use crate::response_mut::ResponseMut;
+use crate::response_mut_uninit;
+use crate::response_mut_uninit::ResponseMutUninit;
+use crate::typed::payload_of;
+use rr_hub::{BackpressureFn, LoanError, SendError};
+use rr_slots::Body;
+
+impl<T: Drop> ActiveRequest<Option<T>> {
+    /// Returns the payload of the request. After iceoryx2's `ActiveRequest::payload`.
+    #[inline(always)]
+    pub fn payload<'a, QH: Default + Drop, PB: Body, PH: Default + Drop, K: BackpressureFn>(
+        &self,
+        hub: &'a Hub<Option<T>, QH, PB, PH, K>,
+    ) -> &'a T
+        requires { Names hub.now self.now kind.ActiveRequest }
+        ensures { IsSomeAnd (option_and_then request_in (handle_at hub.now self.now)) (λ m. m.content.elements ≡ result.now ∷ []) }
+    {
+        payload_of(hub.core.request_body(&self.id))
+    }
+}
+
+impl<QB: Body> ActiveRequest<QB> {
+    /// Loans a response whose payload is to be written, under the next number, of which one is left. Takes no memory. After
+    /// iceoryx2's `ActiveRequest::loan_uninit`.
+    ///
+    /// # Errors
+    ///
+    /// An error leaves the hub as it was.
+    /// - `ExceedsMaxLoans` if the active request, or its server, has as many responses on loan as it may.
+    /// - `OutOfMemory` if the server's live responses fill its pool. A pool of the worst-case size never returns it.
+    #[inline(always)]
+    pub fn loan_uninit<QH: Default + Drop, T: Drop, PH: Default + Drop, K: BackpressureFn>(
+        &self,
+        hub: &mut Hub<QB, QH, Option<T>, PH, K>,
+    ) -> Result<ResponseMutUninit<Option<T>>, LoanError>
+        requires kind { Names hub.old self.now kind.ActiveRequest }
+        requires number { 0 < numbers_left hub.old }
+        ensures loans { LoansResponse PH.is_default hub.old self.now 1 result hub.new }
+        ensures unreduced { ServerHasPool hub.old.limits hub.old self.now 1 → result ≢ Err LoanError.OutOfMemory }
+        ensures fresh { IfOk result (λ response. NamesNothing hub.old response) }
+        ensures kind { IfOk result (λ response. Names hub.new response kind.ResponseMutUninit) }
+        ensures kinds { KeepsKinds hub.old hub.new }
+        ensures numbers { numbers_left hub.old ≤ numbers_left hub.new + 1 }
+    {
+        response_mut_uninit::loaned(hub.core.loan_response(&self.id, 1))
+    }
+
+    /// Loans a response with a default payload, which can be sent. Takes no memory. After iceoryx2's `ActiveRequest::loan`.
+    ///
+    /// # Errors
+    ///
+    /// As `loan_uninit`.
+    #[inline(always)]
+    pub fn loan<QH: Default + Drop, T: Default + Drop, PH: Default + Drop, K: BackpressureFn>(
+        &self,
+        hub: &mut Hub<QB, QH, Option<T>, PH, K>,
+    ) -> Result<ResponseMut<Option<T>>, LoanError>
+        requires kind { Names hub.old self.now kind.ActiveRequest }
+        requires number { 0 < numbers_left hub.old }
+        ensures loans { LoansResponseComplete PH.is_default (IsOneDefault T.is_default) hub.old self.now 1 result hub.new }
+        ensures unreduced { ServerHasPool hub.old.limits hub.old self.now 1 → result ≢ Err LoanError.OutOfMemory }
+        ensures fresh { IfOk result (λ response. NamesNothing hub.old response) }
+        ensures kind { IfOk result (λ response. Names hub.new response kind.ResponseMut) }
+        ensures kinds { KeepsKinds hub.old hub.new }
+        ensures numbers { numbers_left hub.old ≤ numbers_left hub.new + 1 }
+    {
+        let response = self.loan_uninit(hub)?;
+        Ok(response.write_payload(hub, T::default()))
+    }
+
+    /// Loans a response, writes a value and sends it. Takes no memory. After iceoryx2's `ActiveRequest::send_copy`.
+    ///
+    /// # Errors
+    ///
+    /// - `LoanError(..)` as `loan_uninit`. The hub stays as it was, and the value is dropped.
+    /// - `UnableToDeliver` as `ResponseMut::send`. The response is gone, and the queue stays.
+    #[inline(always)]
+    pub fn send_copy<QH: Default + Drop, T: Drop, PH: Default + Drop, K: BackpressureFn>(
+        &self,
+        hub: &mut Hub<QB, QH, Option<T>, PH, K>,
+        value: T,
+    ) -> Result<(), SendError>
+        requires kind { Names hub.old self.now kind.ActiveRequest }
+        requires number { 0 < numbers_left hub.old }
+        ensures sends { SendsResponseCopy PH.is_default K.action hub.old self.now value result hub.new }
+        ensures kinds { KeepsKinds hub.old hub.new }
+        ensures numbers { numbers_left hub.old ≤ numbers_left hub.new + 1 }
+    {
+        let response = self.loan_uninit(hub)?;
+        let response = response.write_payload(hub, value);
+        response.send(hub)
+    }
+}

@@ -1,0 +1,28 @@
+//! The payload of a typed request that can be sent.
+#![tactic(auto, using(crate::proofs::Asking::asks), unfolding(crate::specs::Kinds::Names))]
+
+ghost use Rattle.std.specs.Prelude.{◌∷◌, ◌≡◌, IsSomeAnd, option_and_then, []};
+ghost use Rattle.rr_protocol.specs.declared.kind.Kind.TheVariants as kind;
+ghost use Rattle.rr_ports.specs.Kinds.{Names};
+ghost use Rattle.rr_protocol.specs.Messages.{request_in};
+ghost use Rattle.rr_protocol.specs.State.{handle_at};
+
+use crate::hub::Hub;
+use crate::request_mut::RequestMut;
+use crate::typed::payload_of;
+use rr_hub::BackpressureFn;
+use rr_slots::Body;
+
+impl<T: Drop> RequestMut<Option<T>> {
+    /// Returns the payload of the request. After iceoryx2's `RequestMut::payload`.
+    #[inline(always)]
+    pub fn payload<'a, QH: Default + Drop, PB: Body, PH: Default + Drop, K: BackpressureFn>(
+        &self,
+        hub: &'a Hub<Option<T>, QH, PB, PH, K>,
+    ) -> &'a T
+        requires { Names hub.now self.now kind.RequestMut }
+        ensures { IsSomeAnd (option_and_then request_in (handle_at hub.now self.now)) (λ m. m.content.elements ≡ result.now ∷ []) }
+    {
+        payload_of(hub.core.request_body(&self.id))
+    }
+}

@@ -1,0 +1,28 @@
+//! The payload of a typed response that was received.
+#![tactic(auto, using(crate::proofs::Asking::asks), unfolding(crate::specs::Kinds::Names))]
+
+ghost use Rattle.std.specs.Prelude.{◌∷◌, ◌≡◌, IsSomeAnd, option_and_then, []};
+ghost use Rattle.rr_protocol.specs.declared.kind.Kind.TheVariants as kind;
+ghost use Rattle.rr_ports.specs.Kinds.{Names};
+ghost use Rattle.rr_protocol.specs.Messages.{response_in};
+ghost use Rattle.rr_protocol.specs.State.{handle_at};
+
+use crate::hub::Hub;
+use crate::response::Response;
+use crate::typed::payload_of;
+use rr_hub::BackpressureFn;
+use rr_slots::Body;
+
+impl<T: Drop> Response<Option<T>> {
+    /// Returns the payload of the response. After iceoryx2's `Response::payload`.
+    #[inline(always)]
+    pub fn payload<'a, QB: Body, QH: Default + Drop, PH: Default + Drop, K: BackpressureFn>(
+        &self,
+        hub: &'a Hub<QB, QH, Option<T>, PH, K>,
+    ) -> &'a T
+        requires { Names hub.now self.now kind.Response }
+        ensures { IsSomeAnd (option_and_then response_in (handle_at hub.now self.now)) (λ m. m.content.elements ≡ result.now ∷ []) }
+    {
+        payload_of(hub.core.response_body(&self.id))
+    }
+}

@@ -1,0 +1,4 @@
+//! What users of `rr_ports` write.
+#![tactic(auto)]
+
+pub mod question;
