@@ -1,6 +1,6 @@
 -- What numbers name after loans, writes, sends and receives.
-use Rattle.std.proofs.Common.{◌≡◌, ◌≢◌, ℕ, ◌+◌, ◌-◌, ◌^◌, ◌≤◌, true, false, cond, List, [], ◌∷◌, map, Option, Some, None, option_map, refl, sym, ap, ◌∙◌, subst, arith, Result, Ok, Err}
-use Rattle.std.specs.Prelude.{◌&&◌, ◌||◌, ◌==◌, IfOk, IfSome}
+use Rattle.std.proofs.Common.{◌≡◌, ◌≢◌, ℕ, Bool, not, ◌+◌, ◌-◌, ◌^◌, ◌≤◌, true, false, cond, List, [], ◌∷◌, map, Option, Some, None, option_map, refl, sym, ap, ◌∙◌, subst, arith, Result, Ok, Err}
+use Rattle.std.specs.Prelude.{◌&&◌, ◌||◌, ◌==◌, IfOk, IfSome, IsSomeAnd}
 use Rattle.std.specs.List.{list_any}
 use Rattle.std.specs.FinMap as fin_map
 use Rattle.rr_protocol.specs.declared.kind.Kind.{Kind}
@@ -169,6 +169,12 @@ module _ {Q QH P PH : Type 0} where
   response_init_kind (ResponseMut m) e = absurd (let f : Kind.ResponseMut ≡ Kind.ResponseMutUninit = e in cc)
   response_init_kind (Response m) e = absurd (let f : Kind.Response ≡ Kind.ResponseMutUninit = e in cc)
 
+-- a message that is not complete takes an element
+module _ {M S : Type 0} (is_whole : M → Bool) (told : Bool) (new pushed old : S) where
+  pub open_pushed : (o : Option M) → IsSomeAnd o (λ m. is_whole m ≡ false) → IsSomeAnd o (λ m. (told ≡ not (is_whole m)) × (new ≡ cond told pushed old)) → new ≡ pushed
+  open_pushed None unfilled happened = absurd unfilled
+  open_pushed (Some m) unfilled happened = happened.1 ∙ ap (λ b. cond b pushed old) (happened.0 ∙ ap not unfilled)
+
 module _ {Q QH P PH K : Type 0} where
   -- a handle under a number becomes another
   becomes : (s : State Q QH P PH K) (n : ℕ) (f : Handle Q QH P PH → Handle Q QH P PH) (k j : Kind) → Kind.Client ≢ k → Kind.Server ≢ k
@@ -180,6 +186,10 @@ module _ {Q QH P PH K : Type 0} where
       ∙ ap Some (same h.0 (let e : Some (kind_of h.0) ≡ Some k = sym (ap (option_map kind_of) h.1) ∙ port.1 in cc))
 
   module _ (old new : State Q QH P PH K) (n : ℕ) where
+    -- no number is given
+    pub changed_numbers : (f : Handle Q QH P PH → Handle Q QH P PH) → new ≡ with_changed old n f → numbers_left new ≡ numbers_left old
+    changed_numbers f e = ap numbers_left e
+
     -- a change of content
     pub request_content_keeps : (change : Content Q QH → Content Q QH) → new ≡ with_changed old n (with_request_content change) → KeepsKinds old new
     request_content_keeps change e =

@@ -14,6 +14,7 @@ mod response;
 mod response_mut;
 mod response_mut_uninit;
 mod server;
+pub mod sliced;
 pub mod typed;
 mod update_connections;
 

@@ -40,6 +40,14 @@ pub type ResponseMut<P> = crate::ResponseMut<Option<P>>;
 /// A response of one value that was received.
 pub type Response<P> = crate::Response<Option<P>>;
 
+/// How a client is created whose requests are single values.
+pub type PortFactoryClient<Q, K = crate::NoHandler, F = fn(usize) -> usize> =
+    crate::PortFactoryClient<Option<Q>, K, F>;
+
+/// How a server is created whose responses are single values.
+pub type PortFactoryServer<P, K = crate::NoHandler, F = fn(usize) -> usize> =
+    crate::PortFactoryServer<Option<P>, K, F>;
+
 /// Returns the value in a body that is written.
 #[inline(always)]
 fn payload_of<T>(body: &Option<T>) -> &T

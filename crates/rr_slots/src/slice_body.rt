@@ -28,6 +28,13 @@ impl<T: Drop> Model for SliceBody<T> {
 impl<T: Drop> SliceBody<T> {
     ghost use Rattle.rr_slots.specs.BodyLends.{lends_elements};
 
+    /// Returns the elements written so far.
+    pub fn as_slice(&self) -> &[T]
+        ensures { result.now ≡ self.now.elements }
+    {
+        self.items.as_slice()
+    }
+
     /// Lends the elements written so far.
     pub(crate) fn slice_mut(&mut self) -> &mut [T]
         ensures* lends { sem 𝓛 (lends_elements T.row self.entry result) }

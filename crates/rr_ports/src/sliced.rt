@@ -1,0 +1,56 @@
+//! The sliced family, in which each message has any number of elements.
+use rr_slots::SliceBody;
+
+mod active_request;
+mod client;
+mod pending_response;
+mod request_mut;
+mod request_mut_uninit;
+mod response;
+mod response_mut;
+mod response_mut_uninit;
+mod server;
+
+/// A hub whose requests and responses are slices.
+pub type Hub<Q, QH, P, PH, K = crate::NoHandler> = crate::Hub<
+    SliceBody<Q>,
+    QH,
+    SliceBody<P>,
+    PH,
+    K,
+>;
+
+/// A client whose requests are slices.
+pub type Client<Q> = crate::Client<SliceBody<Q>>;
+
+/// A server whose responses are slices.
+pub type Server<P> = crate::Server<SliceBody<P>>;
+
+/// A loaned request whose elements are being written.
+pub type RequestMutUninit<Q> = crate::RequestMutUninit<SliceBody<Q>>;
+
+/// A loaned request of a slice, which can be sent.
+pub type RequestMut<Q> = crate::RequestMut<SliceBody<Q>>;
+
+/// A request of a slice that was sent.
+pub type PendingResponse<Q> = crate::PendingResponse<SliceBody<Q>>;
+
+/// A request of a slice that a server received.
+pub type ActiveRequest<Q> = crate::ActiveRequest<SliceBody<Q>>;
+
+/// A loaned response whose elements are being written.
+pub type ResponseMutUninit<P> = crate::ResponseMutUninit<SliceBody<P>>;
+
+/// A loaned response of a slice, which can be sent.
+pub type ResponseMut<P> = crate::ResponseMut<SliceBody<P>>;
+
+/// A response of a slice that was received.
+pub type Response<P> = crate::Response<SliceBody<P>>;
+
+/// How a client is created whose requests are slices.
+pub type PortFactoryClient<Q, K = crate::NoHandler, F = fn(usize) -> usize> =
+    crate::PortFactoryClient<SliceBody<Q>, K, F>;
+
+/// How a server is created whose responses are slices.
+pub type PortFactoryServer<P, K = crate::NoHandler, F = fn(usize) -> usize> =
+    crate::PortFactoryServer<SliceBody<P>, K, F>;

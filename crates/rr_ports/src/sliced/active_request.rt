@@ -1,0 +1,90 @@
+//! What a request of the sliced family says, and sliced responses to it.
+#![tactic(auto, using(crate::proofs::Asking::asks), unfolding(crate::specs::Kinds::Names))]
+
+ghost use Rattle.std.specs.Prelude.{◌+◌, ◌≤◌, ◌<◌, ◌≢◌, ◌≡◌, Err, IfOk, IsSomeAnd, option_and_then, true};
+ghost use Rattle.rr_protocol.specs.declared.kind.Kind.TheVariants as kind;
+ghost use Rattle.rr_laws.specs.Unreduced.{ServerHasPool};
+ghost use Rattle.rr_ports.specs.Kinds.{Names, NamesNothing, KeepsKinds};
+ghost use Rattle.rr_ports.specs.Loaning.{LoansResponseFilled};
+ghost use Rattle.rr_protocol.specs.Loans.{LoansResponse};
+ghost use Rattle.rr_protocol.specs.Messages.{request_in};
+ghost use Rattle.rr_protocol.specs.State.{handle_at, numbers_left};
+ghost use Rattle.rr_protocol.specs.Writing.{is_complete};
+
+use crate::active_request::ActiveRequest;
+use crate::hub::Hub;
+use crate::response_mut::ResponseMut;
+use crate::response_mut_uninit;
+use crate::response_mut_uninit::ResponseMutUninit;
+use rr_hub::{BackpressureFn, LoanError};
+use rr_slots::{Body, SliceBody};
+
+impl<T: Drop> ActiveRequest<SliceBody<T>> {
+    /// Returns the payload of the request. After iceoryx2's `ActiveRequest::payload`.
+    #[inline(always)]
+    pub fn payload<'a, QH: Default + Drop, PB: Body, PH: Default + Drop, K: BackpressureFn>(
+        &self,
+        hub: &'a Hub<SliceBody<T>, QH, PB, PH, K>,
+    ) -> &'a [T]
+        requires { Names hub.now self.now kind.ActiveRequest }
+        ensures elements { IsSomeAnd (option_and_then request_in (handle_at hub.now self.now)) (λ m. m.content.elements ≡ result.now) }
+        ensures complete { IsSomeAnd (option_and_then request_in (handle_at hub.now self.now)) (λ m. is_complete m.content ≡ true) }
+    {
+        hub.core.request_body(&self.id).as_slice()
+    }
+}
+
+impl<QB: Body> ActiveRequest<QB> {
+    /// Loans a response of `len` elements, which are to be written, under the next number, of which one is left. Takes no memory up to
+    /// the initial slice length. After iceoryx2's `ActiveRequest::loan_slice_uninit`.
+    ///
+    /// # Errors
+    ///
+    /// An error leaves the hub as it was.
+    /// - `ExceedsMaxLoanSize` if the slice is longer than a static pool has room for.
+    /// - `ExceedsMaxLoans` if the active request, or its server, has as many responses on loan as it may.
+    /// - `OutOfMemory` if the server's live responses fill its pool, or a longer slice found no memory. Up to the initial slice length a pool of the
+    ///   worst-case size never returns it.
+    #[inline(always)]
+    pub fn loan_slice_uninit<QH: Default + Drop, T: Drop, PH: Default + Drop, K: BackpressureFn>(
+        &self,
+        hub: &mut Hub<QB, QH, SliceBody<T>, PH, K>,
+        len: usize,
+    ) -> Result<ResponseMutUninit<SliceBody<T>>, LoanError>
+        requires kind { Names hub.old self.now kind.ActiveRequest }
+        requires number { 0 < numbers_left hub.old }
+        ensures loans { LoansResponse PH.is_default hub.old self.now len result hub.new }
+        ensures unreduced { ServerHasPool hub.old.limits hub.old self.now len → result ≢ Err LoanError.OutOfMemory }
+        ensures fresh { IfOk result (λ response. NamesNothing hub.old response) }
+        ensures kind { IfOk result (λ response. Names hub.new response kind.ResponseMutUninit) }
+        ensures kinds { KeepsKinds hub.old hub.new }
+        ensures numbers { numbers_left hub.old ≤ numbers_left hub.new + 1 }
+    {
+        response_mut_uninit::loaned(hub.core.loan_response(&self.id, len))
+    }
+
+    /// Loans a response of `len` default elements, which can be sent. Takes no memory up to the initial slice length. After iceoryx2's
+    /// `ActiveRequest::loan_slice`.
+    ///
+    /// # Errors
+    ///
+    /// As `loan_slice_uninit`.
+    #[inline(always)]
+    pub fn loan_slice<QH: Default + Drop, T: Copy + Default, PH: Default + Drop, K: BackpressureFn>(
+        &self,
+        hub: &mut Hub<QB, QH, SliceBody<T>, PH, K>,
+        len: usize,
+    ) -> Result<ResponseMut<SliceBody<T>>, LoanError>
+        requires kind { Names hub.old self.now kind.ActiveRequest }
+        requires number { 0 < numbers_left hub.old }
+        ensures loans { LoansResponseFilled PH.is_default T.is_default hub.old self.now len result hub.new }
+        ensures unreduced { ServerHasPool hub.old.limits hub.old self.now len → result ≢ Err LoanError.OutOfMemory }
+        ensures fresh { IfOk result (λ response. NamesNothing hub.old response) }
+        ensures kind { IfOk result (λ response. Names hub.new response kind.ResponseMut) }
+        ensures kinds { KeepsKinds hub.old hub.new }
+        ensures numbers { numbers_left hub.old ≤ numbers_left hub.new + 1 }
+    {
+        let response = self.loan_slice_uninit(hub, len)?;
+        Ok(response.fill(hub, T::default()))
+    }
+}

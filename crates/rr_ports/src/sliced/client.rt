@@ -1,0 +1,89 @@
+//! What a client of the sliced family loans.
+#![tactic(auto, using(crate::proofs::Asking::asks), unfolding(crate::specs::Kinds::Names))]
+
+ghost use Rattle.std.specs.Prelude.{◌+◌, ◌≤◌, ◌<◌, ◌≢◌, ◌≡◌, Err, IfOk, IsSomeAnd};
+ghost use Rattle.rr_protocol.specs.declared.kind.Kind.TheVariants as kind;
+ghost use Rattle.rr_laws.specs.Unreduced.{ClientHasPool};
+ghost use Rattle.rr_ports.specs.Kinds.{Names, NamesNothing, KeepsKinds};
+ghost use Rattle.rr_ports.specs.Loaning.{LoansFilled};
+ghost use Rattle.rr_protocol.specs.Loans.{LoansRequest};
+ghost use Rattle.rr_protocol.specs.State.{client_at, numbers_left};
+
+use crate::client::Client;
+use crate::hub::Hub;
+use crate::request_mut::RequestMut;
+use crate::request_mut_uninit;
+use crate::request_mut_uninit::RequestMutUninit;
+use rr_hub::{BackpressureFn, LoanError};
+use rr_slots::{Body, SliceBody};
+
+impl<T: Drop> Client<SliceBody<T>> {
+    /// Loans a request of `len` elements, which are to be written, under the next number, of which one is left. Takes no memory up to
+    /// the initial slice length. After iceoryx2's `Client::loan_slice_uninit`.
+    ///
+    /// # Errors
+    ///
+    /// An error leaves the hub as it was.
+    /// - `ExceedsMaxLoanSize` if the slice is longer than a static pool has room for.
+    /// - `ExceedsMaxLoans` if the client has as many requests on loan as it may.
+    /// - `OutOfMemory` if the client's live requests fill its pool, or a longer slice found no memory. Up to the initial slice length a pool of the
+    ///   worst-case size never returns it.
+    #[inline(always)]
+    pub fn loan_slice_uninit<QH: Default + Drop, PB: Body, PH: Default + Drop, K: BackpressureFn>(
+        &self,
+        hub: &mut Hub<SliceBody<T>, QH, PB, PH, K>,
+        len: usize,
+    ) -> Result<RequestMutUninit<SliceBody<T>>, LoanError>
+        requires kind { Names hub.old self.now kind.Client }
+        requires number { 0 < numbers_left hub.old }
+        ensures loans { LoansRequest QH.is_default hub.old self.now len result hub.new }
+        ensures unreduced { ClientHasPool hub.old.limits hub.old self.now len → result ≢ Err LoanError.OutOfMemory }
+        ensures fresh { IfOk result (λ request. NamesNothing hub.old request) }
+        ensures kind { IfOk result (λ request. Names hub.new request kind.RequestMutUninit) }
+        ensures kinds { KeepsKinds hub.old hub.new }
+        ensures numbers { numbers_left hub.old ≤ numbers_left hub.new + 1 }
+    {
+        request_mut_uninit::loaned(hub.core.loan_request(self.number, len))
+    }
+
+    /// Returns for how many elements each slot has room from the start. After iceoryx2's `Client::initial_max_slice_len`.
+    #[inline(always)]
+    pub fn initial_max_slice_len<
+        QH: Default + Drop,
+        PB: Body,
+        PH: Default + Drop,
+        K: BackpressureFn,
+    >(&self, hub: &Hub<SliceBody<T>, QH, PB, PH, K>) -> usize
+        requires { Names hub.now self.now kind.Client }
+        ensures { IsSomeAnd (client_at hub.now self.now) (λ c. result ≡ c.port.initial_max_slice_len) }
+    {
+        hub.core.client_initial_max_slice_len(self.number)
+    }
+}
+
+impl<T: Copy + Default> Client<SliceBody<T>> {
+    /// Loans a request of `len` default elements, which can be sent. Takes no memory up to the initial slice length. After iceoryx2's
+    /// `Client::loan_slice`.
+    ///
+    /// # Errors
+    ///
+    /// As `loan_slice_uninit`.
+    #[inline(always)]
+    pub fn loan_slice<QH: Default + Drop, PB: Body, PH: Default + Drop, K: BackpressureFn>(
+        &self,
+        hub: &mut Hub<SliceBody<T>, QH, PB, PH, K>,
+        len: usize,
+    ) -> Result<RequestMut<SliceBody<T>>, LoanError>
+        requires kind { Names hub.old self.now kind.Client }
+        requires number { 0 < numbers_left hub.old }
+        ensures loans { LoansFilled QH.is_default T.is_default hub.old self.now len result hub.new }
+        ensures unreduced { ClientHasPool hub.old.limits hub.old self.now len → result ≢ Err LoanError.OutOfMemory }
+        ensures fresh { IfOk result (λ request. NamesNothing hub.old request) }
+        ensures kind { IfOk result (λ request. Names hub.new request kind.RequestMut) }
+        ensures kinds { KeepsKinds hub.old hub.new }
+        ensures numbers { numbers_left hub.old ≤ numbers_left hub.new + 1 }
+    {
+        let request = self.loan_slice_uninit(hub, len)?;
+        Ok(request.fill(hub, T::default()))
+    }
+}
