@@ -2,3 +2,4 @@
 #![tactic(auto)]
 
 pub mod question;
+pub mod telling;
