@@ -3,8 +3,7 @@
 
 use super::limits;
 use rr_ports::{
-    AllocationStrategy, BackpressureStrategy, LoanError, NoHandler, SendError, UniqueNodeId,
-    sliced, typed,
+    AllocationStrategy, BackpressureStrategy, LoanError, NoHandler, UniqueNodeId, sliced, typed,
 };
 use std::test::Fail;
 
@@ -64,39 +63,6 @@ fn builders_set_strategies_and_lengths(rt: HostRuntime) -> Result<(), Fail> {
         BackpressureStrategy::RetryUntilDelivered
     );
     assert_eq!(rt; server.initial_max_slice_len(&hub), 3);
-    client.release(&mut hub);
-    server.release(&mut hub);
-    Ok(())
-}
-
-/// 0 loaned responses for each request count as one.
-#[test]
-fn no_loaned_responses_count_as_one(rt: HostRuntime) -> Result<(), Fail> {
-    let mut hub: typed::Hub<u64, u64, u64, u64> = typed::Hub::new(
-        rt.alloc(),
-        limits(false),
-        UniqueNodeId(7),
-    )?;
-    let client = hub
-        .client_builder()
-        .create(&mut hub)
-        .expect(&rt, "a client");
-    let factory = hub.server_builder().max_loaned_responses_per_request(0);
-    let server = factory.create(&mut hub).expect(&rt, "a server");
-    let pending = client.send_copy(&mut hub, 1).expect(&rt, "a send");
-    let active = server
-        .receive(&mut hub)
-        .expect(&rt, "a receive")
-        .expect(&rt, "a request");
-    let response = active.loan(&mut hub).expect(&rt, "a loan");
-    assert_eq!(rt;
-        active.send_copy(&mut hub, 2),
-        Err(SendError::LoanError(LoanError::ExceedsMaxLoans))
-    );
-    assert_eq!(rt; *response.payload(&hub), 0);
-    response.release(&mut hub);
-    active.release(&mut hub);
-    pending.release(&mut hub);
     client.release(&mut hub);
     server.release(&mut hub);
     Ok(())
