@@ -7,7 +7,7 @@ use rr_ports::{
 };
 use std::test::Fail;
 
-/// An override of 0 makes a pool of one slot, and one above the worst case makes no larger pool.
+/// An override of 0 makes a pool of one slot.
 #[test]
 fn an_override_is_clamped(rt: HostRuntime) -> Result<(), Fail> {
     let mut hub: typed::Hub<u64, u64, u64, u64> = typed::Hub::new(
