@@ -4,6 +4,7 @@ use Rattle.std.proofs.lemmas.Bool.{eq-eqb}
 use Rattle.rr_protocol.specs.declared.kind.Kind.{Kind}
 use Rattle.rr_protocol.specs.Queries.{kind_at}
 use Rattle.rr_protocol.specs.State.{State}
+use Rattle.rr_ports.proofs.LendLaws.{kept_by_request, next_by_request, kept_by_response, next_by_response}
 use Rattle.rr_ports.specs.Kinds.{Names, NamesNothing, KeepsKinds, KeepsKindsBut, kind_number, is_kind}
 
 -- kinds that a test tells apart differ
@@ -51,5 +52,34 @@ module _ {Q QH P PH K : Type 0} (old mid new : State Q QH P PH K) where
   unfolding KeepsKinds
   kept_both first second m k names = second m k (first m k names)
 
+-- a number that named nothing is given, all is kept once more, and it changes what it names
+pub kept_across : {Q QH P PH K : Type 0} (old first mid new : State Q QH P PH K) (n : ℕ) → NamesNothing old n → KeepsKinds old first
+    → KeepsKinds first mid → KeepsKindsBut n mid new → KeepsKinds old new
+kept_across old first mid new n none one two three = kept_through old mid new n none (kept_both old first mid one two) three
+
 -- what callers rest on
-pub ruleset kinds = (kept, kept_apart, kept_older, kept_newer)
+pub ruleset kinds = (
+  kept,
+  kept_apart,
+  kept_older,
+  kept_newer,
+  kept_by_request,
+  next_by_request,
+  kept_by_response,
+  next_by_response,
+)
+
+-- what callers rest on that promise to keep kinds themselves
+pub ruleset frames = (
+  kept,
+  kept_apart,
+  kept_older,
+  kept_newer,
+  kept_by_request,
+  next_by_request,
+  kept_by_response,
+  next_by_response,
+  kept_through,
+  kept_both,
+  kept_across,
+)

@@ -4,6 +4,10 @@ pub mod Asking
 pub mod Payloads
 pub mod ReleaseLaws
 pub mod CallLaws
+pub mod WriteLaws
 pub mod CreationLaws
 pub mod CopyLaws
 pub mod FamilyLaws
+pub mod LendLaws
+pub mod FillLaws
+pub mod Fillings

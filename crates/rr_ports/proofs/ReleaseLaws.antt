@@ -9,7 +9,7 @@ use Rattle.std.proofs.lemmas.Bool.{eqb-true}
 use Rattle.rr_maps.proofs.MapLaws.{get-remove_other}
 use Rattle.rr_protocol.proofs.HandleLaws.{get-map_handles}
 use Rattle.rr_protocol.specs.Messages.{Handle, RequestMutUninit, RequestMut, PendingResponse, ActiveRequest, ResponseMutUninit, ResponseMut, Response, port_of}
-use Rattle.rr_protocol.specs.Ports.{Client, Server}
+use Rattle.rr_protocol.specs.Ports.{Port, Client, Server}
 use Rattle.rr_protocol.specs.State.{State, client_at, handle_at, is_client_value, is_server_value, numbers_left}
 use Rattle.rr_protocol.specs.Queries.{kind_of, kind_at}
 use Rattle.rr_protocol.specs.Counts.{is_in_use}
@@ -59,46 +59,25 @@ module _ {X : Type 0} (id : X → ℕ) (has_value : X → Bool) where
       go ih false e = ap (λ b. (id c == n && has_value c) || b) (ih e)
 
 -- the value of one port goes
-module _ {K : Type 0} where
-  valueless_client : (n m : ℕ) (c : Client K) → n ≢ m
-      → ((without_value m c.port).id == n && (without_value m c.port).has_value) ≡ (c.id == n && c.has_value)
-  valueless_client n m c other = go (c.id == m) refl
+module _ {K : Type 0} (n m : ℕ) (other : n ≢ m) where
+  valueless : (p : Port K) → ((without_value m p).id == n && (without_value m p).has_value) ≡ (p.id == n && p.has_value)
+  valueless p = go (p.id == m) refl
     where
-      go : (b : Bool) → (c.id == m) ≡ b
-          → ((cond b (record c.port { has_value = false }) c.port).id == n && (cond b (record c.port { has_value = false }) c.port).has_value) ≡ (c.id == n && c.has_value)
-      go true is = and_same (c.id == n) refl
+      go : (b : Bool) → (p.id == m) ≡ b
+          → ((cond b (record p { has_value = false }) p).id == n && (cond b (record p { has_value = false }) p).has_value) ≡ (p.id == n && p.has_value)
+      go true is = and_same (p.id == n) refl
         where
-          and_same : (a : Bool) → (c.id == n) ≡ a → (a && false) ≡ (a && c.has_value)
-          and_same true e = absurd (other (sym (eqb-true c.id n e) ∙ eqb-true c.id m is))
+          and_same : (a : Bool) → (p.id == n) ≡ a → (a && false) ≡ (a && p.has_value)
+          and_same true e = absurd (other (sym (eqb-true p.id n e) ∙ eqb-true p.id m is))
           and_same false e = refl
       go false is = refl
 
-  clients_valueless : (n m : ℕ) (cs : List (Client K)) → n ≢ m
-      → list_any (λ c. c.id == n && c.has_value) (map (λ (c : Client K). record c { port = without_value m c.port }) cs) ≡ list_any (λ c. c.id == n && c.has_value) cs
-  clients_valueless n m [] other = refl
-  clients_valueless n m (c ∷ cs) other =
-      ap (λ b. b || list_any (λ d. d.id == n && d.has_value) (map (λ (c : Client K). record c { port = without_value m c.port }) cs)) (valueless_client n m c other)
-      ∙ ap (λ b. (c.id == n && c.has_value) || b) (clients_valueless n m cs other)
-
-  valueless_server : (n m : ℕ) (c : Server K) → n ≢ m
-      → ((without_value m c.port).id == n && (without_value m c.port).has_value) ≡ (c.id == n && c.has_value)
-  valueless_server n m c other = go (c.id == m) refl
-    where
-      go : (b : Bool) → (c.id == m) ≡ b
-          → ((cond b (record c.port { has_value = false }) c.port).id == n && (cond b (record c.port { has_value = false }) c.port).has_value) ≡ (c.id == n && c.has_value)
-      go true is = and_same (c.id == n) refl
-        where
-          and_same : (a : Bool) → (c.id == n) ≡ a → (a && false) ≡ (a && c.has_value)
-          and_same true e = absurd (other (sym (eqb-true c.id n e) ∙ eqb-true c.id m is))
-          and_same false e = refl
-      go false is = refl
-
-  servers_valueless : (n m : ℕ) (cs : List (Server K)) → n ≢ m
-      → list_any (λ c. c.id == n && c.has_value) (map (λ (c : Server K). record c { port = without_value m c.port }) cs) ≡ list_any (λ c. c.id == n && c.has_value) cs
-  servers_valueless n m [] other = refl
-  servers_valueless n m (c ∷ cs) other =
-      ap (λ b. b || list_any (λ d. d.id == n && d.has_value) (map (λ (c : Server K). record c { port = without_value m c.port }) cs)) (valueless_server n m c other)
-      ∙ ap (λ b. (c.id == n && c.has_value) || b) (servers_valueless n m cs other)
+  all_valueless : {X : Type 0} (port : X → Port K) (f : X → X) → ((c : X) → port (f c) ≡ without_value m (port c)) → (cs : List X)
+      → list_any (λ c. (port c).id == n && (port c).has_value) (map f cs) ≡ list_any (λ c. (port c).id == n && (port c).has_value) cs
+  all_valueless port f loses [] = refl
+  all_valueless port f loses (c ∷ cs) =
+      ap (λ b. b || list_any (λ d. (port d).id == n && (port d).has_value) (map f cs)) (ap (λ p. p.id == n && p.has_value) (loses c) ∙ valueless (port c))
+      ∙ ap (λ b. ((port c).id == n && (port c).has_value) || b) (all_valueless port f loses cs)
 
 module _ {Q QH P PH K : Type 0} where
   -- every number but one names what it named, and no number was given
@@ -220,7 +199,9 @@ module _ {Q QH P PH K : Type 0} where
   valueless_keeps : (s : State Q QH P PH K) (n : ℕ) → KeepsAllBut n s (without_port_value s n)
   valueless_keeps s n =
       record {
-        kinds = λ i other. same_at s (without_port_value s n) i (clients_valueless i n s.clients other) (servers_valueless i n s.servers other) refl;
+        kinds = λ i other. same_at s (without_port_value s n) i
+            (all_valueless i n other (λ (c : Client K). c.port) (λ c. record c { port = without_value n c.port }) (λ c. refl) s.clients)
+            (all_valueless i n other (λ (c : Server K). c.port) (λ c. record c { port = without_value n c.port }) (λ c. refl) s.servers) refl;
         next = refl;
       }
 

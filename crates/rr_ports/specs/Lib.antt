@@ -2,3 +2,6 @@ pub mod Kinds
 pub mod Sending
 pub mod Loaning
 pub mod Factories
+pub mod Lends
+pub mod Updates
+pub mod Filling

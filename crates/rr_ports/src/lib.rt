@@ -5,6 +5,7 @@ mod active_request;
 mod client;
 mod handle;
 mod hub;
+mod lend;
 mod no_handler;
 mod pending_response;
 mod port_factory;

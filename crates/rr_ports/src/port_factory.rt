@@ -12,7 +12,7 @@ use rr_hub::Limits;
 pub use server::PortFactoryServer;
 
 /// Returns what an override makes of the worst case. Returns `None` without one, or where the worst case is not counted.
-fn chosen<F: Fn(usize) -> usize>(
+fn chosen<F: FnOnce(usize) -> usize>(
     preallocation: Option<F>,
     worst_case: Option<usize>,
 ) -> Option<usize>

@@ -1,5 +1,7 @@
 //! The sliced family, in which each message has any number of elements.
-use rr_slots::SliceBody;
+ghost use Rattle.std.specs.Prelude.{◌≡◌, ◌≤◌, length};
+
+use rr_slots::{Body, SliceBody};
 
 mod active_request;
 mod client;
@@ -54,3 +56,18 @@ pub type PortFactoryClient<Q, K = crate::NoHandler, F = fn(usize) -> usize> =
 /// How a server is created whose responses are slices.
 pub type PortFactoryServer<P, K = crate::NoHandler, F = fn(usize) -> usize> =
     crate::PortFactoryServer<SliceBody<P>, K, F>;
+
+/// Returns how many elements a body asks for, and how many were written.
+#[inline(always)]
+fn lens<T: Drop>(body: &SliceBody<T>) -> (usize, usize)
+    ensures asked { result.0 ≡ body.now.asked }
+    ensures written { result.1 ≡ length body.now.elements }
+    ensures within { result.1 ≤ result.0 }
+{
+    let asked = body.asked_len();
+    if body.is_complete() {
+        (asked, asked)
+    } else {
+        (asked, body.len())
+    }
+}

@@ -80,7 +80,7 @@ impl<QB: Body, K: BackpressureFn, F: Drop> PortFactoryClient<QB, K, F> {
     }
     /// Has a callback choose how many slots the client's pool has: it is called once, on the worst-case number of requests, and what it
     /// returns counts at least as 1 and at most as the worst case. After iceoryx2's `PortFactoryClient::override_request_preallocation`.
-    pub fn override_request_preallocation<G: Fn(usize) -> usize>(
+    pub fn override_request_preallocation<G: FnOnce(usize) -> usize>(
         self,
         callback: G,
     ) -> PortFactoryClient<QB, K, G>
@@ -111,7 +111,7 @@ impl<QB: Body, K: BackpressureFn, F: Drop> PortFactoryClient<QB, K, F> {
         hub: &mut Hub<QB, QH, PB, PH, K>,
     ) -> Result<Client<QB>, ClientCreateError>
     where
-        F: Fn(usize) -> usize,
+        F: FnOnce(usize) -> usize,
         requires { ForSome self.preallocation (λ f. F.pre f (worst_case_requests hub.old.limits)) }
         ensures creates { CreatesClientBy F.post hub.old self result hub.new }
         ensures fresh { IfOk result (λ client. NamesNothing hub.old client) }

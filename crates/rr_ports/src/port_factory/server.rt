@@ -98,7 +98,7 @@ impl<PB: Body, K: BackpressureFn, F: Drop> PortFactoryServer<PB, K, F> {
     }
     /// Has a callback choose how many slots the server's pool has: it is called once, on the worst-case number of responses, and what it
     /// returns counts at least as 1 and at most as the worst case. After iceoryx2's `PortFactoryServer::override_response_preallocation`.
-    pub fn override_response_preallocation<G: Fn(usize) -> usize>(
+    pub fn override_response_preallocation<G: FnOnce(usize) -> usize>(
         self,
         callback: G,
     ) -> PortFactoryServer<PB, K, G>
@@ -129,7 +129,7 @@ impl<PB: Body, K: BackpressureFn, F: Drop> PortFactoryServer<PB, K, F> {
         hub: &mut Hub<QB, QH, PB, PH, K>,
     ) -> Result<Server<PB>, ServerCreateError>
     where
-        F: Fn(usize) -> usize,
+        F: FnOnce(usize) -> usize,
         requires { ForSome self.preallocation (λ f. F.pre f (worst_case_responses hub.old.limits (loans_of self.settings))) }
         ensures creates { CreatesServerBy F.post hub.old self result hub.new }
         ensures fresh { IfOk result (λ server. NamesNothing hub.old server) }

@@ -1,9 +1,11 @@
 //! Writing the elements of a response.
 #![tactic(auto, using(crate::proofs::Asking::asks), unfolding(crate::specs::Kinds::Names))]
 
-ghost use Rattle.std.specs.Prelude.{◌≡◌, IsSomeAnd, option_and_then, false};
+ghost use Rattle.std.specs.Prelude.{◌≡◌, IsSomeAnd, option_and_then, false, length};
 ghost use Rattle.rr_protocol.specs.declared.kind.Kind.TheVariants as kind;
+ghost use Rattle.rr_ports.specs.Filling.{CompletesResponse, FillsResponse, with_response_element};
 ghost use Rattle.rr_ports.specs.Kinds.{Names, KeepsKinds, KeepsKindsBut};
+ghost use Rattle.rr_ports.specs.Loaning.{with_complete_response};
 ghost use Rattle.rr_protocol.specs.Messages.{response_in};
 ghost use Rattle.rr_protocol.specs.State.{handle_at, numbers_left, with_changed};
 ghost use Rattle.rr_protocol.specs.Writing.{is_complete, after_init, with_element, with_response_content, filled};
@@ -11,9 +13,29 @@ ghost use Rattle.rr_protocol.specs.Writing.{is_complete, after_init, with_elemen
 use crate::hub::Hub;
 use crate::response_mut::ResponseMut;
 use crate::response_mut_uninit::ResponseMutUninit;
-use rr_hub::BackpressureFn;
+use crate::sliced::lens;
+use rr_hub::{BackpressureFn, HandleId};
 use rr_slots::{Body, SliceBody};
 use std::marker::PhantomData;
+
+/// Makes an element the one at an index of a response that is being written, in the place of another one or behind the others.
+#[inline(always)]
+fn put_response<QB: Body, QH: Default + Drop, T: Drop, PH: Default + Drop, K: BackpressureFn>(
+    hub: &mut Hub<QB, QH, SliceBody<T>, PH, K>,
+    id: &HandleId,
+    stands: bool,
+    index: usize,
+    element: T,
+)
+    requires { Names hub.old id.now kind.ResponseMutUninit }
+    ensures { IsSomeAnd (option_and_then response_in (handle_at hub.old id.now)) (λ m. hub.new ≡ with_response_element stands hub.old id.now index element m) }
+{
+    if stands {
+        hub.core.write_response_element(id, index, element);
+    } else {
+        hub.core.push_response(id, element);
+    }
+}
 
 impl<T: Drop> ResponseMutUninit<SliceBody<T>> {
     /// Returns the elements that were written so far. After iceoryx2's `ResponseMutUninit::payload`, which lends `MaybeUninit`s.
@@ -44,6 +66,55 @@ impl<T: Drop> ResponseMutUninit<SliceBody<T>> {
     {
         hub.core.push_response(&self.id, element);
     }
+
+    /// Writes what a function returns for 0, 1, .., as many elements as are asked for, and makes the response one that can be sent.
+    /// Elements that were written before are dropped. Looks for the response once for each element; `write_from_slice` and `fill` do
+    /// once for all. After iceoryx2's `ResponseMutUninit::write_from_fn`.
+    #[inline(always)]
+    pub fn write_from_fn<
+        QB: Body,
+        QH: Default + Drop,
+        PH: Default + Drop,
+        K: BackpressureFn,
+        F: FnMut(usize) -> T,
+    >(self, hub: &mut Hub<QB, QH, SliceBody<T>, PH, K>, mut f: F) -> ResponseMut<SliceBody<T>>
+        requires kind { Names hub.old self kind.ResponseMutUninit }
+        requires callable { F.IsAlwaysCallable f }
+        ensures same { result ≡ self }
+        ensures written { FillsResponse F.step f hub.old hub.new self }
+        ensures kind { Names hub.new result kind.ResponseMut }
+        ensures kinds { KeepsKindsBut self hub.old hub.new }
+        ensures numbers { numbers_left hub.new ≡ numbers_left hub.old }
+    {
+        let ResponseMutUninit { id, of: _ } = self;
+        let (asked, written) = lens(hub.core.response_body(&id));
+        for index in 0..asked {
+            put_response(hub, &id, index < written, index, f(index));
+        }
+        hub.core.assume_init(&id);
+        ResponseMut {
+            id,
+            of: PhantomData,
+        }
+    }
+}
+
+/// Makes a response that asks for as many elements as these one that can be sent, whatever its elements are then.
+#[inline(always)]
+fn complete_response<QB: Body, QH: Default + Drop, T: Copy, PH: Default + Drop, K: BackpressureFn>(
+    hub: &mut Hub<QB, QH, SliceBody<T>, PH, K>,
+    id: &HandleId,
+    elements: &[T],
+)
+    requires kind { Names hub.old id.now kind.ResponseMutUninit }
+    requires len { IsSomeAnd (option_and_then response_in (handle_at hub.old id.now)) (λ m. length elements.now ≡ m.content.asked_len) }
+    ensures { CompletesResponse hub.old hub.new id.now (length elements.now) }
+{
+    if hub.core.response_body(id).is_complete() {
+        hub.core.assume_init(id);
+    } else {
+        hub.core.fill_response(id, elements[0]);
+    }
 }
 
 impl<T: Copy> ResponseMutUninit<SliceBody<T>> {
@@ -64,6 +135,32 @@ impl<T: Copy> ResponseMutUninit<SliceBody<T>> {
     {
         let ResponseMutUninit { id, of: _ } = self;
         hub.core.fill_response(&id, element);
+        ResponseMut {
+            id,
+            of: PhantomData,
+        }
+    }
+
+    /// Writes copies of these elements, of which there are as many as are asked for, and makes the response one that can be sent.
+    /// Elements that were written before are dropped. After iceoryx2's `ResponseMutUninit::write_from_slice`, which panics where the
+    /// lengths differ; here equal lengths are the caller's condition.
+    #[inline(always)]
+    pub fn write_from_slice<QB: Body, QH: Default + Drop, PH: Default + Drop, K: BackpressureFn>(
+        self,
+        hub: &mut Hub<QB, QH, SliceBody<T>, PH, K>,
+        elements: &[T],
+    ) -> ResponseMut<SliceBody<T>>
+        requires kind { Names hub.old self kind.ResponseMutUninit }
+        requires len { IsSomeAnd (option_and_then response_in (handle_at hub.old self)) (λ m. length elements.now ≡ m.content.asked_len) }
+        ensures same { result ≡ self }
+        ensures written { hub.new ≡ with_complete_response hub.old self elements.now }
+        ensures kind { Names hub.new result kind.ResponseMut }
+        ensures kinds { KeepsKindsBut self hub.old hub.new }
+        ensures numbers { numbers_left hub.new ≡ numbers_left hub.old }
+    {
+        let ResponseMutUninit { id, of: _ } = self;
+        complete_response(hub, &id, elements);
+        hub.core.response_slice_mut(&id).copy_from_slice(elements);
         ResponseMut {
             id,
             of: PhantomData,

@@ -86,7 +86,8 @@ impl<QB: Body> ActiveRequest<QB> {
     ///
     /// # Errors
     ///
-    /// - `LoanError(..)` as `loan_uninit`. The hub stays as it was, and the value is dropped.
+    /// - `LoanError(..)` as `loan_uninit`: a pool of the worst-case size never returns `OutOfMemory`. The hub stays as it was, and
+    ///   the value is dropped.
     /// - `UnableToDeliver` as `ResponseMut::send`. The response is gone, and the queue stays.
     #[inline(always)]
     pub fn send_copy<QH: Default + Drop, T: Drop, PH: Default + Drop, K: BackpressureFn>(
@@ -97,6 +98,7 @@ impl<QB: Body> ActiveRequest<QB> {
         requires kind { Names hub.old self.now kind.ActiveRequest }
         requires number { 0 < numbers_left hub.old }
         ensures sends { SendsResponseCopy PH.is_default K.action hub.old self.now value result hub.new }
+        ensures unreduced { ServerHasPool hub.old.limits hub.old self.now 1 → result ≢ Err (SendError.LoanError LoanError.OutOfMemory) }
         ensures kinds { KeepsKinds hub.old hub.new }
         ensures numbers { numbers_left hub.old ≤ numbers_left hub.new + 1 }
     {

@@ -6,6 +6,7 @@ ghost use Rattle.rr_protocol.specs.declared.kind.Kind.TheVariants as kind;
 ghost use Rattle.rr_laws.specs.Unreduced.{ClientHasPool};
 ghost use Rattle.rr_ports.specs.Kinds.{Names, NamesNothing, KeepsKinds};
 ghost use Rattle.rr_ports.specs.Loaning.{SendsCopy, LoansComplete, IsOneDefault};
+ghost use Rattle.rr_protocol.specs.declared.error.SendError.TheVariants as send;
 ghost use Rattle.rr_protocol.specs.Loans.{LoansRequest};
 ghost use Rattle.rr_protocol.specs.State.{numbers_left};
 
@@ -73,7 +74,8 @@ impl<T: Drop> Client<Option<T>> {
     ///
     /// # Errors
     ///
-    /// - `SendError(LoanError(..))` as `loan_uninit`. The hub stays as it was, and the value is dropped.
+    /// - `SendError(LoanError(..))` as `loan_uninit`: a pool of the worst-case size never returns `OutOfMemory`. The hub stays as it
+    ///   was, and the value is dropped.
     /// - `ExceedsMaxActiveRequests` and `SendError(UnableToDeliver)` as `RequestMut::send`. The request is gone.
     #[inline(always)]
     pub fn send_copy<QH: Default + Drop, PB: Body, PH: Default + Drop, K: BackpressureFn>(
@@ -84,6 +86,7 @@ impl<T: Drop> Client<Option<T>> {
         requires kind { Names hub.old self.now kind.Client }
         requires number { 0 < numbers_left hub.old }
         ensures sends { SendsCopy QH.is_default K.action hub.old self.now value result hub.new }
+        ensures unreduced { ClientHasPool hub.old.limits hub.old self.now 1 → result ≢ Err (RequestSendError.SendError (send.LoanError LoanError.OutOfMemory)) }
         ensures fresh { IfOk result (λ pending. NamesNothing hub.old pending) }
         ensures kind { IfOk result (λ pending. Names hub.new pending kind.PendingResponse) }
         ensures kinds { KeepsKinds hub.old hub.new }

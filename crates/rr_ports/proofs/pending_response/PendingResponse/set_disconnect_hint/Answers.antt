@@ -1,4 +1,4 @@
-use Rattle.rr_ports.proofs.CallLaws.{hint_keeps}
+use Rattle.rr_ports.proofs.WriteLaws.{hint_keeps}
 use Rattle.rr_ports.proofs.pending_response.PendingResponse.set_disconnect_hint.Goals as goal
 
 pub returns-clause-kinds : goal.returns-clause-kinds

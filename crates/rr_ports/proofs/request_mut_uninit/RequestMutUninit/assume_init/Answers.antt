@@ -1,5 +1,5 @@
 use Rattle.rr_ports.specs.Kinds.{Names}
-use Rattle.rr_ports.proofs.CallLaws.{request_init_names, init_keeps_but}
+use Rattle.rr_ports.proofs.WriteLaws.{request_init_names, init_keeps_but}
 use Rattle.rr_ports.proofs.request_mut_uninit.RequestMutUninit.assume_init.Goals as goal
 
 pub returns-clause-kind : goal.returns-clause-kind

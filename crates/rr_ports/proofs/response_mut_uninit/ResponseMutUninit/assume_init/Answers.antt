@@ -1,5 +1,5 @@
 use Rattle.rr_ports.specs.Kinds.{Names}
-use Rattle.rr_ports.proofs.CallLaws.{response_init_names, init_keeps_but}
+use Rattle.rr_ports.proofs.WriteLaws.{response_init_names, init_keeps_but}
 use Rattle.rr_ports.proofs.response_mut_uninit.ResponseMutUninit.assume_init.Goals as goal
 
 pub returns-clause-kind : goal.returns-clause-kind

@@ -1,6 +1,6 @@
 use Rattle.rr_protocol.specs.Writing.{filled}
 use Rattle.rr_ports.specs.Kinds.{Names}
-use Rattle.rr_ports.proofs.CallLaws.{request_written_names, request_written_but}
+use Rattle.rr_ports.proofs.WriteLaws.{request_written_names, request_written_but}
 use Rattle.rr_ports.proofs.sliced.request_mut_uninit.RequestMutUninit+SliceBody+T.fill.Goals as goal
 
 pub returns-clause-kind : goal.returns-clause-kind

@@ -2,7 +2,7 @@ use Rattle.std.specs.Prelude.{option_and_then}
 use Rattle.rr_protocol.specs.Messages.{request_in}
 use Rattle.rr_protocol.specs.State.{handle_at, with_changed}
 use Rattle.rr_protocol.specs.Writing.{is_complete, with_element, with_request_content}
-use Rattle.rr_ports.proofs.CallLaws.{open_pushed, request_content_keeps, changed_numbers}
+use Rattle.rr_ports.proofs.WriteLaws.{open_pushed, request_content_keeps, changed_numbers}
 use Rattle.rr_ports.proofs.sliced.request_mut_uninit.RequestMutUninit+SliceBody+T.push.Goals as goal
 
 pub returns-clause-pushed : goal.returns-clause-pushed

@@ -1,6 +1,6 @@
 use Rattle.rr_protocol.specs.Writing.{filled}
 use Rattle.rr_ports.specs.Kinds.{Names}
-use Rattle.rr_ports.proofs.CallLaws.{response_written_names, response_written_but}
+use Rattle.rr_ports.proofs.WriteLaws.{response_written_names, response_written_but}
 use Rattle.rr_ports.proofs.sliced.response_mut_uninit.ResponseMutUninit+SliceBody+T.fill.Goals as goal
 
 pub returns-clause-kind : goal.returns-clause-kind

@@ -1,7 +1,7 @@
 use Rattle.std.proofs.Common.{[], ◌∷◌}
 use Rattle.rr_protocol.specs.Writing.{with_elements}
 use Rattle.rr_ports.specs.Kinds.{Names}
-use Rattle.rr_ports.proofs.CallLaws.{request_written_names, request_written_but}
+use Rattle.rr_ports.proofs.WriteLaws.{request_written_names, request_written_but}
 use Rattle.rr_ports.proofs.typed.request_mut_uninit.RequestMutUninit+Option+T.write_payload.Goals as goal
 
 pub returns-clause-kind : goal.returns-clause-kind

@@ -1,7 +1,7 @@
 use Rattle.std.proofs.Common.{[], ◌∷◌}
 use Rattle.rr_protocol.specs.Writing.{with_elements}
 use Rattle.rr_ports.specs.Kinds.{Names}
-use Rattle.rr_ports.proofs.CallLaws.{response_written_names, response_written_but}
+use Rattle.rr_ports.proofs.WriteLaws.{response_written_names, response_written_but}
 use Rattle.rr_ports.proofs.typed.response_mut_uninit.ResponseMutUninit+Option+T.write_payload.Goals as goal
 
 pub returns-clause-kind : goal.returns-clause-kind

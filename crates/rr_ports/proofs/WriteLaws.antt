@@ -1,0 +1,127 @@
+-- What numbers name after writes.
+use Rattle.std.proofs.Common.{◌≡◌, ◌≢◌, ℕ, Bool, not, false, cond, Option, Some, None, option_map, refl, sym, ap, ◌∙◌}
+use Rattle.std.specs.Prelude.{IsSomeAnd}
+use Rattle.rr_protocol.specs.declared.kind.Kind.{Kind}
+use Rattle.rr_protocol.specs.Messages.{Handle, RequestMutUninit, RequestMut, PendingResponse, ActiveRequest, ResponseMutUninit, ResponseMut, Response, with_hint}
+use Rattle.rr_protocol.specs.Messages.{Content}
+use Rattle.rr_protocol.specs.State.{State, numbers_left, with_changed}
+use Rattle.rr_protocol.specs.Queries.{kind_of, kind_at}
+use Rattle.rr_protocol.specs.Writing.{with_request_content, with_response_content, after_init}
+use Rattle.rr_ports.specs.Kinds.{Names, KeepsKinds, KeepsKindsBut}
+use Rattle.rr_ports.proofs.NameLaws.{handle_no_port, some_handle, keeps_but, keeps_each, changed_own, changed_other, changed_keeps}
+
+module _ {Q QH P PH : Type 0} where
+  request_content_kind : (change : Content Q QH → Content Q QH) (h : Handle Q QH P PH) → kind_of (with_request_content change h) ≡ kind_of h
+  request_content_kind change (RequestMutUninit m) = refl
+  request_content_kind change (RequestMut m) = refl
+  request_content_kind change (PendingResponse p) = refl
+  request_content_kind change (ActiveRequest a) = refl
+  request_content_kind change (ResponseMutUninit m) = refl
+  request_content_kind change (ResponseMut m) = refl
+  request_content_kind change (Response m) = refl
+
+  response_content_kind : (change : Content P PH → Content P PH) (h : Handle Q QH P PH) → kind_of (with_response_content change h) ≡ kind_of h
+  response_content_kind change (RequestMutUninit m) = refl
+  response_content_kind change (RequestMut m) = refl
+  response_content_kind change (PendingResponse p) = refl
+  response_content_kind change (ActiveRequest a) = refl
+  response_content_kind change (ResponseMutUninit m) = refl
+  response_content_kind change (ResponseMut m) = refl
+  response_content_kind change (Response m) = refl
+
+  hint_kind : (h : Handle Q QH P PH) → kind_of (with_hint h) ≡ kind_of h
+  hint_kind (RequestMutUninit m) = refl
+  hint_kind (RequestMut m) = refl
+  hint_kind (PendingResponse p) = refl
+  hint_kind (ActiveRequest a) = refl
+  hint_kind (ResponseMutUninit m) = refl
+  hint_kind (ResponseMut m) = refl
+  hint_kind (Response m) = refl
+
+  request_init_kind : (h : Handle Q QH P PH) → kind_of h ≡ Kind.RequestMutUninit → kind_of (after_init h) ≡ Kind.RequestMut
+  request_init_kind (RequestMutUninit m) e = refl
+  request_init_kind (RequestMut m) e = absurd (let f : Kind.RequestMut ≡ Kind.RequestMutUninit = e in cc)
+  request_init_kind (PendingResponse p) e = absurd (let f : Kind.PendingResponse ≡ Kind.RequestMutUninit = e in cc)
+  request_init_kind (ActiveRequest a) e = absurd (let f : Kind.ActiveRequest ≡ Kind.RequestMutUninit = e in cc)
+  request_init_kind (ResponseMutUninit m) e = absurd (let f : Kind.ResponseMutUninit ≡ Kind.RequestMutUninit = e in cc)
+  request_init_kind (ResponseMut m) e = absurd (let f : Kind.ResponseMut ≡ Kind.RequestMutUninit = e in cc)
+  request_init_kind (Response m) e = absurd (let f : Kind.Response ≡ Kind.RequestMutUninit = e in cc)
+
+  response_init_kind : (h : Handle Q QH P PH) → kind_of h ≡ Kind.ResponseMutUninit → kind_of (after_init h) ≡ Kind.ResponseMut
+  response_init_kind (RequestMutUninit m) e = absurd (let f : Kind.RequestMutUninit ≡ Kind.ResponseMutUninit = e in cc)
+  response_init_kind (RequestMut m) e = absurd (let f : Kind.RequestMut ≡ Kind.ResponseMutUninit = e in cc)
+  response_init_kind (PendingResponse p) e = absurd (let f : Kind.PendingResponse ≡ Kind.ResponseMutUninit = e in cc)
+  response_init_kind (ActiveRequest a) e = absurd (let f : Kind.ActiveRequest ≡ Kind.ResponseMutUninit = e in cc)
+  response_init_kind (ResponseMutUninit m) e = refl
+  response_init_kind (ResponseMut m) e = absurd (let f : Kind.ResponseMut ≡ Kind.ResponseMutUninit = e in cc)
+  response_init_kind (Response m) e = absurd (let f : Kind.Response ≡ Kind.ResponseMutUninit = e in cc)
+
+-- a message that is not complete takes an element
+module _ {M S : Type 0} (is_whole : M → Bool) (told : Bool) (new pushed old : S) where
+  pub open_pushed : (o : Option M) → IsSomeAnd o (λ m. is_whole m ≡ false) → IsSomeAnd o (λ m. (told ≡ not (is_whole m)) × (new ≡ cond told pushed old)) → new ≡ pushed
+  open_pushed None unfilled happened = absurd unfilled
+  open_pushed (Some m) unfilled happened = happened.1 ∙ ap (λ b. cond b pushed old) (happened.0 ∙ ap not unfilled)
+
+module _ {Q QH P PH K : Type 0} where
+  -- a handle under a number becomes another
+  becomes : (s : State Q QH P PH K) (n : ℕ) (f : Handle Q QH P PH → Handle Q QH P PH) (k j : Kind) → Kind.Client ≢ k → Kind.Server ≢ k
+      → kind_at s n ≡ Some k → ((h : Handle Q QH P PH) → kind_of h ≡ k → kind_of (f h) ≡ j) → kind_at (with_changed s n f) n ≡ Some j
+  becomes s n f k j client server is same =
+      let port = handle_no_port s n k client server is in
+      let h = some_handle s n k port.1 in
+      changed_own s n f h.0 h.1 port.0
+      ∙ ap Some (same h.0 (let e : Some (kind_of h.0) ≡ Some k = sym (ap (option_map kind_of) h.1) ∙ port.1 in cc))
+
+  module _ (old new : State Q QH P PH K) (n : ℕ) where
+    -- no number is given
+    pub changed_numbers : (f : Handle Q QH P PH → Handle Q QH P PH) → new ≡ with_changed old n f → numbers_left new ≡ numbers_left old
+    changed_numbers f e = ap numbers_left e
+
+    -- a change of content
+    pub request_content_keeps : (change : Content Q QH → Content Q QH) → new ≡ with_changed old n (with_request_content change) → KeepsKinds old new
+    request_content_keeps change e =
+        keeps_each old new (λ i. ap (λ t. kind_at t i) e ∙ changed_keeps old n (with_request_content change) (request_content_kind change) i)
+
+    pub response_content_keeps : (change : Content P PH → Content P PH) → new ≡ with_changed old n (with_response_content change) → KeepsKinds old new
+    response_content_keeps change e =
+        keeps_each old new (λ i. ap (λ t. kind_at t i) e ∙ changed_keeps old n (with_response_content change) (response_content_kind change) i)
+
+    -- a hint that is set
+    pub hint_keeps : new ≡ with_changed old n with_hint → KeepsKinds old new
+    hint_keeps e = keeps_each old new (λ i. ap (λ t. kind_at t i) e ∙ changed_keeps old n with_hint hint_kind i)
+
+    -- a message that is taken as complete
+    pub init_keeps_but : new ≡ with_changed old n after_init → KeepsKindsBut n old new
+    init_keeps_but e = keeps_but n old new (λ i other. ap (λ t. kind_at t i) e ∙ changed_other old n after_init i other)
+
+    pub request_init_names : kind_at old n ≡ Some Kind.RequestMutUninit → new ≡ with_changed old n after_init → Names new n Kind.RequestMut
+    unfolding Names
+    request_init_names is e = ap (λ t. kind_at t n) e
+        ∙ becomes old n after_init Kind.RequestMutUninit Kind.RequestMut (λ e. cc) (λ e. cc) is request_init_kind
+
+    pub response_init_names : kind_at old n ≡ Some Kind.ResponseMutUninit → new ≡ with_changed old n after_init → Names new n Kind.ResponseMut
+    unfolding Names
+    response_init_names is e = ap (λ t. kind_at t n) e
+        ∙ becomes old n after_init Kind.ResponseMutUninit Kind.ResponseMut (λ e. cc) (λ e. cc) is response_init_kind
+
+  -- a message that is written whole
+  module _ (old new : State Q QH P PH K) (n : ℕ) where
+    module _ (change : Content Q QH → Content Q QH) (e : new ≡ with_changed (with_changed old n (with_request_content change)) n after_init) where
+      pub request_written_but : KeepsKindsBut n old new
+      request_written_but = keeps_but n old new (λ i other. ap (λ t. kind_at t i) e
+          ∙ changed_other (with_changed old n (with_request_content change)) n after_init i other
+          ∙ changed_keeps old n (with_request_content change) (request_content_kind change) i)
+
+      pub request_written_names : kind_at old n ≡ Some Kind.RequestMutUninit → Names new n Kind.RequestMut
+      request_written_names is = request_init_names (with_changed old n (with_request_content change)) new n
+          (changed_keeps old n (with_request_content change) (request_content_kind change) n ∙ is) e
+
+    module _ (change : Content P PH → Content P PH) (e : new ≡ with_changed (with_changed old n (with_response_content change)) n after_init) where
+      pub response_written_but : KeepsKindsBut n old new
+      response_written_but = keeps_but n old new (λ i other. ap (λ t. kind_at t i) e
+          ∙ changed_other (with_changed old n (with_response_content change)) n after_init i other
+          ∙ changed_keeps old n (with_response_content change) (response_content_kind change) i)
+
+      pub response_written_names : kind_at old n ≡ Some Kind.ResponseMutUninit → Names new n Kind.ResponseMut
+      response_written_names is = response_init_names (with_changed old n (with_response_content change)) new n
+          (changed_keeps old n (with_response_content change) (response_content_kind change) n ∙ is) e
