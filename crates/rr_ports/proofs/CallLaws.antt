@@ -1,8 +1,9 @@
 -- What numbers name after loans, sends and receives.
 use Rattle.std.proofs.Common.{◌≡◌, ℕ, ◌+◌, ◌-◌, ◌^◌, ◌≤◌, true, false, cond, List, [], ◌∷◌, map, Option, Some, None, refl, sym, ap, ◌∙◌, subst, arith, Result, Ok, Err}
-use Rattle.std.specs.Prelude.{◌&&◌, ◌||◌, ◌==◌, IfOk, IfSome}
+use Rattle.std.specs.Prelude.{IsSomeAnd, option_and_then, ◌&&◌, ◌||◌, ◌==◌, IfOk, IfSome}
 use Rattle.std.specs.List.{list_any}
 use Rattle.std.specs.FinMap as fin_map
+use Rattle.rr_maps.proofs.MapLaws.{get-insert_same}
 use Rattle.rr_protocol.specs.declared.kind.Kind.{Kind}
 use Rattle.rr_protocol.specs.declared.error.LoanError.{LoanError}
 use Rattle.rr_protocol.specs.declared.error.RequestSendError.{RequestSendError}
@@ -10,16 +11,16 @@ use Rattle.rr_protocol.specs.declared.error.SendError.{SendError}
 use Rattle.rr_protocol.specs.declared.error.ReceiveError.{ReceiveError}
 use Rattle.rr_protocol.specs.declared.settings.BackpressureAction.{BackpressureAction}
 use Rattle.rr_protocol.specs.Keys.{RequestKey, request_key}
-use Rattle.rr_protocol.specs.Messages.{RequestMessage, Handle, ActiveRequest, Response}
+use Rattle.rr_protocol.specs.Messages.{request_in, response_in, RequestMessage, Handle, ActiveRequest, Response}
 use Rattle.rr_protocol.specs.Ports.{Client}
-use Rattle.rr_protocol.specs.State.{State, client_at, pending_at, is_client_value, is_server_value, numbers_left}
+use Rattle.rr_protocol.specs.State.{State, handle_at, client_at, pending_at, is_client_value, is_server_value, numbers_left}
 use Rattle.rr_protocol.specs.Queries.{kind_of, kind_at}
 use Rattle.rr_protocol.specs.Loans.{LoansRequest, LoansResponse, with_loan_counted}
 use Rattle.rr_protocol.specs.Sends.{SendsRequest, SendsResponse, with_response_put}
 use Rattle.rr_protocol.specs.Receives.{ReceivesRequest, ReceivesResponse, TakesRequest, Skims}
 use Rattle.rr_protocol.specs.Releases.{after_release}
 use Rattle.rr_laws.proofs.Opening.{some_and, open_request_mut, open_response_mut, open_active}
-use Rattle.rr_ports.specs.Kinds.{Names, KeepsKinds, KeepsKindsBut}
+use Rattle.rr_ports.specs.Kinds.{Names, KeepsKinds, KeepsKindsBut, RequestAsksFor, ResponseAsksFor}
 use Rattle.rr_ports.proofs.NameLaws.{SamePorts, handle_no_port, free_no_port, keeps_but, keeps_new, keeps_each, keeps_same, other_kind, own_kind}
 use Rattle.rr_ports.proofs.ReleaseLaws.{SameNames, names_then, names_equal, names_ports, names_each, released_keeps, released_numbers}
 
@@ -91,6 +92,15 @@ module _ {Q QH P PH K : Type 0} where
     loan_numbers (Ok k) loans = one_fewer old new (ap (λ t. t.next) (some_and (client_at old n) _ loans).2.2.4)
     loan_numbers (Err e) loans = none_fewer old new (ap (λ t. t.next) (loan_refused e loans))
 
+    pub loan_asks : (result : Result ℕ LoanError) → LoansRequest IsDefault old n len result new → IfOk result (λ k. RequestAsksFor new k len)
+    unfolding RequestAsksFor
+    loan_asks (Ok k) loans =
+        let l = some_and (client_at old n) _ loans in
+        let there = ap (λ t. fin_map.get t.handles old.next) l.2.2.4 ∙ get-insert_same old.handles old.next _ old.next refl in
+        subst (λ i. IsSomeAnd (option_and_then request_in (handle_at new i)) (λ m. len ≡ m.content.asked_len)) (sym l.2.1)
+        (subst (λ o. IsSomeAnd (option_and_then request_in o) (λ m. len ≡ m.content.asked_len)) (sym there) refl)
+    loan_asks (Err e) loans = tt
+
   -- loans of responses
   module _ (IsDefault : PH → Type 0) (old new : State Q QH P PH K) (n len : ℕ) where
     pub response_loan_refused : (e : LoanError) → LoansResponse IsDefault old n len (Err e) new → new ≡ old
@@ -119,6 +129,15 @@ module _ {Q QH P PH K : Type 0} where
     pub response_loan_numbers : (result : Result ℕ LoanError) → LoansResponse IsDefault old n len result new → numbers_left old ≤ numbers_left new + 1
     response_loan_numbers (Ok k) loans = one_fewer old new (ap (λ t. t.next) (open_active old n _ loans).4.2.2)
     response_loan_numbers (Err e) loans = none_fewer old new (ap (λ t. t.next) (response_loan_refused e loans))
+
+    pub response_loan_asks : (result : Result ℕ LoanError) → LoansResponse IsDefault old n len result new → IfOk result (λ k. ResponseAsksFor new k len)
+    unfolding ResponseAsksFor
+    response_loan_asks (Ok k) loans =
+        let l = (open_active old n _ loans).4 in
+        let there = ap (λ t. fin_map.get t.handles old.next) l.2.2 ∙ get-insert_same _ old.next _ old.next refl in
+        subst (λ i. IsSomeAnd (option_and_then response_in (handle_at new i)) (λ m. len ≡ m.content.asked_len)) (sym l.1)
+        (subst (λ o. IsSomeAnd (option_and_then response_in o) (λ m. len ≡ m.content.asked_len)) (sym there) refl)
+    response_loan_asks (Err e) loans = tt
 
 -- sends
 module _ {Q QH P PH K : Type 0} (action : K → ℕ → ℕ → BackpressureAction) (old new : State Q QH P PH K) (n : ℕ) where

@@ -5,6 +5,7 @@ use Rattle.rr_protocol.specs.declared.kind.Kind.{Kind}
 use Rattle.rr_protocol.specs.Queries.{kind_at}
 use Rattle.rr_protocol.specs.State.{State}
 use Rattle.rr_ports.proofs.LendLaws.{kept_by_request, next_by_request, kept_by_response, next_by_response}
+use Rattle.rr_ports.proofs.NameLaws.{keeps_same}
 use Rattle.rr_ports.specs.Kinds.{Names, NamesNothing, KeepsKinds, KeepsKindsBut, kind_number, is_kind}
 
 -- kinds that a test tells apart differ
@@ -52,6 +53,11 @@ module _ {Q QH P PH K : Type 0} (old mid new : State Q QH P PH K) where
   unfolding KeepsKinds
   kept_both first second m k names = second m k (first m k names)
 
+  -- a number changes twice
+  pub kept_but_both : (n : ℕ) → KeepsKindsBut n old mid → KeepsKindsBut n mid new → KeepsKindsBut n old new
+  unfolding KeepsKindsBut
+  kept_but_both n first second m other = second m other ∙ first m other
+
 -- a number that named nothing is given, all is kept once more, and it changes what it names
 pub kept_across : {Q QH P PH K : Type 0} (old first mid new : State Q QH P PH K) (n : ℕ) → NamesNothing old n → KeepsKinds old first
     → KeepsKinds first mid → KeepsKindsBut n mid new → KeepsKinds old new
@@ -81,5 +87,7 @@ pub ruleset frames = (
   next_by_response,
   kept_through,
   kept_both,
+  kept_but_both,
   kept_across,
+  keeps_same,
 )

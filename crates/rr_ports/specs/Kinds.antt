@@ -1,9 +1,10 @@
 -- What numbers name after a call, which callers rest on.
-use Rattle.std.specs.Prelude.{◌≡◌, ◌≢◌, ℕ, Bool, ◌==◌, Some, None}
+use Rattle.std.specs.Prelude.{◌≡◌, ◌≢◌, ℕ, Bool, ◌==◌, Some, None, IsSomeAnd, option_and_then}
 use Rattle.rr_protocol.specs.declared.kind.Kind.{Kind}
 use Rattle.rr_protocol.specs.declared.kind.Kind.TheVariants as kind
 use Rattle.rr_protocol.specs.Queries.{kind_at}
-use Rattle.rr_protocol.specs.State.{State}
+use Rattle.rr_protocol.specs.Messages.{request_in, response_in}
+use Rattle.rr_protocol.specs.State.{State, handle_at}
 
 -- kinds by number, by which they are told apart
 abbrev pub kind_number : Kind → ℕ
@@ -37,3 +38,11 @@ module _ {Q QH P PH K : Type 0} where
   -- every number but one names what it named
   unfoldable pub KeepsKindsBut : ℕ → State Q QH P PH K → State Q QH P PH K → Type 0
   KeepsKindsBut but old new = (n : ℕ) → n ≢ but → kind_at new n ≡ kind_at old n
+
+  -- the request under a number asks for so many elements
+  unfoldable pub RequestAsksFor : State Q QH P PH K → ℕ → ℕ → Type 0
+  RequestAsksFor s n len = IsSomeAnd (option_and_then request_in (handle_at s n)) (λ m. len ≡ m.content.asked_len)
+
+  -- so does the response under a number
+  unfoldable pub ResponseAsksFor : State Q QH P PH K → ℕ → ℕ → Type 0
+  ResponseAsksFor s n len = IsSomeAnd (option_and_then response_in (handle_at s n)) (λ m. len ≡ m.content.asked_len)

@@ -1,6 +1,10 @@
 //! What users of `rr_ports` write.
 #![tactic(auto)]
 
+pub mod asking;
 pub mod parameter;
 pub mod question;
+pub mod serving;
+pub mod slices;
+pub mod streaming;
 pub mod telling;

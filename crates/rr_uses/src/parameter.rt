@@ -51,6 +51,7 @@ fn answered(hub: &mut Service, server: &Server<u64>, parameter: u64) -> u64
 /// # Errors
 ///
 /// As `Client::send_copy`.
+#[tactic(auto, using(rr_ports::proofs::Frames::kinds))]
 pub fn replace_twice(
     hub: &mut Service,
     first: &Client<u64>,

@@ -4,7 +4,7 @@
 ghost use Rattle.std.specs.Prelude.{◌+◌, ◌≤◌, ◌<◌, ◌≢◌, ◌≡◌, Err, IfOk, IsSomeAnd, option_and_then, true};
 ghost use Rattle.rr_protocol.specs.declared.kind.Kind.TheVariants as kind;
 ghost use Rattle.rr_laws.specs.Unreduced.{ServerHasPool};
-ghost use Rattle.rr_ports.specs.Kinds.{Names, NamesNothing, KeepsKinds};
+ghost use Rattle.rr_ports.specs.Kinds.{Names, NamesNothing, KeepsKinds, ResponseAsksFor};
 ghost use Rattle.rr_ports.specs.Loaning.{LoansResponseFilled};
 ghost use Rattle.rr_protocol.specs.Loans.{LoansResponse};
 ghost use Rattle.rr_protocol.specs.Messages.{request_in};
@@ -57,6 +57,7 @@ impl<QB: Body> ActiveRequest<QB> {
         ensures unreduced { ServerHasPool hub.old.limits hub.old self.now len → result ≢ Err LoanError.OutOfMemory }
         ensures fresh { IfOk result (λ response. NamesNothing hub.old response) }
         ensures kind { IfOk result (λ response. Names hub.new response kind.ResponseMutUninit) }
+        ensures asked { IfOk result (λ response. ResponseAsksFor hub.new response len) }
         ensures kinds { KeepsKinds hub.old hub.new }
         ensures numbers { numbers_left hub.old ≤ numbers_left hub.new + 1 }
     {

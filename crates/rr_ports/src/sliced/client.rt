@@ -4,7 +4,7 @@
 ghost use Rattle.std.specs.Prelude.{◌+◌, ◌≤◌, ◌<◌, ◌≢◌, ◌≡◌, Err, IfOk, IsSomeAnd};
 ghost use Rattle.rr_protocol.specs.declared.kind.Kind.TheVariants as kind;
 ghost use Rattle.rr_laws.specs.Unreduced.{ClientHasPool};
-ghost use Rattle.rr_ports.specs.Kinds.{Names, NamesNothing, KeepsKinds};
+ghost use Rattle.rr_ports.specs.Kinds.{Names, NamesNothing, KeepsKinds, RequestAsksFor};
 ghost use Rattle.rr_ports.specs.Loaning.{LoansFilled};
 ghost use Rattle.rr_protocol.specs.Loans.{LoansRequest};
 ghost use Rattle.rr_protocol.specs.State.{client_at, numbers_left};
@@ -40,6 +40,7 @@ impl<T: Drop> Client<SliceBody<T>> {
         ensures unreduced { ClientHasPool hub.old.limits hub.old self.now len → result ≢ Err LoanError.OutOfMemory }
         ensures fresh { IfOk result (λ request. NamesNothing hub.old request) }
         ensures kind { IfOk result (λ request. Names hub.new request kind.RequestMutUninit) }
+        ensures asked { IfOk result (λ request. RequestAsksFor hub.new request len) }
         ensures kinds { KeepsKinds hub.old hub.new }
         ensures numbers { numbers_left hub.old ≤ numbers_left hub.new + 1 }
     {

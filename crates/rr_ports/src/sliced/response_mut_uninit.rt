@@ -1,10 +1,10 @@
 //! Writing the elements of a response.
-#![tactic(auto, using(crate::proofs::Asking::asks), unfolding(crate::specs::Kinds::Names))]
+#![tactic(auto, using(crate::proofs::Asking::asks), unfolding(crate::specs::Kinds::Names, crate::specs::Kinds::ResponseAsksFor))]
 
 ghost use Rattle.std.specs.Prelude.{◌≡◌, IsSomeAnd, option_and_then, false, length};
 ghost use Rattle.rr_protocol.specs.declared.kind.Kind.TheVariants as kind;
 ghost use Rattle.rr_ports.specs.Filling.{CompletesResponse, FillsResponse, with_response_element};
-ghost use Rattle.rr_ports.specs.Kinds.{Names, KeepsKinds, KeepsKindsBut};
+ghost use Rattle.rr_ports.specs.Kinds.{Names, KeepsKinds, KeepsKindsBut, ResponseAsksFor};
 ghost use Rattle.rr_ports.specs.Loaning.{with_complete_response};
 ghost use Rattle.rr_protocol.specs.Messages.{response_in};
 ghost use Rattle.rr_protocol.specs.State.{handle_at, numbers_left, with_changed};
@@ -48,6 +48,18 @@ impl<T: Drop> ResponseMutUninit<SliceBody<T>> {
         ensures { IsSomeAnd (option_and_then response_in (handle_at hub.now self.now)) (λ m. m.content.elements ≡ result.now) }
     {
         hub.core.response_body(&self.id).as_slice()
+    }
+
+    /// Returns how many elements the response asks for. Our own: the length of what iceoryx2's `ResponseMutUninit::payload` lends.
+    #[inline(always)]
+    pub fn asked_len<QB: Body, QH: Default + Drop, PH: Default + Drop, K: BackpressureFn>(
+        &self,
+        hub: &Hub<QB, QH, SliceBody<T>, PH, K>,
+    ) -> usize
+        requires { Names hub.now self.now kind.ResponseMutUninit }
+        ensures { ResponseAsksFor hub.now self.now result }
+    {
+        hub.core.response_body(&self.id).asked_len()
     }
 
     /// Appends an element to a payload that is not complete, which `is_complete` tests. Our own: it stands for writes through the
@@ -107,7 +119,7 @@ fn complete_response<QB: Body, QH: Default + Drop, T: Copy, PH: Default + Drop, 
     elements: &[T],
 )
     requires kind { Names hub.old id.now kind.ResponseMutUninit }
-    requires len { IsSomeAnd (option_and_then response_in (handle_at hub.old id.now)) (λ m. length elements.now ≡ m.content.asked_len) }
+    requires len { ResponseAsksFor hub.old id.now (length elements.now) }
     ensures { CompletesResponse hub.old hub.new id.now (length elements.now) }
 {
     if hub.core.response_body(id).is_complete() {
@@ -143,7 +155,7 @@ impl<T: Copy> ResponseMutUninit<SliceBody<T>> {
 
     /// Writes copies of these elements, of which there are as many as are asked for, and makes the response one that can be sent.
     /// Elements that were written before are dropped. After iceoryx2's `ResponseMutUninit::write_from_slice`, which panics where the
-    /// lengths differ; here equal lengths are the caller's condition.
+    /// lengths differ; here equal lengths are the caller's condition: a loan and `asked_len` tell the length.
     #[inline(always)]
     pub fn write_from_slice<QB: Body, QH: Default + Drop, PH: Default + Drop, K: BackpressureFn>(
         self,
@@ -151,7 +163,7 @@ impl<T: Copy> ResponseMutUninit<SliceBody<T>> {
         elements: &[T],
     ) -> ResponseMut<SliceBody<T>>
         requires kind { Names hub.old self kind.ResponseMutUninit }
-        requires len { IsSomeAnd (option_and_then response_in (handle_at hub.old self)) (λ m. length elements.now ≡ m.content.asked_len) }
+        requires len { ResponseAsksFor hub.old self (length elements.now) }
         ensures same { result ≡ self }
         ensures written { hub.new ≡ with_complete_response hub.old self elements.now }
         ensures kind { Names hub.new result kind.ResponseMut }

@@ -1,11 +1,11 @@
 use Rattle.std.proofs.Common.{◌≡◌, length, sym, ap, ◌∙◌, replicate}
 use Rattle.std.proofs.lemmas.List.{length-replicate}
-use Rattle.rr_ports.specs.Kinds.{Names}
+use Rattle.rr_ports.specs.Kinds.{Names, RequestAsksFor}
 use Rattle.rr_ports.proofs.Fillings.{request_being_written, inited_request, filled_request}
 use Rattle.rr_ports.proofs.sliced.request_mut_uninit.complete_request.Goals as goal
 
 pub returns-then-is_complete : goal.returns-then-is_complete
-unfolding Names
+unfolding Names RequestAsksFor
 returns-then-is_complete g c =
     let m = request_being_written c.hub.inside.core c.args.id.now (rw (← c.hub.view_is) at c.requires.kind) in
     let asked = rw (m.1) at c.request_body.ensures.asked in
@@ -18,7 +18,7 @@ returns-then-is_complete g c =
     )
 
 pub returns-else-is_complete : goal.returns-else-is_complete
-unfolding Names
+unfolding Names RequestAsksFor
 returns-else-is_complete g c =
     let m = request_being_written c.hub.inside.core c.args.id.now (rw (← c.hub.view_is) at c.requires.kind) in
     let len = rw (m.1) at (rw (← c.hub.view_is) at c.requires.len) in (

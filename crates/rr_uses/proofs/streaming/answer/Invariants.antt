@@ -1,0 +1,6 @@
+use Rattle.rr_ports.specs.Kinds.{KeepsKinds}
+use Rattle.rr_uses.proofs.streaming.answer.Given as goal
+
+-- what numbers named they name still
+abbrev pub invariant-loop-value : goal.invariant-loop-value
+invariant-loop-value l = KeepsKinds l.fn.hub l.hub

@@ -1,0 +1,6 @@
+use Rattle.rr_ports.specs.Kinds.{KeepsKinds}
+use Rattle.rr_uses.proofs.streaming.receive.Given as goal
+
+-- what numbers named they name still
+abbrev pub invariant-loop-received : goal.invariant-loop-received
+invariant-loop-received l = KeepsKinds l.fn.hub l.hub

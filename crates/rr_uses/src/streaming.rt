@@ -1,0 +1,119 @@
+//! A stream of answers to one request, which the client ends by a hint once it has enough.
+#![tactic(auto, using(rr_ports::proofs::Frames::frames))]
+
+ghost use Rattle.std.specs.Prelude.{◌<◌, ◌≤◌, IfOk};
+ghost use Rattle.rr_protocol.specs.declared.kind.Kind.TheVariants as kind;
+ghost use Rattle.rr_protocol.specs.State.{numbers_left};
+ghost use Rattle.rr_ports.specs.Kinds.{Names, KeepsKinds};
+
+use rr_ports::RequestSendError;
+use rr_ports::typed::{ActiveRequest, Client, Hub, PendingResponse, Server};
+
+/// A service that answers numbers with numbers.
+type Service = Hub<u64, u64, u64, u64>;
+
+/// Sends a number as the next response, unless the client wants no more or no number is left. Returns whether it was sent.
+fn is_sent(hub: &mut Service, active: &ActiveRequest<u64>, value: u64) -> bool
+    requires { Names hub.old active.now kind.ActiveRequest }
+    ensures { KeepsKinds hub.old hub.new }
+{
+    if active.has_disconnect_hint(hub) || hub.numbers_left() == 0 {
+        return false;
+    }
+    active.send_copy(hub, value).is_ok()
+}
+
+/// Sends numbers from 0 on as responses, up to `most` of them, and stops as soon as the client has set its hint, a send is refused
+/// or no number is left. Returns how many were sent.
+pub fn answer(hub: &mut Service, active: &ActiveRequest<u64>, most: u64) -> u64
+    requires { Names hub.old active.now kind.ActiveRequest }
+    ensures kinds { KeepsKinds hub.old hub.new }
+    ensures most { result ≤ most }
+{
+    for value in 0..most {
+        if !is_sent(hub, active, value) {
+            return value;
+        }
+    }
+    most
+}
+
+/// Receives the next response and releases it. Returns whether one came.
+fn is_received(hub: &mut Service, pending: &PendingResponse<u64>) -> bool
+    requires { Names hub.old pending.now kind.PendingResponse }
+    ensures { KeepsKinds hub.old hub.new }
+{
+    match pending.receive(hub) {
+        Ok(Some(response)) => {
+            response.release(hub);
+            true
+        }
+        _ => false,
+    }
+}
+
+/// Receives responses until none is queued, or the client has as many as it wants, and sets its hint in that case. Returns how many
+/// it wants still.
+pub fn receive(hub: &mut Service, pending: &PendingResponse<u64>, wanted: u64) -> u64
+    requires { Names hub.old pending.now kind.PendingResponse }
+    ensures kinds { KeepsKinds hub.old hub.new }
+    ensures wanted { result ≤ wanted }
+{
+    for received in 0..wanted {
+        if !is_received(hub, pending) {
+            return wanted - received;
+        }
+    }
+    pending.set_disconnect_hint(hub);
+    0
+}
+
+/// Has the server send two responses and the client receive them, over and over, until the server sends none. Returns how many the
+/// client wants still.
+fn take_turns(
+    hub: &mut Service,
+    active: &ActiveRequest<u64>,
+    pending: &PendingResponse<u64>,
+    wanted: u64,
+) -> u64
+    requires active { Names hub.old active.now kind.ActiveRequest }
+    requires pending { Names hub.old pending.now kind.PendingResponse }
+    ensures kinds { KeepsKinds hub.old hub.new }
+    ensures wanted { result ≤ wanted }
+{
+    let mut left = wanted;
+    for _ in 0..wanted {
+        if answer(hub, active, 2) == 0 {
+            return left;
+        }
+        left = receive(hub, pending, left);
+    }
+    left
+}
+
+/// Asks a server for a stream of responses, and ends it once as many came as are wanted. Returns how many came.
+///
+/// # Errors
+///
+/// As `Client::send_copy`.
+pub fn stream(
+    hub: &mut Service,
+    client: &Client<u64>,
+    server: &Server<u64>,
+    wanted: u64,
+) -> Result<u64, RequestSendError>
+    requires client { Names hub.old client.now kind.Client }
+    requires server { Names hub.old server.now kind.Server }
+    requires numbers { 1 < numbers_left hub.old }
+    ensures { IfOk result (λ came. came ≤ wanted) }
+{
+    let pending = client.send_copy(hub, wanted)?;
+    let Ok(Some(active)) = server.receive(hub) else {
+        pending.release(hub);
+        return Ok(0);
+    };
+    let left = take_turns(hub, &active, &pending, wanted);
+    active.release(hub);
+    pending.release(hub);
+    Ok(wanted - left)
+}
