@@ -17,6 +17,22 @@ use rr_slots::Body;
 use std::marker::{Model, PhantomData};
 
 /// A request that a server received and may answer as often as it likes. It is not dropped: `release` ends it.
+///
+/// # Examples
+///
+/// Sends a number as the next response, unless the client wants no more (`rr_uses::streaming`):
+///
+/// ```
+/// fn is_sent(hub: &mut Service, active: &ActiveRequest<u64>, value: u64) -> bool
+///     requires { Names hub.old active.now kind.ActiveRequest }
+///     ensures { KeepsKinds hub.old hub.new }
+/// {
+///     if active.has_disconnect_hint(hub) || hub.numbers_left() == 0 {
+///         return false;
+///     }
+///     active.send_copy(hub, value).is_ok()
+/// }
+/// ```
 #[must_use]
 pub struct ActiveRequest<QB> {
     pub(crate) id: HandleId,

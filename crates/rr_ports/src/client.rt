@@ -18,6 +18,21 @@ use rr_slots::Body;
 use std::marker::{Model, PhantomData};
 
 /// A client: it loans and sends requests. It is not dropped: `release` ends it.
+///
+/// # Examples
+///
+/// Sends a number, and waits for nothing (`rr_uses::telling`):
+///
+/// ```
+/// fn tell(hub: &mut Hub<u64, u64, u64, u64>, client: &Client<u64>, value: u64) -> Result<(), RequestSendError>
+///     requires client { Names hub.old client.now kind.Client }
+///     requires numbers { 0 < numbers_left hub.old }
+/// {
+///     let pending = client.send_copy(hub, value)?;
+///     pending.release(hub);
+///     Ok(())
+/// }
+/// ```
 #[must_use]
 pub struct Client<QB> {
     pub(crate) number: u64,

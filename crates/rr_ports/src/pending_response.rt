@@ -19,6 +19,27 @@ use rr_slots::Body;
 use std::marker::{Model, PhantomData};
 
 /// A request that was sent, and whose responses are received. It is not dropped: `release` ends it.
+///
+/// # Examples
+///
+/// Returns the number that came as a response, if one did, and releases it (`rr_uses::parameter`):
+///
+/// ```
+/// fn received(hub: &mut Service, pending: &PendingResponse<u64>) -> Option<u64>
+///     requires { Names hub.old pending.now kind.PendingResponse }
+///     ensures kinds { KeepsKinds hub.old hub.new }
+///     ensures numbers { numbers_left hub.new ≡ numbers_left hub.old }
+/// {
+///     match pending.receive(hub) {
+///         Ok(Some(response)) => {
+///             let value = *response.payload(hub);
+///             response.release(hub);
+///             Some(value)
+///         }
+///         _ => None,
+///     }
+/// }
+/// ```
 #[must_use]
 pub struct PendingResponse<QB> {
     pub(crate) id: HandleId,

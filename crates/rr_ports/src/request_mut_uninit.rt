@@ -18,6 +18,25 @@ use rr_slots::Body;
 use std::marker::{Model, PhantomData};
 
 /// A loaned request whose payload is being written. It is not dropped: `assume_init`, a write of the whole payload or `release` ends it.
+///
+/// # Examples
+///
+/// Appends values to a request until it is complete or no value is left (`rr_uses::slices`):
+///
+/// ```
+/// fn write(hub: &mut Service, request: &RequestMutUninit<u64>, values: &[u64])
+///     requires { Names hub.old request.now kind.RequestMutUninit }
+///     ensures kinds { KeepsKinds hub.old hub.new }
+///     ensures numbers { numbers_left hub.new ≡ numbers_left hub.old }
+/// {
+///     for value in values {
+///         if request.is_complete(hub) {
+///             return;
+///         }
+///         request.push(hub, *value);
+///     }
+/// }
+/// ```
 #[must_use]
 pub struct RequestMutUninit<QB> {
     pub(crate) id: HandleId,

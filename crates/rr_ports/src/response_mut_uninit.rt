@@ -18,6 +18,22 @@ use rr_slots::Body;
 use std::marker::{Model, PhantomData};
 
 /// A loaned response whose payload is being written. It is not dropped: `assume_init`, a write of the whole payload or `release` ends it.
+///
+/// # Examples
+///
+/// Sends a slice of one element as a response (`rr_uses::slices`):
+///
+/// ```
+/// fn send_one(hub: &mut Service, active: &ActiveRequest<u64>, value: u64) -> Result<(), SendError>
+///     requires active { Names hub.old active.now kind.ActiveRequest }
+///     requires number { 0 < numbers_left hub.old }
+///     ensures { KeepsKinds hub.old hub.new }
+/// {
+///     let response = active.loan_slice_uninit(hub, 1)?;
+///     let response = response.fill(hub, value);
+///     response.send(hub)
+/// }
+/// ```
 #[must_use]
 pub struct ResponseMutUninit<PB> {
     pub(crate) id: HandleId,

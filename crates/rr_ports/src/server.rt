@@ -22,6 +22,27 @@ use rr_slots::Body;
 use std::marker::{Model, PhantomData};
 
 /// A server: it receives requests and answers them. It is not dropped: `release` ends it.
+///
+/// # Examples
+///
+/// Answers the oldest request with the double of its number (`rr_uses::serving`):
+///
+/// ```
+/// fn is_served(hub: &mut Service, server: &Server<u64>) -> Result<bool, ReceiveError>
+///     requires server { Names hub.old server.now kind.Server }
+///     requires numbers { 1 < numbers_left hub.old }
+///     ensures { KeepsKinds hub.old hub.new }
+/// {
+///     let Some(active) = server.receive(hub)? else {
+///         return Ok(false);
+///     };
+///     let asked = *active.payload(hub);
+///     // A client whose queue is full misses this answer.
+///     let _ = active.send_copy(hub, asked.wrapping_mul(2));
+///     active.release(hub);
+///     Ok(true)
+/// }
+/// ```
 #[must_use]
 pub struct Server<PB> {
     pub(crate) number: u64,
