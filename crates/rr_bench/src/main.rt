@@ -1,19 +1,51 @@
-//! Times round trips through the calls of `rr_hub::Core`.
+//! Times round trips through the ports of `rr_ports`.
 #![tactic(auto)]
 
-mod calls;
-mod hub;
+mod family;
 mod payload;
 mod rows;
+mod service;
 mod shapes;
 mod trip;
 mod trip_error;
 
+use crate::rows::Job;
+use crate::service::run;
+use crate::shapes::{
+    CLIENTS, HANDLES, LARGE, LARGE_SLICE, PAGE, PAGE_SLICE, PAIR, PASSED, POOLS, SERVERS, SLICE,
+    Shape,
+};
+use rr_slots::SliceBody;
 use std::env;
 use std::process::ExitCode;
 
 /// What the program takes.
 const USAGE: &str = "usage: rr_bench [time | grow | count N [CLIENTS]]";
+
+/// Does a job with each payload, by value and as a slice.
+fn payloads(rt: &HostRuntime, job: Job) -> anyhow::Result<()> {
+    run::<Option<u64>>(rt, &PAIR, job)?;
+    run::<Option<[u64; 512]>>(rt, &PAGE, job)?;
+    run::<Option<[u64; 8192]>>(rt, &LARGE, job)?;
+    run::<SliceBody<u64>>(rt, &SLICE, job)?;
+    run::<SliceBody<u64>>(rt, &PAGE_SLICE, job)?;
+    run::<SliceBody<u64>>(rt, &LARGE_SLICE, job)
+}
+
+/// Does a job with 8 bytes in larger hubs.
+fn larger(rt: &HostRuntime, job: Job) -> anyhow::Result<()> {
+    run::<Option<u64>>(rt, &POOLS, job)?;
+    run::<Option<u64>>(rt, &HANDLES, job)?;
+    run::<Option<u64>>(rt, &PASSED, job)?;
+    run::<Option<u64>>(rt, &SERVERS, job)?;
+    run::<Option<u64>>(rt, &CLIENTS, job)
+}
+
+/// Makes so many round trips of 8 bytes, after so many clients came and left, and prints their sum.
+fn count(rt: &HostRuntime, count: u64, passed: u64) -> anyhow::Result<()> {
+    let shape = Shape { passed, ..PAIR };
+    run::<Option<u64>>(rt, &shape, Job::Count(count))
+}
 
 fn main(rt: HostRuntime) -> anyhow::Result<ExitCode> {
     let mut words = Vec::new(rt.alloc());
@@ -22,12 +54,15 @@ fn main(rt: HostRuntime) -> anyhow::Result<ExitCode> {
     }
     let mut words = words.iter().map(|word| word.as_str());
     match (words.next(), words.next(), words.next(), words.next()) {
-        (None, ..) => rows::check_all(&rt)?,
-        (Some("time"), None, ..) => rows::time(&rt)?,
-        (Some("grow"), None, ..) => rows::grow(&rt)?,
-        (Some("count"), Some(count), None, _) => rows::count(&rt, count.parse()?, 0)?,
-        (Some("count"), Some(count), Some(clients), None) => {
-            rows::count(&rt, count.parse()?, clients.parse()?)?;
+        (None, ..) => {
+            payloads(&rt, Job::Check)?;
+            larger(&rt, Job::Check)?;
+        }
+        (Some("time"), None, ..) => payloads(&rt, Job::Time)?,
+        (Some("grow"), None, ..) => larger(&rt, Job::Time)?,
+        (Some("count"), Some(trips), None, _) => count(&rt, trips.parse()?, 0)?,
+        (Some("count"), Some(trips), Some(clients), None) => {
+            count(&rt, trips.parse()?, clients.parse()?)?;
         }
         _ => {
             eprintln!(rt; "{USAGE}")?;

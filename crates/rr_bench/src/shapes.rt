@@ -1,6 +1,6 @@
 //! What round trips are measured in.
 
-use rr_protocol::Limits;
+use rr_ports::Limits;
 
 /// A hub, and the round trips that are made in it.
 #[derive(Clone, Copy)]
@@ -38,7 +38,7 @@ const LIMITS: Limits = Limits {
 
 /// One client, one server, and messages of 8 bytes.
 pub const PAIR: Shape = Shape {
-    name: "core",
+    name: "ports",
     limits: LIMITS,
     passed: 0,
     held: 0,
@@ -49,7 +49,7 @@ pub const PAIR: Shape = Shape {
 
 /// Messages of one element of 4,096 bytes.
 pub const PAGE: Shape = Shape {
-    name: "core",
+    name: "ports",
     limits: LIMITS,
     passed: 0,
     held: 0,
@@ -60,7 +60,7 @@ pub const PAGE: Shape = Shape {
 
 /// Messages of one element of 65,536 bytes.
 pub const LARGE: Shape = Shape {
-    name: "core",
+    name: "ports",
     limits: LIMITS,
     passed: 0,
     held: 0,
@@ -71,7 +71,7 @@ pub const LARGE: Shape = Shape {
 
 /// Slices of one word.
 pub const SLICE: Shape = Shape {
-    name: "core-slice",
+    name: "ports-slice",
     limits: LIMITS,
     passed: 0,
     held: 0,
@@ -82,7 +82,7 @@ pub const SLICE: Shape = Shape {
 
 /// Slices of 512 words.
 pub const PAGE_SLICE: Shape = Shape {
-    name: "core-slice",
+    name: "ports-slice",
     limits: LIMITS,
     passed: 0,
     held: 0,
@@ -93,7 +93,7 @@ pub const PAGE_SLICE: Shape = Shape {
 
 /// Slices of 8,192 words.
 pub const LARGE_SLICE: Shape = Shape {
-    name: "core-slice",
+    name: "ports-slice",
     limits: LIMITS,
     passed: 0,
     held: 0,
@@ -104,7 +104,7 @@ pub const LARGE_SLICE: Shape = Shape {
 
 /// Pools of at least 10,000 slots.
 pub const POOLS: Shape = Shape {
-    name: "core-pools",
+    name: "ports-pools",
     limits: Limits {
         max_loaned_requests: 9_994,
         max_response_buffer_size: 1,
@@ -116,7 +116,7 @@ pub const POOLS: Shape = Shape {
 
 /// A client that has 1,000 requests on loan.
 pub const HANDLES: Shape = Shape {
-    name: "core-handles",
+    name: "ports-handles",
     limits: Limits {
         max_loaned_requests: 1_002,
         ..LIMITS
@@ -127,14 +127,14 @@ pub const HANDLES: Shape = Shape {
 
 /// 1,000 clients that came, made one round trip each and left.
 pub const PASSED: Shape = Shape {
-    name: "core-passed",
+    name: "ports-passed",
     passed: 1_000,
     ..PAIR
 };
 
 /// 64 servers, each of which looks for the request.
 pub const SERVERS: Shape = Shape {
-    name: "core-servers",
+    name: "ports-servers",
     limits: Limits {
         max_servers: 64,
         ..LIMITS
@@ -145,7 +145,7 @@ pub const SERVERS: Shape = Shape {
 
 /// 1,000 clients.
 pub const CLIENTS: Shape = Shape {
-    name: "core-clients",
+    name: "ports-clients",
     limits: Limits {
         max_clients: 1_000,
         ..LIMITS

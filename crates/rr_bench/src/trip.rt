@@ -1,162 +1,131 @@
 //! One round trip.
-#![tactic(auto, using(crate::proofs::Frames::trips))]
+#![tactic(auto, using(rr_ports::proofs::Frames::frames, crate::proofs::Frames::servers))]
 
-ghost use Rattle.std.specs.Prelude.{◌≡◌, ◌<◌, ◌≤◌, ◌+◌, IsTrue, IfOk};
-ghost use Rattle.rr_slots.specs.Families.{takes_len};
+ghost use Rattle.std.specs.Prelude.{◌≡◌, ◌<◌, ◌≤◌, ◌+◌, IfOk};
 ghost use Rattle.rr_protocol.specs.declared.kind.Kind.TheVariants as kind;
 ghost use Rattle.rr_protocol.specs.State.{numbers_left};
-ghost use Rattle.rr_bench.specs.Kinds.{Names, AreServers, KeepsOtherKinds, KeepsLasting, KeepsPorts};
+ghost use Rattle.rr_ports.specs.Kinds.{Names, NamesNothing, KeepsKinds};
+ghost use Rattle.rr_bench.specs.Onlookers.{AreServers};
 
-use crate::calls;
-use crate::hub::Bodies;
-use crate::payload::Payload;
+use crate::family::{Family, Hub};
 use crate::trip_error::TripError;
-use rr_hub::HandleId;
-use rr_slots::{Body, FillBody};
+use rr_ports::{ActiveRequest, Client, PendingResponse, Server};
 
-/// Returns the last word of a body.
+/// Sends a request that is filled with a word.
 #[inline(always)]
-fn read<T: Payload, B: Body<Item = T>>(body: &B) -> Result<u64, TripError> {
-    let len = body.len();
-    if len == 0 {
-        return Err(TripError::Length);
-    }
-    Ok(body.get(len - 1).last_word())
-}
-
-/// Loans a request of `len` elements, and fills it with elements of one word.
-#[inline(always)]
-fn written_request<T: Payload, B: FillBody<Item = T>>(
-    core: &mut Bodies<B>,
-    client: u64,
+fn ask<B: Family>(
+    hub: &mut Hub<B>,
+    client: &Client<B>,
     len: usize,
     word: u64,
-) -> Result<HandleId, TripError>
-    requires client { Names core.old client kind.Client }
-    requires numbers { 0 < numbers_left core.old }
-    requires len { IsTrue (takes_len B.family len) }
-    ensures kind { IfOk result (λ request. Names core.new request kind.RequestMut) }
-    ensures others { KeepsOtherKinds kind.RequestMutUninit core.old core.new }
-    ensures numbers { numbers_left core.old ≤ numbers_left core.new + 1 }
+) -> Result<PendingResponse<B>, TripError>
+    requires client { Names hub.old client.now kind.Client }
+    requires numbers { 0 < numbers_left hub.old }
+    ensures fresh { IfOk result (λ pending. NamesNothing hub.old pending) }
+    ensures kind { IfOk result (λ pending. Names hub.new pending kind.PendingResponse) }
+    ensures kinds { KeepsKinds hub.old hub.new }
+    ensures numbers { numbers_left hub.old ≤ numbers_left hub.new + 1 }
 {
-    let request = calls::loan_request(core, client, len)?;
-    calls::fill_request(core, &request, T::filled(word));
-    Ok(request)
+    let request = B::request(hub, client, len, word)?;
+    Ok(request.send(hub)?)
 }
 
-/// Sends a request of `len` elements, each filled with a word. Returns the pending response.
+/// Sends a response that is filled with one more than the word that came.
 #[inline(always)]
-fn ask<T: Payload, B: FillBody<Item = T>>(
-    core: &mut Bodies<B>,
-    client: u64,
-    len: usize,
-    word: u64,
-) -> Result<HandleId, TripError>
-    requires client { Names core.old client kind.Client }
-    requires numbers { 0 < numbers_left core.old }
-    requires len { IsTrue (takes_len B.family len) }
-    ensures pending { IfOk result (λ pending. Names core.new pending kind.PendingResponse) }
-    ensures ports { KeepsPorts core.old core.new }
-    ensures numbers { numbers_left core.old ≤ numbers_left core.new + 1 }
-{
-    let request = written_request(core, client, len, word)?;
-    calls::send_request(core, &request)?;
-    Ok(request)
-}
-
-/// Loans a response of `len` elements, and fills it with elements of one word.
-#[inline(always)]
-fn written_response<T: Payload, B: FillBody<Item = T>>(
-    core: &mut Bodies<B>,
-    active: &HandleId,
-    len: usize,
-    word: u64,
-) -> Result<HandleId, TripError>
-    requires active { Names core.old active.now kind.ActiveRequest }
-    requires numbers { 0 < numbers_left core.old }
-    requires len { IsTrue (takes_len B.family len) }
-    ensures kind { IfOk result (λ response. Names core.new response kind.ResponseMut) }
-    ensures others { KeepsOtherKinds kind.ResponseMutUninit core.old core.new }
-    ensures numbers { numbers_left core.old ≤ numbers_left core.new + 1 }
-{
-    let response = calls::loan_response(core, active, len)?;
-    calls::fill_response(core, &response, T::filled(word));
-    Ok(response)
-}
-
-/// Receives a request, and sends a response that is filled with one more than the word that came.
-#[inline(always)]
-fn answer<T: Payload, B: FillBody<Item = T>>(
-    core: &mut Bodies<B>,
-    server: u64,
+fn respond<B: Family>(
+    hub: &mut Hub<B>,
+    active: &ActiveRequest<B>,
     len: usize,
 ) -> Result<(), TripError>
-    requires server { Names core.old server kind.Server }
-    requires numbers { 1 < numbers_left core.old }
-    requires len { IsTrue (takes_len B.family len) }
-    ensures lasting { KeepsLasting core.old core.new }
-    ensures numbers { numbers_left core.old ≤ numbers_left core.new + 2 }
+    requires active { Names hub.old active.now kind.ActiveRequest }
+    requires numbers { 0 < numbers_left hub.old }
+    ensures kinds { KeepsKinds hub.old hub.new }
+    ensures numbers { numbers_left hub.old ≤ numbers_left hub.new + 1 }
 {
-    let Some(active) = calls::receive_request(core, server)? else {
-        return Err(TripError::NothingCame);
-    };
-    let word = read(calls::request_body(core, &active))?;
-    let response = written_response(core, &active, len, word.wrapping_add(1))?;
-    calls::send_response(core, &response)?;
-    calls::release_active(core, &active);
-    Ok(())
+    let word = B::word_asked(hub, active).ok_or(TripError::NoElements)?;
+    let response = B::response(hub, active, len, word.wrapping_add(1))?;
+    Ok(response.send(hub)?)
 }
 
-/// Receives and releases the response, and releases the pending response. Returns the word that came.
+/// Receives a request and responds to it.
 #[inline(always)]
-fn conclude<T: Payload, B: FillBody<Item = T>>(
-    core: &mut Bodies<B>,
-    pending: &HandleId,
-) -> Result<u64, TripError>
-    requires { Names core.old pending.now kind.PendingResponse }
-    ensures ports { KeepsPorts core.old core.new }
-    ensures numbers { numbers_left core.new ≡ numbers_left core.old }
+fn answer<B: Family>(hub: &mut Hub<B>, server: &Server<B>, len: usize) -> Result<(), TripError>
+    requires server { Names hub.old server.now kind.Server }
+    requires numbers { 1 < numbers_left hub.old }
+    ensures kinds { KeepsKinds hub.old hub.new }
+    ensures numbers { numbers_left hub.old ≤ numbers_left hub.new + 2 }
 {
-    let Some(response) = calls::receive_response(core, pending)? else {
+    let Some(active) = server.receive(hub)? else {
         return Err(TripError::NothingCame);
     };
-    let word = read(calls::response_body(core, &response))?;
-    calls::release_response(core, &response);
-    calls::release_pending(core, pending);
-    Ok(word)
+    let sent = respond(hub, &active, len);
+    active.release(hub);
+    sent
+}
+
+/// Receives the response. Returns the word that came.
+#[inline(always)]
+fn conclude<B: Family>(hub: &mut Hub<B>, pending: &PendingResponse<B>) -> Result<u64, TripError>
+    requires { Names hub.old pending.now kind.PendingResponse }
+    ensures kinds { KeepsKinds hub.old hub.new }
+    ensures numbers { numbers_left hub.new ≡ numbers_left hub.old }
+{
+    let Some(response) = pending.receive(hub)? else {
+        return Err(TripError::NothingCame);
+    };
+    let word = B::word_answered(hub, &response);
+    response.release(hub);
+    word.ok_or(TripError::NoElements)
+}
+
+/// Answers a request and receives the response. Returns the word that came.
+#[inline(always)]
+fn exchange<B: Family>(
+    hub: &mut Hub<B>,
+    server: &Server<B>,
+    pending: &PendingResponse<B>,
+    len: usize,
+) -> Result<u64, TripError>
+    requires server { Names hub.old server.now kind.Server }
+    requires pending { Names hub.old pending.now kind.PendingResponse }
+    requires numbers { 1 < numbers_left hub.old }
+    ensures { KeepsKinds hub.old hub.new }
+{
+    answer(hub, server, len)?;
+    conclude(hub, pending)
 }
 
 /// Makes a round trip with a word. Returns the word that came back.
 #[inline(always)]
-fn round_trip<T: Payload, B: FillBody<Item = T>>(
-    core: &mut Bodies<B>,
-    client: u64,
-    server: u64,
+fn round_trip<B: Family>(
+    hub: &mut Hub<B>,
+    client: &Client<B>,
+    server: &Server<B>,
     len: usize,
     word: u64,
 ) -> Result<u64, TripError>
-    requires client { Names core.old client kind.Client }
-    requires server { Names core.old server kind.Server }
-    requires numbers { 2 < numbers_left core.old }
-    requires len { IsTrue (takes_len B.family len) }
-    ensures { KeepsPorts core.old core.new }
+    requires client { Names hub.old client.now kind.Client }
+    requires server { Names hub.old server.now kind.Server }
+    requires numbers { 2 < numbers_left hub.old }
+    ensures { KeepsKinds hub.old hub.new }
 {
-    let pending = ask(core, client, len, word)?;
-    answer(core, server, len)?;
-    conclude(core, &pending)
+    let pending = ask(hub, client, len, word)?;
+    let answer = exchange(hub, server, &pending, len);
+    pending.release(hub);
+    answer
 }
 
 /// Lets servers look for requests, and releases those that come.
-fn look<B: Body>(core: &mut Bodies<B>, servers: &[u64]) -> Result<(), TripError>
-    requires { AreServers core.old servers.now }
-    ensures { KeepsPorts core.old core.new }
+fn look<B: Family>(hub: &mut Hub<B>, onlookers: &[Server<B>]) -> Result<(), TripError>
+    requires { AreServers hub.old onlookers.now }
+    ensures { KeepsKinds hub.old hub.new }
 {
-    for server in servers {
-        if core.numbers_left() == 0 {
+    for server in onlookers {
+        if hub.numbers_left() == 0 {
             return Err(TripError::NoNumbersLeft);
         }
-        if let Some(active) = calls::receive_request(core, *server)? {
-            calls::release_active(core, &active);
+        if let Some(active) = server.receive(hub)? {
+            active.release(hub);
         }
     }
     Ok(())
@@ -165,27 +134,26 @@ fn look<B: Body>(core: &mut Bodies<B>, servers: &[u64]) -> Result<(), TripError>
 /// Makes round trips, each with the sum so far, to which the word that comes back is added, and lets the onlookers look after
 /// each. Returns the sum.
 #[inline(never)]
-pub fn trips<T: Payload, B: FillBody<Item = T>>(
-    core: &mut Bodies<B>,
-    client: u64,
-    server: u64,
-    onlookers: &[u64],
+pub fn trips<B: Family>(
+    hub: &mut Hub<B>,
+    client: &Client<B>,
+    server: &Server<B>,
+    onlookers: &[Server<B>],
     len: usize,
     count: u64,
 ) -> Result<u64, TripError>
-    requires client { Names core.old client kind.Client }
-    requires server { Names core.old server kind.Server }
-    requires onlookers { AreServers core.old onlookers.now }
-    requires len { IsTrue (takes_len B.family len) }
-    ensures { KeepsPorts core.old core.new }
+    requires client { Names hub.old client.now kind.Client }
+    requires server { Names hub.old server.now kind.Server }
+    requires onlookers { AreServers hub.old onlookers.now }
+    ensures { KeepsKinds hub.old hub.new }
 {
     let mut sum = 0u64;
     for _ in 0..count {
-        if core.numbers_left() < 3 {
+        if hub.numbers_left() < 3 {
             return Err(TripError::NoNumbersLeft);
         }
-        sum = sum.wrapping_add(round_trip(core, client, server, len, sum)?);
-        look(core, onlookers)?;
+        sum = sum.wrapping_add(round_trip(hub, client, server, len, sum)?);
+        look(hub, onlookers)?;
     }
     Ok(sum)
 }

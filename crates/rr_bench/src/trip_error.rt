@@ -1,6 +1,6 @@
 //! Why a round trip failed.
 
-use rr_protocol::{LoanError, ReceiveError, RequestSendError, SendError};
+use rr_ports::{LoanError, ReceiveError, RequestSendError, SendError};
 use thiserror::Error;
 
 /// Why a round trip failed.
@@ -9,9 +9,9 @@ pub enum TripError {
     /// A loan was refused.
     #[error("{0}")]
     Loan(#[from] LoanError),
-    /// A message was longer or shorter than its body.
-    #[error("a message has another length than its body")]
-    Length,
+    /// A message has no elements.
+    #[error("a message has no elements")]
+    NoElements,
     /// The send of the request was refused.
     #[error("{0}")]
     RequestSend(#[from] RequestSendError),

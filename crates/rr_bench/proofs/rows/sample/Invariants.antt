@@ -1,6 +1,6 @@
-use Rattle.rr_bench.specs.Kinds.{HasPorts}
+use Rattle.rr_ports.specs.Kinds.{KeepsKinds}
 use Rattle.rr_bench.proofs.rows.sample.Given as goal
 
--- the ports stay
+-- every number names what it named
 abbrev pub invariant-loop : goal.invariant-loop
-invariant-loop g l = HasPorts l.hub.core l.hub.client l.hub.server l.hub.onlookers.items
+invariant-loop g l = KeepsKinds l.initial.hub l.hub

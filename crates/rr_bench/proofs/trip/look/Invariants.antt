@@ -1,6 +1,6 @@
-use Rattle.rr_bench.specs.Kinds.{KeepsPorts}
+use Rattle.rr_ports.specs.Kinds.{KeepsKinds}
 use Rattle.rr_bench.proofs.trip.look.Given as goal
 
--- every port's number names what it named
+-- every number names what it named
 abbrev pub invariant-loop-server : goal.invariant-loop-server
-invariant-loop-server g l = KeepsPorts l.initial.core l.core
+invariant-loop-server g l = KeepsKinds l.initial.hub l.hub

@@ -1,6 +1,6 @@
-use Rattle.rr_bench.specs.Kinds.{KeepsPorts}
+use Rattle.rr_ports.specs.Kinds.{KeepsKinds}
 use Rattle.rr_bench.proofs.trip.trips.Given as goal
 
--- every port's number names what it named
+-- every number names what it named
 abbrev pub invariant-loop : goal.invariant-loop
-invariant-loop g l = KeepsPorts l.fn.core l.core
+invariant-loop g l = KeepsKinds l.fn.hub l.hub

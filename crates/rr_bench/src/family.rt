@@ -1,0 +1,162 @@
+//! The two families of messages.
+#![tactic(auto, using(rr_ports::proofs::Frames::frames))]
+
+ghost use Rattle.std.specs.Prelude.{◌≡◌, ◌<◌, ◌≤◌, ◌+◌, IfOk};
+ghost use Rattle.rr_protocol.specs.declared.kind.Kind.TheVariants as kind;
+ghost use Rattle.rr_protocol.specs.State.{numbers_left};
+ghost use Rattle.rr_ports.specs.Kinds.{Names, NamesNothing, KeepsKinds};
+
+use crate::payload::Payload;
+use rr_ports::{
+    ActiveRequest, BackpressureStrategy, Client, ClientCreateError, LoanError, NoHandler,
+    RequestMut, Response, ResponseMut, Server, ServerCreateError,
+};
+use rr_slots::{Body, SliceBody};
+
+/// A hub whose requests and responses are of one family.
+pub type Hub<B> = rr_ports::Hub<B, u64, B, u64, NoHandler>;
+
+/// A family of messages: how they are written and read.
+pub trait Family: Body {
+    /// Creates a client whose requests have at most `len` elements.
+    fn client(hub: &mut Hub<Self>, len: usize) -> Result<Client<Self>, ClientCreateError>
+        ensures fresh { IfOk result (λ client. NamesNothing hub.old client) }
+        ensures kind { IfOk result (λ client. Names hub.new client kind.Client) }
+        ensures kinds { KeepsKinds hub.old hub.new };
+
+    /// Creates a server whose responses have at most `len` elements.
+    fn server(hub: &mut Hub<Self>, len: usize) -> Result<Server<Self>, ServerCreateError>
+        ensures fresh { IfOk result (λ server. NamesNothing hub.old server) }
+        ensures kind { IfOk result (λ server. Names hub.new server kind.Server) }
+        ensures kinds { KeepsKinds hub.old hub.new };
+
+    /// Loans a request, and fills it with a word.
+    fn request(
+        hub: &mut Hub<Self>,
+        client: &Client<Self>,
+        len: usize,
+        word: u64,
+    ) -> Result<RequestMut<Self>, LoanError>
+        requires client { Names hub.old client.now kind.Client }
+        requires numbers { 0 < numbers_left hub.old }
+        ensures fresh { IfOk result (λ request. NamesNothing hub.old request) }
+        ensures kind { IfOk result (λ request. Names hub.new request kind.RequestMut) }
+        ensures kinds { KeepsKinds hub.old hub.new }
+        ensures numbers { numbers_left hub.old ≤ numbers_left hub.new + 1 };
+
+    /// Returns the last word of a request. Returns `None` if it has no elements.
+    fn word_asked(hub: &Hub<Self>, active: &ActiveRequest<Self>) -> Option<u64>
+        requires { Names hub.now active.now kind.ActiveRequest };
+
+    /// Loans a response, and fills it with a word.
+    fn response(
+        hub: &mut Hub<Self>,
+        active: &ActiveRequest<Self>,
+        len: usize,
+        word: u64,
+    ) -> Result<ResponseMut<Self>, LoanError>
+        requires active { Names hub.old active.now kind.ActiveRequest }
+        requires numbers { 0 < numbers_left hub.old }
+        ensures fresh { IfOk result (λ response. NamesNothing hub.old response) }
+        ensures kind { IfOk result (λ response. Names hub.new response kind.ResponseMut) }
+        ensures kinds { KeepsKinds hub.old hub.new }
+        ensures numbers { numbers_left hub.old ≤ numbers_left hub.new + 1 };
+
+    /// Returns the last word of a response. Returns `None` if it has no elements.
+    fn word_answered(hub: &Hub<Self>, response: &Response<Self>) -> Option<u64>
+        requires { Names hub.now response.now kind.Response };
+}
+
+impl<T: Payload> Family for Option<T> {
+    fn client(hub: &mut Hub<Self>, _len: usize) -> Result<Client<Self>, ClientCreateError> {
+        hub.client_builder()
+            .backpressure_strategy(BackpressureStrategy::RetryUntilDelivered)
+            .create(hub)
+    }
+
+    fn server(hub: &mut Hub<Self>, _len: usize) -> Result<Server<Self>, ServerCreateError> {
+        hub.server_builder()
+            .backpressure_strategy(BackpressureStrategy::RetryUntilDelivered)
+            .create(hub)
+    }
+
+    #[inline(always)]
+    fn request(
+        hub: &mut Hub<Self>,
+        client: &Client<Self>,
+        _len: usize,
+        word: u64,
+    ) -> Result<RequestMut<Self>, LoanError> {
+        let request = client.loan_uninit(hub)?;
+        Ok(request.write_payload(hub, T::filled(word)))
+    }
+
+    #[inline(always)]
+    fn word_asked(hub: &Hub<Self>, active: &ActiveRequest<Self>) -> Option<u64> {
+        Some(active.payload(hub).last_word())
+    }
+
+    #[inline(always)]
+    fn response(
+        hub: &mut Hub<Self>,
+        active: &ActiveRequest<Self>,
+        _len: usize,
+        word: u64,
+    ) -> Result<ResponseMut<Self>, LoanError> {
+        let response = active.loan_uninit(hub)?;
+        Ok(response.write_payload(hub, T::filled(word)))
+    }
+
+    #[inline(always)]
+    fn word_answered(hub: &Hub<Self>, response: &Response<Self>) -> Option<u64> {
+        Some(response.payload(hub).last_word())
+    }
+}
+
+impl<T: Payload + Copy> Family for SliceBody<T> {
+    fn client(hub: &mut Hub<Self>, len: usize) -> Result<Client<Self>, ClientCreateError> {
+        hub.client_builder()
+            .backpressure_strategy(BackpressureStrategy::RetryUntilDelivered)
+            .initial_max_slice_len(len)
+            .create(hub)
+    }
+
+    fn server(hub: &mut Hub<Self>, len: usize) -> Result<Server<Self>, ServerCreateError> {
+        hub.server_builder()
+            .backpressure_strategy(BackpressureStrategy::RetryUntilDelivered)
+            .initial_max_slice_len(len)
+            .create(hub)
+    }
+
+    #[inline(always)]
+    fn request(
+        hub: &mut Hub<Self>,
+        client: &Client<Self>,
+        len: usize,
+        word: u64,
+    ) -> Result<RequestMut<Self>, LoanError> {
+        let request = client.loan_slice_uninit(hub, len)?;
+        Ok(request.fill(hub, T::filled(word)))
+    }
+
+    #[inline(always)]
+    fn word_asked(hub: &Hub<Self>, active: &ActiveRequest<Self>) -> Option<u64> {
+        Some(active.payload(hub).last()?.last_word())
+    }
+
+    #[inline(always)]
+    fn response(
+        hub: &mut Hub<Self>,
+        active: &ActiveRequest<Self>,
+        len: usize,
+        word: u64,
+    ) -> Result<ResponseMut<Self>, LoanError> {
+        let response = active.loan_slice_uninit(hub, len)?;
+        Ok(response.fill(hub, T::filled(word)))
+    }
+
+    #[inline(always)]
+    fn word_answered(hub: &Hub<Self>, response: &Response<Self>) -> Option<u64> {
+        Some(response.payload(hub).last()?.last_word())
+    }
+}
