@@ -1,4 +1,4 @@
--- What numbers still name where nothing changed, and servers in a list.
+-- Servers in a list.
 use Rattle.std.proofs.Common.{◌≡◌, ◌<◌, ℕ, List, [], ◌∷◌, ◌++◌, length, get_or, slice_index_or, refl, sym, ap, ◌∙◌, arith, length-append}
 use Rattle.std.proofs.lemmas.List.{get_or_push}
 use Rattle.std.specs.List.{All}
@@ -9,11 +9,6 @@ use Rattle.rr_ports.specs.Kinds.{Names, KeepsKinds}
 use Rattle.rr_bench.specs.Onlookers.{AreServers}
 
 module _ {Q QH P PH K : Type 0} (s : State Q QH P PH K) where
-  -- nothing changed
-  pub kept_same : KeepsKinds s s
-  unfolding KeepsKinds
-  kept_same n k names = names
-
   pub none_yet : AreServers s []
   unfolding AreServers
   none_yet = All-nil (λ server. Names s server kind.Server)
@@ -44,4 +39,4 @@ popped all before after n m came left =
     sym (get_or_push before n 0 (length before) refl) ∙ ap (λ l. get_or l (length before) 0) (sym came ∙ left)
     ∙ get_or_push after m 0 (length before) same
 
-pub ruleset servers = (kept_same, none_yet, one_more, one_of_them, kept_servers)
+pub ruleset servers = (none_yet, one_more, one_of_them, kept_servers)
