@@ -58,7 +58,10 @@ fn a_request_is_received_though_nobody_waits(rt: HostRuntime) -> Result<(), Fail
         .receive(&mut hub)
         .expect(&rt, "a receive")
         .expect(&rt, "a request");
-    assert_eq!(rt; (*active.payload(&hub), active.is_connected(&hub)), (123, false));
+    assert_eq!(rt;
+        (*active.payload(&hub), active.is_connected(&hub)),
+        (123, false)
+    );
     active.release(&mut hub);
     client.release(&mut hub);
     server.release(&mut hub);

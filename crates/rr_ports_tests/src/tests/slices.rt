@@ -12,13 +12,14 @@ fn a_function_writes_a_request(rt: HostRuntime) -> Result<(), Fail> {
     let mut hub: Hub<u64, u64, u64, u64> = Hub::new(rt.alloc(), limits(false), UniqueNodeId(7))?;
     let factory = hub.client_builder().initial_max_slice_len(13);
     let client = factory.create(&mut hub).expect(&rt, "a client");
-    let request = client
-        .loan_slice_uninit(&mut hub, 13)
-        .expect(&rt, "a loan");
+    let request = client.loan_slice_uninit(&mut hub, 13).expect(&rt, "a loan");
     let request = request.write_from_fn(&mut hub, |index: usize| (index as u64).wrapping_add(123));
     assert_eq!(rt;
         request.payload(&hub),
-        [123, 124, 125, 126, 127, 128, 129, 130, 131, 132, 133, 134, 135].as_slice()
+        [
+            123, 124, 125, 126, 127, 128, 129, 130, 131, 132, 133, 134, 135
+        ]
+        .as_slice()
     );
     request.release(&mut hub);
     client.release(&mut hub);
@@ -55,9 +56,7 @@ fn a_server_receives_a_slice(rt: HostRuntime) -> Result<(), Fail> {
         .server_builder()
         .create(&mut hub)
         .expect(&rt, "a server");
-    let request = client
-        .loan_slice_uninit(&mut hub, 10)
-        .expect(&rt, "a loan");
+    let request = client.loan_slice_uninit(&mut hub, 10).expect(&rt, "a loan");
     let request = request.write_from_fn(
         &mut hub,
         |index: usize| (index as u64).wrapping_mul(2).wrapping_add(1),
@@ -67,7 +66,10 @@ fn a_server_receives_a_slice(rt: HostRuntime) -> Result<(), Fail> {
         .receive(&mut hub)
         .expect(&rt, "a receive")
         .expect(&rt, "a request");
-    assert_eq!(rt; active.payload(&hub), [1, 3, 5, 7, 9, 11, 13, 15, 17, 19].as_slice());
+    assert_eq!(rt;
+        active.payload(&hub),
+        [1, 3, 5, 7, 9, 11, 13, 15, 17, 19].as_slice()
+    );
     active.release(&mut hub);
     pending.release(&mut hub);
     client.release(&mut hub);
@@ -91,9 +93,7 @@ fn a_client_receives_a_slice(rt: HostRuntime) -> Result<(), Fail> {
         .receive(&mut hub)
         .expect(&rt, "a receive")
         .expect(&rt, "a request");
-    let response = active
-        .loan_slice_uninit(&mut hub, 10)
-        .expect(&rt, "a loan");
+    let response = active.loan_slice_uninit(&mut hub, 10).expect(&rt, "a loan");
     let response = response.write_from_fn(
         &mut hub,
         |index: usize| (index as u64).wrapping_mul(3).wrapping_add(4),
@@ -104,7 +104,10 @@ fn a_client_receives_a_slice(rt: HostRuntime) -> Result<(), Fail> {
         .receive(&mut hub)
         .expect(&rt, "a receive")
         .expect(&rt, "a response");
-    assert_eq!(rt; response.payload(&hub), [4, 7, 10, 13, 16, 19, 22, 25, 28, 31].as_slice());
+    assert_eq!(rt;
+        response.payload(&hub),
+        [4, 7, 10, 13, 16, 19, 22, 25, 28, 31].as_slice()
+    );
     response.release(&mut hub);
     pending.release(&mut hub);
     client.release(&mut hub);
@@ -142,9 +145,7 @@ fn a_response_is_copied_from_a_slice(rt: HostRuntime) -> Result<(), Fail> {
         .receive(&mut hub)
         .expect(&rt, "a receive")
         .expect(&rt, "a request");
-    let response = active
-        .loan_slice_uninit(&mut hub, 4)
-        .expect(&rt, "a loan");
+    let response = active.loan_slice_uninit(&mut hub, 4).expect(&rt, "a loan");
     let response = response.write_from_slice(&mut hub, &[1, 2, 3, 4]);
     assert_eq!(rt; response.payload(&hub), [1, 2, 3, 4].as_slice());
     response.release(&mut hub);
