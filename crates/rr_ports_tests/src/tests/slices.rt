@@ -77,6 +77,39 @@ fn a_server_receives_a_slice(rt: HostRuntime) -> Result<(), Fail> {
     Ok(())
 }
 
+/// A function writes a response of 13 elements.
+#[test]
+fn a_function_writes_a_response(rt: HostRuntime) -> Result<(), Fail> {
+    let mut hub: Hub<u64, u64, u64, u64> = Hub::new(rt.alloc(), limits(false), UniqueNodeId(7))?;
+    let client = hub
+        .client_builder()
+        .create(&mut hub)
+        .expect(&rt, "a client");
+    let factory = hub.server_builder().initial_max_slice_len(13);
+    let server = factory.create(&mut hub).expect(&rt, "a server");
+    let request = client.loan_slice(&mut hub, 1).expect(&rt, "a loan");
+    let pending = request.send(&mut hub).expect(&rt, "a send");
+    let active = server
+        .receive(&mut hub)
+        .expect(&rt, "a receive")
+        .expect(&rt, "a request");
+    let response = active.loan_slice_uninit(&mut hub, 13).expect(&rt, "a loan");
+    let response = response.write_from_fn(
+        &mut hub,
+        |index: usize| (index as u64).wrapping_mul(2).wrapping_add(3),
+    );
+    assert_eq!(rt;
+        response.payload(&hub),
+        [3, 5, 7, 9, 11, 13, 15, 17, 19, 21, 23, 25, 27].as_slice()
+    );
+    response.release(&mut hub);
+    active.release(&mut hub);
+    pending.release(&mut hub);
+    client.release(&mut hub);
+    server.release(&mut hub);
+    Ok(())
+}
+
 /// A client receives what a function wrote.
 #[test]
 fn a_client_receives_a_slice(rt: HostRuntime) -> Result<(), Fail> {
