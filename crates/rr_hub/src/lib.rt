@@ -6,6 +6,7 @@ mod header;
 mod lend;
 mod loan;
 mod making;
+mod payload;
 mod query;
 mod queue;
 mod receive;

@@ -38,7 +38,6 @@ pub fn receive_request<
 {
     let index = store.server_index(server);
     let receiver = store.server_receiver(index);
-    store.skim_requests(receiver);
     match store.next_request_sender(receiver) {
         Ok(Some(sender)) => {
             let slot = store.take_request(sender, receiver);

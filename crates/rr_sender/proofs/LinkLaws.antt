@@ -3,7 +3,7 @@ use Rattle.std.proofs.Common.{◌≡◌, ℕ, suc, zero, ◌<◌, ◌≤◌, Lis
 use Rattle.std.specs.Prelude.{slice_set}
 use Rattle.std.proofs.Math.Seq.{map-set_same}
 use Rattle.std.proofs.lemmas.Bool.{ne_eqb}
-use Rattle.std.proofs.lemmas.List.{map-set, get_or-map, length-map}
+use Rattle.std.proofs.lemmas.List.{map-set, get_or-map, get_or_default, length-map}
 use Rattle.std.proofs.lemmas.List.Elements.{All-head, All-tail, All-map}
 use Rattle.rr_slots.specs.Connections.{pushed, no_entries}
 use Rattle.rr_sender.specs.declared.links.Link.{Link}
@@ -47,7 +47,33 @@ module _ (links : List Link) (receiver : ℕ) (link : Link) (inside : receiver <
         ∙ ap (λ queue. pushed capacity queue entry) (queue_is channel)
         ∙ pushed_within capacity (at_two [] (queues_of links) receiver channel) entry room
 
+    -- a count that a call finds
+    pub counted_at : IsLinked links capacity → (channel count : ℕ) → channel < length (get_or (queues_of links) receiver [])
+        → count ≡ get_or link.borrowed.items channel count → count ≡ at_two 0 (borrowed_of links) receiver channel
+    counted_at sound channel count within found =
+        found ∙ get_or_default link.borrowed.items channel count 0 (omega (
+          arith,
+          within,
+          ap (λ queues. length queues) queues_at,
+          ap (λ (l : Link). length l.connection.queues) is,
+          ap (λ (l : Link). length l.borrowed.items) is,
+          sound.counts receiver link inside,
+        )) ∙ count_is channel
+
   module _ (capacity : ℕ) (after : Link) where
+    -- the queues after one changed, and the counts
+    queues-set : (channel : ℕ) (queue : List ℕ) → after.connection.queues ≡ slice_set link.connection.queues channel queue
+        → queues_of (slice_set links receiver after) ≡ set_two (queues_of links) receiver channel queue
+    queues-set channel queue changed =
+        map-set (λ (l : Link). l.connection.queues) links receiver after
+        ∙ ap (λ row. slice_set (queues_of links) receiver row) (changed ∙ ap (λ row. slice_set row channel queue) queues_at)
+
+    counts-set : (channel n : ℕ) → after.borrowed.items ≡ slice_set link.borrowed.items channel n
+        → borrowed_of (slice_set links receiver after) ≡ set_two (borrowed_of links) receiver channel n
+    counts-set channel n changed =
+        map-set (λ (l : Link). l.borrowed.items) links receiver after
+        ∙ ap (λ row. slice_set (borrowed_of links) receiver row) (changed ∙ ap (λ row. slice_set row channel n) borrowed_at)
+
     -- one queue changed
     pub queue-set : (channel : ℕ) (queue : List ℕ) → after.connection.queues ≡ slice_set link.connection.queues channel queue
         → after.borrowed.items ≡ link.borrowed.items
@@ -55,8 +81,7 @@ module _ (links : List Link) (receiver : ℕ) (link : Link) (inside : receiver <
         (sent (queues_of links) (borrowed_of links) capacity) receiver channel queue
     queue-set channel queue changed stays =
         ap (λ queues. sent queues (borrowed_of (slice_set links receiver after)) capacity)
-        (map-set (λ (l : Link). l.connection.queues) links receiver after
-        ∙ ap (λ row. slice_set (queues_of links) receiver row) (changed ∙ ap (λ row. slice_set row channel queue) queues_at))
+        (queues-set channel queue changed)
         ∙ ap (λ borrowed. sent (set_two (queues_of links) receiver channel queue) borrowed capacity)
         (map-set_same (λ (l : Link). l.borrowed.items) links receiver after link (stays ∙ ap (λ (l : Link). l.borrowed.items) is))
 
@@ -69,8 +94,18 @@ module _ (links : List Link) (receiver : ℕ) (link : Link) (inside : receiver <
         ap (λ queues. sent queues (borrowed_of (slice_set links receiver after)) capacity)
         (map-set_same (λ (l : Link). l.connection.queues) links receiver after link (stays ∙ ap (λ (l : Link). l.connection.queues) is))
         ∙ ap (λ borrowed. sent (queues_of links) borrowed capacity)
-        (map-set (λ (l : Link). l.borrowed.items) links receiver after
-        ∙ ap (λ row. slice_set (borrowed_of links) receiver row) (changed ∙ ap (λ row. slice_set row channel n) borrowed_at))
+        (counts-set channel n changed)
+
+    -- both changed
+    pub both-set : (channel : ℕ) (queue : List ℕ) (n : ℕ) → after.connection.queues ≡ slice_set link.connection.queues channel queue
+        → after.borrowed.items ≡ slice_set link.borrowed.items channel n
+        → sent (queues_of (slice_set links receiver after)) (borrowed_of (slice_set links receiver after)) capacity ≡ with_count
+        (with_entries (sent (queues_of links) (borrowed_of links) capacity) receiver channel queue) receiver channel n
+    both-set channel queue n changed counted =
+        ap (λ queues. sent queues (borrowed_of (slice_set links receiver after)) capacity)
+        (queues-set channel queue changed)
+        ∙ ap (λ borrowed. sent (set_two (queues_of links) receiver channel queue) borrowed capacity)
+        (counts-set channel n counted)
 
 -- every queue of every link is within the capacity
 pub all_within : (links : List Link) (capacity : ℕ) → IsLinked links capacity

@@ -1,5 +1,5 @@
 //! The links from one port to its receivers: the queues, and what each receiver has not given back.
-ghost use Rattle.std.specs.Prelude.{◌≡◌, ℕ, ◌<◌, ◌≤◌, ◌↔◌, ◌++◌, ◌∷◌, [], All, IfOk, IsTrue, drop, length, nat_lt, replicate, slice_get, slice_index_or};
+ghost use Rattle.std.specs.Prelude.{◌≡◌, ℕ, ◌+◌, ◌-◌, ◌<◌, ◌≤◌, ◌^◌, ◌↔◌, ◌++◌, ◌∷◌, [], All, IfOk, IsTrue, Some, drop, length, nat_lt, replicate, slice_get, slice_index_or};
 ghost use Rattle.std.specs.List.{list_any};
 ghost use Rattle.rr_sender.specs.Senders.{at_two, is_full};
 ghost use Rattle.rr_slots.specs.Connections.{no_entries};
@@ -71,6 +71,26 @@ impl Links {
     {
         let link = &mut self.links[receiver];
         link.connection.pop(channel)
+    }
+
+    /// Takes the oldest entry of a queue that has one, and counts one more that the receiver has from the channel.
+    ///
+    /// Looks at the link once.
+    #[inline(always)]
+    pub(crate) fn take(&mut self, receiver: usize, channel: usize) -> usize
+        requires receiver { receiver < length self.old.queues }
+        requires channel { channel < length (slice_index_or self.old.queues receiver []) }
+        requires entry { 0 < length (at_two [] self.old.queues receiver channel) }
+        requires fits { at_two 0 self.old.borrowed receiver channel + 1 < 2 ^ 64 }
+        ensures first { slice_get (at_two [] self.old.queues receiver channel) 0 ≡ Some result }
+        ensures state { self.new ≡ with_count (with_entries self.old receiver channel (drop 1 (at_two [] self.old.queues receiver channel))) receiver channel (at_two 0 self.old.borrowed receiver channel + 1) }
+    {
+        let link = &mut self.links[receiver];
+        link.borrowed[channel] += 1;
+        match link.connection.pop(channel) {
+            Some(slot) => slot,
+            None => unreachable!(),
+        }
     }
 
     /// The oldest entry of a queue, which stays. `None` where it has none.
@@ -147,15 +167,16 @@ impl Links {
         is_any_counted(link.borrowed.as_slice())
     }
 
-    /// Sets that a receiver has so many from a channel.
+    /// Counts one less that a receiver has from a channel.
     #[inline(always)]
-    pub(crate) fn set_borrowed(&mut self, receiver: usize, channel: usize, count: usize)
+    pub(crate) fn end_borrow(&mut self, receiver: usize, channel: usize)
         requires receiver { receiver < length self.old.queues }
         requires channel { channel < length (slice_index_or self.old.queues receiver []) }
-        ensures { self.new ≡ with_count self.old receiver channel count }
+        requires borrowed { 0 < at_two 0 self.old.borrowed receiver channel }
+        ensures { self.new ≡ with_count self.old receiver channel (at_two 0 self.old.borrowed receiver channel - 1) }
     {
         let link = &mut self.links[receiver];
-        link.borrowed[channel] = count;
+        link.borrowed[channel] -= 1;
     }
 }
 

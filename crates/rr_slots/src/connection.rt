@@ -1,5 +1,5 @@
 //! The queues from one port to another.
-ghost use Rattle.std.specs.Prelude.{◌≡◌, ◌<◌, ◌≤◌, ◌↔◌, [], None, All, IfOk, IsTrue, drop, length, replicate, slice_get};
+ghost use Rattle.std.specs.Prelude.{◌≡◌, ◌==◌, ◌<◌, ◌≤◌, ◌↔◌, [], None, All, IfOk, IsTrue, drop, length, replicate, slice_get};
 ghost use Rattle.circular_buffer.specs.Buffer.{buffer};
 ghost use Rattle.rr_slots.specs.Connections.{occupancy};
 
@@ -55,7 +55,7 @@ impl Connection {
         ensures state { self.new ≡ with_queue self.old channel (pushed self.old.capacity (queue_of self.old channel) entry) }
     {
         let queue = &mut self.queues[channel];
-        if queue.is_full() {
+        if has_no_room(queue) {
             let evicted = queue.push_back(entry);
             return evicted;
         }
@@ -66,6 +66,7 @@ impl Connection {
     }
 
     /// Takes the oldest entry of a channel. `None` where it has none, and nothing changes then.
+    #[inline(always)]
     pub fn pop(&mut self, channel: usize) -> Option<usize>
         requires { channel < length self.old.queues }
         ensures first { result ≡ slice_get (queue_of self.old channel) 0 }
@@ -80,6 +81,7 @@ impl Connection {
     }
 
     /// The oldest entry of a channel, which stays. `None` where it has none.
+    #[inline(always)]
     pub fn first(&self, channel: usize) -> Option<usize>
         requires { channel < length self.now.queues }
         ensures { result ≡ slice_get (queue_of self.now channel) 0 }
@@ -88,14 +90,16 @@ impl Connection {
     }
 
     /// Whether a channel has as many entries as its capacity, so that a push gives one up.
+    #[inline(always)]
     pub fn is_full(&self, channel: usize) -> bool
         requires { channel < length self.now.queues }
         ensures { result ≡ is_full self.now.capacity (queue_of self.now channel) }
     {
-        self.queues[channel].is_full()
+        has_no_room(&self.queues[channel])
     }
 
     /// Whether a channel has an entry.
+    #[inline(always)]
     pub fn has_entries(&self, channel: usize) -> bool
         requires { channel < length self.now.queues }
         ensures { result ≡ has_entries (queue_of self.now channel) }
@@ -104,6 +108,7 @@ impl Connection {
     }
 
     /// How many entries a channel has.
+    #[inline(always)]
     pub fn len(&self, channel: usize) -> usize
         requires { channel < length self.now.queues }
         ensures len { result ≡ length (queue_of self.now channel) }
@@ -133,6 +138,15 @@ impl Connection {
     {
         self.capacity
     }
+}
+
+/// Returns whether a queue has as many entries as its capacity. Compares as `try_push_back` does, so that the compiler asks
+/// once.
+#[inline(always)]
+fn has_no_room(queue: &HeapCircularBuffer<usize>) -> bool
+    ensures { result ≡ (length queue.now.items == queue.now.capacity) }
+{
+    queue.len() >= queue.capacity()
 }
 
 /// One for a queue with entries, and zero for an empty one.

@@ -1,8 +1,9 @@
 -- Requests that nobody waits for leave the fronts of queues, and the parts of a core after a request was received.
-use Rattle.std.specs.Prelude.{zero, suc, ◌≡◌, ◌<◌, ℕ, ◌+◌, Bool, true, false, List, [], ◌∷◌, length, drop, Some, IfSome, slice_get, slice_index_or, slice_set}
+use Rattle.std.specs.Prelude.{zero, suc, ◌≡◌, ◌<◌, ℕ, ◌+◌, Bool, true, false, List, [], ◌∷◌, length, drop, Option, Some, Result, Ok, IfSome, slice_get, slice_index_or, slice_set}
 use Rattle.std.specs.Option.{option_map_or}
 use Rattle.rr_table.specs.TableView.{TableView, inserted, value_in}
 use Rattle.rr_sender.specs.Senders.{first_dropped, queue_at, taken, with_queue}
+use Rattle.rr_protocol.specs.declared.error.ReceiveError.{ReceiveError}
 use Rattle.rr_store.specs.declared.handle_entry.HandleEntry.{HandleEntry}
 use Rattle.rr_store.specs.declared.details.RequestDetails.{RequestDetails}
 use Rattle.rr_store.specs.Answering.{active_entry}
@@ -50,6 +51,13 @@ module _ {T H : Type 0} where
     pub many : length new ≡ length old
     pub reaches : Reaches new receiver 0
     pub fronts : (sender : ℕ) → sender < n → borrowed_from new receiver 0 sender < most → IsFrontAlive table receiver (sender_of sender new)
+
+  -- the first senders were skimmed, and the one that is told, if one is, is among them
+  pub record IsSkimmedTo (table : TableView HandleEntry) (receiver most : ℕ) (old new : List (Sender T RequestDetails H))
+      (result : Result (Option ℕ) ReceiveError) : Type 0 where
+    pub below : ℕ
+    pub skimmed : IsSkimmedBelow table receiver most below old new
+    pub among : (sender : ℕ) → result ≡ Ok (Some sender) → sender < below
 
 module _ {Q QH P PH K : Type 0} (p : Parts Q QH P PH K) where
   -- the oldest request of a queue, in this slot, was taken out of it, and a number was given

@@ -46,9 +46,7 @@ impl<T: Drop> RequestMutUninit<Option<T>> {
         ensures numbers { numbers_left hub.new ≡ numbers_left hub.old }
     {
         let RequestMutUninit { id, of: _ } = self;
-        // Its clause says that one element is asked for, as of every typed body.
-        let _body = hub.core.request_body(&id);
-        hub.core.write_request(&id, value);
+        hub.core.write_request_payload(&id, value);
         RequestMut {
             id,
             of: PhantomData,

@@ -46,9 +46,7 @@ impl<T: Drop> ResponseMutUninit<Option<T>> {
         ensures numbers { numbers_left hub.new ≡ numbers_left hub.old }
     {
         let ResponseMutUninit { id, of: _ } = self;
-        // Its clause says that one element is asked for, as of every typed body.
-        let _body = hub.core.response_body(&id);
-        hub.core.write_response(&id, value);
+        hub.core.write_response_payload(&id, value);
         ResponseMut {
             id,
             of: PhantomData,

@@ -23,7 +23,7 @@ use Rattle.rr_store.specs.Order.{IsRising}
 use Rattle.rr_store.specs.Parts.{Parts, ServerPart}
 use Rattle.rr_store.specs.Reaching.{IsCore}
 use Rattle.rr_store.specs.Receiving.{IsNextSender, Reaches, borrowed_from, queue_from}
-use Rattle.rr_store.specs.Skimming.{IsSkimmedBelow, with_received_request}
+use Rattle.rr_store.specs.Skimming.{IsSkimmedTo, with_received_request}
 use Rattle.rr_store.specs.Sound.{IsSound, active_place, empty_hand, server_place}
 use Rattle.rr_store.specs.Views.{sender_of, server_of, state_of}
 use Rattle.rr_store.proofs.base.lists.Replaced.{find_mapped, standing, standing_nowhere}
@@ -75,20 +75,26 @@ module _ {Q QH P PH K : Type 0} (p : Parts Q QH P PH K) (core : IsCore p) (n : �
         subst (λ r. Reaches p.client_senders r 0) (sym receiver_is) (server_reaches p core.sound server.index server.it server.at)
 
     module _ (q : Parts Q QH P PH K) (rest : q ≡ with_request_senders p q.client_senders)
-        (kept : p.limits.enable_fire_and_forget_requests ≡ true → q ≡ p)
-        (skimmed : p.limits.enable_fire_and_forget_requests ≡ false → IsSkimmedBelow p.table receiver
-        p.limits.max_active_requests_per_client (length p.client_senders) p.client_senders q.client_senders) where
+        (kept : p.limits.enable_fire_and_forget_requests ≡ true → q ≡ p) (answer : Result (Option ℕ) ReceiveError)
+        (skimmed : p.limits.enable_fire_and_forget_requests ≡ false → IsSkimmedTo p.table receiver
+        p.limits.max_active_requests_per_client p.client_senders q.client_senders answer) where
+      -- the sender that was told
+      abbrev Chosen : ℕ → Type 0
+      Chosen sender = answer ≡ Ok (Some sender)
+
       -- the parts after the skim
-      ready : IsReady p q server.it
+      ready : IsReady p q server.it Chosen
       ready = go p.limits.enable_fire_and_forget_requests refl
         where
-          go : (b : Bool) → p.limits.enable_fire_and_forget_requests ≡ b → IsReady p q server.it
+          go : (b : Bool) → p.limits.enable_fire_and_forget_requests ≡ b → IsReady p q server.it Chosen
           go true e =
-              subst (λ x. IsReady p x server.it) (sym (kept e)) (ready_as_is p core.sound server.index server.it server.at e)
+              subst (λ x. IsReady p x server.it Chosen) (sym (kept e))
+              (ready_as_is p core.sound server.index server.it server.at Chosen e)
           go false e =
-              subst (λ x. IsReady p x server.it) (sym rest)
-              (ready_skimmed p core.sound server.index server.it server.at e receiver receiver_is (length p.client_senders) q.client_senders
-              (omega arith) (skimmed e))
+              let to = skimmed e in
+              subst (λ x. IsReady p x server.it Chosen) (sym rest)
+              (ready_skimmed p core.sound server.index server.it server.at Chosen e receiver receiver_is to.below q.client_senders
+              to.skimmed to.among)
 
       -- the server is found by its number
       found : find (λ (s : ServerPart K). s.port.id == server.it.port.id) p.servers ≡ Some server.it
@@ -96,12 +102,12 @@ module _ {Q QH P PH K : Type 0} (p : Parts Q QH P PH K) (core : IsCore p) (n : �
 
       -- it is there after the skim too
       still : slice_get q.servers server.index ≡ Some server.it
-      still = its_server p q server.index server.it server.at found ready
+      still = its_server p q server.index server.it server.at found Chosen ready
 
       -- what it receives then is what it receives
       answers : (result : Result (Option ℕ) ReceiveError) (new : State Q QH P PH K)
           → ReceivesUnskimmed (state_of q) server.it.port.id result new → ReceivesRequest (state_of p) n result new
-      answers = answered p q server.index server.it server.at found ready (state_of p) refl n server.is
+      answers = answered p q server.index server.it server.at found Chosen ready (state_of p) refl n server.is
 
       -- what is true of each core is true after the skim
       pub skimmed_core : IsCore q
@@ -112,18 +118,19 @@ module _ {Q QH P PH K : Type 0} (p : Parts Q QH P PH K) (core : IsCore p) (n : �
       }
 
       -- and each client's sender still has a queue to the server
-      pub skimmed_queues_asked : Reaches q.client_senders receiver 0
+      skimmed_queues_asked : Reaches q.client_senders receiver 0
       skimmed_queues_asked =
           subst (λ r. Reaches q.client_senders r 0) (sym receiver_is) (server_reaches q ready.sound server.index server.it still)
 
-      module _ (answer : Result (Option ℕ) ReceiveError)
-          (told : IsNextSender q.client_senders receiver 0 q.limits.max_active_requests_per_client answer) where
+      module _ (told : IsNextSender q.client_senders receiver 0 p.limits.max_active_requests_per_client answer) where
         -- what is known of the answer, of the very receiver
         next : (o : Result (Option ℕ) ReceiveError) → answer ≡ o
             → IsNextSender q.client_senders server.it.receiver 0 q.limits.max_active_requests_per_client o
         next o is =
             subst (IsNextSender q.client_senders server.it.receiver 0 q.limits.max_active_requests_per_client) is
-            (subst (λ r. IsNextSender q.client_senders r 0 q.limits.max_active_requests_per_client answer) receiver_is told)
+            (subst (λ (l : Limits). IsNextSender q.client_senders server.it.receiver 0 l.max_active_requests_per_client answer)
+            (sym (its_limits p q server.index server.it server.at found Chosen ready))
+            (subst (λ r. IsNextSender q.client_senders r 0 p.limits.max_active_requests_per_client answer) receiver_is told))
 
         -- where no sender has one, nothing is received
         pub none_then : answer ≡ Ok None → ReceivesRequest (state_of p) n (Ok None) (state_of q)
@@ -173,7 +180,7 @@ module _ {Q QH P PH K : Type 0} (p : Parts Q QH P PH K) (core : IsCore p) (n : �
 
             -- a number is left
             below : q.next < 2 ^ 62
-            below = omega (arith, left, its_next p q server.index server.it server.at found ready)
+            below = omega (arith, left, its_next p q server.index server.it server.at found Chosen ready)
 
             -- the parts without it in the queue
             abbrev after : Parts Q QH P PH K
@@ -301,7 +308,7 @@ module _ {Q QH P PH K : Type 0} (p : Parts Q QH P PH K) (core : IsCore p) (n : �
                 few = omega (
                   arith,
                   here.2,
-                  ap (λ (l : Limits). l.max_active_requests_per_client) (its_limits p q server.index server.it server.at found ready),
+                  ap (λ (l : Limits). l.max_active_requests_per_client) (its_limits p q server.index server.it server.at found Chosen ready),
                 )
 
                 -- after the skim the request is received
@@ -309,7 +316,7 @@ module _ {Q QH P PH K : Type 0} (p : Parts Q QH P PH K) (core : IsCore p) (n : �
                 received =
                     subst (λ x. ReceivesUnskimmed (state_of q) server.it.port.id (Ok (Some q.next)) x) (sym (ap state_of t_is))
                     (receives_one q ready.sound server.index server.it still below sender here.0 slot first_is here.2
-                    (waited p q server.index server.it server.at found ready sender slot here.0 few first_is))
+                    (waited p q server.index server.it server.at found Chosen ready sender slot is few first_is))
 
                 -- so it is received
                 pub receives_then : ReceivesRequest (state_of p) n (Ok (Some k)) (state_of t)

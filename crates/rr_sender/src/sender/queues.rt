@@ -105,14 +105,7 @@ impl<B: Body, N: Copy, H: Drop> Sender<B, N, H> {
         ensures within { result < length self.old.held }
         ensures state { self.new ≡ taken self.old receiver channel result (drop 1 (queue_at self.old receiver channel)) }
     {
-        match self.links.pop(receiver, channel) {
-            Some(slot) => {
-                let count = self.links.borrowed(receiver, channel);
-                self.links.set_borrowed(receiver, channel, count + 1);
-                slot
-            }
-            None => unreachable!(),
-        }
+        self.links.take(receiver, channel)
     }
 
     /// Drops the oldest entry of a queue, which holds its slot no more; if that was the last use, what stood in the slot is
@@ -229,7 +222,6 @@ impl<B: Body, N: Copy, H: Drop> Sender<B, N, H> {
         requires borrowed { 0 < borrowed_at self.old receiver channel }
         ensures { self.new ≡ with_borrowed self.old receiver channel (borrowed_at self.old receiver channel - 1) }
     {
-        let count = self.links.borrowed(receiver, channel);
-        self.links.set_borrowed(receiver, channel, count - 1);
+        self.links.end_borrow(receiver, channel);
     }
 }

@@ -1,49 +1,69 @@
 //! Receiving requests.
-ghost use Rattle.std.specs.Prelude.{◌≡◌, ◌<◌, ◌+◌, ◌*◌, ◌^◌, ℕ, [], Some, map, length, slice_get, slice_index_or, IsSomeAnd};
+ghost use Rattle.std.specs.Prelude.{◌≡◌, ◌<◌, ◌+◌, ◌*◌, ◌^◌, ◌↔◌, ℕ, [], Some, map, length, slice_get, slice_index_or, IsSomeAnd, IsTrue};
+ghost use Rattle.rr_sender.specs.Senders.{queue_at};
 ghost use Rattle.rr_store.specs.Ports.{sender_part};
-ghost use Rattle.rr_store.specs.Receiving.{Reaches};
-ghost use Rattle.rr_store.specs.Skimming.{IsFrontAlive, IsSkimmedBelow, SkimsSender, is_waited};
+ghost use Rattle.rr_store.specs.Receiving.{IsNextSender, Reaches};
+ghost use Rattle.rr_store.specs.Skimming.{IsFrontAlive, IsSkimmedTo, SkimsSender, is_waited};
 
 use crate::{HandleEntry, OwnedSender, RequestDetails};
+use rr_protocol::ReceiveError;
 use rr_slots::Body;
 use rr_table::{Place, Table};
 
-/// Drops the requests that nobody waits for from the fronts of the queues to a receiver, where it may have one more.
+/// Returns some sender from which a request waits for a receiver, of which it may have `most` from each. Drops the requests that
+/// nobody waits for from the fronts of the queues that it looks at, where the receiver may have one more. Returns `None` if no
+/// request waits then.
+///
+/// # Errors
+///
+/// - `ExceedsMaxBorrows` if requests wait alone where the receiver has so many.
 #[inline(always)]
-pub fn skim<B: Body, H: Drop>(
+pub fn skim_to_next<B: Body, H: Drop>(
     senders: &mut Vec<OwnedSender<B, RequestDetails, H>>,
     table: &Table<HandleEntry>,
     receiver: usize,
     most: usize,
-)
+) -> Result<Option<usize>, ReceiveError>
     requires { Reaches (map sender_part senders.old.items) receiver 0 }
-    ensures { IsSkimmedBelow table.now receiver most (length senders.old.items) (map sender_part senders.old.items) (map sender_part senders.new.items) }
+    ensures skimmed { IsSkimmedTo table.now receiver most (map sender_part senders.old.items) (map sender_part senders.new.items) result }
+    ensures next { IsNextSender (map sender_part senders.new.items) receiver 0 most result }
 {
+    let mut is_at_limit = false;
     for sender in 0..senders.len() {
         if senders[sender].messages.borrowed(receiver, 0) < most {
-            skim_sender(&mut senders[sender], table, receiver);
+            if skim_sender(&mut senders[sender], table, receiver) {
+                return Ok(Some(sender));
+            }
+        } else if senders[sender].messages.has_entries(receiver, 0) {
+            is_at_limit = true;
         }
     }
+    if is_at_limit {
+        return Err(ReceiveError::ExceedsMaxBorrows);
+    }
+    Ok(None)
 }
 
-/// Drops the requests that nobody waits for from the front of a queue.
+/// Drops the requests that nobody waits for from the front of a queue. Returns whether a request is left.
 #[inline(always)]
 pub fn skim_sender<B: Body, H: Drop>(
     sender: &mut OwnedSender<B, RequestDetails, H>,
     table: &Table<HandleEntry>,
     receiver: usize,
-)
+) -> bool
     requires receiver { receiver < length sender.old.messages.queues }
     requires channel { 0 < length (slice_index_or sender.old.messages.queues receiver []) }
     ensures skimmed { (n : ℕ) × SkimsSender table.now receiver n (sender_part sender.old) (sender_part sender.new) }
     ensures front { IsFrontAlive table.now receiver (sender_part sender.new) }
+    ensures left { IsTrue result ↔ (0 < length (queue_at sender.new.messages receiver 0)) }
 {
     while let Some(slot) = sender.messages.first(receiver, 0) {
         if is_waited(sender, table, slot) {
-            return;
+            return true;
         }
         sender.messages.drop_first(receiver, 0);
     }
+    false
 }
 
 /// Whether the pending response of the request in a slot lives. It looks at the one place where that handle can stand.

@@ -3,12 +3,12 @@ ghost use Rattle.std.specs.Prelude.{◌≡◌, ◌+◌, ◌*◌, ◌<◌, ◌^�
 ghost use Rattle.rr_store.specs.Asked.{CanTake};
 ghost use Rattle.rr_store.specs.Changes.{with_first_request_taken, with_first_response_taken, with_request_senders};
 ghost use Rattle.rr_store.specs.Receiving.{IsNextSender, Reaches, queue_from};
-ghost use Rattle.rr_store.specs.Skimming.{IsSkimmedBelow};
+ghost use Rattle.rr_store.specs.Skimming.{IsSkimmedTo};
 ghost use Rattle.rr_store.specs.Sound.{response_place};
 ghost use Rattle.rr_store.specs.Views.{sender_of};
 
 use crate::receive::next_sender;
-use crate::receive::request::{active_place, skim};
+use crate::receive::request::{active_place, skim_to_next};
 use crate::store::Store;
 use rr_protocol::{BackpressureFn, ReceiveError};
 use rr_slots::Body;
@@ -44,14 +44,22 @@ impl<QB: Body, QH: Default + Drop, PB: Body, PH: Default + Drop, K: Backpressure
         next_sender(&self.server_senders, receiver, channel, most)
     }
 
-    /// Returns from which client's sender a server takes its next request.
+    /// Returns from which client's sender a server takes its next request. Drops the requests that nobody waits for first, from
+    /// the fronts of the queues that it looks at, where the server may have one more, unless the limits have fire-and-forget
+    /// requests.
     #[inline(always)]
-    pub fn next_request_sender(&self, receiver: usize) -> Result<Option<usize>, ReceiveError>
-        requires { Reaches self.now.client_senders receiver 0 }
-        ensures { IsNextSender self.now.client_senders receiver 0 self.now.limits.max_active_requests_per_client result }
+    pub fn next_request_sender(&mut self, receiver: usize) -> Result<Option<usize>, ReceiveError>
+        requires { Reaches self.old.client_senders receiver 0 }
+        ensures rest { self.new ≡ with_request_senders self.old self.new.client_senders }
+        ensures kept { self.old.limits.enable_fire_and_forget_requests ≡ true → self.new ≡ self.old }
+        ensures skimmed { self.old.limits.enable_fire_and_forget_requests ≡ false → IsSkimmedTo self.old.table receiver self.old.limits.max_active_requests_per_client self.old.client_senders self.new.client_senders result }
+        ensures next { IsNextSender self.new.client_senders receiver 0 self.old.limits.max_active_requests_per_client result }
     {
         let most = self.limits.max_active_requests_per_client;
-        next_sender(&self.client_senders, receiver, 0, most)
+        if self.limits.enable_fire_and_forget_requests {
+            return next_sender(&self.client_senders, receiver, 0, most);
+        }
+        skim_to_next(&mut self.client_senders, &self.table, receiver, most)
     }
 
     /// Takes the oldest response out of a client's queue on a channel, and returns its slot.
@@ -93,20 +101,5 @@ impl<QB: Body, QH: Default + Drop, PB: Body, PH: Default + Drop, K: Backpressure
         ensures { result ≡ record { row = (sender_of sender self.now.client_senders).row; index = (receiver + 1) * length (sender_of sender self.now.client_senders).messages.held + slot } }
     {
         active_place(self.client_senders.as_slice(), sender, receiver, slot)
-    }
-
-    /// Drops the requests that nobody waits for from the fronts of the queues to a server, where it may have one more, unless
-    /// the limits have fire-and-forget requests.
-    #[inline(always)]
-    pub fn skim_requests(&mut self, receiver: usize)
-        requires { Reaches self.old.client_senders receiver 0 }
-        ensures rest { self.new ≡ with_request_senders self.old self.new.client_senders }
-        ensures kept { self.old.limits.enable_fire_and_forget_requests ≡ true → self.new ≡ self.old }
-        ensures skimmed { self.old.limits.enable_fire_and_forget_requests ≡ false → IsSkimmedBelow self.old.table receiver self.old.limits.max_active_requests_per_client (length self.old.client_senders) self.old.client_senders self.new.client_senders }
-    {
-        if !self.limits.enable_fire_and_forget_requests {
-            let most = self.limits.max_active_requests_per_client;
-            skim(&mut self.client_senders, &self.table, receiver, most);
-        }
     }
 }

@@ -1,5 +1,5 @@
 -- A core after a skim, from which a server takes the next request.
-use Rattle.std.proofs.Common.{◌≡◌, ◌<◌, ◌≤◌, ℕ, true, false, List, [], Option, Some, length, option_map, refl, sym, ap, ◌∙◌, subst, arith}
+use Rattle.std.proofs.Common.{◌≡◌, ◌<◌, ℕ, true, false, List, [], Option, Some, option_map, refl, sym, ap, ◌∙◌, subst, arith}
 use Rattle.std.specs.Prelude.{◌==◌, IfSome, IsSome, Result, slice_get, find}
 use Rattle.std.specs.Option.{option_map_or}
 use Rattle.std.proofs.lemmas.Bool.{false≢true, eq-eqb, eqb-true}
@@ -19,24 +19,24 @@ use Rattle.rr_store.proofs.base.lists.Replaced.{find_mapped}
 use Rattle.rr_store.proofs.receiving.request.Refusals.{skims_all, with_client_senders}
 use Rattle.rr_store.proofs.base.senders.Numbered.{numbered_once}
 
--- dead requests have left the fronts of the queues to a server, and nothing else changed
-pub record IsReady {Q QH P PH K : Type 0} (p q : Parts Q QH P PH K) (c : ServerPart K) : Type 0 where
+-- dead requests have left the fronts of the queues to a server, of these senders all that may go, and nothing else changed
+pub record IsReady {Q QH P PH K : Type 0} (p q : Parts Q QH P PH K) (c : ServerPart K) (Chosen : ℕ → Type 0) : Type 0 where
   pub same : q ≡ with_client_senders p q.client_senders
   pub sound : IsSound q empty_hand
   pub clients : List ℕ
   pub skims : Skims (state_of p) c.port.id clients (state_of q)
-  pub fronts : p.limits.enable_fire_and_forget_requests ≡ false → (sender : ℕ) → sender < length q.client_senders
+  pub fronts : p.limits.enable_fire_and_forget_requests ≡ false → (sender : ℕ) → Chosen sender
       → borrowed_from q.client_senders c.receiver 0 sender < p.limits.max_active_requests_per_client
       → IsFrontAlive p.table c.receiver (sender_of sender q.client_senders)
 
 module _ {Q QH P PH K : Type 0} (p : Parts Q QH P PH K) (sound : IsSound p empty_hand) (index : ℕ) (c : ServerPart K)
-    (at : slice_get p.servers index ≡ Some c) where
+    (at : slice_get p.servers index ≡ Some c) (Chosen : ℕ → Type 0) where
   -- after a skim
   pub ready_skimmed : p.limits.enable_fire_and_forget_requests ≡ false → (receiver : ℕ) → receiver ≡ c.receiver
-      → (n : ℕ) (senders : List (Sender Q _ QH)) → length p.client_senders ≤ n
+      → (n : ℕ) (senders : List (Sender Q _ QH))
       → IsSkimmedBelow p.table receiver p.limits.max_active_requests_per_client n p.client_senders senders
-      → IsReady p (with_client_senders p senders) c
-  ready_skimmed forgets receiver its n senders all skimmed =
+      → ((sender : ℕ) → Chosen sender → sender < n) → IsReady p (with_client_senders p senders) c Chosen
+  ready_skimmed forgets receiver its n senders skimmed among =
       let so = subst (λ r. IsSkimmedBelow p.table r p.limits.max_active_requests_per_client n p.client_senders senders) its skimmed in
       let s = skims_all p sound index c at forgets so.senders senders so.steps in
       record {
@@ -44,11 +44,11 @@ module _ {Q QH P PH K : Type 0} (p : Parts Q QH P PH K) (sound : IsSound p empty
         sound = s.0;
         clients = s.1.0;
         skims = s.1.1;
-        fronts = λ _ sender h few. so.fronts sender (omega (arith, h, all, so.many)) few;
+        fronts = λ _ sender chosen few. so.fronts sender (among sender chosen) few;
       }
 
   -- where nothing is skimmed
-  pub ready_as_is : p.limits.enable_fire_and_forget_requests ≡ true → IsReady p p c
+  pub ready_as_is : p.limits.enable_fire_and_forget_requests ≡ true → IsReady p p c Chosen
   ready_as_is keeps = record {
     same = refl;
     sound = sound;
@@ -80,7 +80,7 @@ module _ {Q QH P PH K : Type 0} (p : Parts Q QH P PH K) (sound : IsSound p empty
       (omega (arith, own_place, shaped.queues), omega (arith, shaped.queue_channels c.receiver own_place))
 
 module _ {Q QH P PH K : Type 0} (p q : Parts Q QH P PH K) (index : ℕ) (c : ServerPart K) (at : slice_get p.servers index ≡ Some c)
-    (found : find (λ s. s.port.id == c.port.id) p.servers ≡ Some c) (ready : IsReady p q c) where
+    (found : find (λ s. s.port.id == c.port.id) p.servers ≡ Some c) (Chosen : ℕ → Type 0) (ready : IsReady p q c Chosen) where
   pub its_limits : q.limits ≡ p.limits
   its_limits = ap (λ (x : Parts Q QH P PH K). x.limits) ready.same
 
@@ -90,13 +90,13 @@ module _ {Q QH P PH K : Type 0} (p q : Parts Q QH P PH K) (index : ℕ) (c : Ser
   pub its_server : slice_get q.servers index ≡ Some c
   its_server = ap (λ (x : Parts Q QH P PH K). slice_get x.servers index) ready.same ∙ at
 
-  -- the first request of a queue with room is waited for
-  pub waited : (sender slot : ℕ) → sender < length q.client_senders
+  -- the first request of such a queue with room is waited for
+  pub waited : (sender slot : ℕ) → Chosen sender
       → borrowed_from q.client_senders c.receiver 0 sender < p.limits.max_active_requests_per_client
       → slice_get (queue_from q.client_senders c.receiver 0 sender) 0 ≡ Some slot
       → q.limits.enable_fire_and_forget_requests ≡ false → is_waited q.table (sender_of sender q.client_senders) slot ≡ true
-  waited sender slot there few first forgets =
-      let alive = ready.fronts (sym (ap (λ (l : Limits). l.enable_fire_and_forget_requests) its_limits) ∙ forgets) sender there few in
+  waited sender slot chosen few first forgets =
+      let alive = ready.fronts (sym (ap (λ (l : Limits). l.enable_fire_and_forget_requests) its_limits) ∙ forgets) sender chosen few in
       let here : is_waited p.table (sender_of sender q.client_senders) slot ≡ true = subst
       (λ o. IfSome o (λ slot. is_waited p.table (sender_of sender q.client_senders) slot ≡ true)) first alive in
       ap (λ (x : Parts Q QH P PH K). is_waited x.table (sender_of sender q.client_senders) slot) ready.same ∙ here

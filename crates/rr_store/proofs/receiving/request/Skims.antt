@@ -1,18 +1,20 @@
 -- Requests that nobody waits for leave the fronts of queues.
-use Rattle.std.proofs.Common.{zero, suc, ◌≡◌, ◌<◌, ◌≤◌, ◌+◌, ℕ, false, List, [], ◌∷◌, ◌++◌, None, Some, length, refl, sym, ap, ◌∙◌, subst, ⊎_elim, arith}
-use Rattle.std.specs.Prelude.{drop, slice_get, slice_set, slice_index_or}
+use Rattle.std.proofs.Common.{zero, suc, ◌≡◌, ◌<◌, ◌≤◌, ◌+◌, ℕ, Bool, true, false, List, [], ◌∷◌, ◌++◌, Option, None, Some, Ok, length, refl, sym, ap, ◌∙◌, subst, ⊎_elim, arith}
+use Rattle.std.specs.Prelude.{Result, drop, slice_get, slice_set, slice_index_or}
 use Rattle.std.proofs.lemmas.Bool.{cases_eq, cases_lt}
 use Rattle.std.proofs.lemmas.List.{get_or-set_same, get_or-set_other, set-get_or, length-set}
 use Rattle.rr_table.specs.TableView.{TableView}
-use Rattle.rr_sender.specs.Senders.{queue_at, borrowed_at}
+use Rattle.rr_protocol.specs.declared.error.ReceiveError.{ReceiveError}
+use Rattle.rr_sender.specs.Senders.{at_two, queue_at, borrowed_at}
 use Rattle.rr_sender.proofs.EntryLaws.{length-set_two}
 use Rattle.rr_store.specs.declared.handle_entry.HandleEntry.{HandleEntry}
 use Rattle.rr_store.specs.declared.details.RequestDetails.{RequestDetails}
 use Rattle.rr_store.specs.Parts.{Sender}
-use Rattle.rr_store.specs.Receiving.{borrowed_from, Reaches}
-use Rattle.rr_store.specs.Skimming.{is_waited, first_skimmed, SkimsSender, IsFrontAlive, SkimsSenders, IsSkimmedBelow}
+use Rattle.rr_store.specs.Receiving.{borrowed_from, queue_from, IsLookedThrough, IsNextSender, Reaches}
+use Rattle.rr_store.specs.Skimming.{is_waited, first_skimmed, SkimsSender, IsFrontAlive, SkimsSenders, IsSkimmedBelow, IsSkimmedTo}
 use Rattle.rr_store.specs.Views.{sender_of, no_sender}
 use Rattle.rr_store.proofs.base.lists.SetTwo.{row_length}
+use Rattle.rr_store.proofs.receiving.NextSender.{looked_at_empty, looked_at_limit, empty_of}
 
 -- an element that is set twice
 set_again : {X : Type 0} (xs : List X) (i : ℕ) (x y : X) → slice_set (slice_set xs i x) i y ≡ slice_set xs i y
@@ -141,3 +143,83 @@ module _ {T H : Type 0} (table : TableView HandleEntry) (receiver : ℕ) where
 pub shorter : {X : Type 0} (xs ys : List X) (x : X) → ys ≡ drop 1 xs → slice_get xs 0 ≡ Some x → length ys < length xs
 shorter [] ys x e f = absurd (let g : None ≡ Some x = f in cc)
 shorter (y ∷ xs) ys x e f = omega (arith, ap length e)
+
+-- a queue with a first entry has an entry
+pub first_there : {X : Type 0} (xs : List X) (x : X) → slice_get xs 0 ≡ Some x → 0 < length xs
+first_there xs x e = omega (arith, shorter xs (drop 1 xs) x refl e)
+
+-- and one without has none
+pub first_nowhere : {X : Type 0} (xs : List X) → slice_get xs 0 ≡ None → 0 < length xs → ⊥
+first_nowhere [] e h = omega (arith, h)
+first_nowhere (x ∷ xs) e h = let g : Some x ≡ None = e in cc
+
+-- a sender is told once
+told_is : (n m : ℕ) → (let told : ℕ → Result (Option ℕ) ReceiveError = λ l. Ok (Some l) in told n ≡ told m) → n ≡ m
+told_is n m e = cc
+
+-- a sender that is not looked through yet changes, and those before it stay
+pub looked_apart : {T N H : Type 0} (senders : List (Sender T N H)) (receiver channel most n : ℕ) (x : Sender T N H) (b : Bool)
+    → IsLookedThrough senders receiver channel most n b → IsLookedThrough (slice_set senders n x) receiver channel most n b
+looked_apart {T} {N} {H} senders receiver channel most n x b so =
+    let same : (l : ℕ) → l < n → sender_of l (slice_set senders n x) ≡ sender_of l senders = λ l h.
+    get_or-set_other senders n l x no_sender (λ e. omega (arith, h, e)) in
+    let queue : (l : ℕ) → l < n → queue_from (slice_set senders n x) receiver channel l ≡ queue_from senders receiver channel l = λ l h.
+    ap (λ (s : Sender T N H). queue_at s.messages receiver channel) (same l h) in
+    let count : (l : ℕ) → l < n → borrowed_from (slice_set senders n x) receiver channel l ≡ borrowed_from senders receiver channel l = λ l h.
+    ap (λ (s : Sender T N H). borrowed_at s.messages receiver channel) (same l h) in
+    record {
+      passed = λ l h room. queue l h ∙ so.passed l h (omega (arith, room, count l h));
+      clear = λ e l h. queue l h ∙ so.clear e l h;
+      at_limit = λ e. let r = so.at_limit e in (r.0, r.1, omega (arith, r.2, count r.0 r.1), λ none. r.3 (sym (queue r.0 r.1) ∙ none));
+    }
+
+module _ {T H : Type 0} (table : TableView HandleEntry) (receiver most n : ℕ) (old now : List (Sender T RequestDetails H))
+    (so : IsSkimmedBelow table receiver most n old now) (there : n < length now) where
+  -- the receiver may have no more from the next sender, which has no entry
+  pub passed_full : (b : Bool) → IsLookedThrough now receiver 0 most n b → most ≤ borrowed_from now receiver 0 n
+      → queue_from now receiver 0 n ≡ []
+      → IsSkimmedBelow table receiver most (n + 1) old now × IsLookedThrough now receiver 0 most (n + 1) b
+  passed_full b seen full none =
+      (skimmed_full table receiver most n old now so full, looked_at_empty now receiver 0 most n b seen none)
+
+  -- or has one
+  pub passed_waiting : (b : Bool) → IsLookedThrough now receiver 0 most n b → most ≤ borrowed_from now receiver 0 n
+      → (queue_from now receiver 0 n ≡ [] → ⊥)
+      → IsSkimmedBelow table receiver most (n + 1) old now × IsLookedThrough now receiver 0 most (n + 1) true
+  passed_waiting b seen full some =
+      (skimmed_full table receiver most n old now so full, looked_at_limit now receiver 0 most n b seen full some)
+
+  module _ (few : borrowed_from now receiver 0 n < most) (x : Sender T RequestDetails H) (k : ℕ)
+      (steps : SkimsSender table receiver k (sender_of n now) x) (front : IsFrontAlive table receiver x) where
+    here : sender_of n (slice_set now n x) ≡ x
+    here = get_or-set_same now n x no_sender there
+
+    -- the next sender was skimmed
+    pub skimmed_here : IsSkimmedBelow table receiver most (n + 1) old (slice_set now n x)
+    skimmed_here = skimmed_sender table receiver most n old now so there few x k steps front
+
+    -- and has no entry then
+    pub passed_skimmed : (b : Bool) → IsLookedThrough now receiver 0 most n b → (0 < length (queue_at x.messages receiver 0) → ⊥)
+        → IsSkimmedBelow table receiver most (n + 1) old (slice_set now n x)
+        × IsLookedThrough (slice_set now n x) receiver 0 most (n + 1) b
+    passed_skimmed b seen none = (
+      skimmed_here,
+      looked_at_empty (slice_set now n x) receiver 0 most n b (looked_apart now receiver 0 most n x b seen)
+          (ap (λ (s : Sender T RequestDetails H). queue_at s.messages receiver 0) here ∙ empty_of _ none),
+    )
+
+    -- or is next
+    pub skimmed_next : 0 < length (queue_at x.messages receiver 0) → IsNextSender (slice_set now n x) receiver 0 most (Ok (Some n))
+    skimmed_next some = (
+      omega (arith, there, length-set now n x),
+      omega (arith, some, ap (λ (s : Sender T RequestDetails H). length (queue_at s.messages receiver 0)) here),
+      omega (
+        arith,
+        few,
+        ap (λ (s : Sender T RequestDetails H). borrowed_at s.messages receiver 0) here,
+        ap (λ counts. at_two 0 counts receiver 0) (skim_alike table receiver k (sender_of n now) x steps).borrowed,
+      ),
+    )
+
+    pub skimmed_to : IsSkimmedTo table receiver most old (slice_set now n x) (Ok (Some n))
+    skimmed_to = record { below = n + 1; skimmed = skimmed_here; among = λ sender e. omega (arith, told_is n sender e) }
