@@ -58,9 +58,12 @@ fn answer<B: Family>(hub: &mut Hub<B>, server: &Server<B>, len: usize) -> Result
     let Some(active) = server.receive(hub)? else {
         return Err(TripError::NothingCame);
     };
-    let sent = respond(hub, &active, len);
+    if let Err(error) = respond(hub, &active, len) {
+        active.release(hub);
+        return Err(error);
+    }
     active.release(hub);
-    sent
+    Ok(())
 }
 
 /// Receives the response. Returns the word that came.
@@ -110,9 +113,16 @@ fn round_trip<B: Family>(
     ensures { KeepsKinds hub.old hub.new }
 {
     let pending = ask(hub, client, len, word)?;
-    let answer = exchange(hub, server, &pending, len);
-    pending.release(hub);
-    answer
+    match exchange(hub, server, &pending, len) {
+        Ok(word) => {
+            pending.release(hub);
+            Ok(word)
+        }
+        Err(error) => {
+            pending.release(hub);
+            Err(error)
+        }
+    }
 }
 
 /// Lets servers look for requests, and releases those that come.

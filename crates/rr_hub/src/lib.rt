@@ -6,7 +6,6 @@ mod header;
 mod lend;
 mod loan;
 mod making;
-mod payload;
 mod query;
 mod queue;
 mod receive;

@@ -41,10 +41,10 @@ impl<QB: Body, QH: Default + Drop, PB: Body, PH: Default + Drop, K: Backpressure
     }
 
     /// Receives the oldest request of some client for a server whose value lives. It has the next number, of which one is left.
-    /// Drops requests whose pending responses were released first, where they are the oldest of their clients, unless the limits
-    /// have fire-and-forget requests. Returns `None` if no request is queued then. Looks at about ten of 1,000 servers, at most
-    /// twice at the sender of each client, of those that left as well until a creation takes it, and once at each request that
-    /// it drops or leaves in front. Takes no memory. After iceoryx2's `Server::receive`.
+    /// Drops requests whose pending responses were released on the way, where they are the oldest of their clients, unless the
+    /// limits have fire-and-forget requests. Returns `None` if no request is queued then. Looks at about ten of 1,000 servers, at
+    /// most once at the sender of each client, of those that left as well until a creation takes it, and once at each request that
+    /// it drops or finds in front. Takes no memory. After iceoryx2's `Server::receive`.
     ///
     /// # Errors
     ///

@@ -113,7 +113,7 @@ impl<PB: Body> Server<PB> {
     }
 
     /// Receives the oldest request of some client, under the next number, of which one is left. Drops requests whose pending
-    /// responses were released first, where they are the oldest of their clients, unless the limits have fire-and-forget requests.
+    /// responses were released on the way, where they are the oldest of their clients, unless the limits have fire-and-forget requests.
     /// Returns `None` if no request is queued then. Takes no memory. After iceoryx2's `Server::receive`.
     ///
     /// # Errors

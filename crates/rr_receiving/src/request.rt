@@ -14,9 +14,9 @@ use rr_store::{HandleEntry, HandleId, Stage, Store};
 /// Receives the oldest request of some client that a server, whose value lives, has not received yet. It has the next number,
 /// of which one is left.
 ///
-/// Requests whose pending responses were released are dropped first, where they are the oldest of their clients, unless the
+/// Requests whose pending responses were released are dropped on the way, where they are the oldest of their clients, unless the
 /// limits have fire-and-forget requests; a client of which the server has as many requests as it may is left out. Returns `None`
-/// if no client's request waits then. Looks at each client's sender at most twice, and once at each request that it drops, and
+/// if no client's request waits then. Looks at each client's sender at most once, and once at each request that it drops, and
 /// takes no memory. After iceoryx2's `Server::receive`.
 ///
 /// # Errors

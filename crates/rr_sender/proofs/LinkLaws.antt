@@ -10,12 +10,6 @@ use Rattle.rr_sender.specs.declared.links.Link.{Link}
 use Rattle.rr_sender.specs.Senders.{at_two, set_two}
 use Rattle.rr_sender.specs.Links.{sent, nothing_sent, with_entries, with_count, queues_of, borrowed_of, IsLinked}
 
--- a push where there is room
-pub pushed_within : (capacity : ℕ) (queue : List ℕ) (entry : ℕ) → length queue < capacity
-    → pushed capacity queue entry ≡ queue ++ entry ∷ []
-pushed_within capacity queue entry room = ap (λ b. cond b (drop 1 (queue ++ entry ∷ [])) (queue ++ entry ∷ [])) (ne_eqb (length queue)
-    capacity (λ e. omega (arith, e, room)))
-
 -- a receiver that contracts see has a link
 pub is_inside : (links : List Link) (receiver : ℕ) → receiver < length (queues_of links) → receiver < length links
 is_inside links receiver h = omega (arith, h, length-map links (λ (l : Link). l.connection.queues))
@@ -37,15 +31,16 @@ module _ (links : List Link) (receiver : ℕ) (link : Link) (inside : receiver <
   count_is channel = ap (λ row. get_or row channel 0) borrowed_at
 
   module _ (capacity : ℕ) where
-    -- a push where there is room
-    pub pushed_at : IsLinked links capacity → (channel entry : ℕ) → length (at_two [] (queues_of links) receiver channel) < capacity
-        → pushed link.connection.capacity (get_or link.connection.queues channel []) entry ≡ at_two [] (queues_of links) receiver channel
-        ++ entry ∷ []
-    pushed_at sound channel entry room =
-        ap (λ n. pushed n (get_or link.connection.queues channel []) entry)
-        (ap (λ (l : Link). l.connection.capacity) is ∙ sound.uniform receiver link inside)
-        ∙ ap (λ queue. pushed capacity queue entry) (queue_is channel)
-        ∙ pushed_within capacity (at_two [] (queues_of links) receiver channel) entry room
+    -- room that contracts see is there
+    pub room_at : IsLinked links capacity → (channel : ℕ) → length (at_two [] (queues_of links) receiver channel) < capacity
+        → length (get_or link.connection.queues channel []) < link.connection.capacity
+    room_at sound channel room = omega (
+      arith,
+      room,
+      ap length (queue_is channel),
+      ap (λ (l : Link). l.connection.capacity) is,
+      sound.uniform receiver link inside,
+    )
 
     -- a count that a call finds
     pub counted_at : IsLinked links capacity → (channel count : ℕ) → channel < length (get_or (queues_of links) receiver [])

@@ -58,7 +58,7 @@ impl Links {
         ensures { self.new ≡ with_entries self.old receiver channel (at_two [] self.old.queues receiver channel ++ slot ∷ []) }
     {
         let link = &mut self.links[receiver];
-        link.connection.push(channel, slot);
+        link.connection.append(channel, slot);
     }
 
     /// Takes the oldest entry of a queue. `None` where it has none, and nothing changes then.
@@ -86,9 +86,11 @@ impl Links {
         ensures state { self.new ≡ with_count (with_entries self.old receiver channel (drop 1 (at_two [] self.old.queues receiver channel))) receiver channel (at_two 0 self.old.borrowed receiver channel + 1) }
     {
         let link = &mut self.links[receiver];
-        link.borrowed[channel] += 1;
         match link.connection.pop(channel) {
-            Some(slot) => slot,
+            Some(slot) => {
+                link.borrowed[channel] += 1;
+                slot
+            }
             None => unreachable!(),
         }
     }

@@ -58,6 +58,13 @@ kept capacity queue entry short = ⊎_elim
     ∙ sym (ap (λ b. cond b (drop 1 (queue ++ entry ∷ [])) (queue ++ entry ∷ [])) (ne_eqb (length queue) capacity n)))
     (cases_eq (length queue) capacity)
 
+-- and all of it where there is room
+pub pushed_open : (capacity : ℕ) (queue : List ℕ) (entry : ℕ) → length queue < capacity
+    → pushed capacity queue entry ≡ queue ++ entry ∷ []
+pushed_open capacity queue entry room =
+    ap (λ b. cond b (drop 1 (queue ++ entry ∷ [])) (queue ++ entry ∷ []))
+    (ne_eqb (length queue) capacity (λ e. omega (arith, e, room)))
+
 -- a new connection
 pub sound-empty : (channels capacity : ℕ) → IsSound (replicate channels (buffer [] capacity)) capacity 0
 sound-empty channels capacity = record {
@@ -103,6 +110,17 @@ module _ (buffers : List (Buffer ℕ)) (capacity n i : ℕ) (state : Entries) (s
       (λ h. h)
       (λ h. absurd (eqb-false (length old.items) old.capacity fresh (omega (arith, h, length_at, capacity_at))))
       (cases_lt (length old.items) capacity)
+
+  -- and one that has room is not full
+  pub fresh_at : length (queue_of state i) < state.capacity → (length old.items == old.capacity) ≡ false
+  fresh_at room = ne_eqb (length old.items) old.capacity (λ e. omega (
+    arith,
+    room,
+    e,
+    ap length (sym queue_at ∙ ap (λ s. queue_of s i) view),
+    capacity_at,
+    ap (λ (s : Entries). s.capacity) view,
+  ))
 
   room_in : (length old.items == old.capacity) ≡ false → length old.items < old.capacity
   room_in fresh = omega (arith, room_at fresh, capacity_at)

@@ -1,5 +1,5 @@
 //! The queues from one port to another.
-ghost use Rattle.std.specs.Prelude.{◌≡◌, ◌==◌, ◌<◌, ◌≤◌, ◌↔◌, [], None, All, IfOk, IsTrue, drop, length, replicate, slice_get};
+ghost use Rattle.std.specs.Prelude.{◌≡◌, ◌==◌, ◌<◌, ◌≤◌, ◌↔◌, ◌++◌, ◌∷◌, [], None, All, IfOk, IsTrue, drop, length, replicate, slice_get};
 ghost use Rattle.circular_buffer.specs.Buffer.{buffer};
 ghost use Rattle.rr_slots.specs.Connections.{occupancy};
 
@@ -63,6 +63,19 @@ impl Connection {
         let _ = queue.try_push_back(entry);
         self.occupied += 1 - before;
         None
+    }
+
+    /// Enters an entry at the end of a channel's queue, which has room.
+    #[inline(always)]
+    pub fn append(&mut self, channel: usize, entry: usize)
+        requires channel { channel < length self.old.queues }
+        requires room { length (queue_of self.old channel) < self.old.capacity }
+        ensures { self.new ≡ with_queue self.old channel (queue_of self.old channel ++ entry ∷ []) }
+    {
+        let queue = &mut self.queues[channel];
+        let was_occupied = occupancy(queue);
+        let _ = queue.try_push_back(entry);
+        self.occupied += 1 - was_occupied;
     }
 
     /// Takes the oldest entry of a channel. `None` where it has none, and nothing changes then.

@@ -21,5 +21,6 @@ pub use handle_entry::{HandleEntry, Stage};
 pub use handle_id::HandleId;
 pub use port::{
     ClientPort, ConnectedPort, LeftPort, NO_SERVER, OwnedSender, Port, ServerPort, index_of,
+    index_of_present,
 };
 pub use store::{NUMBERS, Store};

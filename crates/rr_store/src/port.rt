@@ -1,5 +1,5 @@
 //! What a core keeps of its connected ports, and the senders from which ports send.
-ghost use Rattle.std.specs.Prelude.{◌≡◌, ◌==◌, ◌||◌, nat_le};
+ghost use Rattle.std.specs.Prelude.{◌≡◌, ◌==◌, ◌||◌, IsSome, Some, nat_le};
 ghost use Rattle.std.specs.List.{position};
 ghost use Rattle.rr_protocol.specs.Backpressure.{discards};
 ghost use Rattle.rr_protocol.specs.Loans.{is_too_long};
@@ -220,7 +220,25 @@ pub fn index_of<P: ConnectedPort>(ports: &[P], id: u64) -> Option<usize>
     index_by_halving(ports, id)
 }
 
-/// Returns the same. Looks at about as many ports as their count can be halved: at 10 of 1,000.
+/// Returns where among the ports, whose numbers rise, the one with this number stands, which is one of them. Looks as `index_of`
+/// does.
+#[inline(always)]
+pub fn index_of_present<P: ConnectedPort>(ports: &[P], id: u64) -> usize
+    requires rising { IsRising P.id ports.now }
+    requires present { IsSome (position (λ p. P.id p == id) ports.now) }
+    ensures { position (λ p. P.id p == id) ports.now ≡ Some result }
+{
+    let middle = ports.len() / 2;
+    if ports[middle].id() == id {
+        return middle;
+    }
+    match index_by_halving(ports, id) {
+        Some(index) => index,
+        None => unreachable!(),
+    }
+}
+
+/// Returns what `index_of` returns. Looks at about as many ports as their count can be halved: at 10 of 1,000.
 fn index_by_halving<P: ConnectedPort>(ports: &[P], id: u64) -> Option<usize>
     requires { IsRising P.id ports.now }
     ensures { result ≡ position (λ p. P.id p == id) ports.now }

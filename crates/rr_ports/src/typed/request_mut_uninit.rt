@@ -46,7 +46,9 @@ impl<T: Drop> RequestMutUninit<Option<T>> {
         ensures numbers { numbers_left hub.new ≡ numbers_left hub.old }
     {
         let RequestMutUninit { id, of: _ } = self;
-        hub.core.write_request_payload(&id, value);
+        // Its clause says that one element is asked for, as of every typed body.
+        let _body = hub.core.request_body(&id);
+        hub.core.write_request(&id, value);
         RequestMut {
             id,
             of: PhantomData,

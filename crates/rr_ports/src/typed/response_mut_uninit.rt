@@ -46,7 +46,9 @@ impl<T: Drop> ResponseMutUninit<Option<T>> {
         ensures numbers { numbers_left hub.new ≡ numbers_left hub.old }
     {
         let ResponseMutUninit { id, of: _ } = self;
-        hub.core.write_response_payload(&id, value);
+        // Its clause says that one element is asked for, as of every typed body.
+        let _body = hub.core.response_body(&id);
+        hub.core.write_response(&id, value);
         ResponseMut {
             id,
             of: PhantomData,

@@ -12,7 +12,7 @@ ghost use Rattle.rr_store.specs.Views.{sender_of};
 
 use crate::loan::{count_loan_in, loan_from};
 use crate::store::Store;
-use crate::{RequestDetails, ResponseDetails, index_of};
+use crate::{RequestDetails, ResponseDetails, index_of_present};
 use rr_protocol::{BackpressureFn, LoanError};
 use rr_slots::{AcquireError, Body};
 use rr_table::Place;
@@ -31,10 +31,7 @@ impl<QB: Body, QH: Default + Drop, PB: Body, PH: Default + Drop, K: Backpressure
         requires found { IsSome (position (λ c. c.port.id == client) self.now.clients) }
         ensures { position (λ c. c.port.id == client) self.now.clients ≡ Some result }
     {
-        match index_of(self.clients.as_slice(), client) {
-            Some(index) => index,
-            None => unreachable!(),
-        }
+        index_of_present(self.clients.as_slice(), client)
     }
 
     /// Returns where among the servers the one with this number stands.
@@ -44,10 +41,7 @@ impl<QB: Body, QH: Default + Drop, PB: Body, PH: Default + Drop, K: Backpressure
         requires found { IsSome (position (λ s. s.port.id == server) self.now.servers) }
         ensures { position (λ s. s.port.id == server) self.now.servers ≡ Some result }
     {
-        match index_of(self.servers.as_slice(), server) {
-            Some(index) => index,
-            None => unreachable!(),
-        }
+        index_of_present(self.servers.as_slice(), server)
     }
 
     /// Returns the sender of the client at an index.

@@ -10,27 +10,19 @@ use Rattle.rr_store.proofs.base.lists.Mapped.{position-map, some_mapped}
 use Rattle.rr_store.proofs.base.lists.Rising.{rising_unmapped}
 use Rattle.rr_store.proofs.store.Store.server_index.Goals as goal
 
--- where a port stands is told of the field
-told : {K : Type 0} (items slice : List (ServerPort K)) (n : ℕ) (o : Option ℕ) → slice ≡ items
-    → o ≡ position (λ (x : ServerPort K). x.port.id == n) slice
-    → position (λ (x : ServerPort K). x.port.id == n) items ≡ o
-told {K} items slice n o same is = ap (position (λ (x : ServerPort K). x.port.id == n)) (sym same) ∙ sym is
-
-pub index_of-requires : goal.index_of-requires
-index_of-requires g c =
+pub index_of_present-requires-clause-rising : goal.index_of_present-requires-clause-rising
+index_of_present-requires-clause-rising g c =
     subst (IsRising (λ (x : ServerPort _). x.port.id)) (sym c.as_slice.ensures.value)
     (rising_unmapped server_part (λ (x : ServerPart _). x.port.id) c.self.inside.servers.items (rw (← c.self.view_is) at c.requires.rising))
 
-pub unreachable-requires : goal.unreachable-requires
-unreachable-requires g c =
-    false≢true (
-    subst IsSome (told c.self.inside.servers.items c.as_slice.result.now c.args.server _ c.as_slice.ensures.value c.index_of.ensures
-    ∙ c.in-None.is)
+pub index_of_present-requires-clause-present : goal.index_of_present-requires-clause-present
+index_of_present-requires-clause-present g c =
+    subst (λ ports. IsSome (position (λ (x : ServerPort _). x.port.id == c.args.server) ports)) (sym c.as_slice.ensures.value)
     (some_mapped server_part (λ (x : ServerPart _). x.port.id == c.args.server) c.self.inside.servers.items (rw
-    (← c.self.view_is) at c.requires.found)))
+    (← c.self.view_is) at c.requires.found))
 
 pub returns : goal.returns
 returns g c =
     rw (← c.self.view_is)
     (position-map server_part (λ (x : ServerPart _). x.port.id == c.args.server) c.self.inside.servers.items
-    ∙ told c.self.inside.servers.items c.as_slice.result.now c.args.server _ c.as_slice.ensures.value c.index_of.ensures ∙ c.in-Some.is)
+    ∙ ap (position (λ (x : ServerPort _). x.port.id == c.args.server)) (sym c.as_slice.ensures.value) ∙ c.index_of_present.ensures)

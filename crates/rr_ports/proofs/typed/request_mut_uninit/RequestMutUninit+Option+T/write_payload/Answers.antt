@@ -7,9 +7,9 @@ use Rattle.rr_ports.proofs.typed.request_mut_uninit.RequestMutUninit+Option+T.wr
 pub returns-clause-kind : goal.returns-clause-kind
 unfolding Names
 returns-clause-kind g c =
-    request_written_names c.hub.inside.core c.write_request_payload.new.self c.self.inside.id (with_elements (c.args.value ∷ [])) c.write_request_payload.ensures
+    request_written_names c.hub.inside.core c.write_request.new.self c.self.inside.id (with_elements (c.args.value ∷ [])) c.write_request.ensures
     (rw (← c.hub.view_is, ← c.self.view_is) at c.requires)
 
 pub returns-clause-kinds : goal.returns-clause-kinds
 returns-clause-kinds g c =
-    rw (← c.hub.view_is, ← c.self.view_is) (request_written_but c.hub.inside.core c.write_request_payload.new.self c.self.inside.id (with_elements (c.args.value ∷ [])) c.write_request_payload.ensures)
+    rw (← c.hub.view_is, ← c.self.view_is) (request_written_but c.hub.inside.core c.write_request.new.self c.self.inside.id (with_elements (c.args.value ∷ [])) c.write_request.ensures)

@@ -7,9 +7,9 @@ use Rattle.rr_ports.proofs.typed.response_mut_uninit.ResponseMutUninit+Option+T.
 pub returns-clause-kind : goal.returns-clause-kind
 unfolding Names
 returns-clause-kind g c =
-    response_written_names c.hub.inside.core c.write_response_payload.new.self c.self.inside.id (with_elements (c.args.value ∷ [])) c.write_response_payload.ensures
+    response_written_names c.hub.inside.core c.write_response.new.self c.self.inside.id (with_elements (c.args.value ∷ [])) c.write_response.ensures
     (rw (← c.hub.view_is, ← c.self.view_is) at c.requires)
 
 pub returns-clause-kinds : goal.returns-clause-kinds
 returns-clause-kinds g c =
-    rw (← c.hub.view_is, ← c.self.view_is) (response_written_but c.hub.inside.core c.write_response_payload.new.self c.self.inside.id (with_elements (c.args.value ∷ [])) c.write_response_payload.ensures)
+    rw (← c.hub.view_is, ← c.self.view_is) (response_written_but c.hub.inside.core c.write_response.new.self c.self.inside.id (with_elements (c.args.value ∷ [])) c.write_response.ensures)
