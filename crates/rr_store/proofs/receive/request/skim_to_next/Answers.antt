@@ -1,5 +1,5 @@
 use Rattle.std.proofs.Common.{Vec, ◌≡◌, ◌<◌, ◌+◌, true, [], Ok, Some, length, map, sym, ap, ◌∙◌, subst, arith}
-use Rattle.std.specs.Prelude.{slice_index_or}
+use Rattle.std.specs.Prelude.{slice_index_or, slice_set}
 use Rattle.std.proofs.lemmas.Bool.{false≢true}
 use Rattle.std.proofs.lemmas.List.{length-map}
 use Rattle.rr_sender.specs.Senders.{borrowed_at, queue_at}
@@ -75,29 +75,12 @@ skim_sender-requires-clause-channel g c =
       ap (λ (l : Sender _ _ _). length (slice_index_or l.messages.queues c.args.receiver [])) is,
     )
 
-pub returns-then-skim_sender-clause-skimmed : goal.returns-then-skim_sender-clause-skimmed
-returns-then-skim_sender-clause-skimmed g c =
-    let old = map sender_part c.args.senders.now.items in
-    let now = c.loop-sender.senders.items in
-    let n = c.loop-sender.sender in
-    let within = within g (goal.at.returns-then-skim_sender-clause-skimmed g c).In-loop-sender in
-    let was = sender_is now n c.index.result.now (senders_many now n within) c.index.ensures in
-    let here = sender_is now n c.index_mut.result.now (senders_many now n within) c.index_mut.ensures.value in
-    let few : borrowed_from (map sender_part now) c.args.receiver 0 n < c.args.most = omega (
-      arith,
-      ap (λ (l : Sender _ _ _). borrowed_at l.messages c.args.receiver 0) was,
-      c.borrowed.ensures,
-      c.if-borrowed-most.true,
-    ) in
-    subst (λ ls. IsSkimmedTo c.args.table.now c.args.receiver c.args.most old ls (Ok (Some n)))
-    (sym (map-set_one sender_part now n c.skim_sender.new.sender))
-    (skimmed_to c.args.table.now c.args.receiver c.args.most n old (map sender_part now) c.loop-sender.invariant.0 within few
-    (sender_part c.skim_sender.new.sender) c.skim_sender.ensures.skimmed.0
-    (subst (λ l. SkimsSender c.args.table.now c.args.receiver c.skim_sender.ensures.skimmed.0 l (sender_part c.skim_sender.new.sender))
-    (sym here) c.skim_sender.ensures.skimmed.1) c.skim_sender.ensures.front)
-
-pub returns-then-skim_sender-clause-next : goal.returns-then-skim_sender-clause-next
-returns-then-skim_sender-clause-next g c =
+-- a sender with a request that is left is next, and the senders up to it were skimmed
+chosen : (g : _) (c : Then-skim_sender g)
+    → let now = map sender_part (slice_set c.loop-sender.senders.items c.loop-sender.sender c.skim_sender.new.sender) in
+    IsSkimmedTo c.args.table.now c.args.receiver c.args.most (map sender_part c.args.senders.now.items) now (Ok (Some c.loop-sender.sender))
+    × IsNextSender now c.args.receiver 0 c.args.most (Ok (Some c.loop-sender.sender))
+chosen g c =
     let old = map sender_part c.args.senders.now.items in
     let now = c.loop-sender.senders.items in
     let n = c.loop-sender.sender in
@@ -110,12 +93,22 @@ returns-then-skim_sender-clause-next g c =
       c.borrowed.ensures,
       c.if-borrowed-most.true,
     ) in
-    subst (λ ls. IsNextSender ls c.args.receiver 0 c.args.most (Ok (Some n)))
-    (sym (map-set_one sender_part now n c.skim_sender.new.sender))
-    (skimmed_next c.args.table.now c.args.receiver c.args.most n old (map sender_part now) c.loop-sender.invariant.0 within few
-    (sender_part c.skim_sender.new.sender) c.skim_sender.ensures.skimmed.0
-    (subst (λ l. SkimsSender c.args.table.now c.args.receiver c.skim_sender.ensures.skimmed.0 l (sender_part c.skim_sender.new.sender))
-    (sym here) c.skim_sender.ensures.skimmed.1) c.skim_sender.ensures.front (c.skim_sender.ensures.left.0 c.if-skim_sender.true))
+    let left = sender_part c.skim_sender.new.sender in
+    let many = c.skim_sender.ensures.skimmed.0 in
+    let steps = subst (λ l. SkimsSender c.args.table.now c.args.receiver many l left) (sym here) c.skim_sender.ensures.skimmed.1 in
+    subst (λ ls. IsSkimmedTo c.args.table.now c.args.receiver c.args.most old ls (Ok (Some n))
+    × IsNextSender ls c.args.receiver 0 c.args.most (Ok (Some n))) (sym (map-set_one sender_part now n c.skim_sender.new.sender)) (
+      skimmed_to c.args.table.now c.args.receiver c.args.most n old (map sender_part now) c.loop-sender.invariant.0 within few left many steps
+          c.skim_sender.ensures.front,
+      skimmed_next c.args.table.now c.args.receiver c.args.most n old (map sender_part now) c.loop-sender.invariant.0 within few left many
+          steps c.skim_sender.ensures.front (c.skim_sender.ensures.left.0 c.if-skim_sender.true),
+    )
+
+pub returns-then-skim_sender-clause-skimmed : goal.returns-then-skim_sender-clause-skimmed
+returns-then-skim_sender-clause-skimmed g c = (chosen g c).0
+
+pub returns-then-skim_sender-clause-next : goal.returns-then-skim_sender-clause-next
+returns-then-skim_sender-clause-next g c = (chosen g c).1
 
 pub has_entries-requires-clause-receiver : goal.has_entries-requires-clause-receiver
 has_entries-requires-clause-receiver g c =
