@@ -162,8 +162,18 @@ pub fn trips<B: Family>(
         if hub.numbers_left() < 3 {
             return Err(TripError::NoNumbersLeft);
         }
-        sum = sum.wrapping_add(round_trip(hub, client, server, len, sum)?);
+        match round_trip(hub, client, server, len, sum) {
+            Ok(word) => sum = sum.wrapping_add(word),
+            Err(error) => return Err(unlikely(error)),
+        }
         look(hub, onlookers)?;
     }
     Ok(sum)
+}
+
+/// Returns an error. Lets the compiler place what leads to it beside the path of a whole round trip, as it does with a panic.
+#[cold]
+#[inline(never)]
+fn unlikely(error: TripError) -> TripError {
+    error
 }

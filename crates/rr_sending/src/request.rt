@@ -46,9 +46,9 @@ pub fn send_request_at<
         release_request_at(store, number, place);
         return Err(refusal);
     }
-    store.queue_request(entry.sender, entry.slot);
-    store.count_as_sent(entry.sender);
     let stage = Stage::PendingResponse(false, connections);
     store.replace(number, place, HandleEntry { stage, ..entry });
+    store.queue_request(entry.sender, entry.slot);
+    store.count_as_sent(entry.sender);
     Ok(connections)
 }

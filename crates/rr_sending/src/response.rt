@@ -42,8 +42,8 @@ pub fn send_response_at<
         release_response_loan_at(store, number, place);
         return Err(SendError::UnableToDeliver);
     }
-    store.take(number, place);
     store.hand_over_response(entry, details.channel, reach);
+    store.take(number, place);
     let receiver = store.end_response_loan(entry.sender);
     store.end_loan_from(details, receiver);
     leave_server_of_sender_if_unused(store, entry.sender);

@@ -7,8 +7,7 @@ use Rattle.std.proofs.lemmas.List.Sums.{count_by-le-length, sum_by-cons}
 use Rattle.std.proofs.Math.ListN.{get_or-append}
 use Rattle.std.proofs.lemmas.Option.{get_or_from_slice_get, slice_get-map, slice_get_within}
 use Rattle.rr_slots.specs.declared.slot.Slot.{Slot}
-use Rattle.rr_slots.specs.declared.slot.Slot.TheVariants.{Free, Held}
-use Rattle.rr_slots.specs.Threads.{holders_of, next_of, all_free, IsThreaded, LeadsThroughFree}
+use Rattle.rr_slots.specs.Threads.{slot_with, holders_of, next_of, all_free, IsThreaded, LeadsThroughFree}
 use Rattle.rr_slots.proofs.ThreadLaws.{first_zero, first_within, leads_after_take, leads_after_free, leads_as_before, leads_at_first}
 
 module _ (slots : List Slot) where
@@ -34,28 +33,28 @@ module _ (slots : List Slot) where
     first_is_free zero t some = absurd (some refl)
     first_is_free (suc n) t some = first_zero t
 
-    pub taken : (free next : ℕ) → slice_get slots first ≡ Some (Free next) → IsThreaded slots first free → (free ≡ 0 → ⊥)
-        → IsThreaded (slice_set slots first (Held 0)) next (free - 1)
-    taken zero next e t some = absurd (some refl)
-    taken (suc n) next e t some =
-        rw (map-set holders_of slots first (Held 0)) (rw (map-set next_of slots first (Held 0))
+    pub taken : (free : ℕ) (s : Slot) → slice_get slots first ≡ Some s → IsThreaded slots first free → (free ≡ 0 → ⊥)
+        → IsThreaded (slice_set slots first (slot_with 1 s.next)) s.next (free - 1)
+    taken zero s e t some = absurd (some refl)
+    taken (suc n) s e t some =
+        rw (map-set holders_of slots first (slot_with 1 s.next)) (rw (map-set next_of slots first (slot_with 1 s.next))
         (let P : ℕ → ℕ → Type 0 = λ x m. LeadsThroughFree (slice_set (map holders_of slots) first 1)
-        (slice_set (map next_of slots) first 0) x m in
-        subst (λ m. P next m) (sym (omega arith)) (subst (λ x. P x n) (next_at first 0 (Free next) e) (leads_after_take t))))
+        (slice_set (map next_of slots) first s.next) x m in
+        subst (λ m. P s.next m) (sym (omega arith)) (subst (λ x. P x n) (next_at first 0 s e) (leads_after_take s.next t))))
 
     module _ (free : ℕ) where
-      pub freed : (slot more : ℕ) → slice_get slots slot ≡ Some (Held more) → more ≡ 0 → IsThreaded slots first free
-          → IsThreaded (slice_set slots slot (Free first)) slot (free + 1)
-      freed slot more e last t =
-          rw (map-set holders_of slots slot (Free first)) (rw (map-set next_of slots slot (Free first))
-          (leads_after_free slot (omega (arith, slice_get_within slots slot (Held more) e, length-map slots next_of))
-          (holders_at slot 0 (Held more) e ∙ omega arith) t))
+      pub freed : (slot : ℕ) (s : Slot) → slice_get slots slot ≡ Some s → s.holders ≡ 1 → IsThreaded slots first free
+          → IsThreaded (slice_set slots slot (slot_with 0 first)) slot (free + 1)
+      freed slot s e last t =
+          rw (map-set holders_of slots slot (slot_with 0 first)) (rw (map-set next_of slots slot (slot_with 0 first))
+          (leads_after_free slot (omega (arith, slice_get_within slots slot s e, length-map slots next_of))
+          (holders_at slot 0 s e ∙ last) t))
 
-      pub kept : (slot a b : ℕ) → slice_get slots slot ≡ Some (Held a) → IsThreaded slots first free
-          → IsThreaded (slice_set slots slot (Held b)) first free
-      kept slot a b e t =
-          rw (map-set holders_of slots slot (Held b)) (rw (map-set next_of slots slot (Held b))
-          (leads_as_before slot (b + 1) 0 (omega (arith, holders_at slot 0 (Held a) e)) (omega arith) t))
+      pub kept : (slot m x : ℕ) (s : Slot) → slice_get slots slot ≡ Some s → 0 < s.holders → 0 < m → IsThreaded slots first free
+          → IsThreaded (slice_set slots slot (slot_with m x)) first free
+      kept slot m x s e held more t =
+          rw (map-set holders_of slots slot (slot_with m x)) (rw (map-set next_of slots slot (slot_with m x))
+          (leads_as_before slot m x (omega (arith, held, holders_at slot 0 s e)) more t))
 
 -- the slots that are free, and those that are not
 pub all_counted : (holders : List ℕ) → count_by (λ h. h == 0) holders + count_by (λ h. not (h == 0)) holders ≡ length holders
@@ -68,18 +67,18 @@ all_counted (h ∷ hs) =
 -- free slots, each followed by the next one
 length-all_free : (n : ℕ) → length (all_free n) ≡ n
 length-all_free zero = refl
-length-all_free (suc n) = length-append (all_free n) (Free (n + 1) ∷ []) ∙ omega (arith, length-all_free n)
+length-all_free (suc n) = length-append (all_free n) (slot_with 0 (n + 1) ∷ []) ∙ omega (arith, length-all_free n)
 
 pub holders-all_free : (n : ℕ) → map holders_of (all_free n) ≡ replicate n 0
 holders-all_free zero = refl
 holders-all_free (suc n) =
-    map-append holders_of (all_free n) (Free (n + 1) ∷ []) ∙ ap (λ xs. xs ++ 0 ∷ []) (holders-all_free n) ∙ replicate_more n 0
+    map-append holders_of (all_free n) (slot_with 0 (n + 1) ∷ []) ∙ ap (λ xs. xs ++ 0 ∷ []) (holders-all_free n) ∙ replicate_more n 0
     ∙ let more : n + 1 ≡ suc n = omega arith in ap (λ k. replicate {A = ℕ} k 0) more
 
 next-all_free : (n i : ℕ) → i < n → get_or (map next_of (all_free n)) i 0 ≡ i + 1
 next-all_free zero i h = absurd (omega arith)
 next-all_free (suc n) i h =
-    rw (map-append next_of (all_free n) (Free (n + 1) ∷ []))
+    rw (map-append next_of (all_free n) (slot_with 0 (n + 1) ∷ []))
     (let len : length (map next_of (all_free n)) ≡ n = length-map (all_free n) next_of ∙ length-all_free n in
     ⊎_elim
     (λ l. get_or-append {A = ℕ} (map next_of (all_free n)) ((n + 1) ∷ []) 0 i (omega (arith, len)) ∙ next-all_free n i l)

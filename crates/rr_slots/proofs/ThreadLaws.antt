@@ -39,13 +39,13 @@ module _ {hs ls : List ℕ} where
   first_within {head} t = ⊎_elim (λ h. h) (λ h. absurd (omega (arith, first_zero t, get_or_past hs head 1 h))) (cases_lt head (length hs))
 
   -- the first free slot is held once, and the list begins with the one after it
-  pub leads_after_take : {head n : ℕ} → LeadsThroughFree hs ls head (suc n)
-      → LeadsThroughFree (slice_set hs head 1) (slice_set ls head 0) (get_or ls head 0) n
-  leads_after_take {head} {n} t =
+  pub leads_after_take : {head n : ℕ} (x : ℕ) → LeadsThroughFree hs ls head (suc n)
+      → LeadsThroughFree (slice_set hs head 1) (slice_set ls head x) (get_or ls head 0) n
+  leads_after_take {head} {n} x t =
       let inside = first_within t in
       let rest : List ℕ = thread ls (get_or ls head 0) n in
       let none : times head rest ≡ 0 = omega (arith, t.each_once head, times-head head rest, ap is_zero (first_zero t)) in
-      let same : thread (slice_set ls head 0) (get_or ls head 0) n ≡ rest = thread-set ls (get_or ls head 0) n head 0 none in
+      let same : thread (slice_set ls head x) (get_or ls head 0) n ≡ rest = thread-set ls (get_or ls head 0) n head x none in
       record {
         stored =
             let e : count_by (λ h. eqb h 0) (slice_set hs head 1) + is_zero (get_or hs head 1) ≡ count_by (λ h. eqb h 0) hs + 0 =

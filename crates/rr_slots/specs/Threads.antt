@@ -1,7 +1,6 @@
 -- Slots with their holders, and the list that leads through the free ones.
 use Rattle.std.specs.Prelude.{◌≡◌, zero, suc, ℕ, ◌+◌, cond, ◌==◌, List, [], ◌∷◌, ◌++◌, map, count_by, slice_index_or}
 use Rattle.rr_slots.specs.declared.slot.Slot.{Slot}
-use Rattle.rr_slots.specs.declared.slot.Slot.TheVariants.{Free, Held}
 
 -- slots, and how often one of them was looked at
 pub record Watched : Type 0 where
@@ -11,20 +10,22 @@ pub record Watched : Type 0 where
 abbrev pub watched : List Slot → ℕ → Watched
 watched slots looks = record { slots = slots; looks = looks }
 
+-- a slot that so many hold, before this one
+abbrev pub slot_with : ℕ → ℕ → Slot
+slot_with holders next = record { holders = holders; next = next }
+
 -- how many hold a slot
 abbrev pub holders_of : Slot → ℕ
-holders_of (Free next) = 0
-holders_of (Held more) = more + 1
+holders_of slot = slot.holders
 
 -- the slot that is free after this one; of no meaning while it is held
 abbrev pub next_of : Slot → ℕ
-next_of (Free next) = next
-next_of (Held more) = 0
+next_of slot = slot.next
 
 -- n free slots, each followed by the next one
 abbrev pub all_free : ℕ → List Slot
 all_free zero = []
-all_free (suc n) = all_free n ++ Free (n + 1) ∷ []
+all_free (suc n) = all_free n ++ slot_with 0 (n + 1) ∷ []
 
 -- the n slots that the numbers lead through, from a first one on
 abbrev pub thread : List ℕ → ℕ → ℕ → List ℕ

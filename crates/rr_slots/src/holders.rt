@@ -59,14 +59,10 @@ impl Holders {
         ensures looks { self.new.looks ≡ self.old.looks + 2 }
     {
         let slot = self.first_free;
-        match self.slots.look(slot) {
-            Slot::Free(next) => {
-                self.slots.set(slot, Slot::Held(0));
-                self.first_free = next;
-                self.free -= 1;
-            }
-            Slot::Held(_) => unreachable!(),
-        }
+        let next = self.slots.look(slot).next;
+        self.slots.set(slot, Slot { holders: 1, next });
+        self.first_free = next;
+        self.free -= 1;
         slot
     }
 
@@ -77,10 +73,9 @@ impl Holders {
         ensures holders { self.new.holders ≡ slice_set self.old.holders slot (slice_index self.old.holders slot + 1) }
         ensures looks { self.new.looks ≡ self.old.looks + 2 }
     {
-        match self.slots.look(slot) {
-            Slot::Free(_) => unreachable!(),
-            Slot::Held(more) => self.slots.set(slot, Slot::Held(more + 1)),
-        }
+        let Slot { holders, next } = self.slots.look(slot);
+        let holders = holders + 1;
+        self.slots.set(slot, Slot { holders, next });
     }
 
     /// One less holds a slot that is held. The slot is free once nobody holds it; returns whether it is.
@@ -91,19 +86,17 @@ impl Holders {
         ensures holders { self.new.holders ≡ slice_set self.old.holders slot (slice_index self.old.holders slot - 1) }
         ensures looks { self.new.looks ≡ self.old.looks + 2 }
     {
-        match self.slots.look(slot) {
-            Slot::Free(_) => unreachable!(),
-            Slot::Held(0) => {
-                self.slots.set(slot, Slot::Free(self.first_free));
-                self.first_free = slot;
-                self.free += 1;
-                true
-            }
-            Slot::Held(more) => {
-                self.slots.set(slot, Slot::Held(more - 1));
-                false
-            }
+        let Slot { holders, next } = self.slots.look(slot);
+        if holders == 1 {
+            let next = self.first_free;
+            self.slots.set(slot, Slot { holders: 0, next });
+            self.first_free = slot;
+            self.free += 1;
+            return true;
         }
+        let holders = holders - 1;
+        self.slots.set(slot, Slot { holders, next });
+        false
     }
 
     /// How many slots nobody holds. It looks at none of them.

@@ -6,13 +6,13 @@ use crate::looks::Looks;
 use std::alloc::{AllocError, Global};
 use std::marker::Model;
 
-/// A slot. The last free one names a slot that isn't there.
+/// A slot. It is free if nobody holds it.
 #[derive(Clone, Copy, Debug, PartialEq, Eq)]
-pub(crate) enum Slot {
-    /// Held by nobody; the slot that is free after it.
-    Free(usize),
-    /// Held; the number of holders beside the first.
-    Held(usize),
+pub(crate) struct Slot {
+    /// How many hold it.
+    pub(crate) holders: usize,
+    /// The slot that is free after it, of no meaning while it is held. The last free one names a slot that isn't there.
+    pub(crate) next: usize,
 }
 
 /// All slots, which are looked at one by one: each look, to read or to write, is counted.
@@ -70,7 +70,10 @@ fn free_slots(alloc: Global, slots: usize) -> Result<Vec<Slot>, AllocError>
 {
     let mut free = Vec::with_capacity(alloc, slots)?;
     for slot in 0..slots {
-        free.push_reserved(Slot::Free(slot + 1));
+        free.push_reserved(Slot {
+            holders: 0,
+            next: slot + 1,
+        });
     }
     Ok(free)
 }

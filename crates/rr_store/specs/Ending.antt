@@ -1,5 +1,5 @@
 -- What ends with the loan of a response: its handle, and one of the loans of its active request.
-use Rattle.std.specs.Prelude.{◌≡◌, ℕ, ◌+◌, ◌-◌, ◌*◌, List, Option, Some, None, IfSome, IsSomeAnd, slice_get, length}
+use Rattle.std.specs.Prelude.{◌≡◌, ◌<◌, ℕ, ◌+◌, ◌-◌, ◌*◌, ◌^◌, List, Option, Some, None, IfSome, IsSomeAnd, slice_get, length}
 use Rattle.std.specs.FinMap as fin_map
 use Rattle.rr_table.specs.TableView.{TableView, inserted, value_at, value_in}
 use Rattle.rr_table.specs.declared.place.Place.{Place}
@@ -8,9 +8,12 @@ use Rattle.rr_store.specs.declared.details.ResponseDetails.{ResponseDetails}
 use Rattle.rr_store.specs.Answering.{active_in, active_entry}
 use Rattle.rr_store.specs.Parts.{Sender}
 
--- where the active request of a response stands, if it stands: in the row of its client's sender, by the receiver of the server
+-- where the active request of a response stands, if it stands: in the row of its client's sender, by the receiver of the server;
+-- no row is so long that its places could not be numbered
 abbrev pub IsAskedPlace : {T N H : Type 0} → List (Sender T N H) → ResponseDetails → ℕ → Place → Type 0
-IsAskedPlace senders details receiver at = IsSomeAnd (slice_get senders details.client_sender) (λ l. at ≡ record { row = l.row; index = (receiver + 1) * length l.messages.held + details.channel })
+IsAskedPlace senders details receiver at = IsSomeAnd (slice_get senders details.client_sender) (λ l.
+    (receiver + 1) * length l.messages.held + details.channel < 2 ^ 64
+    → at ≡ record { row = l.row; index = (receiver + 1) * length l.messages.held + details.channel })
 
 -- what stands under a number: in this place, where one is told
 abbrev pub found_under : TableView HandleEntry → ℕ → Option Place → Option HandleEntry

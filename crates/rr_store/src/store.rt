@@ -31,17 +31,18 @@ pub const NUMBERS: u64 = 4611686018427387904;
 /// number; it names its message by sender and slot, as entries of queues do by slot.
 #[derive(Drop)]
 pub struct Store<QB: Body, QH: Default + Drop, PB: Body, PH: Default + Drop, K: BackpressureFn> {
+    // What nearly every call looks at stands in front, where an instruction reaches it with a byte.
+    pub(crate) client_senders: Vec<OwnedSender<QB, RequestDetails, QH>>,
+    pub(crate) table: Table<HandleEntry>,
+    pub(crate) server_senders: Vec<OwnedSender<PB, ResponseDetails, PH>>,
+    pub(crate) servers: Vec<ServerPort<K>>,
+    pub(crate) clients: Vec<ClientPort<K>>,
+    pub(crate) next: u64,
     pub(crate) limits: Limits,
     pub(crate) node_id: UniqueNodeId,
-    pub(crate) next: u64,
-    pub(crate) clients: Vec<ClientPort<K>>,
-    pub(crate) servers: Vec<ServerPort<K>>,
-    pub(crate) client_senders: Vec<OwnedSender<QB, RequestDetails, QH>>,
-    pub(crate) server_senders: Vec<OwnedSender<PB, ResponseDetails, PH>>,
     // In the order in which they left.
     pub(crate) left_clients: Vec<LeftPort>,
     pub(crate) left_servers: Vec<LeftPort>,
-    pub(crate) table: Table<HandleEntry>,
     // What a slot that isn't there would show.
     pub(crate) spare_request_header: QH,
     pub(crate) spare_response_header: PH,

@@ -6,6 +6,7 @@ use Rattle.std.proofs.lemmas.List.{get_or-map}
 use Rattle.rr_table.specs.Places.{entry, vacant_number, occupied, places_of, rows_of, IsPlaceOf}
 use Rattle.rr_table.specs.declared.place.Place.{Place}
 use Rattle.rr_table.specs.declared.table.Entry.{Entry}
+use Rattle.rr_table.specs.declared.table.Row.{Row}
 
 -- a number that is small enough is not the vacant one
 pub not_vacant : (n : ℕ) → n + 1 < 2 ^ 64 → n ≢ vacant_number
@@ -33,10 +34,10 @@ module _ {E : Type 0} where
   row_number (x ∷ xs) (suc i) e h = row_number xs i e h
 
   -- no number that stands in a place is the vacant one
-  pub standing_number : (vs : List (Vec (Entry E) Global)) (r i : ℕ) (e : Entry E)
+  pub standing_number : (vs : List (Row E)) (r i : ℕ) (e : Entry E)
       → get_or (get_or (map places_of vs) r []) i None ≡ Some e → e.number ≢ vacant_number
   standing_number [] r i e h = absurd (let g : None ≡ Some e = h in cc)
-  standing_number (v ∷ vs) zero i e h = row_number v.items i e h
+  standing_number (v ∷ vs) zero i e h = row_number v.places.items i e h
   standing_number (v ∷ vs) (suc r) i e h = standing_number vs r i e h
 
   -- what a read of a place shows
@@ -50,6 +51,6 @@ module _ {E : Type 0} where
   occupied-replicate (suc n) v = ap (λ l. None ∷ l) (occupied-replicate n v)
 
 -- nor is one whose place was found
-pub placed_number : {E : Type 0} (rows : Vec (Vec (Entry E) Global) Global) (n : ℕ) (p : Place) → IsPlaceOf (rows_of rows) n (Some p)
+pub placed_number : {E : Type 0} (rows : Vec (Row E) Global) (n : ℕ) (p : Place) → IsPlaceOf (rows_of rows) n (Some p)
     → n ≢ vacant_number
 placed_number rows n p h v = standing_number rows.items p.row p.index h.0 h.1 (h.2 ∙ v)

@@ -5,6 +5,7 @@ use Rattle.std.specs.FinMap as map
 use Rattle.rr_table.specs.TableView.{TableEntry, table_entry, TableView}
 use Rattle.rr_table.specs.declared.place.Place.{Place}
 use Rattle.rr_table.specs.declared.table.Entry.{Entry}
+use Rattle.rr_table.specs.declared.table.Row.{Row}
 
 -- the place of a row and an index
 abbrev pub place : ℕ → ℕ → Place
@@ -23,12 +24,12 @@ module _ {E : Type 0} where
   abbrev pub occupied : Entry E → Option (Entry E)
   occupied e = if e.number == vacant_number then None else Some e
 
-  -- the places of a vector of entries
-  abbrev pub places_of : Vec (Entry E) Global → List (Option (Entry E))
-  places_of row = map occupied row.items
+  -- the places of a row
+  abbrev pub places_of : Row E → List (Option (Entry E))
+  places_of row = map occupied row.places.items
 
-  -- the rows that a vector of vectors has
-  abbrev pub rows_of : Vec (Vec (Entry E) Global) Global → List (List (Option (Entry E)))
+  -- the rows of a vector
+  abbrev pub rows_of : Vec (Row E) Global → List (List (Option (Entry E)))
   rows_of rows = map places_of rows.items
 
   -- what stands in row r, from place i on

@@ -4,23 +4,19 @@ ghost use Rattle.std.specs.Prelude.{◌≡◌, ◌≢◌, is_some};
 ghost use Rattle.rr_table.specs.Places.{of_number, places_of, rows_of, standing, vacant_number, IsIndexOf, IsPlaceOf};
 
 use crate::place::Place;
-use crate::table::{Entry, VACANT};
+use crate::table::{Entry, Row, VACANT};
 
 /// Returns the entry of a number if it stands in this place, or `None` if another number does, or none, or the place is
 /// outside the rows.
 ///
 /// Compares the number before it tests it for `VACANT`, so that a caller that asks twice tests it once.
 #[inline(always)]
-pub(crate) fn entry_at<E: Copy>(
-    rows: &Vec<Vec<Entry<E>>>,
-    number: u64,
-    place: Place,
-) -> Option<Entry<E>>
+pub(crate) fn entry_at<E: Copy>(rows: &Vec<Row<E>>, number: u64, place: Place) -> Option<Entry<E>>
     ensures { result ≡ of_number number (standing (rows_of rows.now) place) }
 {
     if place.row < rows.len() {
-        if place.index < rows[place.row].len() {
-            let entry = rows[place.row][place.index];
+        if place.index < rows[place.row].places.len() {
+            let entry = rows[place.row].places[place.index];
             if entry.number == number {
                 if number != VACANT {
                     return Some(entry);
@@ -33,13 +29,13 @@ pub(crate) fn entry_at<E: Copy>(
 
 /// Returns whether a number, which is not the vacant one, stands in a place.
 #[inline(always)]
-pub(crate) fn is_number_at<E: Copy>(rows: &Vec<Vec<Entry<E>>>, number: u64, place: Place) -> bool
+pub(crate) fn is_number_at<E: Copy>(rows: &Vec<Row<E>>, number: u64, place: Place) -> bool
     requires { number ≢ vacant_number }
     ensures { result ≡ is_some (of_number number (standing (rows_of rows.now) place)) }
 {
     if place.row < rows.len() {
-        if place.index < rows[place.row].len() {
-            return rows[place.row][place.index].number == number;
+        if place.index < rows[place.row].places.len() {
+            return rows[place.row].places[place.index].number == number;
         }
     }
     false
@@ -48,7 +44,7 @@ pub(crate) fn is_number_at<E: Copy>(rows: &Vec<Vec<Entry<E>>>, number: u64, plac
 /// The place of a number: `first` where the number stands there, and else what a walk over the rows finds. None where
 /// the number stands nowhere.
 #[cold]
-pub(crate) fn seek<E: Copy>(rows: &Vec<Vec<Entry<E>>>, number: u64, first: Place) -> Option<Place>
+pub(crate) fn seek<E: Copy>(rows: &Vec<Row<E>>, number: u64, first: Place) -> Option<Place>
     ensures { IsPlaceOf (rows_of rows.now) number result }
 {
     if entry_at(rows, number, first).is_some() {
@@ -63,14 +59,14 @@ pub(crate) fn seek<E: Copy>(rows: &Vec<Vec<Entry<E>>>, number: u64, first: Place
 }
 
 /// The index of a number in one row, or None where it does not stand there.
-fn seek_in_row<E: Copy>(row: &Vec<Entry<E>>, number: u64) -> Option<usize>
+fn seek_in_row<E: Copy>(row: &Row<E>, number: u64) -> Option<usize>
     ensures { IsIndexOf (places_of row.now) number result }
 {
     if number == VACANT {
         return None;
     }
-    for index in 0..row.len() {
-        if row[index].number == number {
+    for index in 0..row.places.len() {
+        if row.places[index].number == number {
             return Some(index);
         }
     }

@@ -20,10 +20,18 @@ pub(crate) struct Entry<E: Copy> {
     pub(crate) value: E,
 }
 
+/// One row of places.
+#[derive(Drop)]
+pub(crate) struct Row<E: Copy> {
+    pub(crate) places: Vec<Entry<E>>,
+    // With it a row has 32 bytes, and stands where a shift of its index says and no product.
+    pub(crate) padding: u64,
+}
+
 /// Values under numbers, each in a fixed place of a row. No number stands in two places.
 #[derive(Drop)]
 pub struct Table<E: Copy> {
-    rows: Vec<Vec<Entry<E>>>,
+    rows: Vec<Row<E>>,
 }
 
 impl<E: Copy> Model for Table<E> {
@@ -77,8 +85,8 @@ impl<E: Copy> Table<E> {
         ensures ok { OnOk result (IsRenewed row len self.old self.new) }
         ensures err { OnErr result (self.new ≡ self.old) }
     {
-        let places = vacant(alloc, len, filler)?;
-        self.rows[row] = places;
+        let renewed = vacant(alloc, len, filler)?;
+        self.rows[row] = renewed;
         Ok(())
     }
 
@@ -134,7 +142,7 @@ impl<E: Copy> Table<E> {
         ensures { map.get self.now.entries number ≡ Some (table_entry place result) }
     {
         let _ = number;
-        self.rows[place.row][place.index].value
+        self.rows[place.row].places[place.index].value
     }
 
     /// Replaces the value under a number in the place where it stands.
@@ -144,7 +152,7 @@ impl<E: Copy> Table<E> {
         ensures { self.new ≡ inserted self.old number place value }
     {
         let _ = number;
-        self.rows[place.row][place.index].value = value;
+        self.rows[place.row].places[place.index].value = value;
     }
 
     /// Takes a number and its value out of the place where they stand, which is vacant then.
@@ -156,7 +164,7 @@ impl<E: Copy> Table<E> {
         ensures vacated { IsVacant self.new place }
     {
         let value = self.at(number, place);
-        self.rows[place.row][place.index].number = VACANT;
+        self.rows[place.row].places[place.index].number = VACANT;
         value
     }
 
@@ -178,7 +186,7 @@ impl<E: Copy> Table<E> {
         ensures { self.new ≡ inserted self.old number place value }
     {
         let entry = Entry { number, value };
-        self.rows[place.row][place.index] = entry;
+        self.rows[place.row].places[place.index] = entry;
     }
 
     /// Replaces the value under a number, which keeps its place. The place `first` is tried first.
@@ -187,7 +195,7 @@ impl<E: Copy> Table<E> {
         ensures { IfSome (map.get self.old.entries number) (λ s. self.new ≡ inserted self.old number s.place value) }
     {
         if let Some(place) = seek(&self.rows, number, first) {
-            self.rows[place.row][place.index] = Entry { number, value };
+            self.rows[place.row].places[place.index] = Entry { number, value };
         }
     }
 
@@ -198,14 +206,14 @@ impl<E: Copy> Table<E> {
         ensures vacated { IfSome (map.get self.old.entries number) (λ s. IsVacant self.new s.place) }
     {
         if let Some(place) = seek(&self.rows, number, first) {
-            self.rows[place.row][place.index].number = VACANT;
+            self.rows[place.row].places[place.index].number = VACANT;
         }
     }
 }
 
 /// A row of vacant places. `AllocError` where there is no memory for it.
-fn vacant<E: Copy>(alloc: Global, len: usize, filler: E) -> Result<Vec<Entry<E>>, AllocError>
-    ensures { IfOk result (λ places. places.items ≡ replicate len (entry vacant_number filler)) }
+fn vacant<E: Copy>(alloc: Global, len: usize, filler: E) -> Result<Row<E>, AllocError>
+    ensures { IfOk result (λ row. row.places.items ≡ replicate len (entry vacant_number filler)) }
 {
     let mut places = Vec::with_capacity(alloc, len)?;
     for i in 0..len {
@@ -215,5 +223,5 @@ fn vacant<E: Copy>(alloc: Global, len: usize, filler: E) -> Result<Vec<Entry<E>>
             value: filler,
         })?;
     }
-    Ok(places)
+    Ok(Row { places, padding: 0 })
 }

@@ -5,7 +5,7 @@ use Rattle.std.specs.List.{position}
 use Rattle.std.specs.FinMap as fin_map
 use Rattle.std.proofs.lemmas.List.{length-map, length-set}
 use Rattle.std.proofs.Math.Nat.{le-mul_of_pos_right}
-use Rattle.rr_table.specs.TableView.{IsAt, TableEntry, table_entry, value_at}
+use Rattle.rr_table.specs.TableView.{TableEntry, table_entry, value_at}
 use Rattle.rr_table.specs.declared.place.Place.{Place}
 use Rattle.rr_sender.specs.Senders.{uses}
 use Rattle.rr_protocol.specs.declared.error.RequestSendError.{RequestSendError}
@@ -156,56 +156,72 @@ module _ {Q QH P PH K : Type 0} (p : Parts Q QH P PH K) (core : IsCore p) (n : �
           (length (sender_of entry.sender p.client_senders).may_answer) spot.1 (servers_placed p empty_hand core.sound i s here)
           (core.sound.sized.marks entry.sender spot.0)
 
-      module _ (connections : ℕ) (count : connections ≡ count_by (is_open_to p entry.sender) p.servers) (q : Parts Q QH P PH K)
-          (sent_out : q ≡ with_request_queued p entry.sender entry.slot) where
-        -- the sender after it
-        abbrev put : Sender Q RequestDetails QH
-        put = after_queued p.limits.enable_safe_overflow_for_requests p.limits.max_servers entry.slot p.servers
-            (sender_of entry.sender p.client_senders)
+      module _ (connections : ℕ) (count : connections ≡ count_by (is_open_to p entry.sender) p.servers) (o : Parts Q QH P PH K)
+          (replaced : o ≡ with_handle p n place (pending_held entry.sender entry.slot connections)) where
+        -- its handle is a pending response, and all else as it was
+        abbrev start : Parts Q QH P PH K
+        start = with_handle p n place (pending_held entry.sender entry.slot connections)
 
-        -- and where no slot is emptied
-        abbrev held : Sender Q RequestDetails QH
-        held = queued p entry.slot (sender_of entry.sender p.client_senders)
+        pub sender_kept : entry.sender < length o.client_senders
+        sender_kept = subst (λ (o : Parts Q QH P PH K). entry.sender < length o.client_senders) (sym replaced) spot.0
 
-        pub sender_still : entry.sender < length q.client_senders
-        sender_still = subst (λ (q : Parts Q QH P PH K). entry.sender < length q.client_senders) (sym sent_out)
-            (omega (arith, spot.0, length-set p.client_senders entry.sender put))
+        pub queues_kept : (i : ℕ) (s : ServerPart K) → slice_get o.servers i ≡ Some s
+            → (s.receiver < length (sender_of entry.sender o.client_senders).messages.queues)
+            × (0 < length (slice_index_or (sender_of entry.sender o.client_senders).messages.queues s.receiver []))
+        queues_kept = subst (λ (o : Parts Q QH P PH K). (i : ℕ) (s : ServerPart K) → slice_get o.servers i ≡ Some s
+            → (s.receiver < length (sender_of entry.sender o.client_senders).messages.queues)
+            × (0 < length (slice_index_or (sender_of entry.sender o.client_senders).messages.queues s.receiver []))) (sym replaced) queues_asked
 
-        pub loan_counted : 0 < (sender_of entry.sender q.client_senders).loans
-        loan_counted = subst (λ (q : Parts Q QH P PH K). 0 < (sender_of entry.sender q.client_senders).loans) (sym sent_out) (omega (
-          arith,
-          sent.has_loan (taken p core.sound n entry.sender entry.slot 0 (table_entry place entry) at is) entry.sender entry.slot 0
-              (taken_sound p core.sound n entry.sender entry.slot 0 (table_entry place entry) at is)
-              (used_once p core.sound n entry.sender entry.slot 0 (table_entry place entry) at is),
-          set_alike p.client_senders entry.sender put no_sender (λ l. l.loans) refl entry.sender,
-        ))
+        pub takes_kept : (0 < (sender_of entry.sender o.client_senders).messages.capacity)
+            × (0 < slice_index (sender_of entry.sender o.client_senders).messages.held entry.slot)
+            × (uses (sender_of entry.sender o.client_senders).messages entry.slot + length o.servers < 2 ^ 64)
+        takes_kept = subst (λ (o : Parts Q QH P PH K). (0 < (sender_of entry.sender o.client_senders).messages.capacity)
+            × (0 < slice_index (sender_of entry.sender o.client_senders).messages.held entry.slot)
+            × (uses (sender_of entry.sender o.client_senders).messages entry.slot + length o.servers < 2 ^ 64)) (sym replaced) takes_asked
 
-        pub pendings_fit : (sender_of entry.sender q.client_senders).pendings + 1 < 2 ^ 64
-        pendings_fit = subst (λ (q : Parts Q QH P PH K). (sender_of entry.sender q.client_senders).pendings + 1 < 2 ^ 64) (sym sent_out)
-            (omega (
-              arith,
-              core.sound.stored.pendings entry.sender spot.0,
-              tally_below (λ (s : TableEntry HandleEntry). is_in_sender is_pending entry.sender s.value) p.next p.table.entries
-                  core.sound.numbered.fresh,
-              core.sound.sized.next_fits,
-              set_alike p.client_senders entry.sender put no_sender (λ l. l.pendings) refl entry.sender,
-            ))
+        pub marks_kept : (i : ℕ) (s : ServerPart K) → slice_get o.servers i ≡ Some s
+            → entry.slot * o.limits.max_servers + s.receiver < length (sender_of entry.sender o.client_senders).may_answer
+        marks_kept = subst (λ (o : Parts Q QH P PH K). (i : ℕ) (s : ServerPart K) → slice_get o.servers i ≡ Some s
+            → entry.slot * o.limits.max_servers + s.receiver < length (sender_of entry.sender o.client_senders).may_answer) (sym replaced) marks_asked
 
-        module _ (r : Parts Q QH P PH K) (counted : r ≡ with_client_sender_at q entry.sender with_one_sent) where
-          abbrev counts : Parts Q QH P PH K
-          counts = record (with_request_queued p entry.sender entry.slot) {
-            client_senders = slice_set p.client_senders entry.sender (with_one_sent put);
-          }
+        module _ (q : Parts Q QH P PH K) (sent_out : q ≡ with_request_queued o entry.sender entry.slot) where
+          -- the sender after it
+          abbrev put : Sender Q RequestDetails QH
+          put = after_queued p.limits.enable_safe_overflow_for_requests p.limits.max_servers entry.slot p.servers
+              (sender_of entry.sender p.client_senders)
 
-          r_is : r ≡ counts
-          r_is = counted ∙ ap (λ q. with_client_sender_at q entry.sender with_one_sent) sent_out
-              ∙ ap (λ ls. record (with_request_queued p entry.sender entry.slot) { client_senders = ls })
-              (stored_twice p.client_senders entry.sender put with_one_sent spot.0)
+          -- and where no slot is emptied
+          abbrev held : Sender Q RequestDetails QH
+          held = queued p entry.slot (sender_of entry.sender p.client_senders)
 
-          pub still_there : IsAt r.table n place
-          still_there = subst (λ (r : Parts Q QH P PH K). IsAt r.table n place) (sym r_is) (entry, at)
+          q_is : q ≡ with_request_queued start entry.sender entry.slot
+          q_is = sent_out ∙ ap (λ o. with_request_queued o entry.sender entry.slot) replaced
 
-          module _ (t : Parts Q QH P PH K) (replaced : t ≡ with_handle r n place (pending_held entry.sender entry.slot connections)) where
+          pub sender_still : entry.sender < length q.client_senders
+          sender_still = subst (λ (q : Parts Q QH P PH K). entry.sender < length q.client_senders) (sym q_is)
+              (omega (arith, spot.0, length-set p.client_senders entry.sender put))
+
+          pub loan_counted : 0 < (sender_of entry.sender q.client_senders).loans
+          loan_counted = subst (λ (q : Parts Q QH P PH K). 0 < (sender_of entry.sender q.client_senders).loans) (sym q_is) (omega (
+            arith,
+            sent.has_loan (taken p core.sound n entry.sender entry.slot 0 (table_entry place entry) at is) entry.sender entry.slot 0
+                (taken_sound p core.sound n entry.sender entry.slot 0 (table_entry place entry) at is)
+                (used_once p core.sound n entry.sender entry.slot 0 (table_entry place entry) at is),
+            set_alike p.client_senders entry.sender put no_sender (λ l. l.loans) refl entry.sender,
+          ))
+
+          pub pendings_fit : (sender_of entry.sender q.client_senders).pendings + 1 < 2 ^ 64
+          pendings_fit = subst (λ (q : Parts Q QH P PH K). (sender_of entry.sender q.client_senders).pendings + 1 < 2 ^ 64) (sym q_is)
+              (omega (
+                arith,
+                core.sound.stored.pendings entry.sender spot.0,
+                tally_below (λ (s : TableEntry HandleEntry). is_in_sender is_pending entry.sender s.value) p.next p.table.entries
+                    core.sound.numbered.fresh,
+                core.sound.sized.next_fits,
+                set_alike p.client_senders entry.sender put no_sender (λ l. l.pendings) refl entry.sender,
+              ))
+
+          module _ (t : Parts Q QH P PH K) (counted : t ≡ with_client_sender_at q entry.sender with_one_sent) where
             abbrev before : Parts Q QH P PH K
             before = with_request_sent p n entry.sender entry.slot connections place
 
@@ -213,10 +229,12 @@ module _ {Q QH P PH K : Type 0} (p : Parts Q QH P PH K) (core : IsCore p) (n : �
             before_sound = sent_sound p core.sound n entry.sender entry.slot connections (table_entry place entry) at is
 
             abbrev after : Parts Q QH P PH K
-            after = with_handle counts n place (pending_held entry.sender entry.slot connections)
+            after = record start { client_senders = slice_set p.client_senders entry.sender (with_one_sent put) }
 
             after_is : t ≡ after
-            after_is = replaced ∙ ap (λ r. with_handle r n place (pending_held entry.sender entry.slot connections)) r_is
+            after_is = counted ∙ ap (λ q. with_client_sender_at q entry.sender with_one_sent) q_is
+                ∙ ap (λ ls. record start { client_senders = ls })
+                (stored_twice p.client_senders entry.sender put with_one_sent spot.0)
 
             emptied : PartsEmptied before after
             emptied = requests_emptied after p.client_senders entry.sender (with_one_sent held) (with_one_sent put) (record {

@@ -1,5 +1,4 @@
 pub mod Sound
-pub mod Asked
 pub mod Taken
 pub mod Place
 pub mod View

@@ -12,7 +12,8 @@ use rr_slots::Body;
 use rr_table::{Place, Table};
 
 /// Returns the one place where the active request of a response can stand. `receiver` is the index of its server among the
-/// receivers of clients. Returns `None` if no sender stands where the response says, or no row has so many places.
+/// receivers of clients. Returns `None` if no sender stands where the response says. Where no row has so many places, it is any
+/// place.
 #[inline(always)]
 pub fn asked_place<B: Body, N: Copy, H: Drop>(
     senders: &[OwnedSender<B, N, H>],
@@ -24,9 +25,9 @@ pub fn asked_place<B: Body, N: Copy, H: Drop>(
     let sender = senders.get(details.client_sender)?;
     let row = sender.row;
     let first = receiver
-        .checked_add(1)?
-        .checked_mul(sender.messages.slots())?;
-    let index = first.checked_add(details.channel)?;
+        .wrapping_add(1)
+        .wrapping_mul(sender.messages.slots());
+    let index = first.wrapping_add(details.channel);
     Some(Place { row, index })
 }
 

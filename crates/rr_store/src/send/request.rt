@@ -98,15 +98,25 @@ pub fn queue_in<B: Body, N: Copy, H: Drop, K: Drop>(
     ensures { map sender_part senders.new.items ≡ with_sender_at (map sender_part senders.old.items) sender (after_queued overflow receivers slot (map server_part servers.now)) }
 {
     let sender = &mut senders[sender];
-    put_all(&mut sender.messages, slot, servers, overflow);
-    set_marks(&mut sender.may_answer, slot, receivers, servers);
+    let messages = &mut sender.messages;
+    queue_to_all(
+        messages,
+        &mut sender.may_answer,
+        slot,
+        receivers,
+        servers,
+        overflow,
+    );
 }
 
-/// Puts a slot into the queue to each server, but for queues that are full and may not overflow.
+/// Puts a slot into the queue to each server, but for queues that are full and may not overflow, and sets the slot's mark to the
+/// number of each server.
 #[inline(always)]
-pub fn put_all<B: Body, N: Copy, H: Drop, K: Drop>(
+pub fn queue_to_all<B: Body, N: Copy, H: Drop, K: Drop>(
     messages: &mut Sender<B, N, H>,
+    marks: &mut Vec<u64>,
     slot: usize,
+    receivers: usize,
     servers: &[ServerPort<K>],
     overflow: bool,
 )
@@ -114,25 +124,12 @@ pub fn put_all<B: Body, N: Copy, H: Drop, K: Drop>(
     requires capacity { 0 < messages.old.capacity }
     requires held { 0 < slice_index messages.old.held slot }
     requires fits { uses messages.old slot + length servers.now < 2 ^ 64 }
-    ensures { messages.new ≡ after_puts overflow slot messages.old (receivers_of servers.now) }
+    requires marks { (i : ℕ) (s : ServerPort K) → slice_get servers.now i ≡ Some s → slot * receivers + s.port.receiver < length marks.old.items }
+    ensures queued { messages.new ≡ after_puts overflow slot messages.old (receivers_of servers.now) }
+    ensures marked { marks.new.items ≡ with_marks marks.old.items (map (λ s. (slot * receivers + s.port.receiver, s.port.id)) servers.now) }
 {
     for server in servers {
         messages.put(server.port.receiver, 0, slot, overflow);
-    }
-}
-
-/// Sets the marks of a slot to the numbers of these servers.
-#[inline(always)]
-pub fn set_marks<K: Drop>(
-    marks: &mut Vec<u64>,
-    slot: usize,
-    receivers: usize,
-    servers: &[ServerPort<K>],
-)
-    requires { (i : ℕ) (s : ServerPort K) → slice_get servers.now i ≡ Some s → slot * receivers + s.port.receiver < length marks.old.items }
-    ensures { marks.new.items ≡ with_marks marks.old.items (map (λ s. (slot * receivers + s.port.receiver, s.port.id)) servers.now) }
-{
-    for server in servers {
         marks[slot * receivers + server.port.receiver] = server.port.id;
     }
 }

@@ -1,4 +1,4 @@
-use Rattle.rr_sending.proofs.steps.Request.{sender_asked, rising_asked, found_asked, queues_asked, loan_asked, refused, takes_asked, marks_asked, sender_still, loan_counted, pendings_fit, still_there, sends, core_then}
+use Rattle.rr_sending.proofs.steps.Request.{sender_asked, rising_asked, found_asked, queues_asked, loan_asked, refused, sender_kept, queues_kept, takes_kept, marks_kept, sender_still, loan_counted, pendings_fit, sends, core_then}
 use Rattle.rr_sending.proofs.request.send_request_at.Goals as goal
 
 pub open_connections-connections-requires-clause-sender : goal.open_connections-connections-requires-clause-sender
@@ -46,58 +46,59 @@ returns-in-Some-clause-sends g c =
     g.K.BackpressureFn.action _ c.request_send_limit.ensures c.in-Some.refusal c.in-Some.is c.release_request_at.new.store
     c.release_request_at.ensures.view
 
+pub replace-requires : goal.replace-requires
+replace-requires g c = (c.at-entry.result, c.at-entry.ensures)
+
 pub queue_request-requires-clause-sender : goal.queue_request-requires-clause-sender
 queue_request-requires-clause-sender g c =
-    sender_asked c.args.store.now c.requires.core c.args.number c.args.place c.at-entry.result c.at-entry.ensures c.requires.kind
-    g.K.BackpressureFn.action
+    sender_kept c.args.store.now c.requires.core c.args.number c.args.place c.at-entry.result c.at-entry.ensures c.requires.kind
+    g.K.BackpressureFn.action _ c.request_send_limit.ensures c.in_default.is _ c.open_connections-connections.ensures _
+    c.replace.ensures
 
 pub queue_request-requires-clause-queues : goal.queue_request-requires-clause-queues
 queue_request-requires-clause-queues g c =
-    queues_asked c.args.store.now c.requires.core c.args.number c.args.place c.at-entry.result c.at-entry.ensures c.requires.kind
-    g.K.BackpressureFn.action
+    queues_kept c.args.store.now c.requires.core c.args.number c.args.place c.at-entry.result c.at-entry.ensures c.requires.kind
+    g.K.BackpressureFn.action _ c.request_send_limit.ensures c.in_default.is _ c.open_connections-connections.ensures _
+    c.replace.ensures
 
 pub queue_request-requires-clause-takes : goal.queue_request-requires-clause-takes
 queue_request-requires-clause-takes g c =
-    takes_asked c.args.store.now c.requires.core c.args.number c.args.place c.at-entry.result c.at-entry.ensures c.requires.kind
-    g.K.BackpressureFn.action _ c.request_send_limit.ensures c.in_default.is
+    takes_kept c.args.store.now c.requires.core c.args.number c.args.place c.at-entry.result c.at-entry.ensures c.requires.kind
+    g.K.BackpressureFn.action _ c.request_send_limit.ensures c.in_default.is _ c.open_connections-connections.ensures _
+    c.replace.ensures
 
 pub queue_request-requires-clause-marks : goal.queue_request-requires-clause-marks
 queue_request-requires-clause-marks g c =
-    marks_asked c.args.store.now c.requires.core c.args.number c.args.place c.at-entry.result c.at-entry.ensures c.requires.kind
-    g.K.BackpressureFn.action _ c.request_send_limit.ensures c.in_default.is
+    marks_kept c.args.store.now c.requires.core c.args.number c.args.place c.at-entry.result c.at-entry.ensures c.requires.kind
+    g.K.BackpressureFn.action _ c.request_send_limit.ensures c.in_default.is _ c.open_connections-connections.ensures _
+    c.replace.ensures
 
 pub count_as_sent-requires-clause-sender : goal.count_as_sent-requires-clause-sender
 count_as_sent-requires-clause-sender g c =
     sender_still c.args.store.now c.requires.core c.args.number c.args.place c.at-entry.result c.at-entry.ensures c.requires.kind
     g.K.BackpressureFn.action _ c.request_send_limit.ensures c.in_default.is _ c.open_connections-connections.ensures _
-    c.queue_request.ensures
+    c.replace.ensures _ c.queue_request.ensures
 
 pub count_as_sent-requires-clause-loaned : goal.count_as_sent-requires-clause-loaned
 count_as_sent-requires-clause-loaned g c =
     loan_counted c.args.store.now c.requires.core c.args.number c.args.place c.at-entry.result c.at-entry.ensures c.requires.kind
     g.K.BackpressureFn.action _ c.request_send_limit.ensures c.in_default.is _ c.open_connections-connections.ensures _
-    c.queue_request.ensures
+    c.replace.ensures _ c.queue_request.ensures
 
 pub count_as_sent-requires-clause-fits : goal.count_as_sent-requires-clause-fits
 count_as_sent-requires-clause-fits g c =
     pendings_fit c.args.store.now c.requires.core c.args.number c.args.place c.at-entry.result c.at-entry.ensures c.requires.kind
     g.K.BackpressureFn.action _ c.request_send_limit.ensures c.in_default.is _ c.open_connections-connections.ensures _
-    c.queue_request.ensures
-
-pub replace-requires : goal.replace-requires
-replace-requires g c =
-    still_there c.args.store.now c.requires.core c.args.number c.args.place c.at-entry.result c.at-entry.ensures c.requires.kind
-    g.K.BackpressureFn.action _ c.request_send_limit.ensures c.in_default.is _ c.open_connections-connections.ensures _
-    c.queue_request.ensures _ c.count_as_sent.ensures
+    c.replace.ensures _ c.queue_request.ensures
 
 pub returns-clause-core : goal.returns-clause-core
 returns-clause-core g c =
     core_then c.args.store.now c.requires.core c.args.number c.args.place c.at-entry.result c.at-entry.ensures c.requires.kind
     g.K.BackpressureFn.action _ c.request_send_limit.ensures c.in_default.is _ c.open_connections-connections.ensures _
-    c.queue_request.ensures _ c.count_as_sent.ensures _ c.replace.ensures
+    c.replace.ensures _ c.queue_request.ensures _ c.count_as_sent.ensures
 
 pub returns-clause-sends : goal.returns-clause-sends
 returns-clause-sends g c =
     sends c.args.store.now c.requires.core c.args.number c.args.place c.at-entry.result c.at-entry.ensures c.requires.kind
     g.K.BackpressureFn.action _ c.request_send_limit.ensures c.in_default.is _ c.open_connections-connections.ensures _
-    c.queue_request.ensures _ c.count_as_sent.ensures _ c.replace.ensures
+    c.replace.ensures _ c.queue_request.ensures _ c.count_as_sent.ensures

@@ -1,3 +1,7 @@
+use Rattle.std.proofs.Common.{refl, sym, ap, ◌∙◌, subst}
+use Rattle.rr_table.specs.TableView.{IsAt}
+use Rattle.rr_store.specs.Changes.{without_handle}
+use Rattle.rr_store.specs.Parts.{Parts}
 use Rattle.rr_sending.proofs.steps.Response.{sender_asked, slot_asked, loan_asked, rising_asked, found_asked, queue_asked, refused, sender_still, queue_still, takes_still, loan_sender, loan_counted, sends, core_then, port_then, sound_then}
 use Rattle.rr_sending.proofs.response.send_response_at.Goals as goal
 
@@ -54,55 +58,55 @@ pub hand_over_response-requires-clause-sender : goal.hand_over_response-requires
 hand_over_response-requires-clause-sender g c =
     sender_still c.args.store.now c.requires.core c.args.number c.args.place c.at-entry.result c.at-entry.ensures c.requires.kind
     g.K.BackpressureFn.action _ c.response_details-details.ensures _ c.reached_receiver-reach.ensures _ c.is_response_refused.ensures _
-    c.take.ensures.gone
+    refl
 
 pub hand_over_response-requires-clause-queue : goal.hand_over_response-requires-clause-queue
 hand_over_response-requires-clause-queue g c =
     queue_still c.args.store.now c.requires.core c.args.number c.args.place c.at-entry.result c.at-entry.ensures c.requires.kind
     g.K.BackpressureFn.action _ c.response_details-details.ensures _ c.reached_receiver-reach.ensures _ c.is_response_refused.ensures _
-    c.take.ensures.gone
+    refl
 
 pub hand_over_response-requires-clause-takes : goal.hand_over_response-requires-clause-takes
 hand_over_response-requires-clause-takes g c =
     takes_still c.args.store.now c.requires.core c.args.number c.args.place c.at-entry.result c.at-entry.ensures c.requires.kind
     g.K.BackpressureFn.action _ c.response_details-details.ensures _ c.reached_receiver-reach.ensures _ c.is_response_refused.ensures _
-    c.take.ensures.gone
+    refl
 
 pub take-requires : goal.take-requires
 take-requires g c =
-    (c.at-entry.result, c.at-entry.ensures)
+    subst (λ (h : Parts _ _ _ _ _). IsAt h.table c.args.number c.args.place) (sym c.hand_over_response.ensures) (c.at-entry.result, c.at-entry.ensures)
 
 pub end_response_loan-receiver-requires-clause-sender : goal.end_response_loan-receiver-requires-clause-sender
 end_response_loan-receiver-requires-clause-sender g c =
     loan_sender c.args.store.now c.requires.core c.args.number c.args.place c.at-entry.result c.at-entry.ensures c.requires.kind
     g.K.BackpressureFn.action _ c.response_details-details.ensures _ c.reached_receiver-reach.ensures _ c.is_response_refused.ensures _
-    c.take.ensures.gone _ c.hand_over_response.ensures
+    refl _ (c.take.ensures.gone ∙ ap (λ h. without_handle h c.args.number) c.hand_over_response.ensures)
 
 pub end_response_loan-receiver-requires-clause-counted : goal.end_response_loan-receiver-requires-clause-counted
 end_response_loan-receiver-requires-clause-counted g c =
     loan_counted c.args.store.now c.requires.core c.args.number c.args.place c.at-entry.result c.at-entry.ensures c.requires.kind
     g.K.BackpressureFn.action _ c.response_details-details.ensures _ c.reached_receiver-reach.ensures _ c.is_response_refused.ensures _
-    c.take.ensures.gone _ c.hand_over_response.ensures
+    refl _ (c.take.ensures.gone ∙ ap (λ h. without_handle h c.args.number) c.hand_over_response.ensures)
 
 pub leave_server_of_sender_if_unused-requires-clause-sound : goal.leave_server_of_sender_if_unused-requires-clause-sound
 leave_server_of_sender_if_unused-requires-clause-sound g c =
     sound_then c.args.store.now c.requires.core c.args.number c.args.place c.at-entry.result c.at-entry.ensures c.requires.kind
     g.K.BackpressureFn.action _ c.response_details-details.ensures _ c.reached_receiver-reach.ensures _ c.is_response_refused.ensures _
-    c.take.ensures.gone _ c.hand_over_response.ensures _ _ c.end_response_loan-receiver.ensures.receiver
+    refl _ (c.take.ensures.gone ∙ ap (λ h. without_handle h c.args.number) c.hand_over_response.ensures) _ _ c.end_response_loan-receiver.ensures.receiver
     c.end_response_loan-receiver.ensures.counted _ c.end_loan_from.ensures.rest c.end_loan_from.ensures.ended
 
 pub leave_server_of_sender_if_unused-requires-clause-port : goal.leave_server_of_sender_if_unused-requires-clause-port
 leave_server_of_sender_if_unused-requires-clause-port g c =
     port_then c.args.store.now c.requires.core c.args.number c.args.place c.at-entry.result c.at-entry.ensures c.requires.kind
     g.K.BackpressureFn.action _ c.response_details-details.ensures _ c.reached_receiver-reach.ensures _ c.is_response_refused.ensures _
-    c.take.ensures.gone _ c.hand_over_response.ensures _ _ c.end_response_loan-receiver.ensures.receiver
+    refl _ (c.take.ensures.gone ∙ ap (λ h. without_handle h c.args.number) c.hand_over_response.ensures) _ _ c.end_response_loan-receiver.ensures.receiver
     c.end_response_loan-receiver.ensures.counted _ c.end_loan_from.ensures.rest c.end_loan_from.ensures.ended
 
 pub returns-clause-core : goal.returns-clause-core
 returns-clause-core g c =
     core_then c.args.store.now c.requires.core c.args.number c.args.place c.at-entry.result c.at-entry.ensures c.requires.kind
     g.K.BackpressureFn.action _ c.response_details-details.ensures _ c.reached_receiver-reach.ensures _ c.is_response_refused.ensures _
-    c.take.ensures.gone _ c.hand_over_response.ensures _ _ c.end_response_loan-receiver.ensures.receiver
+    refl _ (c.take.ensures.gone ∙ ap (λ h. without_handle h c.args.number) c.hand_over_response.ensures) _ _ c.end_response_loan-receiver.ensures.receiver
     c.end_response_loan-receiver.ensures.counted c.end_loan_from.new.self c.end_loan_from.ensures.rest c.end_loan_from.ensures.ended
     c.leave_server_of_sender_if_unused.new.store c.leave_server_of_sender_if_unused.ensures.view c.leave_server_of_sender_if_unused.ensures.sound c.if-is_response_refused.false
 
@@ -110,6 +114,6 @@ pub returns-clause-sends : goal.returns-clause-sends
 returns-clause-sends g c =
     sends c.args.store.now c.requires.core c.args.number c.args.place c.at-entry.result c.at-entry.ensures c.requires.kind
     g.K.BackpressureFn.action _ c.response_details-details.ensures _ c.reached_receiver-reach.ensures _ c.is_response_refused.ensures _
-    c.take.ensures.gone _ c.hand_over_response.ensures _ _ c.end_response_loan-receiver.ensures.receiver
+    refl _ (c.take.ensures.gone ∙ ap (λ h. without_handle h c.args.number) c.hand_over_response.ensures) _ _ c.end_response_loan-receiver.ensures.receiver
     c.end_response_loan-receiver.ensures.counted c.end_loan_from.new.self c.end_loan_from.ensures.rest c.end_loan_from.ensures.ended
     c.leave_server_of_sender_if_unused.new.store c.leave_server_of_sender_if_unused.ensures.view c.if-is_response_refused.false

@@ -1,5 +1,5 @@
 -- Where the active request of a response in hand stands.
-use Rattle.std.proofs.Common.{◌≡◌, ◌<◌, ◌+◌, ◌*◌, ℕ, true, [], ◌∷◌, Option, None, Some, length, refl, sym, ap, ◌∙◌, subst, arith}
+use Rattle.std.proofs.Common.{◌≡◌, ◌<◌, ◌+◌, ◌*◌, ◌^◌, ℕ, true, [], ◌∷◌, Option, None, Some, length, refl, sym, ap, ◌∙◌, subst, arith}
 use Rattle.std.specs.Prelude.{◌==◌, IfSome, IsSomeAnd, slice_get, find}
 use Rattle.std.specs.Option.{option_map_or}
 use Rattle.std.specs.FinMap as fin_map
@@ -20,7 +20,11 @@ use Rattle.rr_store.proofs.base.senders.Entries.{found_alone}
 use Rattle.rr_store.proofs.base.views.Counts.{listed}
 use Rattle.rr_store.proofs.base.hands.Hands.{count-cons}
 use Rattle.rr_store.proofs.base.hands.Stages.{handle_uses_request, response_loan_is_response}
+use Rattle.rr_store.proofs.base.lookups.Placed.{value_there}
+use Rattle.rr_store.proofs.base.lookups.Shown.{request_spot}
 use Rattle.rr_store.proofs.base.senders.Numbered.{numbered_once}
+use Rattle.rr_store.proofs.querying.Connected.{mark_within}
+use Rattle.rr_store.proofs.sending.request.MayAnswer.{servers_placed}
 
 module _ {Q QH P PH K : Type 0} (p : Parts Q QH P PH K) (hand : Hand) (sound : IsSound p hand) where
   -- the client of a sender, and that it is the one with its number
@@ -90,19 +94,27 @@ module _ {Q QH P PH K : Type 0} (q : Parts Q QH P PH K) (entry : HandleEntry)
         ap (slice_get q.client_senders) (sym r.2)
         ∙ slice_get-get_or q.client_senders t.value.sender no_sender (request_sender q (entry ∷ []) sound.counted asked t here of_request)
         in
-        let its : place ≡ record {
+        let its : (c.receiver + 1) * length (sender_of t.value.sender q.client_senders).messages.held
+        + (response_details q entry.sender entry.slot).channel < 2 ^ 64
+        → place ≡ record {
           row = (sender_of t.value.sender q.client_senders).row;
           index = (c.receiver + 1) * length (sender_of t.value.sender q.client_senders).messages.held +
               (response_details q entry.sender entry.slot).channel;
         } =
-        subst (λ o. IsSomeAnd o (λ (l : Sender Q RequestDetails QH). ◌≡◌ {A = Place} place
+        subst (λ o. IsSomeAnd o (λ (l : Sender Q RequestDetails QH).
+        (c.receiver + 1) * length l.messages.held + (response_details q entry.sender entry.slot).channel < 2 ^ 64 → ◌≡◌ {A = Place} place
         (record { row = l.row; index = (c.receiver + 1) * length l.messages.held + (response_details q entry.sender entry.slot).channel })))
         found told in
+        let spot = request_spot q (entry ∷ []) sound.counted asked t.value (value_there q.table asked t.place t.value here) of_request in
+        let within = mark_within (c.receiver + 1) (q.limits.max_servers + 1)
+        (length (sender_of t.value.sender q.client_senders).messages.held) t.value.slot
+        ((q.limits.max_servers + 1) * length (sender_of t.value.sender q.client_senders).messages.held)
+        (omega (arith, servers_placed q (entry ∷ []) sound index c at)) spot.1 refl in
         let serves : server_place q server ≡ c.receiver =
         ap (λ n. server_place q n) (sym a.1 ∙ server_is)
         ∙ ap (λ o. option_map_or (λ (s : ServerPart K). s.receiver) o q.limits.max_servers) (server_alone q (entry ∷ []) sound index c at)
         in
-        its
+        its (omega (arith, within, r.0, sound.sized.rows_fit t.value.sender spot.0))
         ∙ ap (λ j. record {
           row = (sender_of t.value.sender q.client_senders).row;
           index = (c.receiver + 1) * length (sender_of t.value.sender q.client_senders).messages.held + j;

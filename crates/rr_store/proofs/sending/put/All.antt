@@ -1,10 +1,10 @@
 -- One more server has a slot in its queue.
-use Rattle.std.proofs.Common.{◌≡◌, ◌≤◌, ◌+◌, ℕ, Bool, List, [], Some, sym, ap, ◌∙◌, subst, arith}
-use Rattle.std.specs.Prelude.{slice_get}
+use Rattle.std.proofs.Common.{◌≡◌, ◌≤◌, ◌+◌, ℕ, Bool, List, [], Some, drop, map, sym, ap, ◌∙◌, subst, arith}
+use Rattle.std.specs.Prelude.{slice_get, slice_set}
 use Rattle.rr_sender.specs.Senders.{Messages, queue_at, uses, put, put_into}
 use Rattle.rr_sender.proofs.EntryLaws.{mark-same, times-set_two, length-set_two}
 use Rattle.rr_store.specs.declared.port.ServerPort.{ServerPort}
-use Rattle.rr_store.specs.Sending.{IsPutting, receivers_of, after_puts}
+use Rattle.rr_store.specs.Sending.{IsPutting, receivers_of, after_puts, with_marks}
 use Rattle.rr_store.proofs.base.lists.ReadAt.{drop_here}
 use Rattle.rr_store.proofs.sending.put.Queues.{times_put}
 use Rattle.rr_store.proofs.base.lists.SetTwo.{row_length}
@@ -46,3 +46,9 @@ module _ {T N H K : Type 0} (overflow : Bool) (slot : ℕ) (before now : Message
 
   pub put_next : (new : Messages T N H) → new ≡ next → IsPutting overflow slot before new servers (i + 1)
   put_next new is = subst (λ m. IsPutting overflow slot before m servers (i + 1)) (sym is) put_so
+
+-- one more mark is set
+pub mark_next : {K : Type 0} (before now : List ℕ) (mark : ServerPort K → ℕ × ℕ) (servers : List (ServerPort K)) (i : ℕ) (s : ServerPort K)
+    → slice_get servers i ≡ Some s → with_marks now (map mark (drop i servers)) ≡ with_marks before (map mark servers)
+    → with_marks (slice_set now (mark s).0 (mark s).1) (map mark (drop (i + 1) servers)) ≡ with_marks before (map mark servers)
+mark_next {K} before now mark servers i s at so = sym (ap (λ (ss : List (ServerPort K)). with_marks now (map mark ss)) (drop_here servers i s at)) ∙ so

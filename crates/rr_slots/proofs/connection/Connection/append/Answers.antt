@@ -1,4 +1,4 @@
-use Rattle.std.proofs.Common.{◌+◌, ◌-◌, ◌++◌, ◌∷◌, [], sym, ap, ◌∙◌, subst, arith}
+use Rattle.std.proofs.Common.{◌+◌, ◌-◌, sym, ap, ◌∙◌, subst, arith}
 use Rattle.rr_slots.specs.Connections.{IsSound, with_queue}
 use Rattle.rr_slots.proofs.Occupied.{counted-fresh, counted_within, entered, fresh_at, pushed_open, sound-pushed, state-pushed}
 use Rattle.rr_slots.proofs.connection.Connection.append.Goals as goal

@@ -29,21 +29,21 @@ asked g c =
     (λ l. (0 < l.messages.capacity) × (0 < slice_index l.messages.held c.args.slot)
     × (uses l.messages c.args.slot + length c.args.servers.now < 2 ^ 64)) c.requires.held
 
-pub put_all-requires-clause-queues : goal.put_all-requires-clause-queues
-put_all-requires-clause-queues g c = asked_of c.args.senders.now.items c.args.sender c.index_mut-sender.result.now c.index_mut-sender.ensures.value
+pub queue_to_all-requires-clause-queues : goal.queue_to_all-requires-clause-queues
+queue_to_all-requires-clause-queues g c = asked_of c.args.senders.now.items c.args.sender c.index_mut-sender.result.now c.index_mut-sender.ensures.value
     (λ l. HasQueues l.messages c.args.servers.now) c.requires.queues
 
-pub put_all-requires-clause-capacity : goal.put_all-requires-clause-capacity
-put_all-requires-clause-capacity g c = (asked g (goal.at.put_all-requires-clause-capacity g c).After-index_mut-sender).0
+pub queue_to_all-requires-clause-capacity : goal.queue_to_all-requires-clause-capacity
+queue_to_all-requires-clause-capacity g c = (asked g (goal.at.queue_to_all-requires-clause-capacity g c).After-index_mut-sender).0
 
-pub put_all-requires-clause-held : goal.put_all-requires-clause-held
-put_all-requires-clause-held g c = (asked g (goal.at.put_all-requires-clause-held g c).After-index_mut-sender).1
+pub queue_to_all-requires-clause-held : goal.queue_to_all-requires-clause-held
+queue_to_all-requires-clause-held g c = (asked g (goal.at.queue_to_all-requires-clause-held g c).After-index_mut-sender).1
 
-pub put_all-requires-clause-fits : goal.put_all-requires-clause-fits
-put_all-requires-clause-fits g c = (asked g (goal.at.put_all-requires-clause-fits g c).After-index_mut-sender).2
+pub queue_to_all-requires-clause-fits : goal.queue_to_all-requires-clause-fits
+queue_to_all-requires-clause-fits g c = (asked g (goal.at.queue_to_all-requires-clause-fits g c).After-index_mut-sender).2
 
-pub set_marks-requires : goal.set_marks-requires
-set_marks-requires g c = asked_of c.args.senders.now.items c.args.sender c.index_mut-sender.result.now c.index_mut-sender.ensures.value
+pub queue_to_all-requires-clause-marks : goal.queue_to_all-requires-clause-marks
+queue_to_all-requires-clause-marks g c = asked_of c.args.senders.now.items c.args.sender c.index_mut-sender.result.now c.index_mut-sender.ensures.value
     (λ l. (i : ℕ) (s : ServerPort _) → slice_get c.args.servers.now i ≡ Some s
     → c.args.slot * c.args.receivers + s.port.receiver < length l.may_answer.items) c.requires.marks
 
@@ -55,9 +55,9 @@ returns g c =
     stored_changed items c.args.sender c.index_mut-sender.result.now
     (asked_within items c.args.sender (λ l. HasQueues l.messages servers) c.requires.queues) c.index_mut-sender.ensures.value _
     (after_queued c.args.overflow c.args.receivers c.args.slot (map server_part servers))
-    (ap (λ m. record x { messages = m; may_answer = c.set_marks.new.marks.items })
-    (c.put_all.ensures ∙ ap (after_puts c.args.overflow c.args.slot x.messages)
+    (ap (λ m. record x { messages = m; may_answer = c.queue_to_all.new.marks.items })
+    (c.queue_to_all.ensures.queued ∙ ap (after_puts c.args.overflow c.args.slot x.messages)
     (sym (map-map (λ (s : ServerPart _). s.receiver) server_part servers)))
     ∙ ap (λ ms. record (after_queued c.args.overflow c.args.receivers c.args.slot (map server_part servers) x) { may_answer = ms })
-    (c.set_marks.ensures ∙ ap (with_marks x.may_answer)
+    (c.queue_to_all.ensures.marked ∙ ap (with_marks x.may_answer)
     (sym (map-map (λ (s : ServerPart _). (c.args.slot * c.args.receivers + s.receiver, s.port.id)) server_part servers))))
