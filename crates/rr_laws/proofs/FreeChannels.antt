@@ -30,11 +30,11 @@ use Rattle.rr_maps.proofs.ListFacts.{or_true, any-append, any-filter, any-map, a
 use Rattle.rr_laws.proofs.Below.{all_below, one_below, count-all, search_below}
 
 -- the different numbers of a list, each once
-each_once : List ℕ → List ℕ
+unfoldable pub each_once : List ℕ → List ℕ
 each_once [] = []
 each_once (n ∷ ns) = cond (list_any (λ m. eqb m n) ns) (each_once ns) (n ∷ each_once ns)
 
-length-each_once : (ns : List ℕ) → length (each_once ns) ≡ distinct_count ns
+pub length-each_once : (ns : List ℕ) → length (each_once ns) ≡ distinct_count ns
 unfolding each_once
 length-each_once [] = refl
 length-each_once (n ∷ ns) = go (length-each_once ns) (list_any (λ m. eqb m n) ns)
@@ -44,7 +44,7 @@ length-each_once (n ∷ ns) = go (length-each_once ns) (list_any (λ m. eqb m n)
     go rest true = omega (arith, rest)
     go rest false = omega (arith, rest)
 
-any_each_once : (k : ℕ) (ns : List ℕ) → list_any (λ m. eqb m k) ns ≡ true → list_any (λ m. eqb m k) (each_once ns) ≡ true
+pub any_each_once : (k : ℕ) (ns : List ℕ) → list_any (λ m. eqb m k) ns ≡ true → list_any (λ m. eqb m k) (each_once ns) ≡ true
 unfolding each_once
 any_each_once k [] e = e
 any_each_once k (n ∷ ns) e = go (any_each_once k ns) (list_any (λ m. eqb m n) ns) refl (eqb n k) refl e

@@ -70,3 +70,4 @@ pub mod AnswerRuleHolds
 pub mod Made
 pub mod WholePools
 pub mod AfterLeft
+pub mod filling

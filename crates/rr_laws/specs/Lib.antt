@@ -11,3 +11,4 @@ pub mod Whole
 pub mod Following
 pub mod Settling
 pub mod Completing
+pub mod Filling

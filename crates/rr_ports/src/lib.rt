@@ -6,7 +6,6 @@ mod client;
 mod handle;
 mod hub;
 mod lend;
-mod no_handler;
 mod pending_response;
 mod port_factory;
 mod request_mut;
@@ -23,7 +22,6 @@ pub use active_request::ActiveRequest;
 pub use client::Client;
 pub use handle::Handle;
 pub use hub::Hub;
-pub use no_handler::NoHandler;
 pub use pending_response::PendingResponse;
 pub use port_factory::{PortFactoryClient, PortFactoryServer};
 pub use request_mut::RequestMut;
@@ -37,5 +35,6 @@ pub use rr_hub::{
     RequestHeader, RequestSendError, ResponseHeader, SendError, ServerCreateError, UniqueClientId,
     UniqueNodeId, UniqueServerId,
 };
+pub use rr_protocol::NoHandler;
 pub use server::Server;
 pub use update_connections::UpdateConnections;

@@ -6,6 +6,7 @@ mod error;
 mod identifiers;
 mod kind;
 mod limits;
+mod no_handler;
 mod request_header;
 mod response_header;
 mod settings;
@@ -18,6 +19,7 @@ pub use error::{
 pub use identifiers::{UniqueClientId, UniqueNodeId, UniqueServerId};
 pub use kind::Kind;
 pub use limits::Limits;
+pub use no_handler::NoHandler;
 pub use request_header::RequestHeader;
 pub use response_header::ResponseHeader;
 pub use settings::{

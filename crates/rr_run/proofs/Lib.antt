@@ -9,3 +9,6 @@ pub mod Handles
 pub mod HandleSteps
 pub mod Knowing
 pub mod Added
+pub mod Pools
+pub mod PoolSteps
+pub mod PoolShows

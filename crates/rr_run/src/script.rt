@@ -2,16 +2,17 @@
 use crate::commands::run;
 use crate::error::OutOfMemory;
 use crate::runner::Runner;
-use crate::script::line::{Line, NoHandler, ScriptCommand};
+use crate::script::line::{Line, ScriptCommand};
 use crate::script::lines::Lines;
 use crate::script::reply_text::{hub_error, write_reply};
 use crate::script::stop::Stop;
 use rr_commands::Reply;
-use rr_protocol::{Limits, UniqueNodeId};
+use rr_protocol::{Limits, NoHandler, UniqueNodeId};
 use rr_slots::{Body, Family, SliceBody};
 use std::alloc::Global;
 use std::io::{BufRead, Write};
 
+mod least;
 mod line;
 mod lines;
 mod reply_text;
@@ -24,9 +25,11 @@ type ScriptRunner<B> = Runner<u64, B, u64, NoHandler>;
 
 /// Runs the program: does what the words ask for, and returns its status.
 ///
-/// `script` alone reads commands from the input, one a line, and writes each reply before the next line is read. 0 if all was
-/// done. Else one line goes to `faults`: 1 for a line that isn't one of the script's (`bad line L`), 2 for a read or write that failed, 3 for
-/// other words, 4 if the hub was refused or a buffer found no memory. What was written before stays. Our own.
+/// `script` alone reads commands from the input, one a line, and writes each reply before the next line is read. `least` and a
+/// number, from 0 to 2^64 - 1, read one line that makes a hub, and write the replies of `least_pool` for its limits and a pool of
+/// that number. 0 if all was done. Else one line goes to `faults`: 1 for a line that isn't one of the script's (`bad line L`), 2
+/// for a read or write that failed, 3 for other words, 4 if the hub or `least_pool` was refused or a buffer found no memory. What
+/// was written before stays. Our own.
 pub fn serve<R: BufRead + Drop, W: Write, F: Write>(
     alloc: Global,
     words: &[String],
@@ -37,6 +40,9 @@ pub fn serve<R: BufRead + Drop, W: Write, F: Write>(
     let end = match words.first() {
         Some(word) if word.as_str() == "script" && words.len() == 1 => {
             script(alloc, input, output)
+        }
+        Some(word) if word.as_str() == "least" && words.len() == 2 => {
+            least::least(alloc, words[1].as_str(), input, output)
         }
         _ => Err(Stop::Usage),
     };

@@ -2,6 +2,7 @@
 mod defaults;
 mod faults;
 mod kinds;
+mod least;
 mod leaving;
 mod lines;
 mod orders;

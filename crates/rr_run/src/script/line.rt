@@ -2,24 +2,9 @@
 use crate::script::words::{Words, number};
 use rr_commands::Command;
 use rr_protocol::{
-    AllocationStrategy, BackpressureAction, BackpressureFn, BackpressureInfo, BackpressureStrategy,
-    ClientSettings, Limits, ServerSettings,
+    AllocationStrategy, BackpressureStrategy, ClientSettings, Limits, NoHandler, ServerSettings,
 };
 use rr_slots::Family;
-
-/// The type of a script's backpressure handlers, of which no line sets one.
-#[derive(Clone, Copy, Debug, PartialEq, Eq)]
-pub(crate) struct NoHandler;
-
-impl BackpressureFn for NoHandler {
-    ghost use Rattle.rr_protocol.specs.declared.settings.BackpressureAction.TheVariants.{FollowBackpressureStrategy};
-
-    ghost action = { λ _ _ _. FollowBackpressureStrategy };
-
-    fn act(&self, _info: &BackpressureInfo) -> BackpressureAction {
-        BackpressureAction::FollowBackpressureStrategy
-    }
-}
 
 /// A command of a script, whose elements and user headers are numbers.
 pub(crate) type ScriptCommand = Command<u64, u64, NoHandler>;

@@ -27,6 +27,11 @@ impl<R: BufRead + Drop> Lines<R> {
         Stop::BadLine(self.number)
     }
 
+    /// Returns that a line is missing after the last one.
+    pub(crate) fn missing_line(&self) -> Stop {
+        Stop::BadLine(self.number.saturating_add(1))
+    }
+
     /// Returns what the next line that has words says, or `None` if no such line is left.
     pub(crate) fn read(&mut self) -> Result<Option<Line>, Stop> {
         for _ in 0..u64::MAX {

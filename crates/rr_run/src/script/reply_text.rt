@@ -1,4 +1,5 @@
 //! The text of a reply.
+use crate::least::LeastPoolError;
 use rr_commands::Reply;
 use rr_protocol::{
     BackpressureStrategy, ClientCreateError, ConnectionFailure, HubCreateError, LoanError,
@@ -181,5 +182,13 @@ pub(crate) fn hub_error(error: HubCreateError) -> &'static str {
         HubCreateError::ZeroLimit => "ZeroLimit",
         HubCreateError::LimitsTooLarge => "LimitsTooLarge",
         HubCreateError::OutOfMemory => "OutOfMemory",
+    }
+}
+
+/// The name of an error of the least pool.
+pub(crate) fn least_pool_error(error: LeastPoolError) -> &'static str {
+    match error {
+        LeastPoolError::WrongLimits => "WrongLimits",
+        LeastPoolError::OutOfMemory => "OutOfMemory",
     }
 }

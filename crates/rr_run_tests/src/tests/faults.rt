@@ -1,5 +1,5 @@
 //! Reads and writes that fail, each at every call.
-use super::scripts::{BASE_PATH, PORTS, told, word};
+use super::scripts::{BASE_PATH, PORTS, told, words};
 use rr_run::serve;
 use std::alloc::{AllocError, Global};
 use std::io::{self, BufReader, Read, Write};
@@ -60,7 +60,7 @@ struct Ended {
 /// Plays the base path, of which so many reads and writes succeed.
 fn played(alloc: Global, reads: usize, writes: usize, wanted_fault: &[u8]) -> io::Result<Ended> {
     let story = told(alloc, PORTS, BASE_PATH)?;
-    let words = word(alloc, "script")?;
+    let words = words(alloc, "script")?;
     let input = FailingReader {
         bytes: story.input.as_bytes(),
         reads,

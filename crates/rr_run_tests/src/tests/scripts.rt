@@ -69,10 +69,13 @@ fn tell(story: &mut Story, line: &str) -> Result<(), AllocError> {
     story.input.push('\n')
 }
 
-/// One word after the program's name.
-pub(super) fn word(alloc: Global, word: &str) -> Result<Vec<String>, AllocError> {
-    let word = String::from_str(alloc, word)?;
-    Ok(vec![in alloc; word]?)
+/// The words after the program's name, of a line in which one space parts them.
+pub(super) fn words(alloc: Global, line: &str) -> Result<Vec<String>, AllocError> {
+    let mut words = Vec::new(alloc);
+    for word in line.split(' ') {
+        words.push(String::from_str(alloc, word)?)?;
+    }
+    Ok(words)
 }
 
 /// What a program did.
@@ -83,9 +86,9 @@ pub(super) struct Ended {
     pub(super) fault: Vec<u8>,
 }
 
-/// Hands an input to the program, with one word after its name.
-pub(super) fn served(alloc: Global, name: &str, input: &[u8]) -> Result<Ended, AllocError> {
-    let words = word(alloc, name)?;
+/// Hands an input to the program, with the words of a line after its name.
+pub(super) fn served(alloc: Global, line: &str, input: &[u8]) -> Result<Ended, AllocError> {
+    let words = words(alloc, line)?;
     let mut output = Vec::new(alloc);
     let mut fault = Vec::new(alloc);
     let status = serve(alloc, words.as_slice(), input, &mut output, &mut fault);

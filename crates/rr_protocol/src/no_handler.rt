@@ -1,5 +1,6 @@
 //! The handler of a hub without handlers.
-use rr_hub::{BackpressureAction, BackpressureFn, BackpressureInfo};
+use crate::backpressure::{BackpressureFn, BackpressureInfo};
+use crate::settings::BackpressureAction;
 
 /// A handler that leaves each full queue to the port's strategy, for hubs whose ports have no handler. Our own: iceoryx2's
 /// handlers are boxed.

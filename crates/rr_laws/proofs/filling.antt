@@ -1,0 +1,9 @@
+pub mod Counted
+pub mod Puts
+pub mod Holding
+pub mod Sends
+pub mod Copies
+pub mod Receives
+pub mod Releases
+pub mod Steps
+pub mod Creations
