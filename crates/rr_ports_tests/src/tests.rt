@@ -1,11 +1,8 @@
 //! What a user of the ports sees.
 mod exchanges;
-mod factories;
 mod fixtures;
 mod loans;
 mod pools;
-mod settings;
-mod slices;
 
 use rr_ports::Limits;
 

@@ -1,7 +1,7 @@
 //! What ports are that builders made, and what they are without a word.
 #![tactic(auto, using(rr_ports::proofs::Frames::kinds))]
 
-use super::limits;
+use super::LIMITS;
 use rr_ports::sliced::Hub;
 use rr_ports::{AllocationStrategy, BackpressureStrategy, LoanError, NoHandler, UniqueNodeId};
 use std::test::Fail;
@@ -9,7 +9,7 @@ use std::test::Fail;
 /// A client waits at full queues and its slots grow, if it is set to.
 #[test]
 fn a_client_is_as_its_builder_set_it(rt: HostRuntime) -> Result<(), Fail> {
-    let mut hub: Hub<u64, u64, u64, u64> = Hub::new(rt.alloc(), limits(false), UniqueNodeId(7))?;
+    let mut hub: Hub<u64, u64, u64, u64> = Hub::new(rt.alloc(), LIMITS, UniqueNodeId(7))?;
     let factory = hub
         .client_builder()
         .backpressure_strategy(BackpressureStrategy::RetryUntilDelivered)
@@ -33,7 +33,7 @@ fn a_client_is_as_its_builder_set_it(rt: HostRuntime) -> Result<(), Fail> {
 /// A server passes full queues over and has room for one element, unless it is set otherwise.
 #[test]
 fn a_server_is_as_its_builder_found_it(rt: HostRuntime) -> Result<(), Fail> {
-    let mut hub: Hub<u64, u64, u64, u64> = Hub::new(rt.alloc(), limits(false), UniqueNodeId(7))?;
+    let mut hub: Hub<u64, u64, u64, u64> = Hub::new(rt.alloc(), LIMITS, UniqueNodeId(7))?;
     let server = hub
         .server_builder()
         .create(&mut hub)
@@ -48,7 +48,7 @@ fn a_server_is_as_its_builder_found_it(rt: HostRuntime) -> Result<(), Fail> {
 /// The slots of a client do not grow, unless it is set otherwise.
 #[test]
 fn a_client_refuses_slices_that_are_too_long(rt: HostRuntime) -> Result<(), Fail> {
-    let mut hub: Hub<u64, u64, u64, u64> = Hub::new(rt.alloc(), limits(false), UniqueNodeId(7))?;
+    let mut hub: Hub<u64, u64, u64, u64> = Hub::new(rt.alloc(), LIMITS, UniqueNodeId(7))?;
     let client = hub
         .client_builder()
         .create(&mut hub)

@@ -1,7 +1,7 @@
 //! Slices that are written by a function or from a slice, as iceoryx2's documents have them.
 #![tactic(auto, using(rr_ports::proofs::Frames::kinds))]
 
-use super::limits;
+use super::LIMITS;
 use rr_ports::sliced::Hub;
 use rr_ports::{AllocationStrategy, UniqueNodeId};
 use std::test::Fail;
@@ -9,7 +9,7 @@ use std::test::Fail;
 /// A function writes a request of 13 elements.
 #[test]
 fn a_function_writes_a_request(rt: HostRuntime) -> Result<(), Fail> {
-    let mut hub: Hub<u64, u64, u64, u64> = Hub::new(rt.alloc(), limits(false), UniqueNodeId(7))?;
+    let mut hub: Hub<u64, u64, u64, u64> = Hub::new(rt.alloc(), LIMITS, UniqueNodeId(7))?;
     let factory = hub.client_builder().initial_max_slice_len(13);
     let client = factory.create(&mut hub).expect(&rt, "a client");
     let request = client.loan_slice_uninit(&mut hub, 13).expect(&rt, "a loan");
@@ -29,7 +29,7 @@ fn a_function_writes_a_request(rt: HostRuntime) -> Result<(), Fail> {
 /// A function writes over what was pushed before, and goes on behind it.
 #[test]
 fn a_function_writes_over_what_was_pushed(rt: HostRuntime) -> Result<(), Fail> {
-    let mut hub: Hub<u64, u64, u64, u64> = Hub::new(rt.alloc(), limits(false), UniqueNodeId(7))?;
+    let mut hub: Hub<u64, u64, u64, u64> = Hub::new(rt.alloc(), LIMITS, UniqueNodeId(7))?;
     let factory = hub.client_builder().initial_max_slice_len(3);
     let client = factory.create(&mut hub).expect(&rt, "a client");
     let request = client.loan_slice_uninit(&mut hub, 3).expect(&rt, "a loan");
@@ -47,7 +47,7 @@ fn a_function_writes_over_what_was_pushed(rt: HostRuntime) -> Result<(), Fail> {
 /// A request grows beyond the initial length, and a server receives what a function wrote.
 #[test]
 fn a_server_receives_a_slice(rt: HostRuntime) -> Result<(), Fail> {
-    let mut hub: Hub<u64, u64, u64, u64> = Hub::new(rt.alloc(), limits(false), UniqueNodeId(7))?;
+    let mut hub: Hub<u64, u64, u64, u64> = Hub::new(rt.alloc(), LIMITS, UniqueNodeId(7))?;
     let factory = hub
         .client_builder()
         .allocation_strategy(AllocationStrategy::PowerOfTwo);
@@ -80,7 +80,7 @@ fn a_server_receives_a_slice(rt: HostRuntime) -> Result<(), Fail> {
 /// A function writes a response of 13 elements.
 #[test]
 fn a_function_writes_a_response(rt: HostRuntime) -> Result<(), Fail> {
-    let mut hub: Hub<u64, u64, u64, u64> = Hub::new(rt.alloc(), limits(false), UniqueNodeId(7))?;
+    let mut hub: Hub<u64, u64, u64, u64> = Hub::new(rt.alloc(), LIMITS, UniqueNodeId(7))?;
     let client = hub
         .client_builder()
         .create(&mut hub)
@@ -113,7 +113,7 @@ fn a_function_writes_a_response(rt: HostRuntime) -> Result<(), Fail> {
 /// A client receives what a function wrote.
 #[test]
 fn a_client_receives_a_slice(rt: HostRuntime) -> Result<(), Fail> {
-    let mut hub: Hub<u64, u64, u64, u64> = Hub::new(rt.alloc(), limits(false), UniqueNodeId(7))?;
+    let mut hub: Hub<u64, u64, u64, u64> = Hub::new(rt.alloc(), LIMITS, UniqueNodeId(7))?;
     let client = hub
         .client_builder()
         .create(&mut hub)
@@ -151,7 +151,7 @@ fn a_client_receives_a_slice(rt: HostRuntime) -> Result<(), Fail> {
 /// A request is written from a slice.
 #[test]
 fn a_request_is_copied_from_a_slice(rt: HostRuntime) -> Result<(), Fail> {
-    let mut hub: Hub<u64, u64, u64, u64> = Hub::new(rt.alloc(), limits(false), UniqueNodeId(7))?;
+    let mut hub: Hub<u64, u64, u64, u64> = Hub::new(rt.alloc(), LIMITS, UniqueNodeId(7))?;
     let factory = hub.client_builder().initial_max_slice_len(3);
     let client = factory.create(&mut hub).expect(&rt, "a client");
     let request = client.loan_slice_uninit(&mut hub, 3).expect(&rt, "a loan");
@@ -165,7 +165,7 @@ fn a_request_is_copied_from_a_slice(rt: HostRuntime) -> Result<(), Fail> {
 /// So is a response.
 #[test]
 fn a_response_is_copied_from_a_slice(rt: HostRuntime) -> Result<(), Fail> {
-    let mut hub: Hub<u64, u64, u64, u64> = Hub::new(rt.alloc(), limits(false), UniqueNodeId(7))?;
+    let mut hub: Hub<u64, u64, u64, u64> = Hub::new(rt.alloc(), LIMITS, UniqueNodeId(7))?;
     let client = hub
         .client_builder()
         .create(&mut hub)

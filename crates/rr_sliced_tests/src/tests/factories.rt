@@ -1,7 +1,7 @@
 //! What the builders set, and what they set at first.
 #![tactic(auto, using(rr_ports::proofs::Frames::kinds))]
 
-use super::limits;
+use super::LIMITS;
 use rr_ports::{
     AllocationStrategy, BackpressureStrategy, LoanError, NoHandler, UniqueNodeId, sliced, typed,
 };
@@ -12,7 +12,7 @@ use std::test::Fail;
 fn an_override_is_clamped(rt: HostRuntime) -> Result<(), Fail> {
     let mut hub: typed::Hub<u64, u64, u64, u64> = typed::Hub::new(
         rt.alloc(),
-        limits(false),
+        LIMITS,
         UniqueNodeId(7),
     )?;
     let factory = hub
@@ -38,7 +38,7 @@ fn an_override_is_clamped(rt: HostRuntime) -> Result<(), Fail> {
 fn builders_set_strategies_and_lengths(rt: HostRuntime) -> Result<(), Fail> {
     let mut hub: sliced::Hub<u64, u64, u64, u64> = sliced::Hub::new(
         rt.alloc(),
-        limits(false),
+        LIMITS,
         UniqueNodeId(7),
     )?;
     let client = hub
@@ -73,7 +73,7 @@ fn builders_set_strategies_and_lengths(rt: HostRuntime) -> Result<(), Fail> {
 fn a_slice_is_filled(rt: HostRuntime) -> Result<(), Fail> {
     let mut hub: sliced::Hub<u64, u64, u64, u64> = sliced::Hub::new(
         rt.alloc(),
-        limits(false),
+        LIMITS,
         UniqueNodeId(7),
     )?;
     let factory = hub.client_builder().initial_max_slice_len(3);
