@@ -1,7 +1,7 @@
 //! The program `rr`: hands its words and the standard streams to `serve`, and ends with its answer.
 #![tactic(auto)]
 
-use rr_run::serve;
+use rr_serve::serve;
 use std::env;
 use std::io::{self, BufReader};
 use std::process::ExitCode;
@@ -15,6 +15,7 @@ fn main(rt: HostRuntime) -> io::Result<ExitCode> {
     let mut output = io::writer(&rt);
     let mut faults = rt.stderr();
     let status = serve(
+        &rt,
         rt.alloc(),
         words.as_slice(),
         input,

@@ -1,7 +1,8 @@
-//! Times round trips through the ports of `rr_ports`.
+//! Times round trips through the ports of `rr_ports`, and of two threads at a hub of `rr_locked`.
 #![tactic(auto)]
 
 mod family;
+mod locked;
 mod payload;
 mod rows;
 mod service;
@@ -57,8 +58,12 @@ fn main(rt: HostRuntime) -> anyhow::Result<ExitCode> {
         (None, ..) => {
             payloads(&rt, Job::Check)?;
             larger(&rt, Job::Check)?;
+            locked::check(&rt, rt.alloc())?;
         }
-        (Some("time"), None, ..) => payloads(&rt, Job::Time)?,
+        (Some("time"), None, ..) => {
+            payloads(&rt, Job::Time)?;
+            locked::time(&rt, rt.alloc())?;
+        }
         (Some("grow"), None, ..) => larger(&rt, Job::Time)?,
         (Some("count"), Some(trips), None, _) => count(&rt, trips.parse()?, 0)?,
         (Some("count"), Some(trips), Some(clients), None) => {

@@ -25,7 +25,7 @@ pub enum Job {
 }
 
 /// The samples of a row.
-const SAMPLES: usize = 7;
+pub const SAMPLES: usize = 7;
 
 /// The round trips that are made to check their sum.
 const CHECKED: u64 = 10;

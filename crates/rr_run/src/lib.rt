@@ -1,4 +1,4 @@
-//! A runner that carries out commands of all ports, and a program that reads them from a script.
+//! A runner that carries out commands of all ports, lists of them, and which request pool is enough.
 #![tactic(auto)]
 
 mod commands;
@@ -6,10 +6,8 @@ mod error;
 mod least;
 mod places;
 mod runner;
-mod script;
 
 pub use commands::run;
 pub use error::OutOfMemory;
 pub use least::{LeastPoolError, PoolCommand, PoolReply, least_pool};
 pub use runner::Runner;
-pub use script::serve;

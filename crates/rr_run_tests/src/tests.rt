@@ -14,3 +14,4 @@ mod rows;
 mod runner;
 mod scripts;
 mod slices;
+mod threads;

@@ -1,6 +1,6 @@
 //! Reads and writes that fail, each at every call.
 use super::scripts::{BASE_PATH, PORTS, told, words};
-use rr_run::serve;
+use rr_script::serve_alone;
 use std::alloc::{AllocError, Global};
 use std::io::{self, BufReader, Read, Write};
 
@@ -71,7 +71,7 @@ fn played(alloc: Global, reads: usize, writes: usize, wanted_fault: &[u8]) -> io
         writes,
     };
     let mut fault = Vec::new(alloc);
-    let status = serve(alloc, words.as_slice(), input, &mut output, &mut fault);
+    let status = serve_alone(alloc, words.as_slice(), input, &mut output, &mut fault);
     let is_begun = story
         .wanted
         .as_bytes()

@@ -1,5 +1,5 @@
 //! Scripts as rows: lines with the replies that are wanted.
-use rr_run::serve;
+use rr_script::serve_alone;
 use std::alloc::{AllocError, Global};
 
 /// Two clients, one server, two loaned and two active requests, two queued and one borrowed response; a client and a server.
@@ -91,7 +91,7 @@ pub(super) fn served(alloc: Global, line: &str, input: &[u8]) -> Result<Ended, A
     let words = words(alloc, line)?;
     let mut output = Vec::new(alloc);
     let mut fault = Vec::new(alloc);
-    let status = serve(alloc, words.as_slice(), input, &mut output, &mut fault);
+    let status = serve_alone(alloc, words.as_slice(), input, &mut output, &mut fault);
     Ok(Ended {
         status,
         output,

@@ -1,0 +1,209 @@
+//! A hub with the history of its calls.
+ghost use Rattle.std.specs.Prelude.{◌≡◌, ◌≢◌, ℕ, ◌+◌, ◌*◌, ◌^◌, ◌<◌, ◌≤◌, [], ◌∷◌, ◌++◌, IfSome, IfNone, length, IfOk, OnErr};
+ghost use Rattle.rr_commands.specs.AnswerRule.{KeepsAnswerRule};
+ghost use Rattle.rr_ledger.specs.Sums.{worth};
+ghost use Rattle.rr_locked.specs.Receipts.{receipt, opening_number, history_numbers};
+ghost use Rattle.rr_locked.specs.Books.{IsLegal, CreatesBook, OpensBook};
+
+use crate::copies::copied;
+use crate::hub_command::{HubCommand, HubReply, HubRunner};
+use crate::opening::Opening;
+use crate::receipt::Receipt;
+use crate::seat::Seat;
+use rr_commands::Reply;
+use rr_ledger::add_for;
+use rr_protocol::{HubCreateError, Limits, UniqueNodeId};
+use std::alloc::Global;
+use std::marker::Model;
+use std::sync::ledger::{self, Blank, Ledger, Share};
+
+/// The most seats that a book makes.
+pub const MOST_SEATS: u64 = 1_048_576;
+
+/// How many parts the blank of a book has: one for each seat, one for the opening, and one that stays.
+pub const PARTS: u64 = MOST_SEATS + 2;
+
+/// A hub of numbers with the history of its calls. Contracts see its limits, its node id, the history and the number of seats made.
+///
+/// Its history is a run of the message machine at every moment. Each call waits for nobody. Our own.
+#[derive(Drop)]
+pub struct Book<L: Ledger> {
+    runner: HubRunner,
+    limits: Limits,
+    node_id: UniqueNodeId,
+    history: Vec<(HubCommand, HubReply)>,
+    made: u64,
+    tokens: ledger::Book<L>,
+    rest: Share<L>,
+    alloc: Global,
+}
+
+impl<L: Ledger> Model for Book<L> {
+    ghost use Rattle.rr_locked.specs.Books.{Log, log, IsKept};
+
+    ghost Value = { Log };
+
+    ghost view = { λ b. log b.limits b.node_id.0 b.history.items b.made };
+
+    ghost invariant = { λ b. IsKept b.runner b.limits b.node_id.0 b.history.items b.made b.tokens.total b.rest.parts b.rest.amount L.parts };
+}
+
+impl<L: Ledger> Book<L> {
+    /// Makes a book with an empty history, and its opening.
+    pub(crate) fn open(
+        alloc: Global,
+        limits: Limits,
+        node_id: UniqueNodeId,
+        blank: Blank,
+    ) -> Result<(Book<L>, Opening<L>), HubCreateError>
+        requires name { blank.name ≡ L.name }
+        requires parts { blank.parts ≡ L.parts }
+        requires many { blank.parts ≡ 1048578 }
+        ensures book { OpensBook limits node_id.0 (λ opened. opened.0) result }
+        ensures opening { IfOk result (λ opened. (opened.1.limits ≡ limits) × (opened.1.node_id ≡ node_id)) }
+    {
+        let runner = HubRunner::new(alloc, limits, node_id)?;
+        let (mut tokens, mut rest) = blank.open::<L>();
+        let mut share = rest.split_off(1, 0);
+        add_for(&mut tokens, &mut share, &(limits, node_id));
+        let book = Book {
+            runner,
+            limits,
+            node_id,
+            history: Vec::new(alloc),
+            made: 0,
+            tokens,
+            rest,
+            alloc,
+        };
+        Ok((
+            book,
+            Opening {
+                limits,
+                node_id,
+                share,
+            },
+        ))
+    }
+
+    /// Makes a book over a hub without ports, with an empty history. The blank is to have `PARTS` parts, and is spent either way.
+    /// Our own.
+    ///
+    /// # Errors
+    ///
+    /// - `ZeroLimit` if a limit is below its least value.
+    /// - `LimitsTooLarge` if a worst-case size is more than a `usize` counts.
+    /// - `OutOfMemory` if no memory was found.
+    pub fn new(
+        alloc: Global,
+        limits: Limits,
+        node_id: UniqueNodeId,
+        blank: Blank,
+    ) -> Result<Book<L>, HubCreateError>
+        requires name { blank.name ≡ L.name }
+        requires parts { blank.parts ≡ L.parts }
+        requires many { blank.parts ≡ 1048578 }
+        ensures { CreatesBook limits node_id.0 result }
+    {
+        Ok(Book::open(alloc, limits, node_id, blank)?.0)
+    }
+
+    /// Returns the limits that the book was made with.
+    pub fn limits(&self) -> Limits
+        ensures { result ≡ self.now.limits }
+    {
+        self.limits
+    }
+
+    /// Returns the node id that the book was made with.
+    pub fn node_id(&self) -> UniqueNodeId
+        ensures { result.0 ≡ self.now.node_id }
+    {
+        self.node_id
+    }
+
+    /// Returns how many seats were made.
+    pub fn seats_made(&self) -> u64
+        ensures { result ≡ self.now.made }
+    {
+        self.made
+    }
+
+    /// Returns the calls with their replies. They are a run of the message machine from the empty hub, and keep the answer rule: a
+    /// response reaches only the request that it answers, at most once, and in the order in which its server sent it.
+    pub fn history(&self) -> &[(HubCommand, HubReply)]
+        ensures history { result.now ≡ self.now.history }
+        ensures legal { IsLegal self.now.limits self.now.node_id result.now }
+        ensures answer_rule { KeepsAnswerRule self.now.limits result.now }
+    {
+        self.history.as_slice()
+    }
+
+    /// Makes a seat without receipts. Returns `None` if `MOST_SEATS` seats were made; nothing has changed then.
+    pub fn seat(&mut self) -> Option<Seat<L>>
+        ensures some { IfSome result (λ s. (s ≡ []) × (self.new ≡ record self.old { made = self.old.made + 1 })) }
+        ensures none { IfNone result ((self.new ≡ self.old) × (self.old.made ≡ 1048576)) }
+        ensures full { self.old.made ≡ 1048576 → result ≡ None }
+    {
+        if self.made == MOST_SEATS {
+            return None;
+        }
+        let share = self.rest.split_off(1, 0);
+        self.made += 1;
+        Some(Seat::new(self.alloc, share))
+    }
+
+    /// Carries out a command, and returns its reply.
+    ///
+    /// The command and the reply are appended to the history, and with their place in it to the seat. If no memory is found for
+    /// them, or the runner finds none, returns `NoMemory`, and neither the book nor the seat has changed. Takes constant time beside
+    /// the command's own, but for the growth of both lists, which is amortised. Our own.
+    pub fn apply(&mut self, seat: &mut Seat<L>, command: HubCommand) -> HubReply
+        ensures refused { result ≡ Reply.NoMemory → (self.new ≡ self.old) × (seat.new ≡ seat.old) }
+        ensures book { result ≢ Reply.NoMemory → self.new ≡ record self.old { history = self.old.history ++ (command, result) ∷ [] } }
+        ensures seat { result ≢ Reply.NoMemory → seat.new ≡ seat.old ++ receipt (length self.old.history) command result ∷ [] }
+    {
+        let place = self.history.len() as u64;
+        if seat.next > place
+            || self.history.reserve(1).is_err()
+            || seat.receipts.reserve(1).is_err()
+        {
+            return Reply::NoMemory;
+        }
+        let reply = self.runner.apply(command);
+        if let Reply::NoMemory = &reply {
+            return Reply::NoMemory;
+        }
+        let Ok(kept) = copied(&reply, self.alloc) else {
+            return Reply::NoMemory;
+        };
+        let Ok(shown) = copied(&reply, self.alloc) else {
+            return Reply::NoMemory;
+        };
+        let receipt = Receipt {
+            place,
+            command,
+            reply: shown,
+        };
+        add_for(&mut self.tokens, &mut seat.share, &receipt);
+        self.history.push((command, kept)).unwrap();
+        seat.receipts.push(receipt).unwrap();
+        seat.next = place + 1;
+        reply
+    }
+
+    /// Shows what a share counts that has every part but those of the book. Changes nothing.
+    pub(crate) fn settle(&mut self, all: Share<L>)
+        requires { 0 < all.parts }
+        ensures same { self.new ≡ self.old }
+        ensures seats { self.new.made ≤ 1048576 }
+        ensures few { length self.new.history < 2 ^ 64 }
+        ensures whole { all.parts ≡ self.old.made + 1 → all.amount ≡ worth 84 (opening_number self.old.limits self.old.node_id ∷ history_numbers 0 self.old.history) }
+    {
+        let mut all = all;
+        let parts = MOST_SEATS + 1 - self.made;
+        self.rest.give(&mut all, parts, 0);
+        self.tokens.audit(&mut all);
+        all.give(&mut self.rest, parts, 0);
+    }
+}

@@ -1,0 +1,25 @@
+//! What takes commands from many threads.
+ghost use Rattle.std.specs.Prelude.{◌≡◌, ◌≢◌, ℕ, [], ◌∷◌, ◌++◌};
+ghost use Rattle.rr_locked.specs.Receipts.{receipt};
+
+use crate::hub_command::{HubCommand, HubReply};
+use crate::locked_hub::LockedHub;
+use crate::seat::Seat;
+use rr_commands::Reply;
+use std::sync::Wait;
+use std::sync::ledger::Ledger;
+
+/// What takes commands from many threads. Workers are generic over it, so that each can be tried by itself. Our own.
+pub trait Submit<L: Ledger> {
+    /// Carries out a command, and returns its reply: `NoMemory` with the seat unchanged, or the reply of the one receipt by which the
+    /// seat grew. May wait for other threads.
+    fn submit<R: Wait>(&self, rt: &R, seat: &mut Seat<L>, command: HubCommand) -> HubReply
+        ensures refused { result ≡ Reply.NoMemory → seat.new ≡ seat.old }
+        ensures receipt { result ≢ Reply.NoMemory → (place : ℕ) × (seat.new ≡ seat.old ++ receipt place command result ∷ []) };
+}
+
+impl<L: Ledger> Submit<L> for LockedHub<L> {
+    fn submit<R: Wait>(&self, rt: &R, seat: &mut Seat<L>, command: HubCommand) -> HubReply {
+        self.inside.lock(rt).apply(seat, command)
+    }
+}

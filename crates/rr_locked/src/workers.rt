@@ -1,0 +1,110 @@
+//! Workers: a client that asks and a server that answers, each in its own thread.
+use crate::bells::Bells;
+use crate::calls::{payload, receive, release};
+use crate::seat::Seat;
+use crate::submit::Submit;
+use crate::worker_error::WorkerError;
+use rr_commands::{Command, Reply};
+use std::sync::Wait;
+use std::sync::ledger::Ledger;
+
+/// How much workers do.
+#[derive(Clone, Copy, Debug, PartialEq, Eq)]
+pub struct Plan {
+    /// How many requests are sent and answered.
+    pub rounds: u64,
+    /// How often a bell is read for one message before a worker gives up.
+    pub turns: u64,
+}
+
+/// Sends the numbers from 0 on as requests of a client, as many as the plan has rounds, each after the response to the one before
+/// was received and released. Returns the sum of the responses, modulo 2^64.
+///
+/// It rings the server's bell after each request, and waits at the client's. Our own.
+///
+/// # Errors
+///
+/// - `NoMemory` if a command found no memory.
+/// - `GaveUp` if a response did not come within the plan's turns, or a reply is not one that its command can have here.
+pub fn ask_all<L: Ledger, S: Submit<L>, R: Wait>(
+    rt: &R,
+    hub: &S,
+    seat: &mut Seat<L>,
+    bells: &Bells,
+    client: u64,
+    plan: Plan,
+) -> Result<u64, WorkerError> {
+    let mut sum = 0u64;
+    for asked in 0..plan.rounds {
+        sum = sum.wrapping_add(ask(rt, hub, seat, bells, client, asked, plan.turns)?);
+    }
+    Ok(sum)
+}
+
+/// Sends a number as a request, and receives the response. Returns what it says.
+fn ask<L: Ledger, S: Submit<L>, R: Wait>(
+    rt: &R,
+    hub: &S,
+    seat: &mut Seat<L>,
+    bells: &Bells,
+    client: u64,
+    asked: u64,
+    turns: u64,
+) -> Result<u64, WorkerError> {
+    let pending = match hub.submit(rt, seat, Command::SendCopy(client, asked)) {
+        Reply::Pending(pending, _) => pending,
+        other => return Err(WorkerError::of(&other)),
+    };
+    bells.server.ring();
+    let response = match receive(rt, hub, seat, &bells.client, pending, turns)? {
+        Reply::Response(response) => response,
+        other => return Err(WorkerError::of(&other)),
+    };
+    let answer = payload(rt, hub, seat, response)?;
+    release(rt, hub, seat, response)?;
+    release(rt, hub, seat, pending)?;
+    Ok(answer)
+}
+
+/// Answers as many requests of a server as the plan has rounds, each with the number after the one that was asked.
+///
+/// It waits at the server's bell, and rings the client's after each response. Our own.
+///
+/// # Errors
+///
+/// - `NoMemory` if a command found no memory.
+/// - `GaveUp` if a request did not come within the plan's turns, or a reply is not one that its command can have here.
+pub fn answer_all<L: Ledger, S: Submit<L>, R: Wait>(
+    rt: &R,
+    hub: &S,
+    seat: &mut Seat<L>,
+    bells: &Bells,
+    server: u64,
+    plan: Plan,
+) -> Result<(), WorkerError> {
+    for _ in 0..plan.rounds {
+        answer(rt, hub, seat, bells, server, plan.turns)?;
+    }
+    Ok(())
+}
+
+/// Receives a request, and answers with the number after the one that it says.
+fn answer<L: Ledger, S: Submit<L>, R: Wait>(
+    rt: &R,
+    hub: &S,
+    seat: &mut Seat<L>,
+    bells: &Bells,
+    server: u64,
+    turns: u64,
+) -> Result<(), WorkerError> {
+    let active = match receive(rt, hub, seat, &bells.server, server, turns)? {
+        Reply::Active(active, _) => active,
+        other => return Err(WorkerError::of(&other)),
+    };
+    let asked = payload(rt, hub, seat, active)?;
+    match hub.submit(rt, seat, Command::SendCopy(active, asked.wrapping_add(1))) {
+        Reply::Sent(_) => bells.client.ring(),
+        other => return Err(WorkerError::of(&other)),
+    }
+    release(rt, hub, seat, active)
+}

@@ -1,0 +1,8 @@
+//! Books, locked hubs and workers at work.
+mod alone;
+mod books;
+mod hubs;
+mod orders;
+mod ports;
+mod seats;
+mod workers;

@@ -1,0 +1,67 @@
+//! A hub's limits, and the commands that create its ports.
+use rr_commands::Command;
+use rr_locked::{HubCommand, HubReply, Seat, Submit};
+use rr_protocol::{
+    AllocationStrategy, BackpressureStrategy, ClientSettings, Limits, NoHandler, ServerSettings,
+};
+use std::sync::Wait;
+use std::sync::ledger::Ledger;
+
+/// Limits of so many clients, one server, two loaned and two active requests, two queued and one borrowed response.
+pub fn limits(max_clients: usize) -> Limits {
+    Limits {
+        max_clients,
+        max_servers: 1,
+        max_loaned_requests: 2,
+        max_active_requests_per_client: 2,
+        max_response_buffer_size: 2,
+        max_borrowed_responses_per_pending_response: 1,
+        enable_safe_overflow_for_requests: false,
+        enable_safe_overflow_for_responses: false,
+        enable_fire_and_forget_requests: false,
+        client_expired_connection_buffer: 1,
+        server_expired_connection_buffer: 1,
+    }
+}
+
+/// Creates a client.
+pub const CLIENT: HubCommand = Command::CreateClient(ClientSettings {
+    strategy: BackpressureStrategy::DiscardData,
+    initial_max_slice_len: 1,
+    allocation_strategy: AllocationStrategy::Static,
+    pool: None,
+    handler: None::<NoHandler>,
+});
+
+/// Creates a server.
+pub const SERVER: HubCommand = Command::CreateServer(ServerSettings {
+    strategy: BackpressureStrategy::DiscardData,
+    initial_max_slice_len: 1,
+    allocation_strategy: AllocationStrategy::Static,
+    pool: None,
+    handler: None::<NoHandler>,
+    loans: 1,
+});
+
+/// Returns whether a hub gives these replies to these commands.
+pub fn replies<L: Ledger, S: Submit<L>, R: Wait>(
+    rt: &R,
+    hub: &S,
+    seat: &mut Seat<L>,
+    rows: &[(HubCommand, HubReply)],
+) -> bool {
+    for (command, reply) in rows {
+        if hub.submit(rt, seat, *command) != *reply {
+            return false;
+        }
+    }
+    true
+}
+
+/// The place of a seat's last receipt.
+pub fn last_place<L: Ledger>(seat: &Seat<L>) -> Option<u64> {
+    match seat.receipts().last() {
+        Some(receipt) => Some(receipt.place),
+        None => None,
+    }
+}
