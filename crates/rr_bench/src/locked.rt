@@ -1,6 +1,8 @@
-//! Round trips of two threads at a locked hub, calls of a book as its history grows, and a lock alone.
+//! Round trips of two threads at a locked hub, in turn and as workers make them, calls of a book as its history grows, and a lock
+//! alone.
 ghost use Rattle.std.specs.Prelude.{◌≡◌};
 
+use crate::pair::time_pair;
 use crate::rows::SAMPLES;
 use anyhow::{anyhow, bail};
 use rr_commands::{Command, Reply};
@@ -15,7 +17,7 @@ use std::thread::Threads;
 use std::time::{Clock, Instant};
 
 /// The limits of one client and one server.
-const LIMITS: Limits = Limits {
+pub const LIMITS: Limits = Limits {
     max_clients: 1,
     max_servers: 1,
     max_loaned_requests: 1,
@@ -32,11 +34,20 @@ const LIMITS: Limits = Limits {
 /// The calls of a sample of a book, and the turns of one of a lock.
 const CALLS: u64 = 100_000;
 
-/// How often a worker reads its bell for one message.
-const TURNS: u64 = 1_000_000_000;
+/// How often a thread reads its bell for one message.
+pub const TURNS: u64 = 1_000_000_000;
 
-/// Lets two threads make so many round trips of 8 bytes, and checks their sum.
-fn two_threads<R: Threads + Wait + Sync>(rt: &R, alloc: Global, rounds: u64) -> anyhow::Result<()> {
+/// Times so many round trips of 8 bytes of two threads in turn, in nanoseconds, and checks them.
+fn in_turn<R: Threads + Wait + Sync + Clock>(
+    rt: &R,
+    alloc: Global,
+    trips: u64,
+) -> anyhow::Result<u128> {
+    time_pair::<Brand, R>(rt, alloc, Blank::new(PARTS), trips)
+}
+
+/// Lets two workers make so many round trips of 8 bytes, and checks their sum.
+fn two_workers<R: Threads + Wait + Sync>(rt: &R, alloc: Global, rounds: u64) -> anyhow::Result<()> {
     let plan = Plan {
         rounds,
         turns: TURNS,
@@ -100,16 +111,23 @@ fn grow_book<L: Ledger, R: Clock + Print>(
 }
 
 /// Makes a few round trips, calls and turns, and checks them.
-pub fn check<R: Threads + Wait + Sync>(rt: &R, alloc: Global) -> anyhow::Result<()> {
-    two_threads(rt, alloc, 10)?;
+pub fn check<R: Threads + Wait + Sync + Clock>(rt: &R, alloc: Global) -> anyhow::Result<()> {
+    in_turn(rt, alloc, 10)?;
+    two_workers(rt, alloc, 10)?;
     lock_alone(rt, 10)
 }
 
-/// Prints samples of two threads, of a lock alone, and of a book as its history grows to a million calls.
+/// Prints samples of two threads in turn, of two workers, of a lock alone, and of a book as its history grows to a million calls.
+///
+/// A sample of two threads is the round trips alone; one of workers has the hub's making and its end in it.
 pub fn time<R: Threads + Wait + Sync + Clock + Print>(rt: &R, alloc: Global) -> anyhow::Result<()> {
     for _ in 0..SAMPLES {
+        let nanos = in_turn(rt, alloc, CALLS)?;
+        println!(rt; "N\tpair\t2\t8\t{nanos}\t{CALLS}")?;
+    }
+    for _ in 0..SAMPLES {
         let start = Instant::now(rt)?;
-        two_threads(rt, alloc, CALLS)?;
+        two_workers(rt, alloc, CALLS)?;
         let nanos = start.elapsed(rt)?.as_nanos();
         println!(rt; "N\tlocked\t2\t8\t{nanos}\t{CALLS}")?;
     }

@@ -3,6 +3,7 @@
 
 mod family;
 mod locked;
+mod pair;
 mod payload;
 mod rows;
 mod service;

@@ -1,7 +1,6 @@
 //! The client: hands out a job for each worker, and takes their answers, until no job is left.
 use crate::hub::{JOBS, TURNS, WORKERS};
-use rr_commands::{Command, Reply};
-use rr_locked::{Bells, Seat, Submit, WorkerError, payload, receive, release};
+use rr_locked::{Bells, Seat, Submit, WorkerError, payload, receive, release, send_copy};
 use std::sync::Wait;
 use std::sync::ledger::Ledger;
 
@@ -29,7 +28,7 @@ fn dispatch_all<L: Ledger, S: Submit<L>, R: Wait>(
     for first in (1..=JOBS).step_by(WORKERS as usize) {
         let mut pending = [0u64; WORKERS as usize];
         for (index, place) in pending.iter_mut().enumerate() {
-            *place = ask(rt, hub, seat, client, first.saturating_add(index as u64))?;
+            *place = send_copy(rt, hub, seat, client, first.saturating_add(index as u64))?;
         }
         bells.server.ring();
         for number in pending {
@@ -37,20 +36,6 @@ fn dispatch_all<L: Ledger, S: Submit<L>, R: Wait>(
         }
     }
     Ok(sum)
-}
-
-/// Sends a job. Returns the number of its pending response.
-fn ask<L: Ledger, S: Submit<L>, R: Wait>(
-    rt: &R,
-    hub: &S,
-    seat: &mut Seat<L>,
-    client: u64,
-    job: u64,
-) -> Result<u64, WorkerError> {
-    match hub.submit(rt, seat, Command::SendCopy(client, job)) {
-        Reply::Pending(pending, _) => Ok(pending),
-        other => Err(WorkerError::of(&other)),
-    }
 }
 
 /// Waits for the answer to a job, and releases it with its pending response. Returns what it says.
@@ -61,10 +46,7 @@ fn answer<L: Ledger, S: Submit<L>, R: Wait>(
     seat: &mut Seat<L>,
     pending: u64,
 ) -> Result<u64, WorkerError> {
-    let response = match receive(rt, hub, seat, &bells.client, pending, TURNS)? {
-        Reply::Response(response) => response,
-        other => return Err(WorkerError::of(&other)),
-    };
+    let response = receive(rt, hub, seat, &bells.client, pending, TURNS)?;
     let answer = payload(rt, hub, seat, response)?;
     release(rt, hub, seat, response)?;
     release(rt, hub, seat, pending)?;

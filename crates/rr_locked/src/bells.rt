@@ -1,4 +1,5 @@
 //! Bells, by which one thread lets another one know that there may be something to receive.
+use crossbeam_utils::CachePadded;
 use std::hint::spin_loop;
 use std::sync::atomic::{AtomicU64, Ordering};
 use std::thread::yield_now;
@@ -7,16 +8,18 @@ use std::thread::yield_now;
 const READINGS: u64 = 64;
 
 /// A counter that one thread raises and another one reads. Nothing is proved of what it shows.
+///
+/// It has its cache lines to itself, so that who waits at it takes no line from who works.
 #[derive(Drop)]
 pub struct Bell {
-    rings: AtomicU64,
+    rings: CachePadded<AtomicU64>,
 }
 
 impl Bell {
     /// Makes a bell that has not rung.
     pub fn new() -> Self {
         Bell {
-            rings: AtomicU64::new(0),
+            rings: CachePadded::new(AtomicU64::new(0)),
         }
     }
 

@@ -28,11 +28,11 @@ pub const PARTS: u64 = MOST_SEATS + 2;
 /// Its history is a run of the message machine at every moment. Each call waits for nobody. Our own.
 #[derive(Drop)]
 pub struct Book<L: Ledger> {
+    history: Vec<(HubCommand, HubReply)>,
+    made: u64,
     runner: HubRunner,
     limits: Limits,
     node_id: UniqueNodeId,
-    history: Vec<(HubCommand, HubReply)>,
-    made: u64,
     tokens: ledger::Book<L>,
     rest: Share<L>,
     alloc: Global,
@@ -67,11 +67,11 @@ impl<L: Ledger> Book<L> {
         let mut share = rest.split_off(1, 0);
         add_for(&mut tokens, &mut share, &(limits, node_id));
         let book = Book {
+            history: Vec::new(alloc),
+            made: 0,
             runner,
             limits,
             node_id,
-            history: Vec::new(alloc),
-            made: 0,
             tokens,
             rest,
             alloc,
@@ -186,8 +186,8 @@ impl<L: Ledger> Book<L> {
             reply: shown,
         };
         add_for(&mut self.tokens, &mut seat.share, &receipt);
-        self.history.push((command, kept)).unwrap();
-        seat.receipts.push(receipt).unwrap();
+        self.history.push_reserved((command, kept));
+        seat.receipts.push_reserved(receipt);
         seat.next = place + 1;
         reply
     }

@@ -1,6 +1,5 @@
 //! Commands that a worker submits, with the reply that it needs.
 use crate::bells::Bell;
-use crate::hub_command::HubReply;
 use crate::seat::Seat;
 use crate::submit::Submit;
 use crate::worker_error::WorkerError;
@@ -8,28 +7,50 @@ use rr_commands::{Command, Reply};
 use std::sync::Wait;
 use std::sync::ledger::Ledger;
 
-/// Receives by a server or a pending response until something comes, and returns that reply.
+/// Sends a number: as a request of a client, or as a response to an active request. Returns the number of the pending response, or
+/// of the response. Our own.
+///
+/// # Errors
+///
+/// - `NoMemory` if no memory was found for its receipt.
+/// - `GaveUp` if the hub refuses to send it.
+pub fn send_copy<L: Ledger, S: Submit<L>, R: Wait>(
+    rt: &R,
+    hub: &S,
+    seat: &mut Seat<L>,
+    sender: u64,
+    element: u64,
+) -> Result<u64, WorkerError> {
+    match hub.submit(rt, seat, Command::SendCopy(sender, element)) {
+        Reply::Pending(number, _) | Reply::Sent(number) => Ok(number),
+        other => Err(WorkerError::of(&other)),
+    }
+}
+
+/// Receives by a server or a pending response until something comes. Returns the number of the active request or of the response.
 ///
 /// It reads the bell before each receive, so that one that rings between a receive and the wait after it isn't missed. A turn is
 /// one reading of the bell. Our own.
 ///
 /// # Errors
 ///
-/// - `GaveUp` if nothing came within so many turns.
+/// - `NoMemory` if no memory was found for a receipt.
+/// - `GaveUp` if nothing came within so many turns, or the hub refuses to receive.
 pub fn receive<L: Ledger, S: Submit<L>, R: Wait>(
     rt: &R,
     hub: &S,
     seat: &mut Seat<L>,
     bell: &Bell,
-    number: u64,
+    receiver: u64,
     turns: u64,
-) -> Result<HubReply, WorkerError> {
+) -> Result<u64, WorkerError> {
     let mut left = turns;
     for _ in 0..u64::MAX {
         let rings = bell.rings();
-        match hub.submit(rt, seat, Command::Receive(number)) {
+        match hub.submit(rt, seat, Command::Receive(receiver)) {
+            Reply::Active(number, _) | Reply::Response(number) => return Ok(number),
             Reply::Nothing => left = bell.wait(rings, left).ok_or(WorkerError::GaveUp)?,
-            reply => return Ok(reply),
+            other => return Err(WorkerError::of(&other)),
         }
     }
     Err(WorkerError::GaveUp)

@@ -6,6 +6,9 @@ use rr_commands::{Elements, Reply};
 use std::alloc::{AllocError, Global};
 
 /// Returns an equal reply, or an error if no memory was found for the elements of a payload.
+///
+/// It is inlined: a book copies each reply twice, and most hold two words at most.
+#[inline(always)]
 pub(crate) fn copied<T: Copy, H: Copy>(
     reply: &Reply<T, H>,
     alloc: Global,

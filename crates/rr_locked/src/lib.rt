@@ -17,8 +17,8 @@ mod workers;
 
 pub use bells::{Bell, Bells};
 pub use book::{Book, MOST_SEATS, PARTS};
-pub use calls::{payload, receive, release};
-pub use hub_command::{HubCommand, HubReply};
+pub use calls::{payload, receive, release, send_copy};
+pub use hub_command::{CREATE_CLIENT, CREATE_SERVER, HubCommand, HubReply};
 pub use locked_hub::LockedHub;
 pub use receipt::Receipt;
 pub use seat::Seat;

@@ -1,10 +1,9 @@
 //! Workers: a client that asks and a server that answers, each in its own thread.
 use crate::bells::Bells;
-use crate::calls::{payload, receive, release};
+use crate::calls::{payload, receive, release, send_copy};
 use crate::seat::Seat;
 use crate::submit::Submit;
 use crate::worker_error::WorkerError;
-use rr_commands::{Command, Reply};
 use std::sync::Wait;
 use std::sync::ledger::Ledger;
 
@@ -51,15 +50,9 @@ fn ask<L: Ledger, S: Submit<L>, R: Wait>(
     asked: u64,
     turns: u64,
 ) -> Result<u64, WorkerError> {
-    let pending = match hub.submit(rt, seat, Command::SendCopy(client, asked)) {
-        Reply::Pending(pending, _) => pending,
-        other => return Err(WorkerError::of(&other)),
-    };
+    let pending = send_copy(rt, hub, seat, client, asked)?;
     bells.server.ring();
-    let response = match receive(rt, hub, seat, &bells.client, pending, turns)? {
-        Reply::Response(response) => response,
-        other => return Err(WorkerError::of(&other)),
-    };
+    let response = receive(rt, hub, seat, &bells.client, pending, turns)?;
     let answer = payload(rt, hub, seat, response)?;
     release(rt, hub, seat, response)?;
     release(rt, hub, seat, pending)?;
@@ -97,14 +90,9 @@ fn answer<L: Ledger, S: Submit<L>, R: Wait>(
     server: u64,
     turns: u64,
 ) -> Result<(), WorkerError> {
-    let active = match receive(rt, hub, seat, &bells.server, server, turns)? {
-        Reply::Active(active, _) => active,
-        other => return Err(WorkerError::of(&other)),
-    };
+    let active = receive(rt, hub, seat, &bells.server, server, turns)?;
     let asked = payload(rt, hub, seat, active)?;
-    match hub.submit(rt, seat, Command::SendCopy(active, asked.wrapping_add(1))) {
-        Reply::Sent(_) => bells.client.ring(),
-        other => return Err(WorkerError::of(&other)),
-    }
+    send_copy(rt, hub, seat, active, asked.wrapping_add(1))?;
+    bells.client.ring();
     release(rt, hub, seat, active)
 }

@@ -9,6 +9,7 @@ pub mod Handles
 pub mod HandleSteps
 pub mod Knowing
 pub mod Added
+pub mod Spots
 pub mod Pools
 pub mod PoolSteps
 pub mod PoolShows

@@ -1,15 +1,29 @@
 -- Which places a runner knows: that of each handle, unless one was lost for want of memory.
-use Rattle.std.specs.Prelude.{◌≡◌, ◌≢◌, ◌⊎◌, ◌==◌, ℕ, true, Option, None, Some}
+use Rattle.std.specs.Prelude.{◌≡◌, ◌≢◌, ◌⊎◌, ◌==◌, ◌%◌, ℕ, true, if◌then◌else◌, get_or, Option, None, Some}
 use Rattle.std.specs.HashMap.{get}
 use Rattle.rr_table.specs.declared.place.Place.{Place}
 use Rattle.rr_protocol.specs.State.{State, handle_at}
 use Rattle.rr_commands.specs.declared.command.Command.{Command}
 use Rattle.rr_commands.specs.declared.reply.Reply.{Reply}
+use Rattle.rr_run.specs.declared.places.Spot.{Spot}
 use Rattle.rr_run.specs.declared.places.Places.{Places}
+
+-- the place of a number whose spot has this, and which has that one beside the spots
+abbrev pub place_at : Option Spot → ℕ → Option Place → Option Place
+place_at (Some spot) n other = if spot.number == n then Some spot.place else other
+place_at None n other = other
+
+-- the place of a number beside the spots
+abbrev pub place_aside : Places → ℕ → Option Place
+place_aside p n = get (λ a b. a == b) p.others n
 
 -- the place that is known for a number
 abbrev pub place_of : Places → ℕ → Option Place
-place_of p n = get (λ a b. a == b) p.by_number n
+place_of p n = place_at (get_or p.spots (n % 16) None) n (place_aside p n)
+
+-- a place of this number was added beside the spots, and none is gone; or one was lost now or before
+abbrev pub SetsAside : Places → ℕ → Places → Type 0
+SetsAside old n new = new.is_complete ≡ true → (old.is_complete ≡ true) × ((k : ℕ) → place_aside new k ≡ None → (place_aside old k ≡ None) × (n ≢ k))
 
 -- this place was added, if one came, and none is gone; or one was lost now or before
 abbrev pub Remembers : Places → Option ℕ → Places → Type 0

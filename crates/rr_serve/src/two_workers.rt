@@ -1,14 +1,12 @@
 //! Two workers at one hub.
 ghost use Rattle.std.specs.Prelude.{◌≡◌};
 
-use rr_commands::{Command, Reply};
+use rr_commands::Reply;
 use rr_locked::{
-    Bells, HubCommand, HubReply, LockedHub, Plan, Seat, Submit, WorkerError, answer_all, ask_all,
+    Bells, CREATE_CLIENT, CREATE_SERVER, HubReply, LockedHub, Plan, Seat, Submit, WorkerError,
+    answer_all, ask_all,
 };
-use rr_protocol::{
-    AllocationStrategy, BackpressureStrategy, ClientSettings, Limits, NoHandler, ServerSettings,
-    UniqueNodeId,
-};
+use rr_protocol::{Limits, UniqueNodeId};
 use rr_script::{Stop, refuse_hub};
 use std::alloc::Global;
 use std::io::Write;
@@ -31,25 +29,6 @@ const LIMITS: Limits = Limits {
     client_expired_connection_buffer: 1,
     server_expired_connection_buffer: 1,
 };
-
-/// Creates the client.
-const CREATE_CLIENT: HubCommand = Command::CreateClient(ClientSettings {
-    strategy: BackpressureStrategy::DiscardData,
-    initial_max_slice_len: 1,
-    allocation_strategy: AllocationStrategy::Static,
-    pool: None,
-    handler: None::<NoHandler>,
-});
-
-/// Creates the server.
-const CREATE_SERVER: HubCommand = Command::CreateServer(ServerSettings {
-    strategy: BackpressureStrategy::DiscardData,
-    initial_max_slice_len: 1,
-    allocation_strategy: AllocationStrategy::Static,
-    pool: None,
-    handler: None::<NoHandler>,
-    loans: 1,
-});
 
 /// Makes a hub with a client and a server, and lets a worker of each send and answer requests, each in its own thread. Returns the
 /// sum of the answers, modulo 2^64.

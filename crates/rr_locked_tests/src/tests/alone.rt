@@ -1,7 +1,6 @@
 //! A hub at which one worker is tried alone: what plays the other side does so inside each submission.
-use super::ports::{CLIENT, SERVER};
 use rr_commands::{Command, Reply};
-use rr_locked::{Book, HubCommand, HubReply, Seat, Submit};
+use rr_locked::{Book, CREATE_CLIENT, CREATE_SERVER, HubCommand, HubReply, Seat, Submit};
 use std::cell::RefCell;
 use std::sync::Wait;
 use std::sync::ledger::Ledger;
@@ -44,8 +43,8 @@ impl<L: Ledger> Alone<L> {
     /// Takes a book, and creates a client and a server on it. `None` if the book has no seat left.
     pub fn new(mut book: Book<L>, other: Other) -> Option<Self> {
         let mut seat = book.seat()?;
-        let _ = book.apply(&mut seat, CLIENT);
-        let _ = book.apply(&mut seat, SERVER);
+        let _ = book.apply(&mut seat, CREATE_CLIENT);
+        let _ = book.apply(&mut seat, CREATE_SERVER);
         Some(Alone {
             inside: RefCell::new(Inside {
                 book,

@@ -1,9 +1,11 @@
 //! A book, its seat and its history.
 ghost use Rattle.std.specs.Prelude.{◌≡◌};
 
-use super::ports::{CLIENT, SERVER, last_place, limits};
+use super::ports::{last_place, limits};
 use rr_commands::{Command, Elements, Reply};
-use rr_locked::{Book, HubCommand, HubReply, MOST_SEATS, PARTS, Seat};
+use rr_locked::{
+    Book, CREATE_CLIENT, CREATE_SERVER, HubCommand, HubReply, MOST_SEATS, PARTS, Seat,
+};
 use rr_protocol::{HubCreateError, UniqueNodeId};
 use std::alloc::{AllocError, Global};
 use std::marker::Brand;
@@ -14,8 +16,8 @@ use std::test::Fail;
 /// A client, a server, and a request that the server received and looks at; an unknown number and a port that is released.
 fn story(alloc: Global) -> Result<[(HubCommand, HubReply); 7], AllocError> {
     Ok([
-        (CLIENT, Reply::Created(0)),
-        (SERVER, Reply::Created(1)),
+        (CREATE_CLIENT, Reply::Created(0)),
+        (CREATE_SERVER, Reply::Created(1)),
         (Command::SendCopy(0, 123), Reply::Pending(2, 1)),
         (Command::Receive(1), Reply::Active(3, 2)),
         (

@@ -1,9 +1,9 @@
 //! What `finish` gives back, and what a hub was made with.
 ghost use Rattle.std.specs.Prelude.{◌≡◌};
 
-use super::ports::{CLIENT, SERVER, last_place, limits, replies};
+use super::ports::{last_place, limits, replies};
 use rr_commands::{Command, Reply};
-use rr_locked::{LockedHub, PARTS};
+use rr_locked::{CREATE_CLIENT, CREATE_SERVER, LockedHub, PARTS};
 use rr_protocol::UniqueNodeId;
 use std::alloc::Global;
 use std::marker::Brand;
@@ -26,8 +26,8 @@ fn hub_of<L: Ledger, R: Abort + Wait>(rt: &R, alloc: Global, blank: Blank) -> Re
     assert_eq!(rt; (hub.limits(), hub.node_id()), (limits(1), UniqueNodeId(3)));
     let mut one = hub.seat(rt).ok_or("no seat")?;
     let mut two = hub.seat(rt).ok_or("no seat")?;
-    let mut is_right = replies(rt, &hub, &mut one, &[(CLIENT, Reply::Created(0))]);
-    is_right &= replies(rt, &hub, &mut two, &[(SERVER, Reply::Created(1))]);
+    let mut is_right = replies(rt, &hub, &mut one, &[(CREATE_CLIENT, Reply::Created(0))]);
+    is_right &= replies(rt, &hub, &mut two, &[(CREATE_SERVER, Reply::Created(1))]);
     is_right &= replies(
         rt,
         &hub,

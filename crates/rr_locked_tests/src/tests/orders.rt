@@ -1,10 +1,12 @@
 //! The ports and handles of one exchange, released in every order through one seat of a locked hub.
 ghost use Rattle.std.specs.Prelude.{◌≡◌};
 
-use super::ports::{CLIENT, SERVER, limits, replies};
+use super::ports::{limits, replies};
 use itertools::Itertools;
 use rr_commands::{Command, Reply};
-use rr_locked::{HubCommand, HubReply, LockedHub, PARTS, Seat, Submit};
+use rr_locked::{
+    CREATE_CLIENT, CREATE_SERVER, HubCommand, HubReply, LockedHub, PARTS, Seat, Submit,
+};
 use rr_protocol::{ClientCreateError, UniqueNodeId};
 use std::alloc::Global;
 use std::marker::Brand;
@@ -15,8 +17,8 @@ use std::test::Fail;
 /// A client 0, a server 1, a pending response 2, an active request 3, a response 4 that was received, and a response 5 on loan.
 fn handles() -> [(HubCommand, HubReply); 7] {
     [
-        (CLIENT, Reply::Created(0)),
-        (SERVER, Reply::Created(1)),
+        (CREATE_CLIENT, Reply::Created(0)),
+        (CREATE_SERVER, Reply::Created(1)),
         (Command::SendCopy(0, 1), Reply::Pending(2, 1)),
         (Command::Receive(1), Reply::Active(3, 2)),
         (Command::SendCopy(3, 10), Reply::Sent(4)),
@@ -34,11 +36,11 @@ fn afterwards() -> [(HubCommand, HubReply); 10] {
         (Command::Release(3), Reply::Unknown),
         (Command::Release(4), Reply::Unknown),
         (Command::Release(5), Reply::Unknown),
-        (CLIENT, Reply::Created(6)),
-        (CLIENT, Reply::Created(7)),
-        (SERVER, Reply::Created(8)),
+        (CREATE_CLIENT, Reply::Created(6)),
+        (CREATE_CLIENT, Reply::Created(7)),
+        (CREATE_SERVER, Reply::Created(8)),
         (
-            CLIENT,
+            CREATE_CLIENT,
             Reply::ClientError(ClientCreateError::ExceedsMaxSupportedClients),
         ),
     ]

@@ -1,9 +1,6 @@
-//! A hub's limits, and the commands that create its ports.
-use rr_commands::Command;
+//! A hub's limits, and what is asked of it.
 use rr_locked::{HubCommand, HubReply, Seat, Submit};
-use rr_protocol::{
-    AllocationStrategy, BackpressureStrategy, ClientSettings, Limits, NoHandler, ServerSettings,
-};
+use rr_protocol::Limits;
 use std::sync::Wait;
 use std::sync::ledger::Ledger;
 
@@ -23,25 +20,6 @@ pub fn limits(max_clients: usize) -> Limits {
         server_expired_connection_buffer: 1,
     }
 }
-
-/// Creates a client.
-pub const CLIENT: HubCommand = Command::CreateClient(ClientSettings {
-    strategy: BackpressureStrategy::DiscardData,
-    initial_max_slice_len: 1,
-    allocation_strategy: AllocationStrategy::Static,
-    pool: None,
-    handler: None::<NoHandler>,
-});
-
-/// Creates a server.
-pub const SERVER: HubCommand = Command::CreateServer(ServerSettings {
-    strategy: BackpressureStrategy::DiscardData,
-    initial_max_slice_len: 1,
-    allocation_strategy: AllocationStrategy::Static,
-    pool: None,
-    handler: None::<NoHandler>,
-    loans: 1,
-});
 
 /// Returns whether a hub gives these replies to these commands.
 pub fn replies<L: Ledger, S: Submit<L>, R: Wait>(

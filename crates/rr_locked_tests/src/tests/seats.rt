@@ -1,9 +1,9 @@
 //! Two seats at one hub, one for clients and one for a server.
 ghost use Rattle.std.specs.Prelude.{◌≡◌};
 
-use super::ports::{CLIENT, SERVER, limits, replies};
+use super::ports::{limits, replies};
 use rr_commands::{Command, Reply};
-use rr_locked::{HubCommand, HubReply, LockedHub, PARTS};
+use rr_locked::{CREATE_CLIENT, CREATE_SERVER, HubCommand, HubReply, LockedHub, PARTS};
 use rr_protocol::{RequestHeader, UniqueClientId, UniqueNodeId};
 use std::alloc::Global;
 use std::marker::Brand;
@@ -17,7 +17,7 @@ fn of_clients() -> [(HubCommand, HubReply); 5] {
     [
         (Command::Release(2), Reply::Done),
         (Command::Release(0), Reply::Done),
-        (CLIENT, Reply::Created(4)),
+        (CREATE_CLIENT, Reply::Created(4)),
         (Command::SendCopy(4, 2), Reply::Pending(5, 1)),
         (
             Command::Header(5),
@@ -55,8 +55,13 @@ fn places_of<L: Ledger, R: Abort + Wait>(rt: &R, alloc: Global, blank: Blank) ->
     let hub = LockedHub::<L>::new(alloc, limits(1), UniqueNodeId(7), blank)?;
     let mut clients = hub.seat(rt).ok_or("no seat")?;
     let mut server = hub.seat(rt).ok_or("no seat")?;
-    let mut is_right = replies(rt, &hub, &mut clients, &[(CLIENT, Reply::Created(0))]);
-    is_right &= replies(rt, &hub, &mut server, &[(SERVER, Reply::Created(1))]);
+    let mut is_right = replies(
+        rt,
+        &hub,
+        &mut clients,
+        &[(CREATE_CLIENT, Reply::Created(0))],
+    );
+    is_right &= replies(rt, &hub, &mut server, &[(CREATE_SERVER, Reply::Created(1))]);
     is_right &= replies(
         rt,
         &hub,

@@ -1,4 +1,4 @@
-use Rattle.rr_bench.proofs.locked.two_threads.Given as goal
+use Rattle.rr_bench.proofs.locked.two_workers.Given as goal
 
 -- the blank that was just made
 abbrev pub ghosts-exchange : goal.ghosts-exchange
