@@ -2,7 +2,7 @@
 //! alone.
 ghost use Rattle.std.specs.Prelude.{◌≡◌};
 
-use crate::pair::time_pair;
+use crate::pair::{By, time_pair};
 use crate::rows::SAMPLES;
 use anyhow::{anyhow, bail};
 use rr_commands::{Command, Reply};
@@ -37,13 +37,14 @@ const CALLS: u64 = 100_000;
 /// How often a thread reads its bell for one message.
 pub const TURNS: u64 = 1_000_000_000;
 
-/// Times so many round trips of 8 bytes of two threads in turn, in nanoseconds, and checks them.
+/// Times so many round trips of 8 bytes in turn, in nanoseconds, and checks them.
 fn in_turn<R: Threads + Wait + Sync + Clock>(
     rt: &R,
     alloc: Global,
+    by: By,
     trips: u64,
 ) -> anyhow::Result<u128> {
-    time_pair::<Brand, R>(rt, alloc, Blank::new(PARTS), trips)
+    time_pair::<Brand, R>(rt, alloc, Blank::new(PARTS), by, trips)
 }
 
 /// Lets two workers make so many round trips of 8 bytes, and checks their sum.
@@ -112,18 +113,22 @@ fn grow_book<L: Ledger, R: Clock + Print>(
 
 /// Makes a few round trips, calls and turns, and checks them.
 pub fn check<R: Threads + Wait + Sync + Clock>(rt: &R, alloc: Global) -> anyhow::Result<()> {
-    in_turn(rt, alloc, 10)?;
+    in_turn(rt, alloc, By::OneThread, 10)?;
+    in_turn(rt, alloc, By::TwoThreads, 10)?;
     two_workers(rt, alloc, 10)?;
     lock_alone(rt, 10)
 }
 
-/// Prints samples of two threads in turn, of two workers, of a lock alone, and of a book as its history grows to a million calls.
+/// Prints samples of one and of two threads in turn, of two workers, of a lock alone, and of a book as its history grows to a million
+/// calls.
 ///
-/// A sample of two threads is the round trips alone; one of workers has the hub's making and its end in it.
+/// A sample of threads in turn is the round trips alone; one of workers has the hub's making and its end in it.
 pub fn time<R: Threads + Wait + Sync + Clock + Print>(rt: &R, alloc: Global) -> anyhow::Result<()> {
-    for _ in 0..SAMPLES {
-        let nanos = in_turn(rt, alloc, CALLS)?;
-        println!(rt; "N\tpair\t2\t8\t{nanos}\t{CALLS}")?;
+    for by in [By::OneThread, By::TwoThreads] {
+        for _ in 0..SAMPLES {
+            let nanos = in_turn(rt, alloc, by, CALLS)?;
+            println!(rt; "N\tpair\t{}\t8\t{nanos}\t{CALLS}", by.threads())?;
+        }
     }
     for _ in 0..SAMPLES {
         let start = Instant::now(rt)?;

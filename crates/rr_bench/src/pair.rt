@@ -1,5 +1,5 @@
 //! Two threads in turn at a locked hub: one asks by a client, the other one answers by a server. Each waits at its bell, and then
-//! receives what is there, so that it submits no more than it has to.
+//! receives what is there, so that it submits no more than it has to. Beside it the same submissions by one thread.
 ghost use Rattle.std.specs.Prelude.{◌≡◌};
 
 use crate::locked::{LIMITS, TURNS};
@@ -20,7 +20,26 @@ use std::time::{Clock, Instant};
 /// The calls of a round trip.
 const CALLS_OF_A_TRIP: u64 = 9;
 
-/// A thread's seat, the number of the port that it works for, and how many round trips it makes.
+/// Who makes round trips.
+#[derive(Clone, Copy)]
+pub enum By {
+    /// One thread, with a seat for each port.
+    OneThread,
+    /// A thread for each port.
+    TwoThreads,
+}
+
+impl By {
+    /// Returns how many threads that are.
+    pub fn threads(self) -> u64 {
+        match self {
+            By::OneThread => 1,
+            By::TwoThreads => 2,
+        }
+    }
+}
+
+/// The seat and the number of a port, and how many round trips are made.
 #[derive(Drop)]
 struct Post<L: Ledger> {
     seat: Seat<L>,
@@ -28,12 +47,25 @@ struct Post<L: Ledger> {
     trips: u64,
 }
 
-/// Makes so many round trips of 8 bytes by two threads in turn. Returns how many nanoseconds they took, the start of the threads
-/// included. Checks the sum of the answers, and that each call is in the history.
+impl<L: Ledger> Post<L> {
+    /// Gives the seat back, with what came of the port.
+    fn ended(self, sum: Result<u64, WorkerError>) -> Ended<L> {
+        let Post {
+            seat,
+            port: _,
+            trips: _,
+        } = self;
+        (seat, sum)
+    }
+}
+
+/// Makes so many round trips of 8 bytes. Returns how many nanoseconds they took, the start of a thread included. Checks the sum of
+/// the answers, and that each call is in the history.
 pub fn time_pair<L: Ledger + Send + Sync, R: Threads + Wait + Sync + Clock>(
     rt: &R,
     alloc: Global,
     blank: Blank,
+    by: By,
     trips: u64,
 ) -> anyhow::Result<u128>
     requires name { blank.name ≡ L.name }
@@ -55,7 +87,10 @@ pub fn time_pair<L: Ledger + Send + Sync, R: Threads + Wait + Sync + Clock>(
         trips,
     };
     let start = Instant::now(rt)?;
-    let ((asking, sum), (answering, end)) = take_turns(rt, &hub, asking, answering);
+    let ((asking, sum), (answering, end)) = match by {
+        By::OneThread => turn_by_turn(rt, &hub, asking, answering),
+        By::TwoThreads => take_turns(rt, &hub, asking, answering),
+    };
     let nanos = start.elapsed(rt)?.as_nanos();
     end?;
     let book = hub.finish(Vec::from_array(alloc, [own, asking, answering])?);
@@ -82,10 +117,43 @@ fn created(reply: HubReply) -> anyhow::Result<u64> {
     }
 }
 
-/// What came of a thread: its seat, and the sum of the answers that it received.
+/// What came of a port: its seat, and the sum of what it received.
 type Ended<L> = (Seat<L>, Result<u64, WorkerError>);
 
-/// Lets one thread ask and one answer. Returns their seats and what came of it.
+/// Asks and answers in this thread.
+fn turn_by_turn<L: Ledger, R: Wait>(
+    rt: &R,
+    hub: &LockedHub<L>,
+    asking: Post<L>,
+    answering: Post<L>,
+) -> (Ended<L>, Ended<L>) {
+    let bells = Bells::new();
+    let (mut asking, mut answering) = (asking, answering);
+    let mut sum = 0u64;
+    for asked in 0..asking.trips {
+        match trip(rt, hub, &bells, &mut asking, &mut answering, asked) {
+            Ok(answer) => sum = sum.wrapping_add(answer),
+            Err(error) => return (asking.ended(Err(error)), answering.ended(Err(error))),
+        }
+    }
+    (asking.ended(Ok(sum)), answering.ended(Ok(sum)))
+}
+
+/// Sends a number as a request, answers it, and returns what the response says.
+fn trip<L: Ledger, R: Wait>(
+    rt: &R,
+    hub: &LockedHub<L>,
+    bells: &Bells,
+    asking: &mut Post<L>,
+    answering: &mut Post<L>,
+    asked: u64,
+) -> Result<u64, WorkerError> {
+    let pending = send_copy(rt, hub, &mut asking.seat, asking.port, asked)?;
+    answer(rt, hub, bells, &mut answering.seat, answering.port)?;
+    take_answer(rt, hub, bells, &mut asking.seat, pending)
+}
+
+/// Lets one thread ask and one answer.
 fn take_turns<L: Ledger + Send + Sync, R: Threads + Wait + Sync>(
     rt: &R,
     hub: &LockedHub<L>,
@@ -101,26 +169,21 @@ fn take_turns<L: Ledger + Send + Sync, R: Threads + Wait + Sync>(
     )
 }
 
-/// Asks by a client. Returns the seat, and the sum of the answers.
+/// Asks by a client.
 fn ask_in_turn<L: Ledger, R: Wait>(
     rt: &R,
     hub: &LockedHub<L>,
     bells: &Bells,
-    post: Post<L>,
+    mut post: Post<L>,
 ) -> Ended<L> {
-    let Post {
-        mut seat,
-        port,
-        trips,
-    } = post;
     let mut sum = 0u64;
-    for asked in 0..trips {
-        match ask(rt, hub, bells, &mut seat, port, asked) {
+    for asked in 0..post.trips {
+        match ask(rt, hub, bells, &mut post.seat, post.port, asked) {
             Ok(answer) => sum = sum.wrapping_add(answer),
-            Err(error) => return (seat, Err(error)),
+            Err(error) => return post.ended(Err(error)),
         }
     }
-    (seat, Ok(sum))
+    post.ended(Ok(sum))
 }
 
 /// Sends a number as a request, and waits until the server has rung for the response. Returns what that says.
@@ -135,6 +198,17 @@ fn ask<L: Ledger, R: Wait>(
     let pending = send_copy(rt, hub, seat, client, asked)?;
     bells.server.ring();
     bells.client.wait(asked, TURNS).ok_or(WorkerError::GaveUp)?;
+    take_answer(rt, hub, bells, seat, pending)
+}
+
+/// Receives a response, reads and releases it.
+fn take_answer<L: Ledger, R: Wait>(
+    rt: &R,
+    hub: &LockedHub<L>,
+    bells: &Bells,
+    seat: &mut Seat<L>,
+    pending: u64,
+) -> Result<u64, WorkerError> {
     let response = receive(rt, hub, seat, &bells.client, pending, TURNS)?;
     let answer = payload(rt, hub, seat, response)?;
     release(rt, hub, seat, response)?;
@@ -142,46 +216,38 @@ fn ask<L: Ledger, R: Wait>(
     Ok(answer)
 }
 
-/// Answers by a server. Returns the seat, and the sum of what was asked.
+/// Answers by a server. It rings for a response when all is done, so that no thread waits at the lock.
 fn answer_in_turn<L: Ledger, R: Wait>(
     rt: &R,
     hub: &LockedHub<L>,
     bells: &Bells,
-    post: Post<L>,
+    mut post: Post<L>,
 ) -> Ended<L> {
-    let Post {
-        mut seat,
-        port,
-        trips,
-    } = post;
     let mut sum = 0u64;
-    for answered in 0..trips {
-        match answer(rt, hub, bells, &mut seat, port, answered) {
-            Ok(asked) => sum = sum.wrapping_add(asked),
-            Err(error) => return (seat, Err(error)),
+    for answered in 0..post.trips {
+        if bells.server.wait(answered, TURNS).is_none() {
+            return post.ended(Err(WorkerError::GaveUp));
         }
+        match answer(rt, hub, bells, &mut post.seat, post.port) {
+            Ok(asked) => sum = sum.wrapping_add(asked),
+            Err(error) => return post.ended(Err(error)),
+        }
+        bells.client.ring();
     }
-    (seat, Ok(sum))
+    post.ended(Ok(sum))
 }
 
-/// Waits until the client has rung for a request, and answers with the number after the one that it says. Rings when all is done, so
-/// that no thread waits at the lock. Returns what was asked.
+/// Receives a request, and answers with the number after the one that it says. Returns what was asked.
 fn answer<L: Ledger, R: Wait>(
     rt: &R,
     hub: &LockedHub<L>,
     bells: &Bells,
     seat: &mut Seat<L>,
     server: u64,
-    answered: u64,
 ) -> Result<u64, WorkerError> {
-    bells
-        .server
-        .wait(answered, TURNS)
-        .ok_or(WorkerError::GaveUp)?;
     let active = receive(rt, hub, seat, &bells.server, server, TURNS)?;
     let asked = payload(rt, hub, seat, active)?;
     send_copy(rt, hub, seat, active, asked.wrapping_add(1))?;
     release(rt, hub, seat, active)?;
-    bells.client.ring();
     Ok(asked)
 }
