@@ -7,7 +7,7 @@ use anyhow::{anyhow, bail};
 use rr_commands::Reply;
 use rr_locked::{
     Bells, CREATE_CLIENT, CREATE_SERVER, HubReply, LockedHub, Seat, Submit, WorkerError, payload,
-    receive, release, send_copy,
+    receive, release, send_copy, take_response,
 };
 use rr_ports::UniqueNodeId;
 use std::alloc::Global;
@@ -150,7 +150,7 @@ fn trip<L: Ledger, R: Wait>(
 ) -> Result<u64, WorkerError> {
     let pending = send_copy(rt, hub, &mut asking.seat, asking.port, asked)?;
     answer(rt, hub, bells, &mut answering.seat, answering.port)?;
-    take_answer(rt, hub, bells, &mut asking.seat, pending)
+    take_response(rt, hub, &mut asking.seat, &bells.client, pending, TURNS)
 }
 
 /// Lets one thread ask and one answer.
@@ -198,22 +198,7 @@ fn ask<L: Ledger, R: Wait>(
     let pending = send_copy(rt, hub, seat, client, asked)?;
     bells.server.ring();
     bells.client.wait(asked, TURNS).ok_or(WorkerError::GaveUp)?;
-    take_answer(rt, hub, bells, seat, pending)
-}
-
-/// Receives a response, reads and releases it.
-fn take_answer<L: Ledger, R: Wait>(
-    rt: &R,
-    hub: &LockedHub<L>,
-    bells: &Bells,
-    seat: &mut Seat<L>,
-    pending: u64,
-) -> Result<u64, WorkerError> {
-    let response = receive(rt, hub, seat, &bells.client, pending, TURNS)?;
-    let answer = payload(rt, hub, seat, response)?;
-    release(rt, hub, seat, response)?;
-    release(rt, hub, seat, pending)?;
-    Ok(answer)
+    take_response(rt, hub, seat, &bells.client, pending, TURNS)
 }
 
 /// Answers by a server. It rings for a response when all is done, so that no thread waits at the lock.

@@ -1,3 +1,5 @@
+pub mod Items
+pub mod Payloads
 pub mod Refusals
 pub mod Step
 pub mod Run

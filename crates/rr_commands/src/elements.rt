@@ -1,28 +1,75 @@
 //! The elements of a message, which contracts see as a list.
+ghost use Rattle.std.specs.Prelude.{◌≡◌, IfOk};
+ghost use Rattle.rr_commands.specs.Items.{listed};
+
+use std::alloc::{AllocError, Global};
 use std::marker::Model;
 
-/// The elements of a message, in order.
+/// The elements of a message, in order. One alone takes no memory.
 #[derive(Debug, Drop)]
 pub struct Elements<T: Copy> {
-    items: Vec<T>,
+    items: Items<T>,
+}
+
+/// One element in the value itself, or any number in a vector.
+#[derive(Debug, Drop)]
+enum Items<T: Copy> {
+    One([T; 1]),
+    Many(Vec<T>),
 }
 
 impl<T: Copy> Model for Elements<T> {
     ghost use Rattle.std.specs.Prelude.{List};
+    ghost use Rattle.rr_commands.specs.Items.{listed};
 
     ghost Value = { List T };
 
-    ghost view = { λ e. e.items.items };
+    ghost view = { λ e. listed e.items };
 }
 
 impl<T: Copy> Elements<T> {
-    ghost use Rattle.std.specs.Prelude.{◌≡◌};
+    ghost use Rattle.std.specs.Prelude.{◌≡◌, IfOk};
 
     /// The elements as a slice.
     pub fn as_slice(&self) -> &[T]
         ensures { result.now ≡ self.now }
     {
-        self.items.as_slice()
+        match &self.items {
+            Items::One(element) => element.as_slice(),
+            Items::Many(elements) => elements.as_slice(),
+        }
+    }
+
+    /// Returns a copy, or an error if no memory was found for it.
+    pub fn copied(&self, alloc: Global) -> Result<Self, AllocError>
+        ensures { IfOk result (λ copy. copy ≡ self.now) }
+    {
+        Ok(Elements {
+            items: match &self.items {
+                Items::One(element) => Items::One(*element),
+                Items::Many(elements) => copied_many(alloc, elements.as_slice())?,
+            },
+        })
+    }
+}
+
+/// Returns a copy of elements, in a vector.
+#[cold]
+fn copied_many<T: Copy>(alloc: Global, elements: &[T]) -> Result<Items<T>, AllocError>
+    ensures { IfOk result (λ copy. listed copy ≡ elements.now) }
+{
+    Ok(Items::Many(Vec::from_slice(alloc, elements)?))
+}
+
+impl<T: Copy> From<[T; 1]> for Elements<T> {
+    ghost use Rattle.std.specs.Prelude.{◌≡◌};
+
+    ghost from_gives = { λ items elements. elements ≡ items };
+
+    fn from(items: [T; 1]) -> Elements<T> {
+        Elements {
+            items: Items::One(items),
+        }
     }
 }
 
@@ -32,7 +79,9 @@ impl<T: Copy> From<Vec<T>> for Elements<T> {
     ghost from_gives = { λ items elements. elements ≡ items.items };
 
     fn from(items: Vec<T>) -> Elements<T> {
-        Elements { items }
+        Elements {
+            items: Items::Many(items),
+        }
     }
 }
 
@@ -44,7 +93,7 @@ impl<T: Copy + PartialEq> PartialEq for Elements<T> {
     ghost laws = { lists_per T.laws };
 
     fn eq(&self, other: &Self) -> bool {
-        self.items == other.items
+        self.as_slice() == other.as_slice()
     }
 }
 

@@ -1,9 +1,13 @@
 //! What a runner answers.
+ghost use Rattle.std.specs.Prelude.{◌≡◌, IfOk, OnErr};
+ghost use Rattle.rr_commands.specs.Payloads.{IsPayload};
+
 use crate::elements::Elements;
 use rr_protocol::{
     BackpressureStrategy, ClientCreateError, LoanError, ReceiveError, RequestHeader,
     RequestSendError, ResponseHeader, SendError, ServerCreateError,
 };
+use std::alloc::{AllocError, Global};
 
 /// The answer to a command. The last five refuse it before it acts, and leave everything as it was.
 #[derive(Debug, Drop, PartialEq, Eq)]
@@ -62,4 +66,45 @@ pub enum Reply<T: Copy, H: Copy> {
     Incomplete,
     /// The runner found no memory.
     NoMemory,
+}
+
+impl<T: Copy, H: Copy> Reply<T, H> {
+    /// Returns an equal reply, or an error if no memory was found for the elements of a payload.
+    ///
+    /// It is inlined: a history copies each reply, and most hold two words at most. Our own.
+    #[inline(always)]
+    pub fn copied(&self, alloc: Global) -> Result<Self, AllocError>
+        ensures ok { IfOk result (λ copy. copy ≡ self.now) }
+        ensures err { OnErr result (IsPayload self.now) }
+    {
+        Ok(match self {
+            Reply::Created(number) => Reply::Created(*number),
+            Reply::ClientError(error) => Reply::ClientError(*error),
+            Reply::ServerError(error) => Reply::ServerError(*error),
+            Reply::Loaned(number) => Reply::Loaned(*number),
+            Reply::LoanError(error) => Reply::LoanError(*error),
+            Reply::Pending(number, connections) => Reply::Pending(*number, *connections),
+            Reply::RequestError(error) => Reply::RequestError(*error),
+            Reply::Sent(number) => Reply::Sent(*number),
+            Reply::SendError(error) => Reply::SendError(*error),
+            Reply::Active(number, request) => Reply::Active(*number, *request),
+            Reply::Response(number) => Reply::Response(*number),
+            Reply::Nothing => Reply::Nothing,
+            Reply::ReceiveError(error) => Reply::ReceiveError(*error),
+            Reply::Done => Reply::Done,
+            Reply::Flag(flag) => Reply::Flag(*flag),
+            Reply::Count(count) => Reply::Count(*count),
+            Reply::RequestHeader(header) => Reply::RequestHeader(*header),
+            Reply::ResponseHeader(header) => Reply::ResponseHeader(*header),
+            Reply::UserHeader(header) => Reply::UserHeader(*header),
+            Reply::Payload(elements) => Reply::Payload(elements.copied(alloc)?),
+            Reply::Id(number) => Reply::Id(*number),
+            Reply::Strategy(strategy) => Reply::Strategy(*strategy),
+            Reply::Unknown => Reply::Unknown,
+            Reply::WrongKind => Reply::WrongKind,
+            Reply::NumbersExhausted => Reply::NumbersExhausted,
+            Reply::Incomplete => Reply::Incomplete,
+            Reply::NoMemory => Reply::NoMemory,
+        })
+    }
 }

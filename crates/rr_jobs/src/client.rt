@@ -1,6 +1,6 @@
 //! The client: hands out a job for each worker, and takes their answers, until no job is left.
 use crate::hub::{JOBS, TURNS, WORKERS};
-use rr_locked::{Bells, Seat, Submit, WorkerError, payload, receive, release, send_copy};
+use rr_locked::{Bells, Seat, Submit, WorkerError, send_copy, take_response};
 use std::sync::Wait;
 use std::sync::ledger::Ledger;
 
@@ -32,23 +32,9 @@ fn dispatch_all<L: Ledger, S: Submit<L>, R: Wait>(
         }
         bells.server.ring();
         for number in pending {
-            sum = sum.wrapping_add(answer(rt, hub, bells, seat, number)?);
+            let answer = take_response(rt, hub, seat, &bells.client, number, TURNS)?;
+            sum = sum.wrapping_add(answer);
         }
     }
     Ok(sum)
-}
-
-/// Waits for the answer to a job, and releases it with its pending response. Returns what it says.
-fn answer<L: Ledger, S: Submit<L>, R: Wait>(
-    rt: &R,
-    hub: &S,
-    bells: &Bells,
-    seat: &mut Seat<L>,
-    pending: u64,
-) -> Result<u64, WorkerError> {
-    let response = receive(rt, hub, seat, &bells.client, pending, TURNS)?;
-    let answer = payload(rt, hub, seat, response)?;
-    release(rt, hub, seat, response)?;
-    release(rt, hub, seat, pending)?;
-    Ok(answer)
 }

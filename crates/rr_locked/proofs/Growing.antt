@@ -10,7 +10,7 @@ use Rattle.rr_run.specs.Least.{follow_strategy, IsZero}
 use Rattle.rr_locked.specs.Receipts.{entry_number, history_numbers, receipt_numbers, joined}
 use Rattle.rr_locked.specs.Seats.{AllBelow, AllAbove, Rises, IsSeat}
 use Rattle.rr_locked.specs.Books.{IsKept}
-use Rattle.rr_locked.proofs.Keeping.{leads_on}
+use Rattle.rr_commands.proofs.Continuing.{leads_on}
 
 zero-right : (n : ℕ) → n + 0 ≡ n
 zero-right n = omega arith

@@ -5,7 +5,6 @@ ghost use Rattle.rr_ledger.specs.Sums.{worth};
 ghost use Rattle.rr_locked.specs.Receipts.{receipt, opening_number, history_numbers};
 ghost use Rattle.rr_locked.specs.Books.{IsLegal, CreatesBook, OpensBook};
 
-use crate::copies::copied;
 use crate::hub_command::{HubCommand, HubReply, HubRunner};
 use crate::opening::Opening;
 use crate::receipt::Receipt;
@@ -174,10 +173,10 @@ impl<L: Ledger> Book<L> {
         if let Reply::NoMemory = &reply {
             return Reply::NoMemory;
         }
-        let Ok(kept) = copied(&reply, self.alloc) else {
+        let Ok(kept) = reply.copied(self.alloc) else {
             return Reply::NoMemory;
         };
-        let Ok(shown) = copied(&reply, self.alloc) else {
+        let Ok(shown) = reply.copied(self.alloc) else {
             return Reply::NoMemory;
         };
         let receipt = Receipt {

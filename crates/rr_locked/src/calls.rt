@@ -95,3 +95,26 @@ pub fn release<L: Ledger, S: Submit<L>, R: Wait>(
         other => Err(WorkerError::of(&other)),
     }
 }
+
+/// Receives a response to a pending response, and releases both. Returns the number that it says.
+///
+/// It waits as `receive` does. Our own.
+///
+/// # Errors
+///
+/// - `NoMemory` if no memory was found for a receipt, or for a copy of the number.
+/// - `GaveUp` if nothing came within so many turns, or the hub refuses a call.
+pub fn take_response<L: Ledger, S: Submit<L>, R: Wait>(
+    rt: &R,
+    hub: &S,
+    seat: &mut Seat<L>,
+    bell: &Bell,
+    pending: u64,
+    turns: u64,
+) -> Result<u64, WorkerError> {
+    let response = receive(rt, hub, seat, bell, pending, turns)?;
+    let answer = payload(rt, hub, seat, response)?;
+    release(rt, hub, seat, response)?;
+    release(rt, hub, seat, pending)?;
+    Ok(answer)
+}

@@ -5,7 +5,6 @@
 mod bells;
 mod book;
 mod calls;
-mod copies;
 mod hub_command;
 mod locked_hub;
 mod opening;
@@ -17,7 +16,7 @@ mod workers;
 
 pub use bells::{Bell, Bells};
 pub use book::{Book, MOST_SEATS, PARTS};
-pub use calls::{payload, receive, release, send_copy};
+pub use calls::{payload, receive, release, send_copy, take_response};
 pub use hub_command::{CREATE_CLIENT, CREATE_SERVER, HubCommand, HubReply};
 pub use locked_hub::LockedHub;
 pub use receipt::Receipt;

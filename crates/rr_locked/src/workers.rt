@@ -1,6 +1,6 @@
 //! Workers: a client that asks and a server that answers, each in its own thread.
 use crate::bells::Bells;
-use crate::calls::{payload, receive, release, send_copy};
+use crate::calls::{payload, receive, release, send_copy, take_response};
 use crate::seat::Seat;
 use crate::submit::Submit;
 use crate::worker_error::WorkerError;
@@ -52,11 +52,7 @@ fn ask<L: Ledger, S: Submit<L>, R: Wait>(
 ) -> Result<u64, WorkerError> {
     let pending = send_copy(rt, hub, seat, client, asked)?;
     bells.server.ring();
-    let response = receive(rt, hub, seat, &bells.client, pending, turns)?;
-    let answer = payload(rt, hub, seat, response)?;
-    release(rt, hub, seat, response)?;
-    release(rt, hub, seat, pending)?;
-    Ok(answer)
+    take_response(rt, hub, seat, &bells.client, pending, turns)
 }
 
 /// Answers as many requests of a server as the plan has rounds, each with the number after the one that was asked.

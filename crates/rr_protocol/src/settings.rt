@@ -36,14 +36,14 @@ pub enum AllocationStrategy {
 /// How a client is created.
 #[derive(Clone, Copy, Debug, PartialEq, Eq)]
 pub struct ClientSettings<K> {
-    /// What its sends do at a full queue.
-    pub strategy: BackpressureStrategy,
     /// The elements for which each slot has room from the start.
     pub initial_max_slice_len: usize,
-    /// Whether slots may grow for longer slices.
-    pub allocation_strategy: AllocationStrategy,
     /// What an override made of the worst-case number of slots, if there is one.
     pub pool: Option<usize>,
+    /// What its sends do at a full queue.
+    pub strategy: BackpressureStrategy,
+    /// Whether slots may grow for longer slices.
+    pub allocation_strategy: AllocationStrategy,
     /// The handler that is asked at a full queue before the strategy, if there is one.
     pub handler: Option<K>,
 }
@@ -51,16 +51,16 @@ pub struct ClientSettings<K> {
 /// How a server is created.
 #[derive(Clone, Copy, Debug, PartialEq, Eq)]
 pub struct ServerSettings<K> {
-    /// What its sends do at a full queue.
-    pub strategy: BackpressureStrategy,
     /// The elements for which each slot has room from the start.
     pub initial_max_slice_len: usize,
-    /// Whether slots may grow for longer slices.
-    pub allocation_strategy: AllocationStrategy,
     /// What an override made of the worst-case number of slots, if there is one.
     pub pool: Option<usize>,
-    /// The handler that is asked at a full queue before the strategy, if there is one.
-    pub handler: Option<K>,
     /// The responses that may be on loan at one time for each request. 0 counts as 1.
     pub loans: usize,
+    /// What its sends do at a full queue.
+    pub strategy: BackpressureStrategy,
+    /// Whether slots may grow for longer slices.
+    pub allocation_strategy: AllocationStrategy,
+    /// The handler that is asked at a full queue before the strategy, if there is one.
+    pub handler: Option<K>,
 }

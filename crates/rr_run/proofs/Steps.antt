@@ -7,6 +7,7 @@ use Rattle.rr_protocol.specs.declared.settings.BackpressureAction.{BackpressureA
 use Rattle.rr_protocol.specs.declared.kind.Kind.{Kind}
 use Rattle.rr_protocol.specs.State.{State, numbers_left}
 use Rattle.rr_protocol.specs.Queries.{kind_at}
+use Rattle.rr_protocol.specs.Releases.{after_release}
 use Rattle.rr_commands.specs.declared.command.Command.{Command}
 use Rattle.rr_commands.specs.declared.reply.Reply.{Reply}
 use Rattle.rr_commands.specs.Refusals.{number_in, refusal, refusal_of_kind}
@@ -37,3 +38,23 @@ module _ {T H K : Type 0} (family : Family) (old : State T H T H K) (n : ℕ) (l
   -- nor is a receive of a server
   pub receive_due : refusal_of_kind family old (Command.Receive n) Kind.Server ≡ None
   receive_due = rw left refl
+
+module _ {T H K : Type 0} (family : Family) (old : State T H T H K) (n : ℕ) where
+  -- no release is refused of what a number names
+  pub release_due : (k : Kind) → refusal_of_kind family old (Command.Release n) k ≡ None
+  release_due Kind.Client = refl
+  release_due Kind.Server = refl
+  release_due Kind.RequestMutUninit = refl
+  release_due Kind.RequestMut = refl
+  release_due Kind.PendingResponse = refl
+  release_due Kind.ActiveRequest = refl
+  release_due Kind.ResponseMutUninit = refl
+  release_due Kind.ResponseMut = refl
+  release_due Kind.Response = refl
+
+  -- what a number names is released
+  pub released : (action : K → ℕ → ℕ → BackpressureAction) (IsDefaultElement : T → Type 0) (IsDefaultHeader : H → Type 0) (m : ℕ) (k : Kind) (new : State T H T H K)
+      → kind_at old n ≡ Some k → m ≡ n → new ≡ after_release old m
+      → Step action IsDefaultElement IsDefaultHeader family old (Command.Release n) Reply.Done new
+  released action IsDefaultElement IsDefaultHeader m k new is same goes =
+      step_acts action IsDefaultElement IsDefaultHeader family old (Command.Release n) n k Reply.Done new refl is (release_due k) (goes ∙ ap (after_release old) same)

@@ -74,7 +74,7 @@ impl Places {
         }
     }
 
-    /// Keeps where a handle stands, if memory is found for that.
+    /// Keeps where a handle stands. Another one's place that its spot held goes to the map, if memory is found for that.
     pub(crate) fn remember(&mut self, id: &HandleId)
         ensures { Remembers self.old (Some id.now) self.new }
     {

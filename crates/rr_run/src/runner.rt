@@ -20,6 +20,7 @@ mod answers;
 mod creation;
 mod defaults;
 mod loans;
+mod naming;
 mod numbers;
 mod ports;
 mod queries;

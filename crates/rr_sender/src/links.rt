@@ -11,8 +11,8 @@ use std::marker::Model;
 /// The queues to one receiver, and how many it received from each channel and has not given back.
 #[derive(Drop)]
 pub(crate) struct Link {
-    connection: Connection,
     borrowed: Vec<usize>,
+    connection: Connection,
 }
 
 /// The links to each receiver, all of one capacity. All memory is taken by `new`.

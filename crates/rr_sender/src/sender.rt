@@ -40,9 +40,9 @@ pub struct SenderSize {
 /// and what it takes to drop elements or a user header. Our own: it stands for the data segment of an iceoryx2 port and its connections.
 #[derive(Drop)]
 pub struct Sender<B: Body, N: Copy, H: Drop> {
-    pool: Pool<B>,
     heads: Vec<Head<N, H>>,
     links: Links,
+    pool: Pool<B>,
 }
 
 impl<B: Body, N: Copy, H: Drop> Model for Sender<B, N, H> {

@@ -16,6 +16,8 @@ use std::marker::Model;
 pub struct Connection {
     queues: Vec<HeapCircularBuffer<usize>>,
     capacity: usize,
+    // What calls change stands on another cache line than where the queues are.
+    padding: [u64; 8],
     // How many channels have an entry.
     occupied: usize,
 }
@@ -42,6 +44,7 @@ impl Connection {
         Ok(Connection {
             queues,
             capacity,
+            padding: [0; 8],
             occupied: 0,
         })
     }

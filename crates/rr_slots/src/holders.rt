@@ -10,6 +10,9 @@ use std::marker::Model;
 #[derive(Drop)]
 pub(crate) struct Holders {
     slots: WatchedSlots,
+    // What calls change stands on another cache line than where the slots are: who reads that needn't wait for the other thread that
+    // changed it.
+    padding: [u64; 7],
     first_free: usize,
     free: usize,
 }
@@ -34,6 +37,7 @@ impl Holders {
     {
         Ok(Holders {
             slots: WatchedSlots::new(alloc, slots)?,
+            padding: [0; 7],
             first_free: 0,
             free: slots,
         })

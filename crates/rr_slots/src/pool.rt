@@ -30,8 +30,8 @@ pub enum AcquireError {
 #[derive(Drop)]
 pub struct Pool<B: Body> {
     bodies: Vec<B>,
-    holders: Holders,
     room: usize,
+    holders: Holders,
 }
 
 impl<B: Body> Model for Pool<B> {

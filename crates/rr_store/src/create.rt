@@ -119,7 +119,7 @@ pub fn insert_client<B: Body, H: Default + Drop, K: Drop>(
     store: ClientStore<B, H>,
 ) -> Result<(), AllocError>
     ensures clients { clients.new.items ≡ (if is_ok result then clients.old.items ++ record { port = port; loans_made = 0 } ∷ [] else clients.old.items) }
-    ensures senders { senders.new.items ≡ (if is_ok result then senders.old.items ++ record { owner = port.id; row = length table.old.rows; receiver = port.receiver; has_value = true; loans = 0; pendings = 0; may_answer = store.marks; messages = store.messages; padding = replicate 7 0 } ∷ [] else senders.old.items) }
+    ensures senders { senders.new.items ≡ (if is_ok result then senders.old.items ++ record { owner = port.id; row = length table.old.rows; receiver = port.receiver; has_value = true; loans = 0; pendings = 0; may_answer = store.marks; messages = store.messages } ∷ [] else senders.old.items) }
     ensures table { table.new ≡ (if is_ok result then with_row table.old store.row_len else table.old) }
 {
     let ClientStore {
@@ -149,7 +149,7 @@ pub fn insert_port<P: ConnectedPort, B: Body, N: Copy, H: Drop>(
     row_len: usize,
 ) -> Result<(), AllocError>
     ensures ports { ports.new.items ≡ (if is_ok result then ports.old.items ++ port ∷ [] else ports.old.items) }
-    ensures senders { senders.new.items ≡ (if is_ok result then senders.old.items ++ record { owner = P.id port; row = length table.old.rows; receiver = P.receiver port; has_value = true; loans = 0; pendings = 0; may_answer = may_answer; messages = messages; padding = replicate 7 0 } ∷ [] else senders.old.items) }
+    ensures senders { senders.new.items ≡ (if is_ok result then senders.old.items ++ record { owner = P.id port; row = length table.old.rows; receiver = P.receiver port; has_value = true; loans = 0; pendings = 0; may_answer = may_answer; messages = messages } ∷ [] else senders.old.items) }
     ensures table { table.new ≡ (if is_ok result then with_row table.old row_len else table.old) }
 {
     ports.reserve(1)?;
@@ -164,7 +164,6 @@ pub fn insert_port<P: ConnectedPort, B: Body, N: Copy, H: Drop>(
         pendings: 0,
         may_answer,
         messages,
-        padding: [0; 7],
     });
     ports.push_reserved(port);
     Ok(())
@@ -202,7 +201,6 @@ pub fn insert_port_again<P: ConnectedPort, B: Body, N: Copy, H: Drop>(
         pendings: 0,
         may_answer,
         messages,
-        padding: [0; 7],
     };
     ports.push_reserved(port);
     Ok(())

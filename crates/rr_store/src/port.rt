@@ -57,14 +57,14 @@ pub struct OwnedSender<B: Body, N: Copy, H: Drop> {
     pub owner: u64,
     pub row: usize,
     pub receiver: usize,
-    pub has_value: bool,
-    pub loans: usize,
     pub may_answer: Vec<u64>,
-    // Apart from the loans: a send changes both, and the compiler would read two neighbours as one before the first is stored.
-    pub pendings: usize,
-    pub messages: Sender<B, N, H>,
     // With it a sender has 256 bytes, and stands where a shift of its index says and no product.
-    pub padding: [u64; 7],
+    pub messages: Sender<B, N, H>,
+    pub loans: usize,
+    // Between the loans and the pendings: a send changes both, and the compiler would read two neighbours as one before the first
+    // is stored.
+    pub has_value: bool,
+    pub pendings: usize,
 }
 
 /// A port that left: its number, and the index of the sender from which it sent.

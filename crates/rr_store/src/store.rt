@@ -32,12 +32,12 @@ pub const NUMBERS: u64 = 4611686018427387904;
 #[derive(Drop)]
 pub struct Store<QB: Body, QH: Default + Drop, PB: Body, PH: Default + Drop, K: BackpressureFn> {
     // What nearly every call looks at stands in front, where an instruction reaches it with a byte.
+    pub(crate) next: u64,
     pub(crate) client_senders: Vec<OwnedSender<QB, RequestDetails, QH>>,
     pub(crate) table: Table<HandleEntry>,
     pub(crate) server_senders: Vec<OwnedSender<PB, ResponseDetails, PH>>,
     pub(crate) servers: Vec<ServerPort<K>>,
     pub(crate) clients: Vec<ClientPort<K>>,
-    pub(crate) next: u64,
     pub(crate) limits: Limits,
     pub(crate) node_id: UniqueNodeId,
     // In the order in which they left.

@@ -7,26 +7,23 @@ use rr_locked::{
     Book, CREATE_CLIENT, CREATE_SERVER, HubCommand, HubReply, MOST_SEATS, PARTS, Seat,
 };
 use rr_protocol::{HubCreateError, UniqueNodeId};
-use std::alloc::{AllocError, Global};
+use std::alloc::Global;
 use std::marker::Brand;
 use std::process::Abort;
 use std::sync::ledger::{Blank, Ledger};
 use std::test::Fail;
 
 /// A client, a server, and a request that the server received and looks at; an unknown number and a port that is released.
-fn story(alloc: Global) -> Result<[(HubCommand, HubReply); 7], AllocError> {
-    Ok([
+fn story() -> [(HubCommand, HubReply); 7] {
+    [
         (CREATE_CLIENT, Reply::Created(0)),
         (CREATE_SERVER, Reply::Created(1)),
         (Command::SendCopy(0, 123), Reply::Pending(2, 1)),
         (Command::Receive(1), Reply::Active(3, 2)),
-        (
-            Command::Payload(3),
-            Reply::Payload(Elements::from(vec![in alloc; 123]?)),
-        ),
+        (Command::Payload(3), Reply::Payload(Elements::from([123]))),
         (Command::Release(9), Reply::Unknown),
         (Command::Release(0), Reply::Done),
-    ])
+    ]
 }
 
 /// Returns whether a book gives these replies to these commands, and its history and the seat then hold them.
@@ -63,7 +60,7 @@ fn book_of<L: Ledger, R: Abort>(rt: &R, alloc: Global, blank: Blank) -> Result<(
 {
     let mut book = Book::<L>::new(alloc, limits(2), UniqueNodeId(7), blank)?;
     let mut seat = book.seat().ok_or("no seat")?;
-    let story = story(alloc)?;
+    let story = story();
     assert!(rt; is_noted(&mut book, &mut seat, story.as_slice()));
     assert_eq!(rt; (book.history().len(), last_place(&seat)), (7, Some(6)));
     assert_eq!(rt;

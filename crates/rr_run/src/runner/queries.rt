@@ -3,6 +3,7 @@ ghost use Rattle.std.specs.Prelude.{◌≡◌, IfOk};
 ghost use Rattle.rr_commands.specs.declared.command.Command.{Command};
 ghost use Rattle.rr_commands.specs.Step.{Step};
 
+use crate::runner::naming::{self, Named};
 use rr_commands::{Elements, Reply};
 use rr_hub::{Core, HandleId};
 use rr_protocol::{BackpressureFn, Kind};
@@ -17,19 +18,17 @@ pub(crate) fn payload<T: Copy + Default, B: Body<Item = T>, H: Copy + Default, K
 ) -> Reply<T, H>
     ensures { Step K.action T.is_default H.is_default B.family core.now (Command.Payload id.now) result core.now }
 {
-    let copied = match core.kind(id) {
-        Some(Kind::Client | Kind::Server) => return Reply::WrongKind,
-        Some(
-            Kind::RequestMutUninit | Kind::RequestMut | Kind::PendingResponse | Kind::ActiveRequest,
-        ) => elements_of(alloc, core.request_body(id)),
-        Some(Kind::ResponseMutUninit | Kind::ResponseMut | Kind::Response) => {
-            elements_of(alloc, core.response_body(id))
-        }
-        None => return Reply::Unknown,
-    };
-    match copied {
-        Ok(elements) => Reply::Payload(elements),
-        Err(_) => Reply::NoMemory,
+    match naming::message(core, id) {
+        Named::Request => match elements_of(alloc, core.request_body(id)) {
+            Ok(elements) => Reply::Payload(elements),
+            Err(_) => Reply::NoMemory,
+        },
+        Named::Response => match elements_of(alloc, core.response_body(id)) {
+            Ok(elements) => Reply::Payload(elements),
+            Err(_) => Reply::NoMemory,
+        },
+        Named::Other => Reply::WrongKind,
+        Named::Nothing => Reply::Unknown,
     }
 }
 
@@ -40,12 +39,22 @@ fn elements_of<T: Copy, B: Body<Item = T>>(
 ) -> Result<Elements<T>, AllocError>
     ensures { IfOk result (λ elements. elements ≡ B.elements body.now) }
 {
+    if body.len() == 1 {
+        return Ok(Elements::from([*body.get(0)]));
+    }
+    Ok(Elements::from(vector_of(alloc, body)?))
+}
+
+/// A copy of a body's elements, in a vector.
+fn vector_of<T: Copy, B: Body<Item = T>>(alloc: Global, body: &B) -> Result<Vec<T>, AllocError>
+    ensures { IfOk result (λ elements. elements.items ≡ B.elements body.now) }
+{
     let mut items = Vec::new(alloc);
     items.reserve(body.len())?;
     for index in 0..body.len() {
         items.push_reserved(*body.get(index));
     }
-    Ok(Elements::from(items))
+    Ok(items)
 }
 
 /// Whether a pending response waits for a server, or an active request for its client.
@@ -100,15 +109,11 @@ pub(crate) fn header<T: Copy + Default, B: Body<Item = T>, H: Copy + Default, K:
 ) -> Reply<T, H>
     ensures { Step K.action T.is_default H.is_default B.family core.now (Command.Header id.now) result core.now }
 {
-    match core.kind(id) {
-        Some(Kind::Client | Kind::Server) => Reply::WrongKind,
-        Some(
-            Kind::RequestMutUninit | Kind::RequestMut | Kind::PendingResponse | Kind::ActiveRequest,
-        ) => Reply::RequestHeader(core.request_header(id)),
-        Some(Kind::ResponseMutUninit | Kind::ResponseMut | Kind::Response) => {
-            Reply::ResponseHeader(core.response_header(id))
-        }
-        None => Reply::Unknown,
+    match naming::message(core, id) {
+        Named::Request => Reply::RequestHeader(core.request_header(id)),
+        Named::Response => Reply::ResponseHeader(core.response_header(id)),
+        Named::Other => Reply::WrongKind,
+        Named::Nothing => Reply::Unknown,
     }
 }
 
@@ -121,15 +126,11 @@ pub(crate) fn user_header<
 >(core: &Core<B, H, B, H, K>, id: &HandleId) -> Reply<T, H>
     ensures { Step K.action T.is_default H.is_default B.family core.now (Command.UserHeader id.now) result core.now }
 {
-    match core.kind(id) {
-        Some(Kind::Client | Kind::Server) => Reply::WrongKind,
-        Some(
-            Kind::RequestMutUninit | Kind::RequestMut | Kind::PendingResponse | Kind::ActiveRequest,
-        ) => Reply::UserHeader(*core.request_user_header(id)),
-        Some(Kind::ResponseMutUninit | Kind::ResponseMut | Kind::Response) => {
-            Reply::UserHeader(*core.response_user_header(id))
-        }
-        None => Reply::Unknown,
+    match naming::message(core, id) {
+        Named::Request => Reply::UserHeader(*core.request_user_header(id)),
+        Named::Response => Reply::UserHeader(*core.response_user_header(id)),
+        Named::Other => Reply::WrongKind,
+        Named::Nothing => Reply::Unknown,
     }
 }
 

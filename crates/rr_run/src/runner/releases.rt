@@ -20,13 +20,19 @@ pub(crate) fn release<T: Copy + Default, B: Body<Item = T>, H: Copy + Default, K
     ensures places { ForgetsGone places.old id.now core.new places.new }
 {
     match core.kind(id) {
-        Some(Kind::Client) => core.release_client(id.number()),
-        Some(Kind::Server) => core.release_server(id.number()),
+        Some(Kind::Client) => {
+            core.release_client(id.number());
+            Reply::Done
+        }
+        Some(Kind::Server) => {
+            core.release_server(id.number());
+            Reply::Done
+        }
         Some(_) => {
             core.release(id);
             places.forget(id.number());
+            Reply::Done
         }
-        None => return Reply::Unknown,
+        None => Reply::Unknown,
     }
-    Reply::Done
 }

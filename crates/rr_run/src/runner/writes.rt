@@ -3,6 +3,7 @@ ghost use Rattle.std.specs.Prelude.{◌≡◌};
 ghost use Rattle.rr_commands.specs.declared.command.Command.{Command};
 ghost use Rattle.rr_commands.specs.Step.{Step};
 
+use crate::runner::naming::{self, Named};
 use rr_commands::Reply;
 use rr_hub::{Core, HandleId};
 use rr_protocol::{BackpressureFn, Kind};
@@ -33,15 +34,11 @@ pub(crate) fn set<T: Copy + Default, B: Body<Item = T>, H: Copy + Default, K: Ba
 ) -> Reply<T, H>
     ensures { Step K.action T.is_default H.is_default B.family core.old (Command.Set id.now index item) result core.new }
 {
-    match core.kind(id) {
-        Some(Kind::RequestMutUninit | Kind::RequestMut) => {
-            Reply::Flag(core.write_request_element(id, index, item))
-        }
-        Some(Kind::ResponseMutUninit | Kind::ResponseMut) => {
-            Reply::Flag(core.write_response_element(id, index, item))
-        }
-        Some(_) => Reply::WrongKind,
-        None => Reply::Unknown,
+    match naming::unsent(core, id) {
+        Named::Request => Reply::Flag(core.write_request_element(id, index, item)),
+        Named::Response => Reply::Flag(core.write_response_element(id, index, item)),
+        Named::Other => Reply::WrongKind,
+        Named::Nothing => Reply::Unknown,
     }
 }
 
@@ -54,17 +51,18 @@ pub(crate) fn set_user_header<
 >(core: &mut Core<B, H, B, H, K>, id: &HandleId, header: H) -> Reply<T, H>
     ensures { Step K.action T.is_default H.is_default B.family core.old (Command.SetUserHeader id.now header) result core.new }
 {
-    match core.kind(id) {
-        Some(Kind::RequestMutUninit | Kind::RequestMut) => {
+    match naming::unsent(core, id) {
+        Named::Request => {
             core.write_request_user_header(id, header);
+            Reply::Done
         }
-        Some(Kind::ResponseMutUninit | Kind::ResponseMut) => {
+        Named::Response => {
             core.write_response_user_header(id, header);
+            Reply::Done
         }
-        Some(_) => return Reply::WrongKind,
-        None => return Reply::Unknown,
+        Named::Other => Reply::WrongKind,
+        Named::Nothing => Reply::Unknown,
     }
-    Reply::Done
 }
 
 /// Makes a message that is being written, and complete, one that can be sent.

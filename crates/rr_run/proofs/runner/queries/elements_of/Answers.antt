@@ -1,17 +1,15 @@
-use Rattle.std.proofs.Common.{◌<◌, ◌+◌, [], ◌∷◌, ◌++◌, length, sym, ap, ◌∙◌, arith}
-use Rattle.std.specs.Prelude.{take}
-use Rattle.std.proofs.lemmas.List.{take_more}
+use Rattle.std.proofs.Common.{◌≡◌, List, [], ◌∷◌, length, get_or, sym, ap, ◌∙◌, arith}
 use Rattle.std.proofs.lemmas.Option.{get_or_from_slice_get}
 use Rattle.rr_run.proofs.runner.queries.elements_of.Goals as goal
 
-pub loop-index-preserved : goal.loop-index-preserved
-loop-index-preserved g c =
+-- the one element of a list is the list
+alone : {A : Type 0} (xs : List A) (x : A) → length xs ≡ 1 → get_or xs 0 x ≡ x → x ∷ [] ≡ xs
+alone [] x one is = absurd (omega (arith, one))
+alone (y ∷ []) x one is = ap (λ z. z ∷ []) (sym is)
+alone (y ∷ z ∷ ys) x one is = absurd (omega (arith, one))
+
+pub returns-then-len-eq1 : goal.returns-then-len-eq1
+returns-then-len-eq1 g c =
     let xs = g.B.Body.elements c.args.body.now in
-    let i = c.loop-index.index in
     let x = c.get.result.now in
-    let within : i < length xs = omega (arith, c.loop-index-test.true, c.len-index-end.ensures) in (
-      c.push_reserved.ensures.items ∙ ap (λ ys. ys ++ x ∷ []) c.loop-index.invariant.0
-          ∙ ap (λ y. take i xs ++ y ∷ []) (sym (get_or_from_slice_get xs i x x c.get.ensures)) ∙ sym (take_more xs i x within),
-      c.push_reserved.ensures.len ∙ ap (λ n. n + 1) c.loop-index.invariant.1,
-      omega (arith, c.push_reserved.ensures.capacity, c.loop-index.invariant.2),
-    )
+    c.from.ensures ∙ alone xs x (sym c.len.ensures ∙ c.if-len-eq1.true) (get_or_from_slice_get xs 0 x x c.get.ensures)

@@ -1,4 +1,4 @@
-use Rattle.std.proofs.Common.{Ok, inl, refl, sym, ap, ◌∙◌, subst}
+use Rattle.std.proofs.Common.{Ok, Some, inl, refl, sym, ap, ◌∙◌, subst}
 use Rattle.std.specs.Prelude.{◌==◌}
 use Rattle.std.proofs.lemmas.Bool.{ne_eqb}
 use Rattle.rr_protocol.specs.declared.kind.Kind.TheVariants as kind
@@ -6,6 +6,7 @@ use Rattle.rr_protocol.specs.Receives.{ReceivesRequest}
 use Rattle.rr_commands.specs.declared.command.Command.{Command}
 use Rattle.rr_commands.specs.declared.reply.Reply.{Reply}
 use Rattle.rr_commands.specs.Step.{Step}
+use Rattle.rr_run.specs.Known.{Remembers}
 use Rattle.rr_run.proofs.Steps.{step_acts, receive_due}
 use Rattle.rr_run.proofs.Received.{active_there}
 use Rattle.rr_run.proofs.runner.receives.receive_request.Goals as goal
@@ -37,3 +38,6 @@ returns-in-Ok-None-clause-step g c =
     (ap (λ n. n == 0) (sym c.numbers_left.ensures) ∙ ne_eqb c.numbers_left.result 0 c.if-numbers_left-eq0.false))
     (inl (subst (λ o. ReceivesRequest c.args.core.now c.args.server (Ok o) c.receive_request.new.self) c.in-Ok-None.field-0-is
     c.in-Ok-None.ensures.receives))
+
+pub returns-in-Ok-Some-clause-places : goal.returns-in-Ok-Some-clause-places
+returns-in-Ok-Some-clause-places g c = subst (λ k. Remembers c.args.places.now (Some k) c.remember.new.self) (sym c.number.ensures) c.remember.ensures

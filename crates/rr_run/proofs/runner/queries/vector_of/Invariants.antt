@@ -1,6 +1,6 @@
 use Rattle.std.proofs.Common.{◌≡◌, ◌≤◌}
 use Rattle.std.specs.Prelude.{take, vec_len, vec_capacity}
-use Rattle.rr_run.proofs.runner.queries.elements_of.Given as goal
+use Rattle.rr_run.proofs.runner.queries.vector_of.Given as goal
 
 -- the elements so far were copied, and there is room for the others
 abbrev pub invariant-loop-index : goal.invariant-loop-index

@@ -1,4 +1,4 @@
--- Histories that go on by a call.
+-- Histories go on by a call.
 use Rattle.std.proofs.Common.{ℕ, List, [], ◌∷◌, ◌++◌, map, sym, subst}
 use Rattle.std.proofs.lemmas.List.{map-append}
 use Rattle.rr_slots.specs.declared.family.Family.{Family}
