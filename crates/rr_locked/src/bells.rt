@@ -5,7 +5,7 @@ use std::sync::atomic::{AtomicU64, Ordering};
 use std::thread::yield_now;
 
 /// How often a bell is read before the other threads of the processor get a turn.
-const READINGS: u64 = 64;
+const READINGS: u64 = 1024;
 
 /// A counter that one thread raises and another one reads. Nothing is proved of what it shows.
 ///

@@ -150,6 +150,7 @@ fn create<T: Copy + Default, B: Body<Item = T>, H: Copy + Default, K: Backpressu
 }
 
 /// Carries out a command that names a port or a handle, and keeps where the handle stands that it gives.
+#[inline(always)]
 fn act<T: Copy + Default, B: Body<Item = T>, H: Copy + Default, K: BackpressureFn>(
     core: &mut Core<B, H, B, H, K>,
     alloc: Global,

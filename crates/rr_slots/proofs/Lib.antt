@@ -1,4 +1,4 @@
 mod ThreadLaws
 mod HolderLaws
 mod PoolLaws
-mod Occupied
+mod Queues

@@ -1,5 +1,5 @@
 -- What contracts see of the queues from one port to another.
-use Rattle.std.specs.Prelude.{◌≡◌, ◌≤◌, ℕ, Bool, true, false, ◌==◌, if◌then◌else◌, List, [], ◌∷◌, ◌++◌, Option, None, length, drop, map, replicate, slice_get, slice_set, slice_index_or, sum_by, All}
+use Rattle.std.specs.Prelude.{◌≡◌, ◌≤◌, ℕ, Bool, true, false, ◌==◌, if◌then◌else◌, List, [], ◌∷◌, ◌++◌, Option, None, length, drop, map, replicate, slice_get, slice_set, slice_index_or, All}
 use Rattle.circular_buffer.specs.Buffer.{Buffer}
 
 -- the entries of each channel, from the oldest on, and how many each channel can have
@@ -32,10 +32,6 @@ abbrev pub has_entries : List ℕ → Bool
 has_entries [] = false
 has_entries (entry ∷ queue) = true
 
--- one for a queue with entries, and zero for an empty one
-abbrev pub occupancy : List ℕ → ℕ
-occupancy queue = if has_entries queue then 1 else 0
-
 -- a queue after an entry came to its end: a full one gave up its first, which is the entry itself where it has no room at all
 abbrev pub pushed : ℕ → List ℕ → ℕ → List ℕ
 pushed capacity queue entry =
@@ -50,8 +46,7 @@ evicted capacity queue entry =
 abbrev pub queues_of : List (Buffer ℕ) → List (List ℕ)
 queues_of buffers = map (λ buffer. buffer.items) buffers
 
--- every buffer has this capacity and no more entries, and so many of them have entries at all
-pub record IsSound (buffers : List (Buffer ℕ)) (capacity occupied : ℕ) : Type 0 where
+-- every buffer has this capacity, and no more entries
+pub record IsSound (buffers : List (Buffer ℕ)) (capacity : ℕ) : Type 0 where
   pub uniform : All (λ buffer. buffer.capacity ≡ capacity) buffers
   pub within : All (λ buffer. length buffer.items ≤ capacity) buffers
-  pub counted : occupied ≡ sum_by occupancy (queues_of buffers)

@@ -1,7 +1,6 @@
 //! The queues from one port to another.
 ghost use Rattle.std.specs.Prelude.{◌≡◌, ◌==◌, ◌<◌, ◌≤◌, ◌↔◌, ◌++◌, ◌∷◌, [], None, All, IfOk, IsTrue, drop, length, replicate, slice_get};
 ghost use Rattle.circular_buffer.specs.Buffer.{buffer};
-ghost use Rattle.rr_slots.specs.Connections.{occupancy};
 
 use circular_buffer::HeapCircularBuffer;
 use std::alloc::{AllocError, Global};
@@ -10,16 +9,12 @@ use std::marker::Model;
 /// The queues from one sending port to one receiving port: one for each channel, all of one capacity. An entry is the
 /// number of a slot in the sender's pool.
 ///
-/// All memory is taken by `new`. Each other call takes none, and a fixed time whatever the numbers of channels and
-/// entries. Our own: iceoryx2 leaves queues to the layers below its ports.
+/// All memory is taken by `new`. Each other call takes none, and beside `is_empty` a fixed time whatever the numbers of channels
+/// and entries. Our own: iceoryx2 leaves queues to the layers below its ports.
 #[derive(Drop)]
 pub struct Connection {
     queues: Vec<HeapCircularBuffer<usize>>,
     capacity: usize,
-    // What calls change stands on another cache line than where the queues are.
-    padding: [u64; 8],
-    // How many channels have an entry.
-    occupied: usize,
 }
 
 impl Model for Connection {
@@ -29,7 +24,7 @@ impl Model for Connection {
 
     ghost view = { λ c. entries (queues_of c.queues.items) c.capacity };
 
-    ghost invariant = { λ c. IsSound c.queues.items c.capacity c.occupied };
+    ghost invariant = { λ c. IsSound c.queues.items c.capacity };
 }
 
 impl Connection {
@@ -41,12 +36,7 @@ impl Connection {
         ensures { IfOk result (λ connection. connection ≡ no_entries channels capacity) }
     {
         let queues = empty_queues(alloc, channels, capacity)?;
-        Ok(Connection {
-            queues,
-            capacity,
-            padding: [0; 8],
-            occupied: 0,
-        })
+        Ok(Connection { queues, capacity })
     }
 
     /// Enters an entry at the end of a channel's queue. Returns the oldest entry if the queue was full; at capacity 0 that is
@@ -62,9 +52,7 @@ impl Connection {
             let evicted = queue.push_back(entry);
             return evicted;
         }
-        let before = occupancy(queue);
         let _ = queue.try_push_back(entry);
-        self.occupied += 1 - before;
         None
     }
 
@@ -76,9 +64,7 @@ impl Connection {
         ensures { self.new ≡ with_queue self.old channel (queue_of self.old channel ++ entry ∷ []) }
     {
         let queue = &mut self.queues[channel];
-        let was_occupied = occupancy(queue);
         let _ = queue.try_push_back(entry);
-        self.occupied += 1 - was_occupied;
     }
 
     /// Takes the oldest entry of a channel. `None` where it has none, and nothing changes then.
@@ -90,10 +76,7 @@ impl Connection {
         ensures none { result ≡ None → self.new ≡ self.old }
     {
         let queue = &mut self.queues[channel];
-        let before = occupancy(queue);
-        let first = queue.pop_front();
-        self.occupied = self.occupied - before + occupancy(queue);
-        first
+        queue.pop_front()
     }
 
     /// The oldest entry of a channel, which stays. `None` where it has none.
@@ -133,11 +116,11 @@ impl Connection {
         self.queues[channel].len()
     }
 
-    /// Whether no channel has an entry. It looks at none of them.
+    /// Returns whether no channel has an entry. Looks once at each channel.
     pub fn is_empty(&self) -> bool
         ensures { IsTrue result ↔ All (λ queue. queue ≡ []) self.now.queues }
     {
-        self.occupied == 0
+        are_empty(self.queues.as_slice())
     }
 
     /// How many channels there are.
@@ -165,11 +148,11 @@ fn has_no_room(queue: &HeapCircularBuffer<usize>) -> bool
     queue.len() >= queue.capacity()
 }
 
-/// One for a queue with entries, and zero for an empty one.
-fn occupancy(queue: &HeapCircularBuffer<usize>) -> usize
-    ensures { result ≡ occupancy queue.now.items }
+/// Returns whether each of the queues is empty.
+fn are_empty(queues: &[HeapCircularBuffer<usize>]) -> bool
+    ensures { IsTrue result ↔ All (λ queue. queue.items ≡ []) queues.now }
 {
-    if queue.is_empty() { 0 } else { 1 }
+    queues.iter().all(|queue| queue.is_empty())
 }
 
 /// So many queues with no entry, of one capacity. `AllocError` where there is no memory for them all.

@@ -30,8 +30,8 @@ pub enum AcquireError {
 #[derive(Drop)]
 pub struct Pool<B: Body> {
     bodies: Vec<B>,
-    room: usize,
     holders: Holders,
+    room: usize,
 }
 
 impl<B: Body> Model for Pool<B> {

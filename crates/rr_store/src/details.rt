@@ -11,11 +11,17 @@ pub struct RequestDetails {
     pub request_id: u64,
 }
 
-/// The details of a response.
+/// The details of a response. What a receive and a release read stands in front, on one cache line.
 #[derive(Clone, Copy, Debug)]
 pub struct ResponseDetails {
     /// The response's number.
     pub number: u64,
+    /// Where the sender of the client stands that the response is for.
+    pub client_sender: usize,
+    /// The channel of the request that it answers.
+    pub channel: usize,
+    /// That request's client.
+    pub client: u64,
     /// The server that loaned it.
     pub server: u64,
     /// The active request that it was loaned from.
@@ -24,10 +30,4 @@ pub struct ResponseDetails {
     pub request: u64,
     /// That request's id.
     pub request_id: u64,
-    /// That request's client.
-    pub client: u64,
-    /// Where that client's sender stands.
-    pub client_sender: usize,
-    /// That request's channel.
-    pub channel: usize,
 }

@@ -10,7 +10,7 @@ ghost use Rattle.rr_store.specs.Views.{sender_of};
 use crate::{ConnectedPort, LeftPort, OwnedSender};
 use rr_slots::Body;
 
-/// Returns whether a sender has an entry for a receiver. It looks at none of them.
+/// Returns whether a sender has an entry for a receiver. Looks at one channel after another until one has.
 #[inline(always)]
 fn has_queued<B: Body, N: Copy, H: Drop>(
     senders: &[OwnedSender<B, N, H>],
@@ -37,7 +37,7 @@ pub fn clear_for<B: Body, N: Copy, H: Drop>(
     senders[sender].messages.clear_receiver(receiver);
 }
 
-/// Drops what waits for a receiver in each sender: one step for a sender that has nothing for it.
+/// Drops what waits for a receiver in each sender, one step a channel and an entry.
 pub fn clear_from_each<B: Body, N: Copy, H: Drop>(
     senders: &mut Vec<OwnedSender<B, N, H>>,
     receiver: usize,

@@ -187,7 +187,7 @@ impl<B: Body, N: Copy, H: Drop> Sender<B, N, H> {
         self.links.len(receiver, channel) > 0
     }
 
-    /// Whether some channel to a receiver has an entry. It looks at none of them.
+    /// Returns whether some channel to a receiver has an entry. Looks at one channel after another until one has.
     #[inline(always)]
     pub fn has_any(&self, receiver: usize) -> bool
         requires { receiver < length self.now.queues }

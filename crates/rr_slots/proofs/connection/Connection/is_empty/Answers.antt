@@ -1,11 +1,12 @@
-use Rattle.std.proofs.Common.{◌∙◌, sym}
-use Rattle.std.proofs.lemmas.Bool.{eqb-true, eq-eqb}
-use Rattle.rr_slots.proofs.Occupied.{none_occupied, occupied-all_empty}
-use Rattle.rr_slots.specs.Connections.{queues_of}
+use Rattle.std.proofs.Common.{◌≡◌, []}
+use Rattle.std.proofs.lemmas.List.Elements.{All-map}
+use Rattle.rr_slots.proofs.Queues.{empty-buffers}
 use Rattle.rr_slots.proofs.connection.Connection.is_empty.Goals as goal
 
 pub returns : goal.returns
-returns c = rw (← c.self.view_is) (
-  λ h. none_occupied (queues_of c.self.inside.queues.items) (sym c.self.invariant.counted ∙ eqb-true c.self.inside.occupied 0 h),
-  λ h. eq-eqb c.self.inside.occupied 0 (c.self.invariant.counted ∙ occupied-all_empty (queues_of c.self.inside.queues.items) h),
-)
+returns c =
+    let told = rw c.as_slice.ensures.value at c.are_empty.ensures in
+    rw (← c.self.view_is) (
+      λ empty. All-map (λ queue. queue ≡ []) (λ buffer. buffer.items) c.self.inside.queues.items (told.0 empty),
+      λ empty. told.1 (empty-buffers c.self.inside.queues.items empty),
+    )

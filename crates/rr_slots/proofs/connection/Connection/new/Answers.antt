@@ -1,5 +1,5 @@
 use Rattle.std.proofs.Common.{ap, ◌∙◌}
-use Rattle.rr_slots.proofs.Occupied.{sound-empty, queues-empty}
+use Rattle.rr_slots.proofs.Queues.{sound-empty, queues-empty}
 use Rattle.rr_slots.specs.Connections.{entries, queues_of}
 use Rattle.rr_slots.proofs.connection.Connection.new.Goals as goal
 
