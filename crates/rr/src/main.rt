@@ -1,26 +1,58 @@
 //! The program `rr`: hands its words and the standard streams to `serve`, and ends with its answer.
 #![tactic(auto)]
 
-use rr_serve::serve;
+use rr_serve::{Stop, ended, serve};
 use std::env;
-use std::io::{self, BufReader};
+use std::io::{self, BufReader, ErrorKind, Write};
 use std::process::ExitCode;
+use std::rt::Env;
+use std::sync::Wait;
+use std::thread::Threads;
 
-fn main(rt: HostRuntime) -> io::Result<ExitCode> {
+/// Returns the words after the program's name.
+///
+/// # Errors
+///
+/// - `NoMemory` if no memory was found for them.
+/// - `Usage` if one of them is not UTF-8, or they can't be read.
+fn words<R: AllocGlobal + Env>(rt: &R) -> Result<Vec<String>, Stop> {
+    let args = match env::args(rt) {
+        Ok(args) => args,
+        Err(error) if error.kind() == ErrorKind::OutOfMemory => return Err(Stop::NoMemory),
+        Err(_) => return Err(Stop::Usage),
+    };
     let mut words = Vec::new(rt.alloc());
-    for word in env::args(&rt)?.skip(1) {
-        words.push(word)?;
+    for word in args.skip(1) {
+        if words.push(word).is_err() {
+            return Err(Stop::NoMemory);
+        }
     }
-    let input = BufReader::new(rt.alloc(), rt.reader())?;
-    let mut output = io::writer(&rt);
+    Ok(words)
+}
+
+/// Serves the words. Returns the status, or why the program ends before it can serve them.
+fn status<R: AllocGlobal + Env + Input + Print + Threads + Wait + Sync, F: Write>(
+    rt: &R,
+    faults: &mut F,
+) -> Result<u8, Stop> {
+    let words = words(rt)?;
+    match BufReader::new(rt.alloc(), rt.reader()) {
+        Ok(input) => Ok(serve(
+            rt,
+            rt.alloc(),
+            words.as_slice(),
+            input,
+            &mut io::writer(rt),
+            faults,
+        )),
+        Err(_) => Err(Stop::NoMemory),
+    }
+}
+
+fn main(rt: HostRuntime) -> ExitCode {
     let mut faults = rt.stderr();
-    let status = serve(
-        &rt,
-        rt.alloc(),
-        words.as_slice(),
-        input,
-        &mut output,
-        &mut faults,
-    );
-    Ok(ExitCode::from(status))
+    match status(&rt, &mut faults) {
+        Ok(status) => ExitCode::from(status),
+        Err(stop) => ExitCode::from(ended(Err(stop), &mut faults)),
+    }
 }

@@ -28,7 +28,7 @@ impl<T: Copy> Model for Elements<T> {
 }
 
 impl<T: Copy> Elements<T> {
-    ghost use Rattle.std.specs.Prelude.{◌≡◌, IfOk};
+    ghost use Rattle.std.specs.Prelude.{◌≡◌, ◌<◌, length, IfOk, OnErr};
 
     /// The elements as a slice.
     pub fn as_slice(&self) -> &[T]
@@ -40,14 +40,20 @@ impl<T: Copy> Elements<T> {
         }
     }
 
-    /// Returns a copy, or an error if no memory was found for it.
+    /// Returns a copy. One element alone, or none, takes no memory.
+    ///
+    /// # Errors
+    ///
+    /// - `AllocError` if there are several elements, and no memory was found for them.
     pub fn copied(&self, alloc: Global) -> Result<Self, AllocError>
-        ensures { IfOk result (λ copy. copy ≡ self.now) }
+        ensures ok { IfOk result (λ copy. copy ≡ self.now) }
+        ensures err { OnErr result (1 < length self.now) }
     {
         Ok(Elements {
-            items: match &self.items {
-                Items::One(element) => Items::One(*element),
-                Items::Many(elements) => copied_many(alloc, elements.as_slice())?,
+            items: match self.as_slice() {
+                [] => Items::Many(Vec::new(alloc)),
+                [element] => Items::One([*element]),
+                elements => copied_many(alloc, elements)?,
             },
         })
     }

@@ -1,6 +1,6 @@
 //! What a runner answers.
 ghost use Rattle.std.specs.Prelude.{◌≡◌, IfOk, OnErr};
-ghost use Rattle.rr_commands.specs.Payloads.{IsPayload};
+ghost use Rattle.rr_commands.specs.Payloads.{HasSeveral};
 
 use crate::elements::Elements;
 use rr_protocol::{
@@ -69,13 +69,17 @@ pub enum Reply<T: Copy, H: Copy> {
 }
 
 impl<T: Copy, H: Copy> Reply<T, H> {
-    /// Returns an equal reply, or an error if no memory was found for the elements of a payload.
+    /// Returns an equal reply. Only the elements of a payload that has several take memory.
     ///
-    /// It is inlined: a history copies each reply, and most hold two words at most. Our own.
+    /// It is inlined: a history copies each reply, and most hold two words at most. Not in iceoryx2.
+    ///
+    /// # Errors
+    ///
+    /// - `AllocError` if the reply is a payload of several elements, and no memory was found for them.
     #[inline(always)]
     pub fn copied(&self, alloc: Global) -> Result<Self, AllocError>
         ensures ok { IfOk result (λ copy. copy ≡ self.now) }
-        ensures err { OnErr result (IsPayload self.now) }
+        ensures err { OnErr result (HasSeveral self.now) }
     {
         Ok(match self {
             Reply::Created(number) => Reply::Created(*number),

@@ -18,7 +18,7 @@ impl<QB: Body, QH: Default + Drop, PB: Body, PH: Default + Drop, K: Backpressure
     PH,
     K,
 > {
-    /// Makes a hub without ports. Takes no memory. Our own.
+    /// Makes a hub without ports. Takes no memory, so `OutOfMemory` never comes. Not in iceoryx2.
     ///
     /// # Errors
     ///

@@ -3,7 +3,6 @@ use Rattle.std.specs.Prelude.{◌≡◌, ◌≢◌, ⊤, ℕ, ◌+◌, ◌^◌, 
 use Rattle.rr_protocol.specs.declared.limits.Limits.{Limits}
 use Rattle.rr_protocol.specs.declared.error.HubCreateError.{HubCreateError}
 use Rattle.rr_protocol.specs.Limits.{hub_refusal}
-use Rattle.rr_protocol.specs.Creation.{IsRefusal}
 use Rattle.rr_ledger.specs.Sums.{worth}
 use Rattle.rr_locked.specs.declared.receipt.Receipt.{Receipt}
 use Rattle.rr_locked.specs.Machine.{HubState, Entry, LeadsTo}
@@ -27,18 +26,18 @@ pub record Log : Type 0 where
 abbrev pub log : Limits → ℕ → List Entry → ℕ → Log
 log limits node_id history made = record { limits = limits; node_id = node_id; history = history; made = made }
 
--- a book with an empty history and no seats is made, unless the limits are refused or memory is
+-- a book with an empty history and no seats is made, unless the limits are refused: it takes no memory
 abbrev pub OpensBook : {A : Type 0} → Limits → ℕ → (A → Log) → Result A HubCreateError → Type 0
 OpensBook limits node_id book (Ok made) = (hub_refusal limits ≡ None) × (book made ≡ log limits node_id [] 0)
-OpensBook limits node_id book (Err error) = IsRefusal (hub_refusal limits) HubCreateError.OutOfMemory error
+OpensBook limits node_id book (Err error) = hub_refusal limits ≡ Some error
 
 abbrev pub CreatesBook : Limits → ℕ → Result Log HubCreateError → Type 0
 CreatesBook limits node_id result = OpensBook limits node_id (λ book. book) result
 
--- a hub with these limits and this node id is made, unless the limits are refused or memory is
+-- a hub with these limits and this node id is made, unless the limits are refused: it takes no memory
 abbrev pub CreatesLocked : Limits → ℕ → Result Start HubCreateError → Type 0
 CreatesLocked limits node_id (Ok hub) = (hub_refusal limits ≡ None) × (hub ≡ start limits node_id)
-CreatesLocked limits node_id (Err error) = IsRefusal (hub_refusal limits) HubCreateError.OutOfMemory error
+CreatesLocked limits node_id (Err error) = hub_refusal limits ≡ Some error
 
 -- the history leads from the empty hub to some state
 abbrev pub IsLegal : Limits → ℕ → List Entry → Type 0

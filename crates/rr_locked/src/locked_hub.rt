@@ -30,13 +30,13 @@ impl<L: Ledger> Model for LockedHub<L> {
 }
 
 impl<L: Ledger> LockedHub<L> {
-    /// Makes a hub without ports, with an empty history. The blank is to have `PARTS` parts, and is spent either way. Our own.
+    /// Makes a hub without ports, with an empty history. The blank is to have `PARTS` parts, and is spent either way. Takes no
+    /// memory, so `OutOfMemory` never comes. Not in iceoryx2.
     ///
     /// # Errors
     ///
     /// - `ZeroLimit` if a limit is below its least value.
     /// - `LimitsTooLarge` if a worst-case size is more than a `usize` counts.
-    /// - `OutOfMemory` if no memory was found.
     pub fn new(
         alloc: Global,
         limits: Limits,

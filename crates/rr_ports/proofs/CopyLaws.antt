@@ -6,8 +6,7 @@ use Rattle.rr_protocol.specs.declared.settings.BackpressureAction.{BackpressureA
 use Rattle.rr_protocol.specs.Loans.{LoansRequest, LoansResponse}
 use Rattle.rr_protocol.specs.Sends.{SendsRequest, SendsResponse}
 use Rattle.rr_protocol.specs.State.{State, with_changed}
-use Rattle.rr_protocol.specs.Writing.{after_init, filled, with_request_content, with_response_content}
-use Rattle.rr_ports.specs.Loaning.{with_complete_request, with_complete_response, LoansComplete, LoansResponseComplete, SendsCopy, SendsResponseCopy, LoansFilled, LoansResponseFilled}
+use Rattle.rr_ports.specs.Loaning.{with_complete_request, with_complete_response, LoansComplete, LoansResponseComplete, SendsCopy, SendsResponseCopy}
 use Rattle.rr_ports.specs.Sending.{SendsPending}
 
 module _ {Q QH P PH K : Type 0} (old mid new : State Q QH P PH K) (n k : ℕ) where
@@ -36,30 +35,7 @@ module _ {Q QH P PH K : Type 0} (old mid new : State Q QH P PH K) (n k : ℕ) wh
       request_copied (Err error) sends =
           inr (mid, k, loans, subst (λ s. SendsRequest action s k (Err error) new) is_written (subst (λ i. SendsRequest action written i (Err error) new) same sends))
 
-    -- filled at once
-    pub request_filled : (IsDefaultElement : Q → Type 0) (len : ℕ) (element : Q) (given : ℕ) → given ≡ k → LoansRequest IsDefault old n len (Ok k) mid
-        → IsDefaultElement element → new ≡ with_changed (with_changed mid k (with_request_content (filled element))) k after_init
-        → LoansFilled IsDefault IsDefaultElement old n len (Ok given) new
-    request_filled IsDefaultElement len element given same loans is e = (
-      mid,
-      element,
-      subst (λ i. LoansRequest IsDefault old n len (Ok i) mid) (sym same) loans,
-      is,
-      e ∙ ap (λ i. with_changed (with_changed mid i (with_request_content (filled element))) i after_init) (sym same),
-    )
-
   module _ (IsDefault : PH → Type 0) where
-    pub response_filled : (IsDefaultElement : P → Type 0) (len : ℕ) (element : P) (given : ℕ) → given ≡ k → LoansResponse IsDefault old n len (Ok k) mid
-        → IsDefaultElement element → new ≡ with_changed (with_changed mid k (with_response_content (filled element))) k after_init
-        → LoansResponseFilled IsDefault IsDefaultElement old n len (Ok given) new
-    response_filled IsDefaultElement len element given same loans is e = (
-      mid,
-      element,
-      subst (λ i. LoansResponse IsDefault old n len (Ok i) mid) (sym same) loans,
-      is,
-      e ∙ ap (λ i. with_changed (with_changed mid i (with_response_content (filled element))) i after_init) (sym same),
-    )
-
     pub response_completed : (Are : List P → Type 0) (len : ℕ) (elements : List P) (given : ℕ) → given ≡ k → LoansResponse IsDefault old n len (Ok k) mid
         → Are elements → new ≡ with_complete_response mid k elements → LoansResponseComplete IsDefault Are old n len (Ok given) new
     response_completed Are len elements given same loans are e =

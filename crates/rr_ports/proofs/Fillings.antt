@@ -1,18 +1,20 @@
 -- Requests and responses that fill.
-use Rattle.std.proofs.Common.{◌≡◌, ℕ, ◌+◌, ◌<◌, ◌≤◌, ◌++◌, List, length, Some, true, refl, sym, ap, ◌∙◌, subst}
+use Rattle.std.proofs.Common.{◌≡◌, ℕ, ◌+◌, ◌<◌, ◌≤◌, ◌++◌, List, [], ◌∷◌, length, Option, Some, None, true, refl, sym, ap, ◌∙◌, subst}
 use Rattle.std.proofs.lemmas.Bool.{eq-eqb}
-use Rattle.std.specs.Prelude.{IsSomeAnd, option_and_then, take, drop, replicate, nat_lt}
+use Rattle.std.specs.Prelude.{All, IsSomeAnd, option_and_then, take, drop, replicate, nat_lt}
 use Rattle.std.specs.List.{refill}
 use Rattle.std.proofs.Math.Seq.{take-length, drop-length}
 use Rattle.std.proofs.lemmas.List.{append-nil}
+use Rattle.std.proofs.lemmas.List.Elements.{All-nil, All-cons}
 use Rattle.rr_protocol.specs.declared.kind.Kind.{Kind}
 use Rattle.rr_protocol.specs.Messages.{RequestMessage, ResponseMessage, Handle, RequestMutUninit, RequestMut, PendingResponse, ActiveRequest, ResponseMutUninit, ResponseMut, Response, request_in, response_in}
 use Rattle.rr_protocol.specs.Queries.{kind_of, kind_at}
 use Rattle.rr_protocol.specs.State.{State, handle_at, with_changed}
 use Rattle.rr_protocol.specs.Writing.{is_complete, with_element, with_element_at, with_elements, filled, with_request_content, with_response_content, after_init}
 use Rattle.rr_hub.specs.CoreLends.{refilled}
-use Rattle.rr_ports.specs.Filling.{FillsRequest, FillsResponse, with_request_element, with_response_element}
-use Rattle.rr_ports.specs.Loaning.{with_complete_request, with_complete_response}
+use Rattle.rr_ports.specs.Filling.{ReturnsInOrder, FillsRequest, FillsResponse, with_request_element, with_response_element}
+use Rattle.rr_ports.specs.Kinds.{RequestAsksFor, ResponseAsksFor}
+use Rattle.rr_ports.specs.Loaning.{AreDefaults, with_complete_request, with_complete_response}
 use Rattle.rr_ports.proofs.Asking.{there}
 use Rattle.rr_ports.proofs.FillLaws.{with_handle, handle_is, changed_is, changed_again, Filling, filling_at, filling_put, filling_whole}
 
@@ -179,3 +181,33 @@ module _ {Q QH P PH K : Type 0} (old : State Q QH P PH K) (n : ℕ) where
     pub completed_response_at : (ys : List P) (mid : State Q QH P PH K) → mid ≡ with_complete_response old n ys
         → handle_at mid n ≡ Some (ResponseMut (record m { content = with_elements ys m.content }))
     completed_response_at ys mid is = ap (λ s. handle_at s n) (is ∙ complete_response_is ys) ∙ handle_is old n (ResponseMut (record m { content = with_elements ys m.content }))
+
+-- what is there has one length
+as_many : {M : Type 0} (o : Option M) (asked : M → ℕ) {a b : ℕ} → IsSomeAnd o (λ m. a ≡ asked m) → IsSomeAnd o (λ m. b ≡ asked m) → a ≡ b
+as_many None asked first second = absurd first
+as_many (Some m) asked first second = first ∙ sym second
+
+-- each element was returned by a call, of whose results this holds
+pub all_returned : {F T : Type 0} (step : F → ℕ → T → F → Type 0) (R : T → Type 0) → ((p : F) (k : ℕ) (x : T) (q : F) → step p k x q → R x)
+    → (first : F) (k : ℕ) (xs : List T) (last : F) → ReturnsInOrder step first k xs last → All R xs
+all_returned step R each first k [] last returned = All-nil R
+all_returned step R each first k (x ∷ xs) last returned =
+    All-cons R x xs (each first k x returned.0 returned.1.0) (all_returned step R each returned.0 (k + 1) xs last returned.1.1)
+
+module _ {F Q QH P PH K : Type 0} (f : F) (old new : State Q QH P PH K) (n len : ℕ) where
+  -- a message that a function of defaults filled has as many defaults as were asked for
+  pub request_defaults : (step : F → ℕ → Q → F → Type 0) (w : FillsRequest step f old new n) (IsDefault : Q → Type 0)
+      → ((p : F) (k : ℕ) (x : Q) (q : F) → step p k x q → IsDefault x) → RequestAsksFor old n len → AreDefaults IsDefault len w.elements
+  unfolding RequestAsksFor
+  request_defaults step w IsDefault each asks = (
+    as_many (option_and_then request_in (handle_at old n)) (λ m. m.content.asked_len) w.complete asks,
+    all_returned step IsDefault each f 0 w.elements w.last w.returned,
+  )
+
+  pub response_defaults : (step : F → ℕ → P → F → Type 0) (w : FillsResponse step f old new n) (IsDefault : P → Type 0)
+      → ((p : F) (k : ℕ) (x : P) (q : F) → step p k x q → IsDefault x) → ResponseAsksFor old n len → AreDefaults IsDefault len w.elements
+  unfolding ResponseAsksFor
+  response_defaults step w IsDefault each asks = (
+    as_many (option_and_then response_in (handle_at old n)) (λ m. m.content.asked_len) w.complete asks,
+    all_returned step IsDefault each f 0 w.elements w.last w.returned,
+  )

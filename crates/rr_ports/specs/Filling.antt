@@ -1,5 +1,5 @@
 -- What a write of all elements leaves, one element for each call of a function.
-use Rattle.std.specs.Prelude.{◌≡◌, ℕ, ◌+◌, Bool, not, nat_lt, if◌then◌else◌, List, [], ◌∷◌, length, IsSomeAnd, option_and_then}
+use Rattle.std.specs.Prelude.{◌≡◌, ℕ, ◌+◌, ◌<◌, Bool, not, nat_lt, if◌then◌else◌, List, [], ◌∷◌, length, IsSomeAnd, option_and_then}
 use Rattle.rr_protocol.specs.Messages.{RequestMessage, ResponseMessage, request_in, response_in}
 use Rattle.rr_protocol.specs.State.{State, handle_at, with_changed}
 use Rattle.rr_protocol.specs.Writing.{is_complete, with_element, with_element_at, with_request_content, with_response_content}
@@ -9,6 +9,10 @@ use Rattle.rr_ports.specs.Loaning.{with_complete_request, with_complete_response
 abbrev pub ReturnsInOrder : {F T : Type 0} → (F → ℕ → T → F → Type 0) → F → ℕ → List T → F → Type 0
 ReturnsInOrder step first k [] last = first ≡ last
 ReturnsInOrder {F} step first k (x ∷ xs) last = (next : F) × (step first k x next × ReturnsInOrder step next (k + 1) xs last)
+
+-- a function may be called on 0, 1, .., len - 1, one after another, whatever it returned before
+pub record CallableInOrder {F T : Type 0} (pre : F → ℕ → Type 0) (step : F → ℕ → T → F → Type 0) (f : F) (len : ℕ) : Type 0 where
+  pub at : (xs : List T) (now : F) → ReturnsInOrder step f 0 xs now → length xs < len → pre now (length xs)
 
 module _ {F Q QH P PH K : Type 0} where
   -- the request under a number got what a function returned for 0, 1, .., as many elements as it asks for, and can be sent

@@ -1,5 +1,5 @@
 -- Loans whose payload is written at once, and those that are sent at once.
-use Rattle.std.specs.Prelude.{◌≡◌, ◌⊎◌, ℕ, List, [], ◌∷◌, Result, Ok, Err}
+use Rattle.std.specs.Prelude.{◌≡◌, ◌⊎◌, ℕ, All, List, [], ◌∷◌, length, Result, Ok, Err}
 use Rattle.rr_protocol.specs.declared.settings.BackpressureAction.{BackpressureAction}
 use Rattle.rr_protocol.specs.declared.error.LoanError.{LoanError}
 use Rattle.rr_protocol.specs.declared.error.RequestSendError.{RequestSendError}
@@ -7,11 +7,15 @@ use Rattle.rr_protocol.specs.declared.error.SendError.{SendError}
 use Rattle.rr_protocol.specs.Loans.{LoansRequest, LoansResponse}
 use Rattle.rr_protocol.specs.Sends.{SendsRequest, SendsResponse}
 use Rattle.rr_protocol.specs.State.{State, with_changed}
-use Rattle.rr_protocol.specs.Writing.{after_init, filled, with_elements, with_request_content, with_response_content}
+use Rattle.rr_protocol.specs.Writing.{after_init, with_elements, with_request_content, with_response_content}
 
 -- the elements are one default
 abbrev pub IsOneDefault : {T : Type 0} → (T → Type 0) → List T → Type 0
 IsOneDefault {T} IsDefault elements = (value : T) × IsDefault value × (elements ≡ value ∷ [])
+
+-- there are so many elements, and each is a default
+abbrev pub AreDefaults : {T : Type 0} → (T → Type 0) → ℕ → List T → Type 0
+AreDefaults IsDefault len elements = (length elements ≡ len) × All IsDefault elements
 
 module _ {Q QH P PH K : Type 0} where
   -- after a request got its elements and was made one that can be sent
@@ -55,17 +59,3 @@ module _ {Q QH P PH K : Type 0} where
       ((loan : LoanError) × (error ≡ SendError.LoanError loan) × LoansResponse IsDefault old n 1 (Err loan) new)
       ⊎ ((mid : State Q QH P PH K) × (number : ℕ) × LoansResponse IsDefault old n 1 (Ok number) mid
       × SendsResponse {U = U} action (with_complete_response mid number (value ∷ [])) number (Err error) new)
-
-  -- a client loans a request, each of whose elements is the same default; or nothing changes
-  abbrev pub LoansFilled : (QH → Type 0) → (Q → Type 0) → State Q QH P PH K → ℕ → ℕ → Result ℕ LoanError → State Q QH P PH K → Type 0
-  LoansFilled IsDefault IsDefaultElement old n len (Ok number) new =
-      (mid : State Q QH P PH K) × (element : Q) × LoansRequest IsDefault old n len (Ok number) mid × IsDefaultElement element
-      × (new ≡ with_changed (with_changed mid number (with_request_content (filled element))) number after_init)
-  LoansFilled IsDefault IsDefaultElement old n len (Err error) new = LoansRequest IsDefault old n len (Err error) new
-
-  -- an active request loans a response, and so on
-  abbrev pub LoansResponseFilled : (PH → Type 0) → (P → Type 0) → State Q QH P PH K → ℕ → ℕ → Result ℕ LoanError → State Q QH P PH K → Type 0
-  LoansResponseFilled IsDefault IsDefaultElement old n len (Ok number) new =
-      (mid : State Q QH P PH K) × (element : P) × LoansResponse IsDefault old n len (Ok number) mid × IsDefaultElement element
-      × (new ≡ with_changed (with_changed mid number (with_response_content (filled element))) number after_init)
-  LoansResponseFilled IsDefault IsDefaultElement old n len (Err error) new = LoansResponse IsDefault old n len (Err error) new

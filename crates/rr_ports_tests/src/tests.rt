@@ -1,6 +1,7 @@
 //! What a user of the ports sees.
 mod exchanges;
 mod fixtures;
+mod handlers;
 mod loans;
 mod pools;
 

@@ -25,10 +25,10 @@ abbrev pub loans_of : {K : Type 0} → ServerSettings K → ℕ
 loans_of settings = max 1 settings.loans
 
 module _ {Q QH P PH K : Type 0} where
-  -- a hub with these limits is made, unless they are refused or memory is
+  -- a hub with these limits is made, unless they are refused: it takes no memory
   abbrev pub CreatesHub : Limits → ℕ → Result (State Q QH P PH K) HubCreateError → Type 0
   CreatesHub limits node_id (Ok hub) = (hub_refusal limits ≡ None) × (hub ≡ empty_hub limits node_id)
-  CreatesHub limits node_id (Err error) = IsRefusal (hub_refusal limits) HubCreateError.OutOfMemory error
+  CreatesHub limits node_id (Err error) = hub_refusal limits ≡ Some error
 
   -- the first reason against one more client
   abbrev pub client_refusal : State Q QH P PH K → Option ClientCreateError

@@ -10,7 +10,7 @@ pub enum HubCreateError {
     /// A worst-case pool of these limits is past `usize::MAX`.
     #[error("HubCreateError::LimitsTooLarge")]
     LimitsTooLarge,
-    /// Memory was refused.
+    /// Never comes: a hub takes no memory as it is made.
     #[error("HubCreateError::OutOfMemory")]
     OutOfMemory,
 }

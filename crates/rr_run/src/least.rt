@@ -25,7 +25,7 @@ pub enum LeastPoolError {
     /// The limits make no hub, or a full queue of requests overflows.
     #[error("WrongLimits")]
     WrongLimits,
-    /// No memory was found for the hub, a port, the commands or the replies, or the list takes more numbers than there are.
+    /// No memory was found for a port, the commands or the replies, or the list takes more numbers than there are.
     #[error("OutOfMemory")]
     OutOfMemory,
 }
@@ -41,8 +41,8 @@ pub enum LeastPoolError {
 /// # Errors
 ///
 /// - `WrongLimits` exactly if the limits make no hub, or full queues of requests overflow.
-/// - `OutOfMemory` if no memory was found for the hub, a port, the commands or the replies, or if the list takes more numbers
-///   than a hub gives.
+/// - `OutOfMemory` if no memory was found for a port, the commands or the replies, or if the list takes more numbers than a hub
+///   gives.
 pub fn least_pool(
     alloc: Global,
     limits: &Limits,

@@ -10,4 +10,5 @@ mod runner;
 pub use commands::run;
 pub use error::OutOfMemory;
 pub use least::{LeastPoolError, PoolCommand, PoolReply, least_pool};
+pub use rr_commands::{Command, Elements, Reply};
 pub use runner::Runner;

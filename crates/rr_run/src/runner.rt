@@ -3,7 +3,7 @@ ghost use Rattle.std.specs.Prelude.{◌≡◌, ◌≢◌, IfSome, None, Some, tr
 ghost use Rattle.rr_protocol.specs.Creation.{CreatesHub};
 ghost use Rattle.rr_protocol.specs.Queries.{kind_at};
 ghost use Rattle.rr_run.specs.Known.{Notes};
-ghost use Rattle.rr_run.specs.Memory.{copies_elements, goes_without};
+ghost use Rattle.rr_run.specs.Memory.{copies_elements, goes_without, MayLackMemory};
 ghost use Rattle.rr_commands.specs.Refusals.{number_in};
 ghost use Rattle.rr_commands.specs.Step.{Step};
 
@@ -61,7 +61,7 @@ impl<T: Copy + Default, B: Body<Item = T>, H: Copy + Default, K: BackpressureFn>
     H,
     K,
 > {
-    /// Makes a runner over a hub without ports. Takes no memory. Our own.
+    /// Makes a runner over a hub without ports. Takes no memory, so `OutOfMemory` never comes. Not in iceoryx2.
     ///
     /// # Errors
     ///
@@ -95,11 +95,11 @@ impl<T: Copy + Default, B: Body<Item = T>, H: Copy + Default, K: BackpressureFn>
     ///
     /// A refusal leaves everything as it was; it is the first that holds, in this order: `Unknown`, `WrongKind`,
     /// `NumbersExhausted`, `Incomplete`. `NoMemory` leaves everything as it was too, and is returned for `Payload` alone, if no
-    /// memory was found for a copy of the elements. Beside the memory that the call itself takes, a place may be kept for each
-    /// handle. Our own: iceoryx2 has the calls alone.
+    /// memory was found for a copy of several elements: never in the typed family. Beside the memory that the call itself takes, a
+    /// place may be kept for each handle. Not in iceoryx2, which has the calls alone.
     pub fn apply(&mut self, command: Command<T, H, K>) -> Reply<T, H>
         ensures step { Step K.action T.is_default H.is_default B.family self.old command result self.new }
-        ensures memory { result ≡ Reply.NoMemory → copies_elements command ≡ true }
+        ensures memory { result ≡ Reply.NoMemory → MayLackMemory B.family self.old command }
     {
         self.step(command)
     }
@@ -108,6 +108,7 @@ impl<T: Copy + Default, B: Body<Item = T>, H: Copy + Default, K: BackpressureFn>
     fn step(&mut self, command: Command<T, H, K>) -> Reply<T, H>
         ensures step { Step K.action T.is_default H.is_default B.family self.old command result self.new }
         ensures memory { goes_without command ≡ true → result ≢ Reply.NoMemory }
+        ensures copied { copies_elements command ≡ true → result ≡ Reply.NoMemory → MayLackMemory B.family self.old command }
     {
         let Some(number) = number_in(&command) else {
             return create(&mut self.core, command);
@@ -161,6 +162,7 @@ fn act<T: Copy + Default, B: Body<Item = T>, H: Copy + Default, K: BackpressureF
     requires { number_in command ≡ Some id.now }
     ensures step { Step K.action T.is_default H.is_default B.family core.old command result core.new }
     ensures memory { goes_without command ≡ true → result ≢ Reply.NoMemory }
+    ensures copied { copies_elements command ≡ true → result ≡ Reply.NoMemory → MayLackMemory B.family core.old command }
     ensures places { Notes places.old command result core.new places.new }
 {
     match command {

@@ -5,4 +5,5 @@ mod program;
 mod two_workers;
 
 pub use program::serve;
+pub use rr_script::{Stop, ended};
 pub use two_workers::exchange;

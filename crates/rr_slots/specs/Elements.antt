@@ -1,5 +1,6 @@
 -- What contracts see of the two kinds of bodies.
-use Rattle.std.specs.Prelude.{◌≡◌, zero, suc, ℕ, List, [], ◌∷◌, Option, None, Some, slice_set, refl}
+use Rattle.std.specs.Prelude.{◌≡◌, ◌≤◌, zero, suc, ℕ, List, [], ◌∷◌, length, Option, None, Some, slice_set, refl}
+use Rattle.std.proofs.Common.{zero-le, suc-le-suc}
 
 -- what stands in an optional body
 abbrev pub option_elements : {T : Type 0} → Option T → List T
@@ -16,6 +17,10 @@ pub option_elements-with_option : {T : Type 0} (body : Option T) (index : ℕ) (
 option_elements-with_option None index y = refl
 option_elements-with_option (Some x) zero y = refl
 option_elements-with_option (Some x) (suc index) y = refl
+
+pub option_elements-few : {T : Type 0} (body : Option T) → length (option_elements body) ≤ 1
+option_elements-few None = zero-le
+option_elements-few (Some x) = suc-le-suc zero-le
 
 -- a body of any length: how many elements are asked for, how many it has room for, and those written
 pub record SliceState (T : Type 0) : Type 0 where

@@ -1,5 +1,6 @@
 -- The lengths that bodies of a family can be asked for.
-use Rattle.std.specs.Prelude.{ℕ, Bool, true, ◌==◌}
+use Rattle.std.specs.Prelude.{◌≡◌, ⊤, ℕ, Bool, true, ◌==◌}
+use Rattle.std.proofs.Common.{subst}
 use Rattle.rr_slots.specs.declared.family.Family.{Family}
 use Rattle.rr_slots.specs.declared.family.Family.TheVariants.{Typed, Sliced}
 
@@ -7,3 +8,11 @@ use Rattle.rr_slots.specs.declared.family.Family.TheVariants.{Typed, Sliced}
 abbrev pub takes_len : Family → ℕ → Bool
 takes_len Typed len = len == 1
 takes_len Sliced len = true
+
+-- whether a family is the sliced one, by which the two are told apart
+abbrev IsSliced : Family → Type 0
+IsSliced Typed = ⊥
+IsSliced Sliced = ⊤
+
+pub sliced_is_not_typed : Sliced ≡ Typed → ⊥
+sliced_is_not_typed is = subst IsSliced is tt

@@ -103,6 +103,9 @@ pub trait Body: Drop {
 
     /// It keeps the room.
     ghost keeps_room: { (body : Self) (index : ℕ) (item : Self.Item) → room (with_element_at body index item) ≡ room body };
+
+    /// No body of the typed family has more than one element.
+    ghost holds_one: { (body : Self) → family ≡ Family.Typed → length (elements body) ≤ 1 };
 }
 
 /// A body whose elements can be copied.

@@ -9,7 +9,8 @@ pub struct ChannelState {
     value: u64,
 }
 
-/// The id of a request: how many requests its client had loaned before it. iceoryx2's `RequestId`.
+/// The id of a request: how many requests its client had loaned before it. iceoryx2's `RequestId`. In a hub's headers an id is a
+/// plain `u64`.
 pub type RequestId = ChannelState;
 
 impl Model for ChannelState {

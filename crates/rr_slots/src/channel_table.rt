@@ -15,6 +15,9 @@ pub enum Channel {
 }
 
 /// The channels of a client, each closed or open for one request.
+///
+/// No hub of this repository keeps one: it finds a channel's request by the client's pending responses. It is for those who build
+/// ports of their own on this crate. Stands for what iceoryx2's `Client` and `Server` store for each channel.
 #[derive(Debug, Drop)]
 pub struct ChannelTable {
     channels: Vec<Channel>,

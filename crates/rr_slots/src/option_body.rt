@@ -6,7 +6,7 @@ use std::alloc::{AllocError, Global};
 impl<T: Drop> Body for Option<T> {
     ghost use Rattle.std.specs.Prelude.{◌≡◌, refl};
     ghost use Rattle.rr_slots.specs.declared.family.Family.TheVariants.{Typed};
-    ghost use Rattle.rr_slots.specs.Elements.{option_elements, with_option, option_elements-with_option};
+    ghost use Rattle.rr_slots.specs.Elements.{option_elements, with_option, option_elements-with_option, option_elements-few};
 
     type Item = T;
 
@@ -25,6 +25,8 @@ impl<T: Drop> Body for Option<T> {
     ghost keeps_asked_len = { λ _ _ _. refl };
 
     ghost keeps_room = { λ _ _ _. refl };
+
+    ghost holds_one = { λ body _. option_elements-few body };
 
     fn family() -> Family {
         Family::Typed

@@ -48,6 +48,7 @@ impl<T: Drop> Body for SliceBody<T> {
     ghost use Rattle.std.specs.Prelude.{refl};
     ghost use Rattle.rr_slots.specs.declared.family.Family.TheVariants.{Sliced};
     ghost use Rattle.rr_slots.specs.Elements.{with_slice_at};
+    ghost use Rattle.rr_slots.specs.Families.{sliced_is_not_typed};
 
     type Item = T;
 
@@ -66,6 +67,8 @@ impl<T: Drop> Body for SliceBody<T> {
     ghost keeps_asked_len = { λ _ _ _. refl };
 
     ghost keeps_room = { λ _ _ _. refl };
+
+    ghost holds_one = { λ _ is_typed. absurd (sliced_is_not_typed is_typed) };
 
     fn family() -> Family {
         Family::Sliced

@@ -3,7 +3,6 @@
 
 pub mod asking;
 pub mod parameter;
-pub mod question;
 pub mod serving;
 pub mod slices;
 pub mod streaming;

@@ -5,7 +5,7 @@ ghost use Rattle.std.specs.Prelude.{◌+◌, ◌≤◌, ◌<◌, ◌≢◌, ◌�
 ghost use Rattle.rr_protocol.specs.declared.kind.Kind.TheVariants as kind;
 ghost use Rattle.rr_laws.specs.Unreduced.{ServerHasPool};
 ghost use Rattle.rr_ports.specs.Kinds.{Names, NamesNothing, KeepsKinds, ResponseAsksFor};
-ghost use Rattle.rr_ports.specs.Loaning.{LoansResponseFilled};
+ghost use Rattle.rr_ports.specs.Loaning.{AreDefaults, LoansResponseComplete};
 ghost use Rattle.rr_protocol.specs.Loans.{LoansResponse};
 ghost use Rattle.rr_protocol.specs.Messages.{request_in};
 ghost use Rattle.rr_protocol.specs.State.{handle_at, numbers_left};
@@ -64,21 +64,22 @@ impl<QB: Body> ActiveRequest<QB> {
         response_mut_uninit::loaned(hub.core.loan_response(&self.id, len))
     }
 
-    /// Loans a response of `len` default elements, which can be sent. Takes no memory up to the initial slice length. After iceoryx2's
-    /// `ActiveRequest::loan_slice`.
+    /// Loans a response of `len` default elements, which can be sent. Takes no memory up to the initial slice length. Looks for the
+    /// response once for each element; for elements that can be copied, `loan_slice_uninit` and `fill` do once for all. After
+    /// iceoryx2's `ActiveRequest::loan_slice`.
     ///
     /// # Errors
     ///
     /// As `loan_slice_uninit`.
     #[inline(always)]
-    pub fn loan_slice<QH: Default + Drop, T: Copy + Default, PH: Default + Drop, K: BackpressureFn>(
+    pub fn loan_slice<QH: Default + Drop, T: Default + Drop, PH: Default + Drop, K: BackpressureFn>(
         &self,
         hub: &mut Hub<QB, QH, SliceBody<T>, PH, K>,
         len: usize,
     ) -> Result<ResponseMut<SliceBody<T>>, LoanError>
         requires kind { Names hub.old self.now kind.ActiveRequest }
         requires number { 0 < numbers_left hub.old }
-        ensures loans { LoansResponseFilled PH.is_default T.is_default hub.old self.now len result hub.new }
+        ensures loans { LoansResponseComplete PH.is_default (AreDefaults T.is_default len) hub.old self.now len result hub.new }
         ensures unreduced { ServerHasPool hub.old.limits hub.old self.now len → result ≢ Err LoanError.OutOfMemory }
         ensures fresh { IfOk result (λ response. NamesNothing hub.old response) }
         ensures kind { IfOk result (λ response. Names hub.new response kind.ResponseMut) }
@@ -86,6 +87,6 @@ impl<QB: Body> ActiveRequest<QB> {
         ensures numbers { numbers_left hub.old ≤ numbers_left hub.new + 1 }
     {
         let response = self.loan_slice_uninit(hub, len)?;
-        Ok(response.fill(hub, T::default()))
+        Ok(response.write_from_fn(hub, |_| T::default()))
     }
 }

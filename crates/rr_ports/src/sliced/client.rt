@@ -5,7 +5,7 @@ ghost use Rattle.std.specs.Prelude.{◌+◌, ◌≤◌, ◌<◌, ◌≢◌, ◌�
 ghost use Rattle.rr_protocol.specs.declared.kind.Kind.TheVariants as kind;
 ghost use Rattle.rr_laws.specs.Unreduced.{ClientHasPool};
 ghost use Rattle.rr_ports.specs.Kinds.{Names, NamesNothing, KeepsKinds, RequestAsksFor};
-ghost use Rattle.rr_ports.specs.Loaning.{LoansFilled};
+ghost use Rattle.rr_ports.specs.Loaning.{AreDefaults, LoansComplete};
 ghost use Rattle.rr_protocol.specs.Loans.{LoansRequest};
 ghost use Rattle.rr_protocol.specs.State.{client_at, numbers_left};
 
@@ -62,9 +62,10 @@ impl<T: Drop> Client<SliceBody<T>> {
     }
 }
 
-impl<T: Copy + Default> Client<SliceBody<T>> {
-    /// Loans a request of `len` default elements, which can be sent. Takes no memory up to the initial slice length. After iceoryx2's
-    /// `Client::loan_slice`.
+impl<T: Default + Drop> Client<SliceBody<T>> {
+    /// Loans a request of `len` default elements, which can be sent. Takes no memory up to the initial slice length. Looks for the
+    /// request once for each element; for elements that can be copied, `loan_slice_uninit` and `fill` do once for all. After
+    /// iceoryx2's `Client::loan_slice`.
     ///
     /// # Errors
     ///
@@ -77,7 +78,7 @@ impl<T: Copy + Default> Client<SliceBody<T>> {
     ) -> Result<RequestMut<SliceBody<T>>, LoanError>
         requires kind { Names hub.old self.now kind.Client }
         requires number { 0 < numbers_left hub.old }
-        ensures loans { LoansFilled QH.is_default T.is_default hub.old self.now len result hub.new }
+        ensures loans { LoansComplete QH.is_default (AreDefaults T.is_default len) hub.old self.now len result hub.new }
         ensures unreduced { ClientHasPool hub.old.limits hub.old self.now len → result ≢ Err LoanError.OutOfMemory }
         ensures fresh { IfOk result (λ request. NamesNothing hub.old request) }
         ensures kind { IfOk result (λ request. Names hub.new request kind.RequestMut) }
@@ -85,6 +86,6 @@ impl<T: Copy + Default> Client<SliceBody<T>> {
         ensures numbers { numbers_left hub.old ≤ numbers_left hub.new + 1 }
     {
         let request = self.loan_slice_uninit(hub, len)?;
-        Ok(request.fill(hub, T::default()))
+        Ok(request.write_from_fn(hub, |_| T::default()))
     }
 }

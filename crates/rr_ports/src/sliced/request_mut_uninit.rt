@@ -1,9 +1,9 @@
 //! Writing the elements of a request.
 #![tactic(auto, using(crate::proofs::Asking::asks), unfolding(crate::specs::Kinds::Names, crate::specs::Kinds::RequestAsksFor))]
 
-ghost use Rattle.std.specs.Prelude.{◌≡◌, IsSomeAnd, option_and_then, false, length};
+ghost use Rattle.std.specs.Prelude.{◌≡◌, ℕ, IsSomeAnd, option_and_then, false, length};
 ghost use Rattle.rr_protocol.specs.declared.kind.Kind.TheVariants as kind;
-ghost use Rattle.rr_ports.specs.Filling.{CompletesRequest, FillsRequest, with_request_element};
+ghost use Rattle.rr_ports.specs.Filling.{CallableInOrder, CompletesRequest, FillsRequest, with_request_element};
 ghost use Rattle.rr_ports.specs.Kinds.{Names, KeepsKinds, KeepsKindsBut, RequestAsksFor};
 ghost use Rattle.rr_ports.specs.Loaning.{with_complete_request};
 ghost use Rattle.rr_protocol.specs.Messages.{request_in};
@@ -80,8 +80,9 @@ impl<T: Drop> RequestMutUninit<SliceBody<T>> {
     }
 
     /// Writes what a function returns for 0, 1, .., as many elements as are asked for, and makes the request one that can be sent.
-    /// Elements that were written before are dropped. Looks for the request once for each element; `write_from_slice` and `fill` do
-    /// once for all. After iceoryx2's `RequestMutUninit::write_from_fn`.
+    /// Elements that were written before are dropped. The function is called on each index below the asked length once, in order, and
+    /// has to take no other. Looks for the request once for each element; `write_from_slice` and `fill` do once for all. After
+    /// iceoryx2's `RequestMutUninit::write_from_fn`.
     #[inline(always)]
     pub fn write_from_fn<
         QH: Default + Drop,
@@ -91,7 +92,7 @@ impl<T: Drop> RequestMutUninit<SliceBody<T>> {
         F: FnMut(usize) -> T,
     >(self, hub: &mut Hub<SliceBody<T>, QH, PB, PH, K>, mut f: F) -> RequestMut<SliceBody<T>>
         requires kind { Names hub.old self kind.RequestMutUninit }
-        requires callable { F.IsAlwaysCallable f }
+        requires callable { (len : ℕ) → RequestAsksFor hub.old self len → CallableInOrder F.pre F.step f len }
         ensures same { result ≡ self }
         ensures written { FillsRequest F.step f hub.old hub.new self }
         ensures kind { Names hub.new result kind.RequestMut }

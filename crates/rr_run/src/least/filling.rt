@@ -15,8 +15,8 @@ use crate::least::{LeastPoolError, PoolCommand, PoolReply};
 use crate::runner::Runner;
 use rr_commands::Command;
 use rr_protocol::{
-    AllocationStrategy, BackpressureStrategy, ClientSettings, HubCreateError, Limits, NoHandler,
-    ServerSettings, UniqueNodeId,
+    AllocationStrategy, BackpressureStrategy, ClientSettings, Limits, NoHandler, ServerSettings,
+    UniqueNodeId,
 };
 use std::alloc::Global;
 
@@ -51,7 +51,6 @@ impl Filling {
     {
         let runner = match Runner::new(alloc, limits, UniqueNodeId(0)) {
             Ok(runner) => runner,
-            Err(HubCreateError::OutOfMemory) => return Err(LeastPoolError::OutOfMemory),
             Err(_) => return Err(LeastPoolError::WrongLimits),
         };
         let mut filling = Filling {

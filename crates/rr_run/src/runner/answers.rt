@@ -1,8 +1,9 @@
 //! Questions of a runner, which change nothing.
-ghost use Rattle.std.specs.Prelude.{◌≡◌, Some};
+ghost use Rattle.std.specs.Prelude.{◌≡◌, Some, true};
 ghost use Rattle.rr_commands.specs.declared.command.Command.{Command};
 ghost use Rattle.rr_commands.specs.Refusals.{number_in};
 ghost use Rattle.rr_commands.specs.Step.{Step};
+ghost use Rattle.rr_run.specs.Memory.{copies_elements, MayLackMemory};
 ghost use Rattle.rr_run.specs.Questions.{IsQuestion};
 
 use crate::runner::{ports, queries};
@@ -12,7 +13,7 @@ use rr_protocol::BackpressureFn;
 use rr_slots::Body;
 use std::alloc::Global;
 
-/// Answers a question of a port or of a handle; with `NoMemory` if no memory was found for a copy of a payload.
+/// Answers a question of a port or of a handle; with `NoMemory` if no memory was found for a copy of several elements.
 pub(crate) fn answer<T: Copy + Default, B: Body<Item = T>, H: Copy + Default, K: BackpressureFn>(
     core: &Core<B, H, B, H, K>,
     alloc: Global,
@@ -21,7 +22,8 @@ pub(crate) fn answer<T: Copy + Default, B: Body<Item = T>, H: Copy + Default, K:
 ) -> Reply<T, H>
     requires question { IsQuestion question }
     requires id { number_in question ≡ Some id.now }
-    ensures { Step K.action T.is_default H.is_default B.family core.now question result core.now }
+    ensures step { Step K.action T.is_default H.is_default B.family core.now question result core.now }
+    ensures copied { copies_elements question ≡ true → result ≡ Reply.NoMemory → MayLackMemory B.family core.now question }
 {
     match question {
         Command::IsDeliverable(_) => ports::is_deliverable(core, id),

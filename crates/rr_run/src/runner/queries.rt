@@ -1,7 +1,9 @@
 //! What a runner tells of handles. No query changes it.
-ghost use Rattle.std.specs.Prelude.{◌≡◌, IfOk};
+ghost use Rattle.std.specs.Prelude.{◌≡◌, ◌≢◌, ◌<◌, length, IfOk, OnErr};
+ghost use Rattle.rr_slots.specs.declared.family.Family.{Family};
 ghost use Rattle.rr_commands.specs.declared.command.Command.{Command};
 ghost use Rattle.rr_commands.specs.Step.{Step};
+ghost use Rattle.rr_run.specs.Memory.{MayLackMemory};
 
 use crate::runner::naming::{self, Named};
 use rr_commands::{Elements, Reply};
@@ -10,13 +12,14 @@ use rr_protocol::{BackpressureFn, Kind};
 use rr_slots::Body;
 use std::alloc::{AllocError, Global};
 
-/// A handle's elements. `NoMemory` if none was found for a copy of them.
+/// Returns a handle's elements, or `NoMemory` if there are several and no memory was found for a copy.
 pub(crate) fn payload<T: Copy + Default, B: Body<Item = T>, H: Copy + Default, K: BackpressureFn>(
     core: &Core<B, H, B, H, K>,
     alloc: Global,
     id: &HandleId,
 ) -> Reply<T, H>
-    ensures { Step K.action T.is_default H.is_default B.family core.now (Command.Payload id.now) result core.now }
+    ensures step { Step K.action T.is_default H.is_default B.family core.now (Command.Payload id.now) result core.now }
+    ensures memory { result ≡ Reply.NoMemory → MayLackMemory B.family core.now (Command.Payload id.now) }
 {
     match naming::message(core, id) {
         Named::Request => match elements_of(alloc, core.request_body(id)) {
@@ -32,12 +35,14 @@ pub(crate) fn payload<T: Copy + Default, B: Body<Item = T>, H: Copy + Default, K
     }
 }
 
-/// A copy of a body's elements.
+/// Returns a copy of a body's elements, or an error if there are several and no memory was found for them.
 fn elements_of<T: Copy, B: Body<Item = T>>(
     alloc: Global,
     body: &B,
 ) -> Result<Elements<T>, AllocError>
-    ensures { IfOk result (λ elements. elements ≡ B.elements body.now) }
+    ensures ok { IfOk result (λ elements. elements ≡ B.elements body.now) }
+    ensures several { OnErr result (1 < length (B.elements body.now)) }
+    ensures sliced { OnErr result (B.family ≢ Family.Typed) }
 {
     if body.len() == 1 {
         return Ok(Elements::from([*body.get(0)]));
@@ -45,9 +50,10 @@ fn elements_of<T: Copy, B: Body<Item = T>>(
     Ok(Elements::from(vector_of(alloc, body)?))
 }
 
-/// A copy of a body's elements, in a vector.
+/// Returns a copy of a body's elements, in a vector, or an error if there are some and no memory was found for them.
 fn vector_of<T: Copy, B: Body<Item = T>>(alloc: Global, body: &B) -> Result<Vec<T>, AllocError>
-    ensures { IfOk result (λ elements. elements.items ≡ B.elements body.now) }
+    ensures ok { IfOk result (λ elements. elements.items ≡ B.elements body.now) }
+    ensures some { OnErr result (0 < length (B.elements body.now)) }
 {
     let mut items = Vec::new(alloc);
     items.reserve(body.len())?;

@@ -2,7 +2,7 @@
 use super::scripts::{CLIENT, PORTS, Row, failing};
 
 /// Messages that can be sent at once.
-const WRITTEN: [Row; 3] = [
+pub(super) const WRITTEN: [Row; 3] = [
     Row {
         name: "a request of a default element is sent and received",
         start: PORTS,
@@ -52,7 +52,7 @@ fn a_message_of_default_elements_can_be_sent_at_once(rt: HostRuntime) {
 }
 
 /// Loans that are refused.
-const REFUSED: [Row; 4] = [
+pub(super) const REFUSED: [Row; 4] = [
     Row {
         name: "a client and an active request loan, and nothing else",
         start: PORTS,
@@ -120,7 +120,7 @@ fn a_loan_of_default_elements_can_be_refused(rt: HostRuntime) {
 }
 
 /// Slices of default elements, of none, and of more than memory holds.
-const SLICES: [Row; 3] = [
+pub(super) const SLICES: [Row; 3] = [
     Row {
         name: "each element of a slice is a default",
         start: "hub sliced 1 1 2 1 1 1 - 1 1 -> done\n",

@@ -1,7 +1,9 @@
-//! Reads and writes that fail, each at every call.
-use super::scripts::{BASE_PATH, PORTS, told, words};
+//! Reads and writes that fail: of every row, each call in turn.
+use super::least::PoolRow;
+use super::scripts::{Row, told, words};
+use super::{defaults, least, leaving, pools, questions, queues, rewriting, rows, slices};
 use rr_script::serve_alone;
-use std::alloc::{AllocError, Global};
+use std::alloc::Global;
 use std::io::{self, BufReader, Read, Write};
 
 /// How many bytes a read gives at most.
@@ -47,22 +49,42 @@ impl Write for FailingWriter {
     }
 }
 
-/// What a program did: its status, how much of what is wanted it wrote (`None` if it wrote anything else), how many writes were
-/// left, and whether it told a fault that is wanted.
-#[derive(Clone, Copy, Debug, PartialEq, Eq)]
-struct Ended {
+/// What a program is handed, and how it ends where nothing fails.
+#[derive(Clone, Copy)]
+struct Case<'a> {
+    words: &'a [String],
+    input: &'a [u8],
     status: u8,
-    written: Option<usize>,
-    writes_left: usize,
-    is_fault_right: bool,
+    output: &'a [u8],
+    fault: &'a [u8],
 }
 
-/// Plays the base path, of which so many reads and writes succeed.
-fn played(alloc: Global, reads: usize, writes: usize, wanted_fault: &[u8]) -> io::Result<Ended> {
-    let story = told(alloc, PORTS, BASE_PATH)?;
-    let words = words(alloc, "script")?;
+/// Which calls fail.
+#[derive(Clone, Copy)]
+enum Side {
+    Reads,
+    Writes,
+}
+
+/// How a run ended of which a call failed, or was to fail.
+#[derive(Clone, Copy, PartialEq, Eq)]
+enum End {
+    /// With status 2 and the fault's text, after a beginning of what is wanted.
+    Fault,
+    /// As where nothing fails: the call was not reached.
+    Whole,
+    /// In another way.
+    Other,
+}
+
+/// Runs a case, of which so many reads or writes succeed.
+fn end_of(alloc: Global, case: &Case, side: Side, calls: usize) -> io::Result<End> {
+    let (reads, writes, text) = match side {
+        Side::Reads => (calls, usize::MAX, "read fault\n"),
+        Side::Writes => (usize::MAX, calls, "write fault\n"),
+    };
     let input = FailingReader {
-        bytes: story.input.as_bytes(),
+        bytes: case.input,
         reads,
     };
     let input = BufReader::new(alloc, input)?;
@@ -71,77 +93,115 @@ fn played(alloc: Global, reads: usize, writes: usize, wanted_fault: &[u8]) -> io
         writes,
     };
     let mut fault = Vec::new(alloc);
-    let status = serve_alone(alloc, words.as_slice(), input, &mut output, &mut fault);
-    let is_begun = story
-        .wanted
-        .as_bytes()
-        .starts_with(output.written.as_slice());
-    Ok(Ended {
-        status,
-        written: if is_begun {
-            Some(output.written.len())
-        } else {
-            None
-        },
-        writes_left: output.writes,
-        is_fault_right: fault.as_slice() == wanted_fault,
-    })
+    let status = serve_alone(alloc, case.words, input, &mut output, &mut fault);
+    let written = output.written.as_slice();
+    if status == case.status && written == case.output && fault.as_slice() == case.fault {
+        return Ok(End::Whole);
+    }
+    let is_fault = status == 2 && fault.as_slice() == text.as_bytes();
+    if is_fault && case.output.starts_with(written) {
+        return Ok(End::Fault);
+    }
+    Ok(End::Other)
 }
 
-/// Returns how many bytes the base path has, and how many are wanted from it.
-fn lengths(alloc: Global) -> Result<(usize, usize), AllocError> {
-    let story = told(alloc, PORTS, BASE_PATH)?;
-    Ok((story.input.len(), story.wanted.len()))
-}
+/// The most calls that a run may take.
+const MOST: usize = 1000;
 
-/// Plays the base path with so many reads, from 0 on. Returns how much was written with the most, if each ended with the fault
-/// of a read and wrote no less than the one before.
-fn most_written(alloc: Global, reads: usize) -> io::Result<Option<usize>> {
-    let mut most = 0;
-    for read in 0..reads {
-        let ended = played(alloc, read, usize::MAX, b"read fault\n")?;
-        match ended.written {
-            Some(written) => {
-                if ended.status != 2 || !ended.is_fault_right || written < most {
-                    return Ok(None);
-                }
-                most = written;
-            }
-            None => return Ok(None),
+/// Returns whether a case ends with a fault at each of its calls, of which there is one at least.
+fn fails_at_each(alloc: Global, case: &Case, side: Side) -> io::Result<bool> {
+    for calls in 0..MOST {
+        match end_of(alloc, case, side, calls)? {
+            End::Fault => {}
+            End::Whole => return Ok(0 < calls),
+            End::Other => return Ok(false),
         }
     }
-    Ok(Some(most))
+    Ok(false)
+}
+
+/// Returns the name of the first script that doesn't end with a fault at each of its calls.
+fn failing(
+    alloc: Global,
+    rows: &[Row],
+    status: u8,
+    side: Side,
+) -> io::Result<Option<&'static str>> {
+    let words = words(alloc, "script")?;
+    for row in rows {
+        let story = told(alloc, row.start, row.lines)?;
+        let case = Case {
+            words: words.as_slice(),
+            input: story.input.as_bytes(),
+            status,
+            output: story.wanted.as_bytes(),
+            fault: if status == 0 { b"" } else { b"refused\n" },
+        };
+        if !fails_at_each(alloc, &case, side)? {
+            return Ok(Some(row.name));
+        }
+    }
+    Ok(None)
+}
+
+/// Returns the words of the first pool that reads its input and doesn't end with a fault at each of its calls.
+fn failing_pool(alloc: Global, pools: &[PoolRow], side: Side) -> io::Result<Option<&'static str>> {
+    for row in pools {
+        let words = words(alloc, row.words)?;
+        let case = Case {
+            words: words.as_slice(),
+            input: row.input.as_bytes(),
+            status: row.status,
+            output: row.output.as_bytes(),
+            fault: row.fault.as_bytes(),
+        };
+        if row.status == 0 && !fails_at_each(alloc, &case, side)? {
+            return Ok(Some(row.words));
+        }
+    }
+    Ok(None)
+}
+
+/// Returns the name of the first row, of all, that doesn't end with a fault at each of its calls.
+fn failing_row(alloc: Global, side: Side) -> io::Result<Option<&'static str>> {
+    for rows in [
+        &rows::REQUESTS[..],
+        &rows::WRITING[..],
+        &rows::LIMITS[..],
+        &rows::STRANGERS[..],
+        &queues::FULL_QUEUES[..],
+        &queues::LATE_ANSWERS[..],
+        &leaving::PLACES[..],
+        &leaving::SERVERS[..],
+        &leaving::CLIENTS[..],
+        &pools::POOLS[..],
+        &slices::SLICES[..],
+        &questions::HANDLES[..],
+        &questions::QUEUES[..],
+        &rewriting::ELEMENTS[..],
+        &rewriting::HEADERS[..],
+        &defaults::WRITTEN[..],
+        &defaults::REFUSED[..],
+        &defaults::SLICES[..],
+    ] {
+        if let Some(name) = failing(alloc, rows, 0, side)? {
+            return Ok(Some(name));
+        }
+    }
+    if let Some(name) = failing(alloc, &rows::NO_HUBS, 4, side)? {
+        return Ok(Some(name));
+    }
+    failing_pool(alloc, &least::POOLS, side)
 }
 
 #[test]
-fn each_read_that_fails_ends_the_script(rt: HostRuntime) -> io::Result<()> {
-    let (input, wanted) = lengths(rt.alloc())?;
-    // Of the last read nothing comes, and a read of fewer bytes than it may give is none.
-    let reads = input.div_ceil(STEP).saturating_add(1);
-    assert_eq!(rt; most_written(rt.alloc(), reads)?, Some(wanted));
-    assert_eq!(rt; played(rt.alloc(), reads, usize::MAX, b"")?.status, 0);
+fn each_read_that_fails_ends_a_row(rt: HostRuntime) -> io::Result<()> {
+    assert_eq!(rt; failing_row(rt.alloc(), Side::Reads)?, None);
     Ok(())
 }
 
-/// Plays the base path with so many writes, from 0 on. Returns whether each ended with the fault of a write, after a beginning
-/// of what is wanted.
-fn each_write_ends(alloc: Global, writes: usize) -> io::Result<bool> {
-    for write in 0..writes {
-        let ended = played(alloc, usize::MAX, write, b"write fault\n")?;
-        if ended.status != 2 || !ended.is_fault_right || ended.written.is_none() {
-            return Ok(false);
-        }
-    }
-    Ok(true)
-}
-
 #[test]
-fn each_write_that_fails_ends_the_script(rt: HostRuntime) -> io::Result<()> {
-    let (_, wanted) = lengths(rt.alloc())?;
-    let whole = played(rt.alloc(), usize::MAX, usize::MAX, b"")?;
-    assert_eq!(rt; (whole.status, whole.written), (0, Some(wanted)));
-    let writes = usize::MAX - whole.writes_left;
-    assert!(rt; 9 < writes);
-    assert!(rt; each_write_ends(rt.alloc(), writes)?);
+fn each_write_that_fails_ends_a_row(rt: HostRuntime) -> io::Result<()> {
+    assert_eq!(rt; failing_row(rt.alloc(), Side::Writes)?, None);
     Ok(())
 }

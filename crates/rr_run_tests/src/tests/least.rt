@@ -4,12 +4,12 @@ use std::alloc::{AllocError, Global};
 
 /// A pool of a hub: the words after the program's name, the input, and how the program ends.
 #[derive(Clone, Copy)]
-struct PoolRow {
-    words: &'static str,
-    input: &'static str,
-    status: u8,
-    output: &'static str,
-    fault: &'static str,
+pub(super) struct PoolRow {
+    pub(super) words: &'static str,
+    pub(super) input: &'static str,
+    pub(super) status: u8,
+    pub(super) output: &'static str,
+    pub(super) fault: &'static str,
 }
 
 const SMALL: &str = "hub typed 1 1 1 1 1 1 - 0 0";
@@ -19,7 +19,7 @@ const TWO_SERVERS: &str = "hub typed 1 2 1 1 1 1 - 0 0";
 const USAGE: &str = "usage: rr script or rr threads K or rr least N\n";
 
 /// Pools below the worst case, of it and above.
-const POOLS: [PoolRow; 7] = [
+pub(super) const POOLS: [PoolRow; 7] = [
     PoolRow {
         words: "least 0",
         input: SMALL,
@@ -141,7 +141,7 @@ error OutOfMemory
 ];
 
 /// Words and inputs that are none, a hub that isn't made, and lines that nobody looks at.
-const EDGES: [PoolRow; 9] = [
+pub(super) const EDGES: [PoolRow; 9] = [
     PoolRow {
         words: "least",
         input: SMALL,

@@ -2,7 +2,7 @@
 use super::scripts::{PORTS, Row, failing};
 
 /// Ports that are kept by a handle, and places that are taken again.
-const PLACES: [Row; 4] = [
+pub(super) const PLACES: [Row; 4] = [
     Row {
         name: "a server is kept by its active request, and leaves with it",
         start: PORTS,
@@ -91,7 +91,7 @@ fn a_port_leaves_with_its_last_handle(rt: HostRuntime) {
 }
 
 /// Servers that left, whose responses were not received.
-const SERVERS: [Row; 8] = [
+pub(super) const SERVERS: [Row; 8] = [
     Row {
         name: "what a server sent before it left is received",
         start: PORTS,
@@ -259,7 +259,7 @@ fn responses_of_a_server_that_left_are_kept_to_a_length(rt: HostRuntime) {
 }
 
 /// Clients that left, whose requests were not received.
-const CLIENTS: [Row; 6] = [
+pub(super) const CLIENTS: [Row; 6] = [
     Row {
         name: "a request outlives its client with fire-and-forget",
         start: "hub typed 2 1 2 2 2 1 f 1 1 -> done\n",
@@ -269,12 +269,14 @@ server discard 1 static - 1 -> created 1
 copy 0 7 -> pending 2 1
 drop 2 -> done
 drop 0 -> done
+has 1 -> true
 recv 1 -> active 3 2
 conn 3 -> false
+origin 3 -> id 0
 data 3 -> data 7
 copy 3 9 -> sent 4
 drop 3 -> done
-recv 1 -> none
+has 1 -> false
 ",
     },
     Row {
@@ -284,6 +286,7 @@ recv 1 -> none
 copy 0 7 -> pending 2 1
 drop 2 -> done
 drop 0 -> done
+has 1 -> false
 recv 1 -> none
 ",
     },

@@ -2,7 +2,7 @@
 use super::scripts::{CLIENT, HUB, Row, failing};
 
 /// Overrides of the sizes of pools.
-const POOLS: [Row; 8] = [
+pub(super) const POOLS: [Row; 8] = [
     Row {
         name: "an override of 0 makes a pool of 1",
         start: "hub typed 2 1 5 1 2 1 - 1 1 -> done\n",

@@ -2,7 +2,7 @@
 use super::scripts::{CLIENT, HUB, PORTS, Row, failing};
 
 /// Questions of handles.
-const HANDLES: [Row; 7] = [
+pub(super) const HANDLES: [Row; 7] = [
     Row {
         name: "a request has its client's next id, and a loan that is not sent uses one up",
         start: CLIENT,
@@ -160,7 +160,7 @@ fn a_handle_is_asked(rt: HostRuntime) {
 }
 
 /// Questions of ports and of queues.
-const QUEUES: [Row; 5] = [
+pub(super) const QUEUES: [Row; 5] = [
     Row {
         name: "a port has its settings",
         start: HUB,

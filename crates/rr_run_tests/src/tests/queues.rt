@@ -2,7 +2,7 @@
 use super::scripts::{HUB, PORTS, Row, failing};
 
 /// Queues that are full.
-const FULL_QUEUES: [Row; 6] = [
+pub(super) const FULL_QUEUES: [Row; 6] = [
     Row {
         name: "a refused request was delivered to nobody",
         start: "hub typed 2 2 2 2 2 1 - 1 1 -> done\n",
@@ -17,7 +17,8 @@ recv 1 -> active 6 4
 drop 3 -> done
 drop 4 -> done
 copy 0 3 -> error SendError UnableToDeliver
-recv 1 -> none
+has 1 -> false
+has 2 -> true
 ",
     },
     Row {
@@ -113,7 +114,7 @@ fn a_full_queue_gives_way_or_refuses(rt: HostRuntime) {
 }
 
 /// Answers to requests that were released, or whose active request was.
-const LATE_ANSWERS: [Row; 5] = [
+pub(super) const LATE_ANSWERS: [Row; 5] = [
     Row {
         name: "an answer to a released request is lost",
         start: PORTS,
@@ -143,7 +144,9 @@ drop 2 -> done
 drop 3 -> done
 copy 0 11 -> pending 5 1
 send 4 -> sent 4
+has 5 -> false
 recv 5 -> none
+has 5 -> false
 ",
     },
     Row {
@@ -165,6 +168,7 @@ recv 1 -> active 6 5
 loan 6 1 -> loaned 7
 push 7 78 -> true
 init 7 -> done
+ready 7 -> true
 send 7 -> sent 7
 recv 5 -> response 7
 data 7 -> data 78
@@ -216,8 +220,10 @@ send 7 -> sent 7
 recv 1 -> active 9 8
 copy 9 12 -> sent 10
 recv 8 -> response 10
+head 10 -> response-header 1 1 1 0
 data 10 -> data 12
 recv 8 -> none
+has 8 -> false
 drop 8 -> done
 drop 9 -> done
 recv 2 -> none

@@ -2,7 +2,7 @@
 use super::scripts::{PORTS, Row, failing};
 
 /// Elements that are replaced.
-const ELEMENTS: [Row; 2] = [
+pub(super) const ELEMENTS: [Row; 2] = [
     Row {
         name: "an element of a request is replaced where one stands, until it is sent",
         start: PORTS,
@@ -56,7 +56,7 @@ fn an_element_is_replaced(rt: HostRuntime) {
 }
 
 /// User headers that are replaced.
-const HEADERS: [Row; 3] = [
+pub(super) const HEADERS: [Row; 3] = [
     Row {
         name: "a user header is of one request, until it is sent",
         start: PORTS,

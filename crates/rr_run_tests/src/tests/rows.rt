@@ -2,7 +2,7 @@
 use super::scripts::{BASE_PATH, CLIENT, HUB, PORTS, Row, ends, failing};
 
 /// Requests that are answered, received, or wait for nobody.
-const REQUESTS: [Row; 7] = [
+pub(super) const REQUESTS: [Row; 7] = [
     Row {
         name: "the base path",
         start: PORTS,
@@ -93,7 +93,25 @@ fn a_request_is_received_and_answered(rt: HostRuntime) {
 }
 
 /// Messages that are written before they are sent.
-const WRITING: [Row; 2] = [
+pub(super) const WRITING: [Row; 3] = [
+    Row {
+        name: "an active request has one response on loan",
+        start: PORTS,
+        lines: "\
+copy 0 1 -> pending 2 1
+recv 1 -> active 3 2
+loan 3 1 -> loaned 4
+loan 3 1 -> error ExceedsMaxLoans
+push 4 1234 -> true
+set 4 0 456 -> true
+init 4 -> done
+send 4 -> sent 4
+loan 3 1 -> loaned 5
+recv 2 -> response 4
+data 4 -> data 456
+head 4 -> response-header 1 0 1 0
+",
+    },
     Row {
         name: "a request is loaned, written and sent",
         start: "hub typed 1 1 1 1 1 1 - 1 1 -> done\n",
@@ -142,7 +160,7 @@ fn a_message_is_sent_once_it_is_written(rt: HostRuntime) {
 }
 
 /// Limits on what is on loan, waited for, or borrowed.
-const LIMITS: [Row; 6] = [
+pub(super) const LIMITS: [Row; 6] = [
     Row {
         name: "a client loans no more than it may",
         start: CLIENT,
@@ -234,7 +252,7 @@ fn what_is_above_a_limit_is_refused(rt: HostRuntime) {
 }
 
 /// What is refused before a command acts.
-const STRANGERS: [Row; 3] = [
+pub(super) const STRANGERS: [Row; 3] = [
     Row {
         name: "a number that names nothing is unknown",
         start: PORTS,
@@ -287,18 +305,27 @@ fn strangers_are_refused(rt: HostRuntime) {
     assert_eq!(rt; failing(rt.alloc(), &STRANGERS), Ok(None));
 }
 
-#[test]
-fn limits_make_no_hub(rt: HostRuntime) {
-    let zero = Row {
+/// Limits that make no hub.
+pub(super) const NO_HUBS: [Row; 2] = [
+    Row {
         name: "a limit of 0",
         start: "",
         lines: "hub typed 0 1 2 2 2 1 - 1 1 -> error ZeroLimit\n",
-    };
-    assert!(rt; ends(rt.alloc(), &zero, 4, "refused\n") == Ok(true));
-    let large = Row {
+    },
+    Row {
         name: "limits whose pools can't be counted",
         start: "",
         lines: "hub typed 2 18446744073709551615 2 2 2 1 - 1 1 -> error LimitsTooLarge\n",
-    };
-    assert!(rt; ends(rt.alloc(), &large, 4, "refused\n") == Ok(true));
+    },
+];
+
+#[test]
+fn limits_make_no_hub(rt: HostRuntime) {
+    for row in NO_HUBS {
+        assert!(rt;
+            ends(rt.alloc(), &row, 4, "refused\n") == Ok(true),
+            "{}",
+            row.name
+        );
+    }
 }

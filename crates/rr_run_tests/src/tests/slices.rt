@@ -2,7 +2,7 @@
 use super::scripts::{Row, failing};
 
 /// Slices of a static pool with room for 32 elements, of a pool without room, and of pools that grow.
-const SLICES: [Row; 9] = [
+pub(super) const SLICES: [Row; 9] = [
     Row {
         name: "a slice is not longer than a static pool has room for",
         start: "hub sliced 2 1 2 2 2 1 - 1 1 -> done\n",

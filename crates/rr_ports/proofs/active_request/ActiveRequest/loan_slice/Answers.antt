@@ -1,12 +1,18 @@
+use Rattle.std.proofs.Common.{rules}
+use Rattle.rr_ports.proofs.Fillings.{response_defaults}
 use Rattle.rr_ports.proofs.Frames.{kept_through}
-use Rattle.rr_ports.proofs.CopyLaws.{response_filled}
+use Rattle.rr_ports.proofs.CopyLaws.{response_completed}
+use Rattle.rr_ports.specs.Loaning.{AreDefaults}
 use Rattle.rr_ports.proofs.active_request.ActiveRequest.loan_slice.Goals as goal
 
 pub returns-clause-loans : goal.returns-clause-loans
 returns-clause-loans g c =
-    response_filled c.args.hub.now c.loan_slice_uninit.new.hub c.fill.new.hub c.args.self.now c.in_ok-response.response g.PH.Default.is_default g.T.Default.is_default c.args.len
-    c.default.result c.fill.result c.fill.ensures.same c.in_ok-response.ensures.loans c.default.ensures c.fill.ensures.written
+    let w = c.write_from_fn.ensures.written in
+    let are = response_defaults _ c.loan_slice_uninit.new.hub c.write_from_fn.new.hub c.in_ok-response.response c.args.len _ w g.T.Default.is_default
+    (λ p k x q h. search rules) c.in_ok-response.ensures.asked in
+    response_completed c.args.hub.now c.loan_slice_uninit.new.hub c.write_from_fn.new.hub c.args.self.now c.in_ok-response.response g.PH.Default.is_default
+    (AreDefaults g.T.Default.is_default c.args.len) c.args.len w.elements c.write_from_fn.result c.write_from_fn.ensures.same c.in_ok-response.ensures.loans are w.written
 
 pub returns-clause-kinds : goal.returns-clause-kinds
 returns-clause-kinds g c =
-    kept_through c.args.hub.now c.loan_slice_uninit.new.hub c.fill.new.hub c.in_ok-response.response c.in_ok-response.ensures.fresh c.in_ok-response.ensures.kinds c.fill.ensures.kinds
+    kept_through c.args.hub.now c.loan_slice_uninit.new.hub c.write_from_fn.new.hub c.in_ok-response.response c.in_ok-response.ensures.fresh c.in_ok-response.ensures.kinds c.write_from_fn.ensures.kinds

@@ -8,8 +8,8 @@ alone [] x one is = absurd (omega (arith, one))
 alone (y ∷ []) x one is = ap (λ z. z ∷ []) (sym is)
 alone (y ∷ z ∷ ys) x one is = absurd (omega (arith, one))
 
-pub returns-then-len-eq1 : goal.returns-then-len-eq1
-returns-then-len-eq1 g c =
+pub returns-then-len-eq1-clause-ok : goal.returns-then-len-eq1-clause-ok
+returns-then-len-eq1-clause-ok g c =
     let xs = g.B.Body.elements c.args.body.now in
     let x = c.get.result.now in
     c.from.ensures ∙ alone xs x (sym c.len.ensures ∙ c.if-len-eq1.true) (get_or_from_slice_get xs 0 x x c.get.ensures)

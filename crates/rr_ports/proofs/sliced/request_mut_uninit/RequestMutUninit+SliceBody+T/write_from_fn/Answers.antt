@@ -1,7 +1,9 @@
-use Rattle.std.proofs.Common.{◌≡◌, ◌<◌, ◌≤◌, length, sym, ap, ◌∙◌, subst, refl, of_calls, inl, arith}
+use Rattle.std.proofs.Common.{◌≡◌, ◌<◌, ◌≤◌, length, sym, ap, ◌∙◌, subst, refl, inl, arith}
 use Rattle.rr_protocol.specs.declared.kind.Kind.{Kind}
 use Rattle.rr_protocol.specs.Writing.{with_elements}
-use Rattle.rr_ports.specs.Kinds.{Names}
+use Rattle.std.specs.Prelude.{IsSomeAnd, option_and_then}
+use Rattle.rr_protocol.specs.Messages.{request_in}
+use Rattle.rr_ports.specs.Kinds.{Names, RequestAsksFor}
 use Rattle.rr_ports.proofs.FillLaws.{fill_start, filling_kind}
 use Rattle.rr_ports.proofs.Fillings.{held_request, request_being_written, request_put, request_ready, fills_request}
 use Rattle.rr_ports.proofs.WriteLaws.{request_written_names, request_written_but}
@@ -13,37 +15,41 @@ loop-index-init g c =
     let m = request_being_written c.hub.inside.core c.self.inside.id (rw (← c.hub.view_is, ← c.self.view_is) at c.requires.kind) in
     let long : length m.0.content.elements ≡ c.lens-asked.result.1 =
     ap length (sym (rw (m.1) at c.request_body.ensures.elements)) ∙ sym c.lens-asked.ensures.written in
-    rw (← c.hub.view_is) (record {
-      callable = c.requires.callable;
-      so_far = fill_start held_request (goal.F-step g) c.args.f c.hub.inside.core c.self.inside.id c.lens-asked.result.1 m.0 m.0.content.elements m.1 long;
-    })
+    rw (← c.hub.view_is) (
+    fill_start held_request (goal.F-step g) c.args.f c.hub.inside.core c.self.inside.id c.lens-asked.result.1 m.0 m.0.content.elements m.1 long)
 
 pub put_request-requires : goal.put_request-requires
 unfolding Names
 put_request-requires g c =
     filling_kind held_request (goal.F-step g) c.args.f c.args.hub.now c.self.inside.id c.lens-asked.result.1 c.loop-index.hub c.loop-index.index c.loop-index.f
-    c.loop-index.invariant.so_far Kind.RequestMutUninit (λ e. cc) (λ e. cc) (rw (← c.self.view_is) at c.requires.kind) refl
+    c.loop-index.invariant Kind.RequestMutUninit (λ e. cc) (λ e. cc) (rw (← c.self.view_is) at c.requires.kind) refl
+
+pub f-requires : goal.f-requires
+unfolding RequestAsksFor
+f-requires g c =
+    let w = c.loop-index.invariant in
+    let few : length w.elements < c.lens-asked.result.0 = (let a = w.count in let b = c.loop-index-test.true in omega arith) in
+    let asked = c.lens-asked.ensures.asked ∙ (rw (w.was) at (rw c.hub.view_is at c.request_body.ensures.asked)) in
+    let asks = subst (λ o. IsSomeAnd (option_and_then request_in o) (λ m. c.lens-asked.result.0 ≡ m.content.asked_len)) (sym w.was) asked in
+    subst (λ k. goal.F-pre g c.loop-index.f k) w.count
+    ((c.requires.callable c.lens-asked.result.0 (rw (← c.self.view_is) asks)).at w.elements c.loop-index.f w.returned few)
 
 pub loop-index-preserved : goal.loop-index-preserved
 loop-index-preserved g c =
-    let w = c.loop-index.invariant.so_far in
+    let w = c.loop-index.invariant in
     let asked = c.lens-asked.ensures.asked ∙ (rw (w.was) at (rw c.hub.view_is at c.request_body.ensures.asked)) in
-    record {
-      callable = search of_calls;
-      so_far =
-          request_put c.args.f c.args.hub.now c.self.inside.id c.lens-asked.result.1 c.loop-index.hub c.loop-index.index c.loop-index.f c.put_request.new.hub c.f.new.self
-          (goal.F-step g) w c.f.result c.f.ensures (subst (λ k. c.loop-index.index < k) asked c.loop-index-test.true) c.put_request.ensures;
-    }
+    request_put c.args.f c.args.hub.now c.self.inside.id c.lens-asked.result.1 c.loop-index.hub c.loop-index.index c.loop-index.f c.put_request.new.hub c.f.new.self
+    (goal.F-step g) w c.f.result c.f.ensures (subst (λ k. c.loop-index.index < k) asked c.loop-index-test.true) c.put_request.ensures
 
 pub assume_init-requires-clause-uninit : goal.assume_init-requires-clause-uninit
 unfolding Names
 assume_init-requires-clause-uninit g c =
     inl (rw c.hub-2.view_is (filling_kind held_request (goal.F-step g) c.args.f c.args.hub.now c.self.inside.id c.lens-asked.result.1 c.loop-index.hub c.loop-index.index c.loop-index.f
-    c.loop-index.invariant.so_far Kind.RequestMutUninit (λ e. cc) (λ e. cc) (rw (← c.self.view_is) at c.requires.kind) refl))
+    c.loop-index.invariant Kind.RequestMutUninit (λ e. cc) (λ e. cc) (rw (← c.self.view_is) at c.requires.kind) refl))
 
 pub assume_init-requires-clause-complete : goal.assume_init-requires-clause-complete
 assume_init-requires-clause-complete g c =
-    let w = c.loop-index.invariant.so_far in
+    let w = c.loop-index.invariant in
     let end : c.loop-index.index ≡ c.lens-asked.result.0 = (let a = c.loop-index-test.false in let b = c.loop-index.auto.index-end in omega arith) in
     let all : w.message.content.asked_len ≡ c.loop-index.index =
     sym (end ∙ c.lens-asked.ensures.asked ∙ (rw (w.was) at (rw c.hub.view_is at c.request_body.ensures.asked))) in
@@ -52,7 +58,7 @@ assume_init-requires-clause-complete g c =
 
 pub returns-clause-written : goal.returns-clause-written
 returns-clause-written g c =
-    let w = c.loop-index.invariant.so_far in
+    let w = c.loop-index.invariant in
     let end : c.loop-index.index ≡ c.lens-asked.result.0 = (let a = c.loop-index-test.false in let b = c.loop-index.auto.index-end in omega arith) in
     let all : w.message.content.asked_len ≡ c.loop-index.index =
     sym (end ∙ c.lens-asked.ensures.asked ∙ (rw (w.was) at (rw c.hub.view_is at c.request_body.ensures.asked))) in

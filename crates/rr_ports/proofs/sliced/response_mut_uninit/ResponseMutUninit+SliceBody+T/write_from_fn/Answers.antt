@@ -1,7 +1,9 @@
-use Rattle.std.proofs.Common.{◌≡◌, ◌<◌, ◌≤◌, length, sym, ap, ◌∙◌, subst, refl, of_calls, inr, arith}
+use Rattle.std.proofs.Common.{◌≡◌, ◌<◌, ◌≤◌, length, sym, ap, ◌∙◌, subst, refl, inr, arith}
 use Rattle.rr_protocol.specs.declared.kind.Kind.{Kind}
 use Rattle.rr_protocol.specs.Writing.{with_elements}
-use Rattle.rr_ports.specs.Kinds.{Names}
+use Rattle.std.specs.Prelude.{IsSomeAnd, option_and_then}
+use Rattle.rr_protocol.specs.Messages.{response_in}
+use Rattle.rr_ports.specs.Kinds.{Names, ResponseAsksFor}
 use Rattle.rr_ports.proofs.FillLaws.{fill_start, filling_kind}
 use Rattle.rr_ports.proofs.Fillings.{held_response, response_being_written, response_put, response_ready, fills_response}
 use Rattle.rr_ports.proofs.WriteLaws.{response_written_names, response_written_but}
@@ -13,37 +15,41 @@ loop-index-init g c =
     let m = response_being_written c.hub.inside.core c.self.inside.id (rw (← c.hub.view_is, ← c.self.view_is) at c.requires.kind) in
     let long : length m.0.content.elements ≡ c.lens-asked.result.1 =
     ap length (sym (rw (m.1) at c.response_body.ensures.elements)) ∙ sym c.lens-asked.ensures.written in
-    rw (← c.hub.view_is) (record {
-      callable = c.requires.callable;
-      so_far = fill_start held_response (goal.F-step g) c.args.f c.hub.inside.core c.self.inside.id c.lens-asked.result.1 m.0 m.0.content.elements m.1 long;
-    })
+    rw (← c.hub.view_is) (
+    fill_start held_response (goal.F-step g) c.args.f c.hub.inside.core c.self.inside.id c.lens-asked.result.1 m.0 m.0.content.elements m.1 long)
 
 pub put_response-requires : goal.put_response-requires
 unfolding Names
 put_response-requires g c =
     filling_kind held_response (goal.F-step g) c.args.f c.args.hub.now c.self.inside.id c.lens-asked.result.1 c.loop-index.hub c.loop-index.index c.loop-index.f
-    c.loop-index.invariant.so_far Kind.ResponseMutUninit (λ e. cc) (λ e. cc) (rw (← c.self.view_is) at c.requires.kind) refl
+    c.loop-index.invariant Kind.ResponseMutUninit (λ e. cc) (λ e. cc) (rw (← c.self.view_is) at c.requires.kind) refl
+
+pub f-requires : goal.f-requires
+unfolding ResponseAsksFor
+f-requires g c =
+    let w = c.loop-index.invariant in
+    let few : length w.elements < c.lens-asked.result.0 = (let a = w.count in let b = c.loop-index-test.true in omega arith) in
+    let asked = c.lens-asked.ensures.asked ∙ (rw (w.was) at (rw c.hub.view_is at c.response_body.ensures.asked)) in
+    let asks = subst (λ o. IsSomeAnd (option_and_then response_in o) (λ m. c.lens-asked.result.0 ≡ m.content.asked_len)) (sym w.was) asked in
+    subst (λ k. goal.F-pre g c.loop-index.f k) w.count
+    ((c.requires.callable c.lens-asked.result.0 (rw (← c.self.view_is) asks)).at w.elements c.loop-index.f w.returned few)
 
 pub loop-index-preserved : goal.loop-index-preserved
 loop-index-preserved g c =
-    let w = c.loop-index.invariant.so_far in
+    let w = c.loop-index.invariant in
     let asked = c.lens-asked.ensures.asked ∙ (rw (w.was) at (rw c.hub.view_is at c.response_body.ensures.asked)) in
-    record {
-      callable = search of_calls;
-      so_far =
-          response_put c.args.f c.args.hub.now c.self.inside.id c.lens-asked.result.1 c.loop-index.hub c.loop-index.index c.loop-index.f c.put_response.new.hub c.f.new.self
-          (goal.F-step g) w c.f.result c.f.ensures (subst (λ k. c.loop-index.index < k) asked c.loop-index-test.true) c.put_response.ensures;
-    }
+    response_put c.args.f c.args.hub.now c.self.inside.id c.lens-asked.result.1 c.loop-index.hub c.loop-index.index c.loop-index.f c.put_response.new.hub c.f.new.self
+    (goal.F-step g) w c.f.result c.f.ensures (subst (λ k. c.loop-index.index < k) asked c.loop-index-test.true) c.put_response.ensures
 
 pub assume_init-requires-clause-uninit : goal.assume_init-requires-clause-uninit
 unfolding Names
 assume_init-requires-clause-uninit g c =
     inr (rw c.hub-2.view_is (filling_kind held_response (goal.F-step g) c.args.f c.args.hub.now c.self.inside.id c.lens-asked.result.1 c.loop-index.hub c.loop-index.index c.loop-index.f
-    c.loop-index.invariant.so_far Kind.ResponseMutUninit (λ e. cc) (λ e. cc) (rw (← c.self.view_is) at c.requires.kind) refl))
+    c.loop-index.invariant Kind.ResponseMutUninit (λ e. cc) (λ e. cc) (rw (← c.self.view_is) at c.requires.kind) refl))
 
 pub assume_init-requires-clause-complete : goal.assume_init-requires-clause-complete
 assume_init-requires-clause-complete g c =
-    let w = c.loop-index.invariant.so_far in
+    let w = c.loop-index.invariant in
     let end : c.loop-index.index ≡ c.lens-asked.result.0 = (let a = c.loop-index-test.false in let b = c.loop-index.auto.index-end in omega arith) in
     let all : w.message.content.asked_len ≡ c.loop-index.index =
     sym (end ∙ c.lens-asked.ensures.asked ∙ (rw (w.was) at (rw c.hub.view_is at c.response_body.ensures.asked))) in
@@ -52,7 +58,7 @@ assume_init-requires-clause-complete g c =
 
 pub returns-clause-written : goal.returns-clause-written
 returns-clause-written g c =
-    let w = c.loop-index.invariant.so_far in
+    let w = c.loop-index.invariant in
     let end : c.loop-index.index ≡ c.lens-asked.result.0 = (let a = c.loop-index-test.false in let b = c.loop-index.auto.index-end in omega arith) in
     let all : w.message.content.asked_len ≡ c.loop-index.index =
     sym (end ∙ c.lens-asked.ensures.asked ∙ (rw (w.was) at (rw c.hub.view_is at c.response_body.ensures.asked))) in

@@ -1,0 +1,46 @@
+//! Where stories are told.
+use rr_protocol::Limits;
+use std::fmt::Debug;
+use std::io::{self, Write};
+
+/// Three clients, two servers, three loaned and three active requests, three queued and one borrowed response.
+pub(crate) const LIMITS: Limits = Limits {
+    max_clients: 3,
+    max_servers: 2,
+    max_loaned_requests: 3,
+    max_active_requests_per_client: 3,
+    max_response_buffer_size: 3,
+    max_borrowed_responses_per_pending_response: 1,
+    enable_safe_overflow_for_requests: false,
+    enable_safe_overflow_for_responses: false,
+    enable_fire_and_forget_requests: false,
+    client_expired_connection_buffer: 1,
+    server_expired_connection_buffer: 1,
+};
+
+/// What is written to, and the group and name of the one story that is told, if not all are.
+#[derive(Drop)]
+pub(crate) struct Stage<'a, W> {
+    pub(crate) output: W,
+    pub(crate) only: Option<(&'a str, &'a str)>,
+}
+
+impl<W: Write> Stage<'_, W> {
+    /// Returns whether this story is told.
+    pub(crate) fn has(&self, group: &str, name: &str) -> bool {
+        match self.only {
+            Some((one, other)) => one == group && other == name,
+            None => true,
+        }
+    }
+
+    /// Writes that the call of a story comes next.
+    pub(crate) fn call(&mut self, group: &str, name: &str) -> io::Result<()> {
+        writeln!(self.output, "call {group} {name}")
+    }
+
+    /// Writes what a call returned.
+    pub(crate) fn show<T: Debug + Drop>(&mut self, returned: T) -> io::Result<()> {
+        writeln!(self.output, "{returned:?}")
+    }
+}
