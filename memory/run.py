@@ -26,10 +26,14 @@ class Program:
         self.path, self.library, self.room = path, library, room
 
     def run(self, words, text=b"", refused=0):
-        """Returns the status, the output and the fault of a run, and whether a request was refused in it."""
+        """Returns the status (none if it does not end), the output and the fault of a run, and whether a request was refused in it."""
         with tempfile.TemporaryFile(dir=self.room) as told:
             env = {"LD_PRELOAD": self.library, "REFUSE": str(refused), "REFUSED_TO": str(told.fileno())}
-            ran = subprocess.run([self.path, *words], input=text, capture_output=True, env=env, pass_fds=[told.fileno()], timeout=60)
+            how = {"capture_output": True, "env": env, "pass_fds": [told.fileno()], "timeout": 60}
+            try:
+                ran = subprocess.run([self.path, *words], input=text, **how)
+            except subprocess.TimeoutExpired:
+                return None, b"", b"it did not end", True
             return ran.returncode, ran.stdout, ran.stderr, os.fstat(told.fileno()).st_size == 1
 
     def refused_in_turn(self, words, text=b""):
@@ -45,8 +49,10 @@ class Program:
 WANTS = {
     "CreateClient": "ClientError(UnableToCreateDataSegment)",
     "CreateServer": "ServerError(UnableToCreateDataSegment)",
-    "Loan-request-of-40": "LoanError(OutOfMemory)",
-    "Loan-response-of-40": "LoanError(OutOfMemory)",
+    "Loan-request-PowerOfTwo": "LoanError(OutOfMemory)",
+    "Loan-request-BestFit": "LoanError(OutOfMemory)",
+    "Loan-response-PowerOfTwo": "LoanError(OutOfMemory)",
+    "Loan-response-BestFit": "LoanError(OutOfMemory)",
     "LoanDefault-request-of-40": "LoanError(OutOfMemory)",
     "LoanDefault-response-of-40": "LoanError(OutOfMemory)",
     "Payload-of-3": "NoMemory",

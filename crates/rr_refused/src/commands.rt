@@ -35,17 +35,36 @@ pub(crate) const SERVER: Asked = Command::CreateServer(ServerSettings {
     loans: 2,
 });
 
-/// What comes before each call: a client 0 and a server 1, a request 2 that the server received as 3, a response 4 and a request 5
+/// Creates a client whose slots grow as far as they must.
+const BEST_FIT_CLIENT: Asked = Command::CreateClient(ClientSettings {
+    strategy: BackpressureStrategy::DiscardData,
+    initial_max_slice_len: 1,
+    allocation_strategy: AllocationStrategy::BestFit,
+    pool: None,
+    handler: None,
+});
+
+/// Creates a server whose slots grow to powers of two.
+const POWER_OF_TWO_SERVER: Asked = Command::CreateServer(ServerSettings {
+    strategy: BackpressureStrategy::DiscardData,
+    initial_max_slice_len: 1,
+    allocation_strategy: AllocationStrategy::PowerOfTwo,
+    pool: None,
+    handler: None,
+    loans: 2,
+});
+
+/// What comes before a call: a client 0 and a server 1, a request 2 that the server received as 3, a response 4 and a request 5
 /// that nobody received yet, and a request 6 of so many elements on loan.
-fn before(len: usize) -> [Asked; 7] {
+fn before(story: &Story) -> [Asked; 7] {
     [
-        CLIENT,
-        SERVER,
+        story.client,
+        story.server,
         Command::SendCopy(0, 123),
         Command::Receive(1),
         Command::SendCopy(3, 456),
         Command::SendCopy(0, 789),
-        Command::LoanDefault(0, len),
+        Command::LoanDefault(0, story.len),
     ]
 }
 
@@ -68,10 +87,12 @@ const AFTER: [Asked; 14] = [
     Command::Release(0),
 ];
 
-/// A call, and how many elements the request has that is on loan before it.
+/// A call, how the ports before it are created, and how many elements the request has that is on loan.
 #[derive(Clone, Copy)]
 struct Story {
     name: &'static str,
+    client: Asked,
+    server: Asked,
     len: usize,
     command: Asked,
 }
@@ -80,8 +101,19 @@ struct Story {
 fn plain(name: &'static str, command: Asked) -> Story {
     Story {
         name,
+        client: CLIENT,
+        server: SERVER,
         len: 1,
         command,
+    }
+}
+
+/// A call of ports whose slots grow by the other strategies.
+fn other(name: &'static str, command: Asked) -> Story {
+    Story {
+        client: BEST_FIT_CLIENT,
+        server: POWER_OF_TWO_SERVER,
+        ..plain(name, command)
     }
 }
 
@@ -103,16 +135,17 @@ fn stories() -> [Story; 11] {
 }
 
 /// The calls of the sliced family that ask for more elements than a slot has room for from the start, or that copy several.
-fn longer() -> [Story; 5] {
+fn longer() -> [Story; 7] {
     [
-        plain("Loan-request-of-40", Command::Loan(0, 40)),
-        plain("Loan-response-of-40", Command::Loan(3, 40)),
+        plain("Loan-request-PowerOfTwo", Command::Loan(0, 40)),
+        plain("Loan-response-BestFit", Command::Loan(3, 40)),
+        other("Loan-request-BestFit", Command::Loan(0, 40)),
+        other("Loan-response-PowerOfTwo", Command::Loan(3, 40)),
         plain("LoanDefault-request-of-40", Command::LoanDefault(0, 40)),
         plain("LoanDefault-response-of-40", Command::LoanDefault(3, 40)),
         Story {
-            name: "Payload-of-3",
             len: 3,
-            command: Command::Payload(6),
+            ..plain("Payload-of-3", Command::Payload(6))
         },
     ]
 }
@@ -177,7 +210,7 @@ fn tell_family<B: Body<Item = u64>, W: Write>(
         else {
             return Ok(false);
         };
-        if !prepare(&mut runner, before(story.len).as_slice()) {
+        if !prepare(&mut runner, before(story).as_slice()) {
             return Ok(false);
         }
         stage.call(group, story.name)?;

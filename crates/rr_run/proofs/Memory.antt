@@ -11,7 +11,7 @@ use Rattle.rr_commands.specs.declared.command.Command.{Command}
 use Rattle.rr_commands.specs.declared.reply.Reply.{Reply}
 use Rattle.rr_commands.specs.Refusals.{has_call, has_length, is_incomplete, needs_number, number_in, refusal, refusal_of_kind}
 use Rattle.rr_commands.specs.Step.{Acts, Step}
-use Rattle.rr_run.specs.Memory.{copies_elements, goes_without}
+use Rattle.rr_run.specs.Memory.{MayLackMemory, MayLackOrNeverDoes}
 
 module _ {T H : Type 0} where
   -- the refusal of a command that names something, by three tests
@@ -43,26 +43,26 @@ module _ {T H K : Type 0} (family : Family) (s : State T H T H K) (command : Com
 
 module _ {T H K : Type 0} (action : K → ℕ → ℕ → BackpressureAction) (IsDefaultElement : T → Type 0) (IsDefaultHeader : H → Type 0)
     (family : Family) (old new : State T H T H K) where
-  -- one that neither copies elements nor goes without has no such answer
+  -- what the machine never answers so is no case
   acts_otherwise : (command : Command T H K) → Acts action IsDefaultElement IsDefaultHeader family old command Reply.NoMemory new
-      → (goes_without command ≡ true → ⊥) → copies_elements command ≡ true
-  acts_otherwise (Command.CreateClient settings) h not = absurd (not refl)
-  acts_otherwise (Command.CreateServer settings) h not = absurd (not refl)
-  acts_otherwise (Command.Loan n len) h not = absurd (not refl)
-  acts_otherwise (Command.LoanDefault n len) h not = absurd (not refl)
-  acts_otherwise (Command.SendCopy n v) h not = absurd (not refl)
-  acts_otherwise (Command.Receive n) h not = absurd (not refl)
-  acts_otherwise (Command.Payload n) h not = refl
-  acts_otherwise command h not = absurd h
+      → MayLackOrNeverDoes family old command → MayLackMemory family old command
+  acts_otherwise (Command.CreateClient settings) h due = due
+  acts_otherwise (Command.CreateServer settings) h due = due
+  acts_otherwise (Command.Loan n len) h due = due
+  acts_otherwise (Command.LoanDefault n len) h due = due
+  acts_otherwise (Command.SendCopy n v) h due = due
+  acts_otherwise (Command.Receive n) h due = due
+  acts_otherwise (Command.Payload n) h due = due
+  acts_otherwise command h due = absurd h
 
   pub memory_taken : (command : Command T H K) (reply : Reply T H)
       → Step action IsDefaultElement IsDefaultHeader family old command reply new
-      → (goes_without command ≡ true → reply ≡ Reply.NoMemory → ⊥) → reply ≡ Reply.NoMemory → copies_elements command ≡ true
-  memory_taken command reply step without is = go (refusal family old command) refl step
+      → (reply ≡ Reply.NoMemory → MayLackOrNeverDoes family old command) → reply ≡ Reply.NoMemory → MayLackMemory family old command
+  memory_taken command reply step due is = go (refusal family old command) refl step
     where
       go : (o : Option (Reply T H)) → refusal family old command ≡ o
           → MatchOption o (Acts action IsDefaultElement IsDefaultHeader family old command reply new) (λ refused. (reply ≡ refused) × (new ≡ old))
-          → copies_elements command ≡ true
+          → MayLackMemory family old command
       go None e h =
-          acts_otherwise command (subst (λ r. Acts action IsDefaultElement IsDefaultHeader family old command r new) is h) (λ g. without g is)
+          acts_otherwise command (subst (λ r. Acts action IsDefaultElement IsDefaultHeader family old command r new) is h) (due is)
       go (Some refused) e h = absurd (refused_otherwise family old command (e ∙ (let f : refused ≡ Reply.NoMemory = sym h.0 ∙ is in ap Some f)))

@@ -1,9 +1,9 @@
 //! A runner of commands over a hub's core.
-ghost use Rattle.std.specs.Prelude.{◌≡◌, ◌≢◌, IfSome, None, Some, true};
+ghost use Rattle.std.specs.Prelude.{◌≡◌, ◌≢◌, IfSome, None, Some};
 ghost use Rattle.rr_protocol.specs.Creation.{CreatesHub};
 ghost use Rattle.rr_protocol.specs.Queries.{kind_at};
 ghost use Rattle.rr_run.specs.Known.{Notes};
-ghost use Rattle.rr_run.specs.Memory.{copies_elements, goes_without, MayLackMemory};
+ghost use Rattle.rr_run.specs.Memory.{MayLackMemory, MayLackOrNeverDoes};
 ghost use Rattle.rr_commands.specs.Refusals.{number_in};
 ghost use Rattle.rr_commands.specs.Step.{Step};
 
@@ -107,8 +107,7 @@ impl<T: Copy + Default, B: Body<Item = T>, H: Copy + Default, K: BackpressureFn>
     /// Carries out a command.
     fn step(&mut self, command: Command<T, H, K>) -> Reply<T, H>
         ensures step { Step K.action T.is_default H.is_default B.family self.old command result self.new }
-        ensures memory { goes_without command ≡ true → result ≢ Reply.NoMemory }
-        ensures copied { copies_elements command ≡ true → result ≡ Reply.NoMemory → MayLackMemory B.family self.old command }
+        ensures memory { result ≡ Reply.NoMemory → MayLackOrNeverDoes B.family self.old command }
     {
         let Some(number) = number_in(&command) else {
             return create(&mut self.core, command);
@@ -161,8 +160,7 @@ fn act<T: Copy + Default, B: Body<Item = T>, H: Copy + Default, K: BackpressureF
 ) -> Reply<T, H>
     requires { number_in command ≡ Some id.now }
     ensures step { Step K.action T.is_default H.is_default B.family core.old command result core.new }
-    ensures memory { goes_without command ≡ true → result ≢ Reply.NoMemory }
-    ensures copied { copies_elements command ≡ true → result ≡ Reply.NoMemory → MayLackMemory B.family core.old command }
+    ensures memory { result ≡ Reply.NoMemory → MayLackOrNeverDoes B.family core.old command }
     ensures places { Notes places.old command result core.new places.new }
 {
     match command {

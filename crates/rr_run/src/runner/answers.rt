@@ -1,9 +1,9 @@
 //! Questions of a runner, which change nothing.
-ghost use Rattle.std.specs.Prelude.{◌≡◌, Some, true};
+ghost use Rattle.std.specs.Prelude.{◌≡◌, Some};
 ghost use Rattle.rr_commands.specs.declared.command.Command.{Command};
 ghost use Rattle.rr_commands.specs.Refusals.{number_in};
 ghost use Rattle.rr_commands.specs.Step.{Step};
-ghost use Rattle.rr_run.specs.Memory.{copies_elements, MayLackMemory};
+ghost use Rattle.rr_run.specs.Memory.{MayLackOrNeverDoes};
 ghost use Rattle.rr_run.specs.Questions.{IsQuestion};
 
 use crate::runner::{ports, queries};
@@ -23,7 +23,7 @@ pub(crate) fn answer<T: Copy + Default, B: Body<Item = T>, H: Copy + Default, K:
     requires question { IsQuestion question }
     requires id { number_in question ≡ Some id.now }
     ensures step { Step K.action T.is_default H.is_default B.family core.now question result core.now }
-    ensures copied { copies_elements question ≡ true → result ≡ Reply.NoMemory → MayLackMemory B.family core.now question }
+    ensures memory { result ≡ Reply.NoMemory → MayLackOrNeverDoes B.family core.now question }
 {
     match question {
         Command::IsDeliverable(_) => ports::is_deliverable(core, id),
