@@ -3,6 +3,7 @@ ghost use Rattle.std.specs.Prelude.{◌≡◌, ◌≤◌, ◌+◌, None, IsTrue,
 ghost use Rattle.rr_slots.specs.Families.{takes_len};
 ghost use Rattle.rr_protocol.specs.Creation.{CreatesClient, client_refusal, with_client};
 ghost use Rattle.rr_store.specs.Creating.{senders_after};
+ghost use Rattle.rr_store.specs.Opened.{opened};
 ghost use Rattle.rr_store.specs.Reaching.{IsCore};
 ghost use Rattle.rr_store.specs.Views.{state_of};
 
@@ -22,10 +23,10 @@ pub fn create_client<QB: Body, QH: Default + Drop, PB: Body, PH: Default + Drop,
     alloc: Global,
     settings: ClientSettings<K>,
 ) -> Result<u64, ClientCreateError>
-    requires core { IsCore store.old }
+    requires core { IsCore (opened store.old) }
     requires len { IsTrue (takes_len QB.family settings.initial_max_slice_len) }
-    ensures core { IsCore store.new }
-    ensures view { CreatesClient (state_of store.old) settings result (state_of store.new) }
+    ensures core { IsCore (opened store.new) }
+    ensures view { CreatesClient (state_of (opened store.old)) settings result (state_of (opened store.new)) }
 {
     match store.client_refusal() {
         Some(refusal) => Err(refusal),
@@ -42,15 +43,15 @@ fn add_client<QB: Body, QH: Default + Drop, PB: Body, PH: Default + Drop, K: Bac
     alloc: Global,
     settings: ClientSettings<K>,
 ) -> Result<u64, AllocError>
-    requires core { IsCore store.old }
+    requires core { IsCore (opened store.old) }
     requires len { IsTrue (takes_len QB.family settings.initial_max_slice_len) }
-    requires due { client_refusal (state_of store.old) ≡ None }
-    ensures core { IsCore store.new }
+    requires due { client_refusal (state_of (opened store.old)) ≡ None }
+    ensures core { IsCore (opened store.new) }
     ensures number { IfOk result (λ number. number ≡ store.old.next) }
-    ensures ok { OnOk result (state_of store.new ≡ with_client (state_of store.old) settings) }
-    ensures err { OnErr result (state_of store.new ≡ state_of store.old) }
+    ensures ok { OnOk result (state_of (opened store.new) ≡ with_client (state_of (opened store.old)) settings) }
+    ensures err { OnErr result (state_of (opened store.new) ≡ state_of (opened store.old)) }
 {
-    store.reserve_left_client()?;
+    store.clients.reserve_left()?;
     insert_client(store, alloc, settings)
 }
 
@@ -61,21 +62,21 @@ fn insert_client<QB: Body, QH: Default + Drop, PB: Body, PH: Default + Drop, K: 
     alloc: Global,
     settings: ClientSettings<K>,
 ) -> Result<u64, AllocError>
-    requires core { IsCore store.old }
+    requires core { IsCore (opened store.old) }
     requires len { IsTrue (takes_len QB.family settings.initial_max_slice_len) }
-    requires due { client_refusal (state_of store.old) ≡ None }
-    requires room { length store.old.clients + 1 + length store.old.left_clients ≤ store.old.client_room }
-    ensures core { IsCore store.new }
+    requires due { client_refusal (state_of (opened store.old)) ≡ None }
+    requires room { length (opened store.old).clients + 1 + length (opened store.old).left_clients ≤ (opened store.old).client_room }
+    ensures core { IsCore (opened store.new) }
     ensures number { IfOk result (λ number. number ≡ store.old.next) }
-    ensures senders { OnOk result (length store.new.client_senders ≡ senders_after store.old.client_senders store.old.left_clients) }
-    ensures ok { OnOk result (state_of store.new ≡ with_client (state_of store.old) settings) }
-    ensures err { OnErr result (store.new ≡ store.old) }
+    ensures senders { OnOk result (length (opened store.new).client_senders ≡ senders_after (opened store.old).client_senders (opened store.old).left_clients) }
+    ensures ok { OnOk result (state_of (opened store.new) ≡ with_client (state_of (opened store.old)) settings) }
+    ensures err { OnErr result (opened store.new ≡ opened store.old) }
 {
-    let limits = store.limits();
+    let limits = store.limits;
     let slots = pool_size(worst_case_requests(&limits), settings.pool);
-    let receiver = store.free_client_receiver();
+    let receiver = store.clients.free_receiver(limits.max_clients);
     let client = client_store(alloc, &limits, slots, settings.initial_max_slice_len)?;
-    match store.idle_client() {
+    match store.clients.idle_left() {
         Some(index) => store.add_client_again(alloc, settings, slots, receiver, index, client),
         None => store.add_client(alloc, settings, slots, receiver, client),
     }

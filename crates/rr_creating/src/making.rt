@@ -2,6 +2,7 @@
 ghost use Rattle.std.specs.Prelude.{IfOk};
 ghost use Rattle.std.specs.Result.{result_map_both};
 ghost use Rattle.rr_protocol.specs.Creation.{CreatesHub};
+ghost use Rattle.rr_store.specs.Opened.{opened};
 ghost use Rattle.rr_store.specs.Reaching.{IsCore};
 ghost use Rattle.rr_store.specs.Views.{state_of};
 
@@ -21,8 +22,8 @@ pub fn new_store<QB: Body, QH: Default + Drop, PB: Body, PH: Default + Drop, K: 
     limits: Limits,
     node_id: UniqueNodeId,
 ) -> Result<Store<QB, QH, PB, PH, K>, HubCreateError>
-    ensures core { IfOk result (λ store. IsCore store) }
-    ensures view { CreatesHub limits node_id.0 (result_map_both (λ store. state_of store) (λ error. error) result) }
+    ensures core { IfOk result (λ store. IsCore (opened store)) }
+    ensures view { CreatesHub limits node_id.0 (result_map_both (λ store. state_of (opened store)) (λ error. error) result) }
 {
     match limits.refusal() {
         Some(refusal) => Err(refusal),

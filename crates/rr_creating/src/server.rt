@@ -4,6 +4,7 @@ ghost use Rattle.rr_slots.specs.Families.{takes_len};
 ghost use Rattle.rr_protocol.specs.Creation.{CreatesServer, server_refusal, with_server};
 ghost use Rattle.rr_protocol.specs.Limits.{hub_refusal, worst_case_requests};
 ghost use Rattle.rr_store.specs.Creating.{IsNew, senders_after};
+ghost use Rattle.rr_store.specs.Opened.{opened};
 ghost use Rattle.rr_store.specs.Reaching.{IsCore};
 ghost use Rattle.rr_store.specs.Views.{no_response, state_of};
 
@@ -37,10 +38,10 @@ pub fn create_server<QB: Body, QH: Default + Drop, PB: Body, PH: Default + Drop,
     alloc: Global,
     settings: ServerSettings<K>,
 ) -> Result<u64, ServerCreateError>
-    requires core { IsCore store.old }
+    requires core { IsCore (opened store.old) }
     requires len { IsTrue (takes_len PB.family settings.initial_max_slice_len) }
-    ensures core { IsCore store.new }
-    ensures view { CreatesServer (state_of store.old) settings result (state_of store.new) }
+    ensures core { IsCore (opened store.new) }
+    ensures view { CreatesServer (state_of (opened store.old)) settings result (state_of (opened store.new)) }
 {
     match store.server_refusal(&settings) {
         Some(refusal) => Err(refusal),
@@ -57,15 +58,15 @@ fn add_server<QB: Body, QH: Default + Drop, PB: Body, PH: Default + Drop, K: Bac
     alloc: Global,
     settings: ServerSettings<K>,
 ) -> Result<u64, AllocError>
-    requires core { IsCore store.old }
+    requires core { IsCore (opened store.old) }
     requires len { IsTrue (takes_len PB.family settings.initial_max_slice_len) }
-    requires due { server_refusal (state_of store.old) settings ≡ None }
-    ensures core { IsCore store.new }
+    requires due { server_refusal (state_of (opened store.old)) settings ≡ None }
+    ensures core { IsCore (opened store.new) }
     ensures number { IfOk result (λ number. number ≡ store.old.next) }
-    ensures ok { OnOk result (state_of store.new ≡ with_server (state_of store.old) settings) }
-    ensures err { OnErr result (state_of store.new ≡ state_of store.old) }
+    ensures ok { OnOk result (state_of (opened store.new) ≡ with_server (state_of (opened store.old)) settings) }
+    ensures err { OnErr result (state_of (opened store.new) ≡ state_of (opened store.old)) }
 {
-    store.reserve_left_server()?;
+    store.servers.reserve_left()?;
     insert_server(store, alloc, settings)
 }
 
@@ -76,22 +77,22 @@ fn insert_server<QB: Body, QH: Default + Drop, PB: Body, PH: Default + Drop, K: 
     alloc: Global,
     settings: ServerSettings<K>,
 ) -> Result<u64, AllocError>
-    requires core { IsCore store.old }
+    requires core { IsCore (opened store.old) }
     requires len { IsTrue (takes_len PB.family settings.initial_max_slice_len) }
-    requires due { server_refusal (state_of store.old) settings ≡ None }
-    requires room { length store.old.servers + 1 + length store.old.left_servers ≤ store.old.server_room }
-    ensures core { IsCore store.new }
+    requires due { server_refusal (state_of (opened store.old)) settings ≡ None }
+    requires room { length (opened store.old).servers + 1 + length (opened store.old).left_servers ≤ (opened store.old).server_room }
+    ensures core { IsCore (opened store.new) }
     ensures number { IfOk result (λ number. number ≡ store.old.next) }
-    ensures senders { OnOk result (length store.new.server_senders ≡ senders_after store.old.server_senders store.old.left_servers) }
-    ensures ok { OnOk result (state_of store.new ≡ with_server (state_of store.old) settings) }
-    ensures err { OnErr result (store.new ≡ store.old) }
+    ensures senders { OnOk result (length (opened store.new).server_senders ≡ senders_after (opened store.old).server_senders (opened store.old).left_servers) }
+    ensures ok { OnOk result (state_of (opened store.new) ≡ with_server (state_of (opened store.old)) settings) }
+    ensures err { OnErr result (opened store.new ≡ opened store.old) }
 {
-    let limits = store.limits();
+    let limits = store.limits;
     let loans = settings.loans.max(1);
     let slots = pool_size(worst_case_responses(&limits, loans), settings.pool);
-    let receiver = store.free_server_receiver();
+    let receiver = store.servers.free_receiver(limits.max_servers);
     let messages = server_messages(alloc, &limits, slots, settings.initial_max_slice_len)?;
-    match store.idle_server() {
+    match store.servers.idle_left() {
         Some(index) => store.add_server_again(
             alloc, settings, loans, slots, receiver, index, messages,
         ),

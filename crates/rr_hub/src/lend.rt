@@ -30,7 +30,7 @@ impl<QB: Body, QH: Default + Drop, PB: Body, PH: Default + Drop, K: Backpressure
         ensures value { IsSomeAnd (option_and_then request_in (handle_at self.old id.now)) (λ m. slice_get m.content.elements index ≡ Some result.now) }
     {
         let entry = self.parts.look_up(id.number(), id.place());
-        let messages = self.parts.requests_mut(entry.sender);
+        let messages = self.parts.clients.messages_mut(entry.sender);
         messages.get_mut(entry.slot, index)
     }
 
@@ -43,7 +43,7 @@ impl<QB: Body, QH: Default + Drop, PB: Body, PH: Default + Drop, K: Backpressure
         ensures value { IsSomeAnd (option_and_then request_in (handle_at self.old id.now)) (λ m. m.content.user_header ≡ result.now) }
     {
         let entry = self.parts.look_up(id.number(), id.place());
-        let messages = self.parts.requests_mut(entry.sender);
+        let messages = self.parts.clients.messages_mut(entry.sender);
         messages.user_header_mut(entry.slot)
     }
 
@@ -57,7 +57,7 @@ impl<QB: Body, QH: Default + Drop, PB: Body, PH: Default + Drop, K: Backpressure
         ensures value { IsSomeAnd (option_and_then response_in (handle_at self.old id.now)) (λ m. slice_get m.content.elements index ≡ Some result.now) }
     {
         let entry = self.parts.look_up(id.number(), id.place());
-        let messages = self.parts.responses_mut(entry.sender);
+        let messages = self.parts.servers.messages_mut(entry.sender);
         messages.get_mut(entry.slot, index)
     }
 
@@ -70,7 +70,7 @@ impl<QB: Body, QH: Default + Drop, PB: Body, PH: Default + Drop, K: Backpressure
         ensures value { IsSomeAnd (option_and_then response_in (handle_at self.old id.now)) (λ m. m.content.user_header ≡ result.now) }
     {
         let entry = self.parts.look_up(id.number(), id.place());
-        let messages = self.parts.responses_mut(entry.sender);
+        let messages = self.parts.servers.messages_mut(entry.sender);
         messages.user_header_mut(entry.slot)
     }
 }
@@ -93,7 +93,7 @@ impl<T: Drop, QH: Default + Drop, PB: Body, PH: Default + Drop, K: BackpressureF
         ensures value { IsSomeAnd (option_and_then request_in (handle_at self.old id.now)) (λ m. m.content.elements ≡ option_elements result.now) }
     {
         let entry = self.parts.look_up(id.number(), id.place());
-        let messages = self.parts.requests_mut(entry.sender);
+        let messages = self.parts.clients.messages_mut(entry.sender);
         messages.option_mut(entry.slot)
     }
 }
@@ -116,7 +116,7 @@ impl<T: Drop, QH: Default + Drop, PB: Body, PH: Default + Drop, K: BackpressureF
         ensures value { IsSomeAnd (option_and_then request_in (handle_at self.old id.now)) (λ m. m.content.elements ≡ result.now) }
     {
         let entry = self.parts.look_up(id.number(), id.place());
-        let messages = self.parts.requests_mut(entry.sender);
+        let messages = self.parts.clients.messages_mut(entry.sender);
         messages.slice_mut(entry.slot)
     }
 }
@@ -139,7 +139,7 @@ impl<QB: Body, QH: Default + Drop, T: Drop, PH: Default + Drop, K: BackpressureF
         ensures value { IsSomeAnd (option_and_then response_in (handle_at self.old id.now)) (λ m. m.content.elements ≡ option_elements result.now) }
     {
         let entry = self.parts.look_up(id.number(), id.place());
-        let messages = self.parts.responses_mut(entry.sender);
+        let messages = self.parts.servers.messages_mut(entry.sender);
         messages.option_mut(entry.slot)
     }
 }
@@ -162,7 +162,7 @@ impl<QB: Body, QH: Default + Drop, T: Drop, PH: Default + Drop, K: BackpressureF
         ensures value { IsSomeAnd (option_and_then response_in (handle_at self.old id.now)) (λ m. m.content.elements ≡ result.now) }
     {
         let entry = self.parts.look_up(id.number(), id.place());
-        let messages = self.parts.responses_mut(entry.sender);
+        let messages = self.parts.servers.messages_mut(entry.sender);
         messages.slice_mut(entry.slot)
     }
 }

@@ -37,7 +37,7 @@ impl<QB: Body, QH: Default + Drop, PB: Body, PH: Default + Drop, K: Backpressure
     pub fn numbers_left(&self) -> u64
         ensures { result ≡ numbers_left self.now }
     {
-        NUMBERS - self.parts.next_number()
+        NUMBERS - self.parts.next
     }
 
     /// Returns the number that is given next, if one is left. It names nothing yet. Our own.
@@ -45,6 +45,6 @@ impl<QB: Body, QH: Default + Drop, PB: Body, PH: Default + Drop, K: Backpressure
         ensures number { result ≡ self.now.next }
         ensures free { kind_at self.now result ≡ None }
     {
-        self.parts.next_number()
+        self.parts.next
     }
 }

@@ -27,7 +27,7 @@ impl<QB: Body, QH: Default + Drop, PB: Body, PH: Default + Drop, K: Backpressure
         // They are limits that make a hub.
         ensures makes_hub { hub_refusal result ≡ None }
     {
-        self.parts.limits()
+        self.parts.limits
     }
 
     /// Returns the node that the core was made with. Our own.
@@ -35,7 +35,7 @@ impl<QB: Body, QH: Default + Drop, PB: Body, PH: Default + Drop, K: Backpressure
     pub fn node_id(&self) -> UniqueNodeId
         ensures { result.0 ≡ self.now.node_id }
     {
-        self.parts.node_id()
+        self.parts.node_id
     }
 
     /// Returns the backpressure strategy of a client whose value lives. Looks at about ten of 1,000. After iceoryx2's

@@ -19,6 +19,7 @@ impl<QB: Body, QH: Default + Drop, PB: Body, PH: Default + Drop, K: Backpressure
     for Core<QB, QH, PB, PH, K> {
     ghost use Rattle.rr_protocol.specs.State.{State};
     ghost use Rattle.rr_protocol.specs.Codes.{state_code};
+    ghost use Rattle.rr_store.specs.Opened.{opened};
     ghost use Rattle.rr_store.specs.Views.{state_of};
     ghost use Rattle.rr_store.specs.Reaching.{IsCore};
 
@@ -26,7 +27,7 @@ impl<QB: Body, QH: Default + Drop, PB: Body, PH: Default + Drop, K: Backpressure
 
     ghost coded = { state_code QB.Item.code QH.code PB.Item.code PH.code K.code };
 
-    ghost view = { λ c. state_of c.parts };
+    ghost view = { λ c. state_of (opened c.parts) };
 
-    ghost invariant = { λ c. IsCore c.parts };
+    ghost invariant = { λ c. IsCore (opened c.parts) };
 }

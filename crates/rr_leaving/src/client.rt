@@ -2,6 +2,7 @@
 ghost use Rattle.std.specs.Prelude.{◌≡◌, ◌<◌, false, IsSomeAnd, length, slice_get};
 ghost use Rattle.rr_protocol.specs.Releases.{after_client_left, without_unused_port};
 ghost use Rattle.rr_store.specs.Leaving.{is_client_used};
+ghost use Rattle.rr_store.specs.Opened.{opened};
 ghost use Rattle.rr_store.specs.Sound.{HasPort, IsSound, empty_hand};
 ghost use Rattle.rr_store.specs.Views.{sender_of, state_of};
 
@@ -19,12 +20,12 @@ pub fn leave_client_of_sender_if_unused<
     PH: Default + Drop,
     K: BackpressureFn,
 >(store: &mut Store<QB, QH, PB, PH, K>, sender: usize)
-    requires sound { IsSound store.old empty_hand }
-    requires port { HasPort (λ c. c.sender) store.old.clients sender }
-    ensures sound { IsSound store.new empty_hand }
-    ensures view { state_of store.new ≡ without_unused_port (state_of store.old) (sender_of sender store.old.client_senders).owner }
+    requires sound { IsSound (opened store.old) empty_hand }
+    requires port { HasPort (λ c. c.sender) (opened store.old).clients sender }
+    ensures sound { IsSound (opened store.new) empty_hand }
+    ensures view { state_of (opened store.new) ≡ without_unused_port (state_of (opened store.old)) (sender_of sender (opened store.old).client_senders).owner }
 {
-    if !store.client_has_value(sender) {
+    if !store.clients.has_value(sender) {
         leave_client_without_value(store, sender);
     }
 }
@@ -38,12 +39,12 @@ fn leave_client_without_value<
     PH: Default + Drop,
     K: BackpressureFn,
 >(store: &mut Store<QB, QH, PB, PH, K>, sender: usize)
-    requires sound { IsSound store.old empty_hand }
-    requires port { HasPort (λ c. c.sender) store.old.clients sender }
-    ensures sound { IsSound store.new empty_hand }
-    ensures view { state_of store.new ≡ without_unused_port (state_of store.old) (sender_of sender store.old.client_senders).owner }
+    requires sound { IsSound (opened store.old) empty_hand }
+    requires port { HasPort (λ c. c.sender) (opened store.old).clients sender }
+    ensures sound { IsSound (opened store.new) empty_hand }
+    ensures view { state_of (opened store.new) ≡ without_unused_port (state_of (opened store.old)) (sender_of sender (opened store.old).client_senders).owner }
 {
-    let index = store.client_of_sender(sender);
+    let index = store.clients.index_of_sender(sender);
     leave_client_if_unused(store, index);
 }
 
@@ -55,10 +56,10 @@ pub fn leave_client_if_unused<
     PH: Default + Drop,
     K: BackpressureFn,
 >(store: &mut Store<QB, QH, PB, PH, K>, index: usize)
-    requires sound { IsSound store.old empty_hand }
-    requires index { index < length store.old.clients }
-    ensures sound { IsSound store.new empty_hand }
-    ensures view { IsSomeAnd (slice_get store.old.clients index) (λ c. state_of store.new ≡ without_unused_port (state_of store.old) c.port.id) }
+    requires sound { IsSound (opened store.old) empty_hand }
+    requires index { index < length (opened store.old).clients }
+    ensures sound { IsSound (opened store.new) empty_hand }
+    ensures view { IsSomeAnd (slice_get (opened store.old).clients index) (λ c. state_of (opened store.new) ≡ without_unused_port (state_of (opened store.old)) c.port.id) }
 {
     if !store.is_client_used(index) {
         leave_client(store, index);
@@ -71,16 +72,18 @@ fn leave_client<QB: Body, QH: Default + Drop, PB: Body, PH: Default + Drop, K: B
     store: &mut Store<QB, QH, PB, PH, K>,
     index: usize,
 )
-    requires sound { IsSound store.old empty_hand }
-    requires index { index < length store.old.clients }
-    requires unused { IsSomeAnd (slice_get store.old.clients index) (λ c. is_client_used store.old c ≡ false) }
-    ensures sound { IsSound store.new empty_hand }
-    ensures view { IsSomeAnd (slice_get store.old.clients index) (λ c. state_of store.new ≡ after_client_left (state_of store.old) c.port.id) }
+    requires sound { IsSound (opened store.old) empty_hand }
+    requires index { index < length (opened store.old).clients }
+    requires unused { IsSomeAnd (slice_get (opened store.old).clients index) (λ c. is_client_used (opened store.old) c ≡ false) }
+    ensures sound { IsSound (opened store.new) empty_hand }
+    ensures view { IsSomeAnd (slice_get (opened store.old).clients index) (λ c. state_of (opened store.new) ≡ after_client_left (state_of (opened store.old)) c.port.id) }
 {
-    let leaving = store.leaving_client(index);
-    let receiver = store.client_receiver(index);
+    let leaving = store.clients.leaving(index);
+    let receiver = store.clients.receiver_of_port(index);
     let room = store.room_for_expired_clients();
-    store.expire_requests(leaving, room);
-    store.clear_responses_to(receiver);
-    store.remove_client(index, leaving);
+    store
+        .clients
+        .expire(store.servers.connected(), leaving, room);
+    store.servers.clear_for(receiver);
+    store.clients.remove_port(index, leaving);
 }

@@ -2,6 +2,7 @@
 ghost use Rattle.std.specs.Prelude.{◌≡◌, ◌<◌, false, IsSomeAnd, length, slice_get};
 ghost use Rattle.rr_protocol.specs.Releases.{after_server_left, without_unused_port};
 ghost use Rattle.rr_store.specs.Leaving.{is_server_used};
+ghost use Rattle.rr_store.specs.Opened.{opened};
 ghost use Rattle.rr_store.specs.Sound.{HasPort, IsSound, empty_hand};
 ghost use Rattle.rr_store.specs.Views.{sender_of, state_of};
 
@@ -19,12 +20,12 @@ pub fn leave_server_of_sender_if_unused<
     PH: Default + Drop,
     K: BackpressureFn,
 >(store: &mut Store<QB, QH, PB, PH, K>, sender: usize)
-    requires sound { IsSound store.old empty_hand }
-    requires port { HasPort (λ s. s.sender) store.old.servers sender }
-    ensures sound { IsSound store.new empty_hand }
-    ensures view { state_of store.new ≡ without_unused_port (state_of store.old) (sender_of sender store.old.server_senders).owner }
+    requires sound { IsSound (opened store.old) empty_hand }
+    requires port { HasPort (λ s. s.sender) (opened store.old).servers sender }
+    ensures sound { IsSound (opened store.new) empty_hand }
+    ensures view { state_of (opened store.new) ≡ without_unused_port (state_of (opened store.old)) (sender_of sender (opened store.old).server_senders).owner }
 {
-    if !store.server_has_value(sender) {
+    if !store.servers.has_value(sender) {
         leave_server_without_value(store, sender);
     }
 }
@@ -38,12 +39,12 @@ fn leave_server_without_value<
     PH: Default + Drop,
     K: BackpressureFn,
 >(store: &mut Store<QB, QH, PB, PH, K>, sender: usize)
-    requires sound { IsSound store.old empty_hand }
-    requires port { HasPort (λ s. s.sender) store.old.servers sender }
-    ensures sound { IsSound store.new empty_hand }
-    ensures view { state_of store.new ≡ without_unused_port (state_of store.old) (sender_of sender store.old.server_senders).owner }
+    requires sound { IsSound (opened store.old) empty_hand }
+    requires port { HasPort (λ s. s.sender) (opened store.old).servers sender }
+    ensures sound { IsSound (opened store.new) empty_hand }
+    ensures view { state_of (opened store.new) ≡ without_unused_port (state_of (opened store.old)) (sender_of sender (opened store.old).server_senders).owner }
 {
-    let index = store.server_of_sender(sender);
+    let index = store.servers.index_of_sender(sender);
     leave_server_if_unused(store, index);
 }
 
@@ -55,10 +56,10 @@ pub fn leave_server_if_unused<
     PH: Default + Drop,
     K: BackpressureFn,
 >(store: &mut Store<QB, QH, PB, PH, K>, index: usize)
-    requires sound { IsSound store.old empty_hand }
-    requires index { index < length store.old.servers }
-    ensures sound { IsSound store.new empty_hand }
-    ensures view { IsSomeAnd (slice_get store.old.servers index) (λ s. state_of store.new ≡ without_unused_port (state_of store.old) s.port.id) }
+    requires sound { IsSound (opened store.old) empty_hand }
+    requires index { index < length (opened store.old).servers }
+    ensures sound { IsSound (opened store.new) empty_hand }
+    ensures view { IsSomeAnd (slice_get (opened store.old).servers index) (λ s. state_of (opened store.new) ≡ without_unused_port (state_of (opened store.old)) s.port.id) }
 {
     if !store.is_server_used(index) {
         leave_server(store, index);
@@ -71,16 +72,18 @@ fn leave_server<QB: Body, QH: Default + Drop, PB: Body, PH: Default + Drop, K: B
     store: &mut Store<QB, QH, PB, PH, K>,
     index: usize,
 )
-    requires sound { IsSound store.old empty_hand }
-    requires index { index < length store.old.servers }
-    requires unused { IsSomeAnd (slice_get store.old.servers index) (λ s. is_server_used store.old s ≡ false) }
-    ensures sound { IsSound store.new empty_hand }
-    ensures view { IsSomeAnd (slice_get store.old.servers index) (λ s. state_of store.new ≡ after_server_left (state_of store.old) s.port.id) }
+    requires sound { IsSound (opened store.old) empty_hand }
+    requires index { index < length (opened store.old).servers }
+    requires unused { IsSomeAnd (slice_get (opened store.old).servers index) (λ s. is_server_used (opened store.old) s ≡ false) }
+    ensures sound { IsSound (opened store.new) empty_hand }
+    ensures view { IsSomeAnd (slice_get (opened store.old).servers index) (λ s. state_of (opened store.new) ≡ after_server_left (state_of (opened store.old)) s.port.id) }
 {
-    let leaving = store.leaving_server(index);
-    let receiver = store.server_receiver(index);
-    let room = store.room_for_expired_servers();
-    store.expire_responses(leaving, room);
-    store.clear_requests_to(receiver);
-    store.remove_server(index, leaving);
+    let leaving = store.servers.leaving(index);
+    let receiver = store.servers.receiver_of_port(index);
+    let room = store.limits.client_expired_connection_buffer;
+    store
+        .servers
+        .expire(store.clients.connected(), leaving, room);
+    store.clients.clear_for(receiver);
+    store.servers.remove_port(index, leaving);
 }

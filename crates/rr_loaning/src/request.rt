@@ -6,6 +6,7 @@ ghost use Rattle.rr_protocol.specs.Loans.{LoansRequest};
 ghost use Rattle.rr_protocol.specs.Queries.{kind_at};
 ghost use Rattle.rr_protocol.specs.State.{numbers_left};
 ghost use Rattle.rr_laws.specs.Unreduced.{ClientHasPool};
+ghost use Rattle.rr_store.specs.Opened.{opened};
 ghost use Rattle.rr_store.specs.Reaching.{IsCore};
 ghost use Rattle.rr_store.specs.Views.{state_of};
 
@@ -29,23 +30,23 @@ pub fn loan_request<QB: Body, QH: Default + Drop, PB: Body, PH: Default + Drop, 
     client: u64,
     len: usize,
 ) -> Result<HandleId, LoanError>
-    requires core { IsCore store.old }
-    requires kind { kind_at (state_of store.old) client ≡ Some kind.Client }
-    requires number { 0 < numbers_left (state_of store.old) }
+    requires core { IsCore (opened store.old) }
+    requires kind { kind_at (state_of (opened store.old)) client ≡ Some kind.Client }
+    requires number { 0 < numbers_left (state_of (opened store.old)) }
     requires len { IsTrue (takes_len QB.family len) }
-    ensures core { IsCore store.new }
-    ensures loans { LoansRequest QH.is_default (state_of store.old) client len result (state_of store.new) }
-    ensures unreduced { ClientHasPool store.old.limits (state_of store.old) client len → result ≢ Err LoanError.OutOfMemory }
+    ensures core { IsCore (opened store.new) }
+    ensures loans { LoansRequest QH.is_default (state_of (opened store.old)) client len result (state_of (opened store.new)) }
+    ensures unreduced { ClientHasPool store.old.limits (state_of (opened store.old)) client len → result ≢ Err LoanError.OutOfMemory }
 {
-    let index = store.client_index(client);
+    let index = store.clients.index_of(client);
     if let Some(refusal) = store.request_loan_limit(index, len) {
         return Err(refusal);
     }
-    let sender = store.client_sender(index);
+    let sender = store.clients.sender_of_port(index);
     let details = store.new_request_details(index);
-    match store.loan_request_slot(sender, len, details, QH::default()) {
+    match store.clients.loan(sender, len, details, QH::default()) {
         Ok(place) => {
-            store.count_request_loan(index, sender);
+            store.clients.count_request_loan(index, sender);
             let entry = HandleEntry {
                 stage: Stage::RequestMutUninit,
                 sender,

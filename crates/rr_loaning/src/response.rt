@@ -6,6 +6,7 @@ ghost use Rattle.rr_protocol.specs.Loans.{LoansResponse};
 ghost use Rattle.rr_protocol.specs.Queries.{kind_at};
 ghost use Rattle.rr_protocol.specs.State.{numbers_left};
 ghost use Rattle.rr_laws.specs.Unreduced.{ServerHasPool};
+ghost use Rattle.rr_store.specs.Opened.{opened};
 ghost use Rattle.rr_store.specs.Reaching.{IsCore};
 ghost use Rattle.rr_store.specs.Views.{state_of};
 ghost use Rattle.rr_table.specs.TableView.{IsAt};
@@ -38,31 +39,33 @@ pub fn loan_response_at<
     place: Place,
     len: usize,
 ) -> Result<HandleId, LoanError>
-    requires core { IsCore store.old }
+    requires core { IsCore (opened store.old) }
     requires at { IsAt store.old.table number place }
-    requires kind { kind_at (state_of store.old) number ≡ Some kind.ActiveRequest }
-    requires number { 0 < numbers_left (state_of store.old) }
+    requires kind { kind_at (state_of (opened store.old)) number ≡ Some kind.ActiveRequest }
+    requires number { 0 < numbers_left (state_of (opened store.old)) }
     requires len { IsTrue (takes_len PB.family len) }
-    ensures core { IsCore store.new }
-    ensures loans { LoansResponse PH.is_default (state_of store.old) number len result (state_of store.new) }
-    ensures unreduced { ServerHasPool store.old.limits (state_of store.old) number len → result ≢ Err LoanError.OutOfMemory }
+    ensures core { IsCore (opened store.new) }
+    ensures loans { LoansResponse PH.is_default (state_of (opened store.old)) number len result (state_of (opened store.new)) }
+    ensures unreduced { ServerHasPool store.old.limits (state_of (opened store.old)) number len → result ≢ Err LoanError.OutOfMemory }
 {
-    let active = store.at(number, place);
+    let active = store.table.at(number, place);
     let (server, loans) = match active.stage.active() {
         Some(found) => found,
         None => unreachable!(),
     };
-    let index = store.server_index(server);
+    let index = store.servers.index_of(server);
     if let Some(refusal) = store.response_loan_limit(index, len, loans) {
         return Err(refusal);
     }
-    let sender = store.server_sender(index);
+    let sender = store.servers.sender_of_port(index);
     let details = store.new_response_details(server, number, active.sender, active.slot);
-    match store.loan_response_slot(sender, len, details, PH::default()) {
+    match store.servers.loan(sender, len, details, PH::default()) {
         Ok(own) => {
-            store.count_response_loan(sender);
+            store.servers.count_loan(sender);
             let stage = Stage::ActiveRequest(server, loans + 1);
-            store.replace(number, place, HandleEntry { stage, ..active });
+            store
+                .table
+                .set_at(number, place, HandleEntry { stage, ..active });
             let entry = HandleEntry {
                 stage: Stage::ResponseMutUninit,
                 sender,

@@ -3,6 +3,7 @@ ghost use Rattle.std.specs.Prelude.{◌≡◌, false, nat_lt, length, Some, IsSo
 ghost use Rattle.rr_protocol.specs.Counts.{is_alive};
 ghost use Rattle.rr_protocol.specs.Queries.{kind_at};
 ghost use Rattle.rr_protocol.specs.State.{active_at, pending_at};
+ghost use Rattle.rr_store.specs.Opened.{opened};
 ghost use Rattle.rr_store.specs.Reaching.{IsCore};
 ghost use Rattle.rr_store.specs.Views.{state_of};
 ghost use Rattle.rr_table.specs.TableView.{IsAt};
@@ -22,12 +23,12 @@ pub fn is_pending_connected_at<
     PH: Default + Drop,
     K: BackpressureFn,
 >(store: &Store<QB, QH, PB, PH, K>, number: u64, place: Place) -> bool
-    requires core { IsCore store.now }
+    requires core { IsCore (opened store.now) }
     requires at { IsAt store.now.table number place }
-    requires kind { kind_at (state_of store.now) number ≡ Some Kind.PendingResponse }
-    ensures { IsSomeAnd (pending_at (state_of store.now) number) (λ pending. result ≡ nat_lt 0 (length pending.servers)) }
+    requires kind { kind_at (state_of (opened store.now)) number ≡ Some Kind.PendingResponse }
+    ensures { IsSomeAnd (pending_at (state_of (opened store.now)) number) (λ pending. result ≡ nat_lt 0 (length pending.servers)) }
 {
-    let entry = store.at(number, place);
+    let entry = store.table.at(number, place);
     store.is_answerable(entry.sender, entry.slot)
 }
 
@@ -41,15 +42,15 @@ pub fn is_active_connected_at<
     PH: Default + Drop,
     K: BackpressureFn,
 >(store: &Store<QB, QH, PB, PH, K>, number: u64, place: Place) -> bool
-    requires core { IsCore store.now }
+    requires core { IsCore (opened store.now) }
     requires at { IsAt store.now.table number place }
-    requires kind { kind_at (state_of store.now) number ≡ Some Kind.ActiveRequest }
-    ensures { IsSomeAnd (active_at (state_of store.now) number) (λ active. result ≡ is_alive (state_of store.now) active.message.number) }
+    requires kind { kind_at (state_of (opened store.now)) number ≡ Some Kind.ActiveRequest }
+    ensures { IsSomeAnd (active_at (state_of (opened store.now)) number) (λ active. result ≡ is_alive (state_of (opened store.now)) active.message.number) }
 {
-    let entry = store.at(number, place);
-    let details = store.request_details(entry.sender, entry.slot);
-    let own = store.own_place(entry.sender, entry.slot);
-    match store.get_at(details.number, own) {
+    let entry = store.table.at(number, place);
+    let details = store.clients.details(entry.sender, entry.slot);
+    let own = store.clients.own_place(entry.sender, entry.slot);
+    match store.table.get_at(details.number, own) {
         Some(request) => request.stage.is_pending(),
         None => false,
     }

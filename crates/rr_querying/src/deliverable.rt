@@ -3,6 +3,7 @@ ghost use Rattle.std.specs.Prelude.{◌≡◌, Some, IsSomeAnd};
 ghost use Rattle.rr_protocol.specs.Queries.{kind_at};
 ghost use Rattle.rr_protocol.specs.Sends.{is_request_deliverable, is_response_deliverable};
 ghost use Rattle.rr_protocol.specs.State.{request_at, response_at};
+ghost use Rattle.rr_store.specs.Opened.{opened};
 ghost use Rattle.rr_store.specs.Reaching.{IsCore};
 ghost use Rattle.rr_store.specs.Views.{state_of};
 ghost use Rattle.rr_table.specs.TableView.{IsAt};
@@ -22,12 +23,12 @@ pub fn is_request_deliverable_at<
     PH: Default + Drop,
     K: BackpressureFn,
 >(store: &Store<QB, QH, PB, PH, K>, number: u64, place: Place) -> bool
-    requires core { IsCore store.now }
+    requires core { IsCore (opened store.now) }
     requires at { IsAt store.now.table number place }
-    requires kind { kind_at (state_of store.now) number ≡ Some Kind.RequestMut }
-    ensures { IsSomeAnd (request_at (state_of store.now) number) (λ m. result ≡ is_request_deliverable (state_of store.now) m) }
+    requires kind { kind_at (state_of (opened store.now)) number ≡ Some Kind.RequestMut }
+    ensures { IsSomeAnd (request_at (state_of (opened store.now)) number) (λ m. result ≡ is_request_deliverable (state_of (opened store.now)) m) }
 {
-    let entry = store.at(number, place);
+    let entry = store.table.at(number, place);
     store.is_request_deliverable(entry.sender)
 }
 
@@ -41,13 +42,13 @@ pub fn is_response_deliverable_at<
     PH: Default + Drop,
     K: BackpressureFn,
 >(store: &Store<QB, QH, PB, PH, K>, number: u64, place: Place) -> bool
-    requires core { IsCore store.now }
+    requires core { IsCore (opened store.now) }
     requires at { IsAt store.now.table number place }
-    requires kind { kind_at (state_of store.now) number ≡ Some Kind.ResponseMut }
-    ensures { IsSomeAnd (response_at (state_of store.now) number) (λ m. result ≡ is_response_deliverable (state_of store.now) m) }
+    requires kind { kind_at (state_of (opened store.now)) number ≡ Some Kind.ResponseMut }
+    ensures { IsSomeAnd (response_at (state_of (opened store.now)) number) (λ m. result ≡ is_response_deliverable (state_of (opened store.now)) m) }
 {
-    let entry = store.at(number, place);
-    let details = store.response_details(entry.sender, entry.slot);
-    let reach = store.reached_receiver(details);
+    let entry = store.table.at(number, place);
+    let details = store.servers.details(entry.sender, entry.slot);
+    let reach = store.clients.reached_receiver(&store.table, details);
     store.is_response_deliverable(entry.sender, details.channel, reach)
 }

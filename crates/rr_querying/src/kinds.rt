@@ -3,6 +3,7 @@ ghost use Rattle.std.specs.Prelude.{◌≡◌, None, Some, if◌then◌else◌};
 ghost use Rattle.rr_protocol.specs.declared.kind.Kind.TheVariants as kind;
 ghost use Rattle.rr_protocol.specs.Queries.{kind_at};
 ghost use Rattle.rr_protocol.specs.State.{is_client_value, is_server_value};
+ghost use Rattle.rr_store.specs.Opened.{opened};
 ghost use Rattle.rr_store.specs.Reaching.{IsCore};
 ghost use Rattle.rr_store.specs.Views.{state_of};
 
@@ -20,17 +21,17 @@ pub fn kind_of<QB: Body, QH: Default + Drop, PB: Body, PH: Default + Drop, K: Ba
     number: u64,
     place: Place,
 ) -> Option<Kind>
-    requires { IsCore store.now }
-    ensures { result ≡ kind_at (state_of store.now) number }
+    requires { IsCore (opened store.now) }
+    ensures { result ≡ kind_at (state_of (opened store.now)) number }
 {
-    if store.is_at(number, place) {
-        return Some(store.at(number, place).stage.kind());
+    if store.table.is_at(number, place) {
+        return Some(store.table.at(number, place).stage.kind());
     }
     if let Some(kind) = port_kind_of(store, number) {
         return Some(kind);
     }
-    match store.find(number) {
-        Some(place) => Some(store.at(number, place).stage.kind()),
+    match store.table.find(number) {
+        Some(place) => Some(store.table.at(number, place).stage.kind()),
         None => None,
     }
 }
@@ -43,13 +44,13 @@ pub fn port_kind_of<QB: Body, QH: Default + Drop, PB: Body, PH: Default + Drop, 
     store: &Store<QB, QH, PB, PH, K>,
     number: u64,
 ) -> Option<Kind>
-    requires { IsCore store.now }
-    ensures { result ≡ (if is_client_value (state_of store.now) number then Some kind.Client else if is_server_value (state_of store.now) number then Some kind.Server else None) }
+    requires { IsCore (opened store.now) }
+    ensures { result ≡ (if is_client_value (state_of (opened store.now)) number then Some kind.Client else if is_server_value (state_of (opened store.now)) number then Some kind.Server else None) }
 {
-    if store.is_client_value(number) {
+    if store.clients.is_value(number) {
         return Some(Kind::Client);
     }
-    if store.is_server_value(number) {
+    if store.servers.is_value(number) {
         return Some(Kind::Server);
     }
     None

@@ -2,6 +2,7 @@
 ghost use Rattle.std.specs.Prelude.{◌≡◌, IsSome, IsSomeAnd, option_and_then};
 ghost use Rattle.rr_protocol.specs.Messages.{request_in, response_in};
 ghost use Rattle.rr_protocol.specs.State.{handle_at};
+ghost use Rattle.rr_store.specs.Opened.{opened};
 ghost use Rattle.rr_store.specs.Reaching.{IsCore};
 ghost use Rattle.rr_store.specs.Views.{state_of};
 ghost use Rattle.rr_table.specs.TableView.{IsAt};
@@ -20,13 +21,13 @@ pub fn request_user_header_at<
     PH: Default + Drop,
     K: BackpressureFn,
 >(store: &Store<QB, QH, PB, PH, K>, number: u64, place: Place) -> &QH
-    requires core { IsCore store.now }
+    requires core { IsCore (opened store.now) }
     requires at { IsAt store.now.table number place }
-    requires kind { IsSome (option_and_then request_in (handle_at (state_of store.now) number)) }
-    ensures { IsSomeAnd (option_and_then request_in (handle_at (state_of store.now) number)) (λ m. result.now ≡ m.content.user_header) }
+    requires kind { IsSome (option_and_then request_in (handle_at (state_of (opened store.now)) number)) }
+    ensures { IsSomeAnd (option_and_then request_in (handle_at (state_of (opened store.now)) number)) (λ m. result.now ≡ m.content.user_header) }
 {
-    let entry = store.at(number, place);
-    store.request_user_header(entry.sender, entry.slot)
+    let entry = store.table.at(number, place);
+    store.clients.user_header(entry.sender, entry.slot)
 }
 
 /// Returns the user header of the response of the handle that stands in this place.
@@ -38,11 +39,11 @@ pub fn response_user_header_at<
     PH: Default + Drop,
     K: BackpressureFn,
 >(store: &Store<QB, QH, PB, PH, K>, number: u64, place: Place) -> &PH
-    requires core { IsCore store.now }
+    requires core { IsCore (opened store.now) }
     requires at { IsAt store.now.table number place }
-    requires kind { IsSome (option_and_then response_in (handle_at (state_of store.now) number)) }
-    ensures { IsSomeAnd (option_and_then response_in (handle_at (state_of store.now) number)) (λ m. result.now ≡ m.content.user_header) }
+    requires kind { IsSome (option_and_then response_in (handle_at (state_of (opened store.now)) number)) }
+    ensures { IsSomeAnd (option_and_then response_in (handle_at (state_of (opened store.now)) number)) (λ m. result.now ≡ m.content.user_header) }
 {
-    let entry = store.at(number, place);
-    store.response_user_header(entry.sender, entry.slot)
+    let entry = store.table.at(number, place);
+    store.servers.user_header(entry.sender, entry.slot)
 }

@@ -4,6 +4,7 @@ ghost use Rattle.rr_protocol.specs.declared.kind.Kind.TheVariants as kind;
 ghost use Rattle.rr_protocol.specs.Queries.{kind_at};
 ghost use Rattle.rr_protocol.specs.Receives.{ReceivesRequest};
 ghost use Rattle.rr_protocol.specs.State.{numbers_left};
+ghost use Rattle.rr_store.specs.Opened.{opened};
 ghost use Rattle.rr_store.specs.Reaching.{IsCore};
 ghost use Rattle.rr_store.specs.Views.{state_of};
 
@@ -30,18 +31,18 @@ pub fn receive_request<
     PH: Default + Drop,
     K: BackpressureFn,
 >(store: &mut Store<QB, QH, PB, PH, K>, server: u64) -> Result<Option<HandleId>, ReceiveError>
-    requires core { IsCore store.old }
-    requires kind { kind_at (state_of store.old) server ≡ Some kind.Server }
-    requires number { 0 < numbers_left (state_of store.old) }
-    ensures core { IsCore store.new }
-    ensures receives { ReceivesRequest (state_of store.old) server result (state_of store.new) }
+    requires core { IsCore (opened store.old) }
+    requires kind { kind_at (state_of (opened store.old)) server ≡ Some kind.Server }
+    requires number { 0 < numbers_left (state_of (opened store.old)) }
+    ensures core { IsCore (opened store.new) }
+    ensures receives { ReceivesRequest (state_of (opened store.old)) server result (state_of (opened store.new)) }
 {
-    let index = store.server_index(server);
-    let receiver = store.server_receiver(index);
+    let index = store.servers.index_of(server);
+    let receiver = store.servers.receiver_of_port(index);
     match store.next_request_sender(receiver) {
         Ok(Some(sender)) => {
-            let slot = store.take_request(sender, receiver);
-            let own = store.active_place(sender, receiver, slot);
+            let slot = store.clients.take(sender, receiver, 0);
+            let own = store.clients.place_at_receiver(sender, receiver, slot);
             let entry = HandleEntry {
                 stage: Stage::ActiveRequest(server, 0),
                 sender,

@@ -3,6 +3,7 @@ ghost use Rattle.std.specs.Prelude.{◌≡◌, None, Some, IfOk, IfSome};
 ghost use Rattle.rr_protocol.specs.declared.kind.Kind.TheVariants as kind;
 ghost use Rattle.rr_protocol.specs.Queries.{kind_at};
 ghost use Rattle.rr_protocol.specs.Receives.{ReceivesResponse};
+ghost use Rattle.rr_store.specs.Opened.{opened};
 ghost use Rattle.rr_store.specs.Reaching.{IsCore};
 ghost use Rattle.rr_store.specs.Views.{state_of};
 ghost use Rattle.rr_table.specs.TableView.{IsAt};
@@ -30,20 +31,21 @@ pub fn receive_response_at<
     number: u64,
     place: Place,
 ) -> Result<Option<HandleId>, ReceiveError>
-    requires core { IsCore store.old }
+    requires core { IsCore (opened store.old) }
     requires at { IsAt store.old.table number place }
-    requires kind { kind_at (state_of store.old) number ≡ Some kind.PendingResponse }
-    ensures core { IsCore store.new }
-    ensures receives { ReceivesResponse (state_of store.old) number result (state_of store.new) }
-    ensures unnamed { IfOk result (λ handle. IfSome handle (λ k. kind_at (state_of store.old) k ≡ None)) }
+    requires kind { kind_at (state_of (opened store.old)) number ≡ Some kind.PendingResponse }
+    ensures core { IsCore (opened store.new) }
+    ensures receives { ReceivesResponse (state_of (opened store.old)) number result (state_of (opened store.new)) }
+    ensures unnamed { IfOk result (λ handle. IfSome handle (λ k. kind_at (state_of (opened store.old)) k ≡ None)) }
 {
-    let request = store.at(number, place);
-    let receiver = store.receiver_of_sender(request.sender);
-    match store.next_response_sender(receiver, request.slot) {
+    let request = store.table.at(number, place);
+    let receiver = store.clients.receiver_of(request.sender);
+    let most = store.limits.max_borrowed_responses_per_pending_response;
+    match store.servers.next_sender(receiver, request.slot, most) {
         Ok(Some(sender)) => {
-            let slot = store.take_response(sender, receiver, request.slot);
-            let details = store.response_details(sender, slot);
-            let own = store.response_place(sender, slot);
+            let slot = store.servers.take(sender, receiver, request.slot);
+            let details = store.servers.details(sender, slot);
+            let own = store.servers.own_place(sender, slot);
             let entry = HandleEntry {
                 stage: Stage::Response,
                 sender,

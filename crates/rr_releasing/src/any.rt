@@ -1,6 +1,7 @@
 //! Releases of handles of any kind.
 ghost use Rattle.std.specs.Prelude.{◌≡◌};
 ghost use Rattle.rr_protocol.specs.Releases.{after_release};
+ghost use Rattle.rr_store.specs.Opened.{opened};
 ghost use Rattle.rr_store.specs.Reaching.{IsCore};
 ghost use Rattle.rr_store.specs.Views.{state_of};
 ghost use Rattle.rr_table.specs.TableView.{IsAt};
@@ -22,12 +23,12 @@ pub fn release_at<QB: Body, QH: Default + Drop, PB: Body, PH: Default + Drop, K:
     number: u64,
     place: Place,
 )
-    requires core { IsCore store.old }
+    requires core { IsCore (opened store.old) }
     requires at { IsAt store.old.table number place }
-    ensures core { IsCore store.new }
-    ensures view { state_of store.new ≡ after_release (state_of store.old) number }
+    ensures core { IsCore (opened store.new) }
+    ensures view { state_of (opened store.new) ≡ after_release (state_of (opened store.old)) number }
 {
-    match store.at(number, place).stage {
+    match store.table.at(number, place).stage {
         Stage::RequestMutUninit | Stage::RequestMut => release_request_at(store, number, place),
         Stage::PendingResponse(_, _) => release_pending_at(store, number, place),
         Stage::ActiveRequest(_, _) => release_active_at(store, number, place),

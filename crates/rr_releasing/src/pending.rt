@@ -3,6 +3,7 @@ ghost use Rattle.std.specs.Prelude.{◌≡◌, true, IsSomeAnd};
 ghost use Rattle.rr_protocol.specs.Releases.{after_release};
 ghost use Rattle.rr_protocol.specs.State.{handle_at};
 ghost use Rattle.rr_store.specs.Clearing.{is_pending_response};
+ghost use Rattle.rr_store.specs.Opened.{opened};
 ghost use Rattle.rr_store.specs.Releasing.{IsHandleGone};
 ghost use Rattle.rr_store.specs.Reaching.{IsCore};
 ghost use Rattle.rr_store.specs.Sound.{HasPort, IsSound, empty_hand};
@@ -25,11 +26,11 @@ pub fn release_pending_at<
     PH: Default + Drop,
     K: BackpressureFn,
 >(store: &mut Store<QB, QH, PB, PH, K>, number: u64, place: Place)
-    requires core { IsCore store.old }
+    requires core { IsCore (opened store.old) }
     requires at { IsAt store.old.table number place }
-    requires kind { IsSomeAnd (handle_at (state_of store.old) number) (λ handle. is_pending_response handle ≡ true) }
-    ensures core { IsCore store.new }
-    ensures view { state_of store.new ≡ after_release (state_of store.old) number }
+    requires kind { IsSomeAnd (handle_at (state_of (opened store.old)) number) (λ handle. is_pending_response handle ≡ true) }
+    ensures core { IsCore (opened store.new) }
+    ensures view { state_of (opened store.new) ≡ after_release (state_of (opened store.old)) number }
 {
     let sender = end_pending(store, number, place);
     leave_client_of_sender_if_unused(store, sender);
@@ -43,16 +44,16 @@ fn end_pending<QB: Body, QH: Default + Drop, PB: Body, PH: Default + Drop, K: Ba
     number: u64,
     place: Place,
 ) -> usize
-    requires core { IsCore store.old }
+    requires core { IsCore (opened store.old) }
     requires at { IsAt store.old.table number place }
-    requires kind { IsSomeAnd (handle_at (state_of store.old) number) (λ handle. is_pending_response handle ≡ true) }
-    ensures sound { IsSound store.new empty_hand }
-    ensures port { HasPort (λ c. c.sender) store.new.clients result }
-    ensures gone { IsHandleGone (state_of store.old) number (sender_of result store.new.client_senders).owner (state_of store.new) }
+    requires kind { IsSomeAnd (handle_at (state_of (opened store.old)) number) (λ handle. is_pending_response handle ≡ true) }
+    ensures sound { IsSound (opened store.new) empty_hand }
+    ensures port { HasPort (λ c. c.sender) (opened store.new).clients result }
+    ensures gone { IsHandleGone (state_of (opened store.old)) number (sender_of result (opened store.new).client_senders).owner (state_of (opened store.new)) }
 {
-    let entry = store.take(number, place);
-    let receiver = store.end_pending(entry.sender);
-    store.clear_channel(receiver, entry.slot);
-    store.give_back_request(entry.sender, entry.slot);
+    let entry = store.table.take_at(number, place);
+    let receiver = store.clients.end_pending(entry.sender);
+    store.servers.clear_channel(receiver, entry.slot);
+    store.clients.give_back(entry.sender, entry.slot);
     entry.sender
 }

@@ -2,6 +2,7 @@
 ghost use Rattle.std.specs.Prelude.{◌≡◌, true, IsSomeAnd};
 ghost use Rattle.rr_protocol.specs.Releases.{after_release};
 ghost use Rattle.rr_protocol.specs.State.{handle_at};
+ghost use Rattle.rr_store.specs.Opened.{opened};
 ghost use Rattle.rr_store.specs.Releasing.{IsHandleGone, is_received_response};
 ghost use Rattle.rr_store.specs.Reaching.{IsCore};
 ghost use Rattle.rr_store.specs.Sound.{HasPort, IsSound, empty_hand};
@@ -24,11 +25,11 @@ pub fn release_received_at<
     PH: Default + Drop,
     K: BackpressureFn,
 >(store: &mut Store<QB, QH, PB, PH, K>, number: u64, place: Place)
-    requires core { IsCore store.old }
+    requires core { IsCore (opened store.old) }
     requires at { IsAt store.old.table number place }
-    requires kind { IsSomeAnd (handle_at (state_of store.old) number) (λ handle. is_received_response handle ≡ true) }
-    ensures core { IsCore store.new }
-    ensures view { state_of store.new ≡ after_release (state_of store.old) number }
+    requires kind { IsSomeAnd (handle_at (state_of (opened store.old)) number) (λ handle. is_received_response handle ≡ true) }
+    ensures core { IsCore (opened store.new) }
+    ensures view { state_of (opened store.new) ≡ after_release (state_of (opened store.old)) number }
 {
     let sender = end_received(store, number, place);
     leave_client_of_sender_if_unused(store, sender);
@@ -42,16 +43,18 @@ fn end_received<QB: Body, QH: Default + Drop, PB: Body, PH: Default + Drop, K: B
     number: u64,
     place: Place,
 ) -> usize
-    requires core { IsCore store.old }
+    requires core { IsCore (opened store.old) }
     requires at { IsAt store.old.table number place }
-    requires kind { IsSomeAnd (handle_at (state_of store.old) number) (λ handle. is_received_response handle ≡ true) }
-    ensures sound { IsSound store.new empty_hand }
-    ensures port { HasPort (λ c. c.sender) store.new.clients result }
-    ensures gone { IsHandleGone (state_of store.old) number (sender_of result store.new.client_senders).owner (state_of store.new) }
+    requires kind { IsSomeAnd (handle_at (state_of (opened store.old)) number) (λ handle. is_received_response handle ≡ true) }
+    ensures sound { IsSound (opened store.new) empty_hand }
+    ensures port { HasPort (λ c. c.sender) (opened store.new).clients result }
+    ensures gone { IsHandleGone (state_of (opened store.old)) number (sender_of result (opened store.new).client_senders).owner (state_of (opened store.new)) }
 {
-    let entry = store.take(number, place);
-    let details = store.response_details(entry.sender, entry.slot);
-    let receiver = store.receiver_of_sender(details.client_sender);
-    store.end_response_borrow(entry.sender, receiver, details.channel, entry.slot);
+    let entry = store.table.take_at(number, place);
+    let details = store.servers.details(entry.sender, entry.slot);
+    let receiver = store.clients.receiver_of(details.client_sender);
+    store
+        .servers
+        .end_borrow(entry.sender, receiver, details.channel, entry.slot);
     details.client_sender
 }

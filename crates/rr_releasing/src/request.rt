@@ -2,6 +2,7 @@
 ghost use Rattle.std.specs.Prelude.{◌≡◌, true, IsSomeAnd};
 ghost use Rattle.rr_protocol.specs.Releases.{after_release};
 ghost use Rattle.rr_protocol.specs.State.{handle_at};
+ghost use Rattle.rr_store.specs.Opened.{opened};
 ghost use Rattle.rr_store.specs.Releasing.{IsHandleGone, is_loaned_request};
 ghost use Rattle.rr_store.specs.Reaching.{IsCore};
 ghost use Rattle.rr_store.specs.Sound.{HasPort, IsSound, empty_hand};
@@ -24,11 +25,11 @@ pub fn release_request_at<
     PH: Default + Drop,
     K: BackpressureFn,
 >(store: &mut Store<QB, QH, PB, PH, K>, number: u64, place: Place)
-    requires core { IsCore store.old }
+    requires core { IsCore (opened store.old) }
     requires at { IsAt store.old.table number place }
-    requires kind { IsSomeAnd (handle_at (state_of store.old) number) (λ handle. is_loaned_request handle ≡ true) }
-    ensures core { IsCore store.new }
-    ensures view { state_of store.new ≡ after_release (state_of store.old) number }
+    requires kind { IsSomeAnd (handle_at (state_of (opened store.old)) number) (λ handle. is_loaned_request handle ≡ true) }
+    ensures core { IsCore (opened store.new) }
+    ensures view { state_of (opened store.new) ≡ after_release (state_of (opened store.old)) number }
 {
     let sender = end_request(store, number, place);
     leave_client_of_sender_if_unused(store, sender);
@@ -42,15 +43,15 @@ fn end_request<QB: Body, QH: Default + Drop, PB: Body, PH: Default + Drop, K: Ba
     number: u64,
     place: Place,
 ) -> usize
-    requires core { IsCore store.old }
+    requires core { IsCore (opened store.old) }
     requires at { IsAt store.old.table number place }
-    requires kind { IsSomeAnd (handle_at (state_of store.old) number) (λ handle. is_loaned_request handle ≡ true) }
-    ensures sound { IsSound store.new empty_hand }
-    ensures port { HasPort (λ c. c.sender) store.new.clients result }
-    ensures gone { IsHandleGone (state_of store.old) number (sender_of result store.new.client_senders).owner (state_of store.new) }
+    requires kind { IsSomeAnd (handle_at (state_of (opened store.old)) number) (λ handle. is_loaned_request handle ≡ true) }
+    ensures sound { IsSound (opened store.new) empty_hand }
+    ensures port { HasPort (λ c. c.sender) (opened store.new).clients result }
+    ensures gone { IsHandleGone (state_of (opened store.old)) number (sender_of result (opened store.new).client_senders).owner (state_of (opened store.new)) }
 {
-    let entry = store.take(number, place);
-    store.give_back_request(entry.sender, entry.slot);
-    store.end_request_loan(entry.sender);
+    let entry = store.table.take_at(number, place);
+    store.clients.give_back(entry.sender, entry.slot);
+    store.clients.end_loan(entry.sender);
     entry.sender
 }

@@ -2,6 +2,7 @@
 ghost use Rattle.std.specs.Prelude.{◌≡◌, true, IsSomeAnd};
 ghost use Rattle.rr_protocol.specs.Releases.{after_release};
 ghost use Rattle.rr_protocol.specs.State.{handle_at};
+ghost use Rattle.rr_store.specs.Opened.{opened};
 ghost use Rattle.rr_store.specs.Releasing.{IsHandleGone, is_loaned_response};
 ghost use Rattle.rr_store.specs.Reaching.{IsCore};
 ghost use Rattle.rr_store.specs.Sound.{HasPort, IsSound, empty_hand};
@@ -24,11 +25,11 @@ pub fn release_response_loan_at<
     PH: Default + Drop,
     K: BackpressureFn,
 >(store: &mut Store<QB, QH, PB, PH, K>, number: u64, place: Place)
-    requires core { IsCore store.old }
+    requires core { IsCore (opened store.old) }
     requires at { IsAt store.old.table number place }
-    requires kind { IsSomeAnd (handle_at (state_of store.old) number) (λ handle. is_loaned_response handle ≡ true) }
-    ensures core { IsCore store.new }
-    ensures view { state_of store.new ≡ after_release (state_of store.old) number }
+    requires kind { IsSomeAnd (handle_at (state_of (opened store.old)) number) (λ handle. is_loaned_response handle ≡ true) }
+    ensures core { IsCore (opened store.new) }
+    ensures view { state_of (opened store.new) ≡ after_release (state_of (opened store.old)) number }
 {
     let sender = end_response(store, number, place);
     leave_server_of_sender_if_unused(store, sender);
@@ -42,17 +43,17 @@ fn end_response<QB: Body, QH: Default + Drop, PB: Body, PH: Default + Drop, K: B
     number: u64,
     place: Place,
 ) -> usize
-    requires core { IsCore store.old }
+    requires core { IsCore (opened store.old) }
     requires at { IsAt store.old.table number place }
-    requires kind { IsSomeAnd (handle_at (state_of store.old) number) (λ handle. is_loaned_response handle ≡ true) }
-    ensures sound { IsSound store.new empty_hand }
-    ensures port { HasPort (λ s. s.sender) store.new.servers result }
-    ensures gone { IsHandleGone (state_of store.old) number (sender_of result store.new.server_senders).owner (state_of store.new) }
+    requires kind { IsSomeAnd (handle_at (state_of (opened store.old)) number) (λ handle. is_loaned_response handle ≡ true) }
+    ensures sound { IsSound (opened store.new) empty_hand }
+    ensures port { HasPort (λ s. s.sender) (opened store.new).servers result }
+    ensures gone { IsHandleGone (state_of (opened store.old)) number (sender_of result (opened store.new).server_senders).owner (state_of (opened store.new)) }
 {
-    let entry = store.take(number, place);
-    let details = store.response_details(entry.sender, entry.slot);
-    store.give_back_response(entry.sender, entry.slot);
-    let receiver = store.end_response_loan(entry.sender);
+    let entry = store.table.take_at(number, place);
+    let details = store.servers.details(entry.sender, entry.slot);
+    store.servers.give_back(entry.sender, entry.slot);
+    let receiver = store.servers.end_loan(entry.sender);
     store.end_loan_from(details, receiver);
     entry.sender
 }

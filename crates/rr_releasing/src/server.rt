@@ -3,6 +3,7 @@ ghost use Rattle.std.specs.Prelude.{◌≡◌, Some, IsSomeAnd, slice_get};
 ghost use Rattle.rr_protocol.specs.declared.kind.Kind.TheVariants as kind;
 ghost use Rattle.rr_protocol.specs.Queries.{kind_at};
 ghost use Rattle.rr_protocol.specs.Releases.{after_release, without_port_value};
+ghost use Rattle.rr_store.specs.Opened.{opened};
 ghost use Rattle.rr_store.specs.Reaching.{IsCore};
 ghost use Rattle.rr_store.specs.Sound.{IsSound, empty_hand};
 ghost use Rattle.rr_store.specs.Views.{state_of};
@@ -20,10 +21,10 @@ pub fn release_server<
     PH: Default + Drop,
     K: BackpressureFn,
 >(store: &mut Store<QB, QH, PB, PH, K>, server: u64)
-    requires core { IsCore store.old }
-    requires kind { kind_at (state_of store.old) server ≡ Some kind.Server }
-    ensures core { IsCore store.new }
-    ensures view { state_of store.new ≡ after_release (state_of store.old) server }
+    requires core { IsCore (opened store.old) }
+    requires kind { kind_at (state_of (opened store.old)) server ≡ Some kind.Server }
+    ensures core { IsCore (opened store.new) }
+    ensures view { state_of (opened store.new) ≡ after_release (state_of (opened store.old)) server }
 {
     let index = end_server_value(store, server);
     leave_server_if_unused(store, index);
@@ -34,13 +35,13 @@ fn end_server_value<QB: Body, QH: Default + Drop, PB: Body, PH: Default + Drop, 
     store: &mut Store<QB, QH, PB, PH, K>,
     server: u64,
 ) -> usize
-    requires core { IsCore store.old }
-    requires kind { kind_at (state_of store.old) server ≡ Some kind.Server }
-    ensures sound { IsSound store.new empty_hand }
-    ensures named { IsSomeAnd (slice_get store.new.servers result) (λ s. s.port.id ≡ server) }
-    ensures gone { state_of store.new ≡ without_port_value (state_of store.old) server }
+    requires core { IsCore (opened store.old) }
+    requires kind { kind_at (state_of (opened store.old)) server ≡ Some kind.Server }
+    ensures sound { IsSound (opened store.new) empty_hand }
+    ensures named { IsSomeAnd (slice_get (opened store.new).servers result) (λ s. s.port.id ≡ server) }
+    ensures gone { state_of (opened store.new) ≡ without_port_value (state_of (opened store.old)) server }
 {
-    let index = store.server_index(server);
-    store.end_server_value(index);
+    let index = store.servers.index_of(server);
+    store.servers.end_value(index);
     index
 }

@@ -3,6 +3,7 @@ ghost use Rattle.std.specs.Prelude.{◌≡◌, Some};
 ghost use Rattle.rr_protocol.specs.declared.kind.Kind.TheVariants as kind;
 ghost use Rattle.rr_protocol.specs.Queries.{kind_at};
 ghost use Rattle.rr_protocol.specs.Sends.{SendsRequest};
+ghost use Rattle.rr_store.specs.Opened.{opened};
 ghost use Rattle.rr_store.specs.Reaching.{IsCore};
 ghost use Rattle.rr_store.specs.Views.{state_of};
 ghost use Rattle.rr_table.specs.TableView.{IsAt};
@@ -34,21 +35,23 @@ pub fn send_request_at<
     number: u64,
     place: Place,
 ) -> Result<usize, RequestSendError>
-    requires core { IsCore store.old }
+    requires core { IsCore (opened store.old) }
     requires at { IsAt store.old.table number place }
-    requires kind { kind_at (state_of store.old) number ≡ Some kind.RequestMut }
-    ensures core { IsCore store.new }
-    ensures sends { SendsRequest K.action (state_of store.old) number result (state_of store.new) }
+    requires kind { kind_at (state_of (opened store.old)) number ≡ Some kind.RequestMut }
+    ensures core { IsCore (opened store.new) }
+    ensures sends { SendsRequest K.action (state_of (opened store.old)) number result (state_of (opened store.new)) }
 {
-    let entry = store.at(number, place);
+    let entry = store.table.at(number, place);
     let connections = store.open_connections(entry.sender);
     if let Some(refusal) = store.request_send_limit(entry.sender, connections) {
         release_request_at(store, number, place);
         return Err(refusal);
     }
     let stage = Stage::PendingResponse(false, connections);
-    store.replace(number, place, HandleEntry { stage, ..entry });
+    store
+        .table
+        .set_at(number, place, HandleEntry { stage, ..entry });
     store.queue_request(entry.sender, entry.slot);
-    store.count_as_sent(entry.sender);
+    store.clients.count_as_sent(entry.sender);
     Ok(connections)
 }

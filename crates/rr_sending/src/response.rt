@@ -3,6 +3,7 @@ ghost use Rattle.std.specs.Prelude.{◌≡◌, Some};
 ghost use Rattle.rr_protocol.specs.declared.kind.Kind.TheVariants as kind;
 ghost use Rattle.rr_protocol.specs.Queries.{kind_at};
 ghost use Rattle.rr_protocol.specs.Sends.{SendsResponse};
+ghost use Rattle.rr_store.specs.Opened.{opened};
 ghost use Rattle.rr_store.specs.Reaching.{IsCore};
 ghost use Rattle.rr_store.specs.Views.{state_of};
 ghost use Rattle.rr_table.specs.TableView.{IsAt};
@@ -29,22 +30,25 @@ pub fn send_response_at<
     PH: Default + Drop,
     K: BackpressureFn,
 >(store: &mut Store<QB, QH, PB, PH, K>, number: u64, place: Place) -> Result<(), SendError>
-    requires core { IsCore store.old }
+    requires core { IsCore (opened store.old) }
     requires at { IsAt store.old.table number place }
-    requires kind { kind_at (state_of store.old) number ≡ Some kind.ResponseMut }
-    ensures core { IsCore store.new }
-    ensures sends { SendsResponse K.action (state_of store.old) number result (state_of store.new) }
+    requires kind { kind_at (state_of (opened store.old)) number ≡ Some kind.ResponseMut }
+    ensures core { IsCore (opened store.new) }
+    ensures sends { SendsResponse K.action (state_of (opened store.old)) number result (state_of (opened store.new)) }
 {
-    let entry = store.at(number, place);
-    let details = store.response_details(entry.sender, entry.slot);
-    let reach = store.reached_receiver(details);
+    let entry = store.table.at(number, place);
+    let details = store.servers.details(entry.sender, entry.slot);
+    let reach = store.clients.reached_receiver(&store.table, details);
     if store.is_response_refused(entry.sender, details, reach) {
         release_response_loan_at(store, number, place);
         return Err(SendError::UnableToDeliver);
     }
-    store.hand_over_response(entry, details.channel, reach);
-    store.take(number, place);
-    let receiver = store.end_response_loan(entry.sender);
+    let overflow = store.limits.enable_safe_overflow_for_responses;
+    store
+        .servers
+        .hand_over(entry.sender, entry.slot, details.channel, reach, overflow);
+    store.table.take_at(number, place);
+    let receiver = store.servers.end_loan(entry.sender);
     store.end_loan_from(details, receiver);
     leave_server_of_sender_if_unused(store, entry.sender);
     Ok(())

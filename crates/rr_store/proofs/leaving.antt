@@ -21,3 +21,4 @@ pub mod ClientValue
 pub mod ClientValueView
 pub mod ServerValueView
 pub mod ServerValue
+pub mod Opened

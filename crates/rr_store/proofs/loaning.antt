@@ -1,3 +1,4 @@
+pub mod Opened
 pub mod Live
 pub mod LoanedSender
 pub mod request

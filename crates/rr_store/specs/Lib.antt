@@ -27,8 +27,10 @@ pub mod Expired
 pub mod Clearing
 pub mod Delivering
 pub mod Skimming
-pub mod Inside
+pub mod Sides
+pub mod SideInside
+pub mod SideLends
+pub mod Opened
 pub mod Reaching
 pub mod Changes
 pub mod Draining
-pub mod StoreLends

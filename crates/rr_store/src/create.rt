@@ -11,8 +11,7 @@ ghost use Rattle.rr_store.specs.Ports.{connected_of, sender_part};
 ghost use Rattle.rr_store.specs.Views.{no_request, no_server, sender_of};
 
 use crate::{
-    ClientPort, ConnectedPort, HandleEntry, LeftPort, NO_SERVER, OwnedSender, Port, RequestDetails,
-    Stage,
+    ConnectedPort, HandleEntry, LeftPort, NO_SERVER, OwnedSender, Port, RequestDetails, Stage,
 };
 use rr_protocol::{ClientSettings, Limits};
 use rr_sender::{Sender, SenderSize};
@@ -109,33 +108,6 @@ pub fn client_store<B: Body, H: Default + Drop>(
     })
 }
 
-/// Adds a client with its store. Returns `AllocError` if memory was refused; the lists and the table are unchanged then.
-pub fn insert_client<B: Body, H: Default + Drop, K: Drop>(
-    alloc: Global,
-    clients: &mut Vec<ClientPort<K>>,
-    senders: &mut Vec<OwnedSender<B, RequestDetails, H>>,
-    table: &mut Table<HandleEntry>,
-    port: Port<K>,
-    store: ClientStore<B, H>,
-) -> Result<(), AllocError>
-    ensures clients { clients.new.items ≡ (if is_ok result then clients.old.items ++ record { port = port; loans_made = 0 } ∷ [] else clients.old.items) }
-    ensures senders { senders.new.items ≡ (if is_ok result then senders.old.items ++ record { owner = port.id; row = length table.old.rows; receiver = port.receiver; has_value = true; loans = 0; pendings = 0; may_answer = store.marks; messages = store.messages } ∷ [] else senders.old.items) }
-    ensures table { table.new ≡ (if is_ok result then with_row table.old store.row_len else table.old) }
-{
-    let ClientStore {
-        messages,
-        marks,
-        row_len,
-    } = store;
-    let client = ClientPort {
-        port,
-        loans_made: 0,
-    };
-    insert_port(
-        alloc, clients, senders, table, client, messages, marks, row_len,
-    )
-}
-
 /// Adds a port, the sender from which it sends, and a row of the table for its messages. Returns `AllocError` if memory was
 /// refused; the lists and the table are unchanged then.
 pub fn insert_port<P: ConnectedPort, B: Body, N: Copy, H: Drop>(
@@ -204,37 +176,6 @@ pub fn insert_port_again<P: ConnectedPort, B: Body, N: Copy, H: Drop>(
     };
     ports.push_reserved(port);
     Ok(())
-}
-
-/// Adds a client with its store, which sends from a sender that is there. Returns `AllocError` if memory was refused; the lists
-/// and the table are unchanged then.
-pub fn insert_client_again<B: Body, H: Default + Drop, K: Drop>(
-    alloc: Global,
-    clients: &mut Vec<ClientPort<K>>,
-    senders: &mut Vec<OwnedSender<B, RequestDetails, H>>,
-    table: &mut Table<HandleEntry>,
-    port: Port<K>,
-    store: ClientStore<B, H>,
-) -> Result<(), AllocError>
-    requires sender { port.sender < length senders.old.items }
-    requires row { (sender_of port.sender (map sender_part senders.old.items)).row < length table.old.rows }
-    ensures clients { clients.new.items ≡ (if is_ok result then clients.old.items ++ record { port = port; loans_made = 0 } ∷ [] else clients.old.items) }
-    ensures senders { map sender_part senders.new.items ≡ (if is_ok result then slice_set (map sender_part senders.old.items) port.sender (record { owner = port.id; row = (sender_of port.sender (map sender_part senders.old.items)).row; receiver = port.receiver; has_value = true; loans = 0; pendings = 0; may_answer = store.marks.items; messages = store.messages }) else map sender_part senders.old.items) }
-    ensures renewed { OnOk result (IsRenewed (sender_of port.sender (map sender_part senders.old.items)).row store.row_len table.old table.new) }
-    ensures unchanged { OnErr result (table.new ≡ table.old) }
-{
-    let ClientStore {
-        messages,
-        marks,
-        row_len,
-    } = store;
-    let client = ClientPort {
-        port,
-        loans_made: 0,
-    };
-    insert_port_again(
-        alloc, clients, senders, table, client, messages, marks, row_len,
-    )
 }
 
 /// Returns whether nothing uses a sender: no handle and no entry holds one of its slots.

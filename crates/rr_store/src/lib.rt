@@ -1,5 +1,5 @@
-//! What a core keeps of ports, handles and messages: a `Store`, each of whose methods changes one thing. In `specs/` stands what
-//! that stands for and what is true of it, in `proofs/` what stays true.
+//! What a core keeps of ports, handles and messages: a `Store`, with a `Side` of clients and one of servers, each of whose methods
+//! reads or changes one thing. In `specs/` stands what that stands for and what is true of it, in `proofs/` what stays true.
 #![tactic(auto)]
 
 pub mod create;
@@ -11,8 +11,9 @@ mod loan;
 mod port;
 mod query;
 mod receive;
-mod release;
+pub mod release;
 mod send;
+mod side;
 mod store;
 mod write;
 
@@ -23,4 +24,5 @@ pub use port::{
     ClientPort, ConnectedPort, LeftPort, NO_SERVER, OwnedSender, Port, ServerPort, index_of,
     index_of_present,
 };
+pub use side::Side;
 pub use store::{NUMBERS, Store};

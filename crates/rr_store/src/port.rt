@@ -1,5 +1,5 @@
 //! What a core keeps of its connected ports, and the senders from which ports send.
-ghost use Rattle.std.specs.Prelude.{◌≡◌, ◌==◌, ◌||◌, IsSome, Some, nat_le};
+ghost use Rattle.std.specs.Prelude.{◌≡◌, ◌==◌, ◌||◌, false, IsSome, Some, nat_le};
 ghost use Rattle.std.specs.List.{position};
 ghost use Rattle.rr_protocol.specs.Backpressure.{discards};
 ghost use Rattle.rr_protocol.specs.Loans.{is_too_long};
@@ -135,6 +135,9 @@ pub trait ConnectedPort: Drop {
     /// Whether its value lives.
     ghost has_value: { Self → Bool };
 
+    /// The port once its value is gone.
+    ghost valueless: { Self → Self };
+
     /// The number.
     fn id(&self) -> u64
         ensures { result ≡ id self.now };
@@ -150,6 +153,10 @@ pub trait ConnectedPort: Drop {
     /// Whether its value lives.
     fn has_value(&self) -> bool
         ensures { result ≡ has_value self.now };
+
+    /// Notes that its value is gone.
+    fn end_value(&mut self)
+        ensures { self.new ≡ valueless self.old };
 }
 
 impl<K: Drop> ConnectedPort for ClientPort<K> {
@@ -160,6 +167,8 @@ impl<K: Drop> ConnectedPort for ClientPort<K> {
     ghost receiver = { λ c. c.port.receiver };
 
     ghost has_value = { λ c. c.port.has_value };
+
+    ghost valueless = { λ c. record c { port = record c.port { has_value = false } } };
 
     fn id(&self) -> u64 {
         self.port.id
@@ -175,6 +184,10 @@ impl<K: Drop> ConnectedPort for ClientPort<K> {
 
     fn has_value(&self) -> bool {
         self.port.has_value
+    }
+
+    fn end_value(&mut self) {
+        self.port.has_value = false;
     }
 }
 
@@ -187,6 +200,8 @@ impl<K: Drop> ConnectedPort for ServerPort<K> {
 
     ghost has_value = { λ s. s.port.has_value };
 
+    ghost valueless = { λ s. record s { port = record s.port { has_value = false } } };
+
     fn id(&self) -> u64 {
         self.port.id
     }
@@ -201,6 +216,10 @@ impl<K: Drop> ConnectedPort for ServerPort<K> {
 
     fn has_value(&self) -> bool {
         self.port.has_value
+    }
+
+    fn end_value(&mut self) {
+        self.port.has_value = false;
     }
 }
 

@@ -1,64 +1,41 @@
 //! What a core keeps, as one value.
-use crate::{
-    ClientPort, HandleEntry, LeftPort, OwnedSender, RequestDetails, ResponseDetails, ServerPort,
-};
+use crate::side::Side;
+use crate::{ClientPort, HandleEntry, RequestDetails, ResponseDetails, ServerPort};
 use rr_protocol::{BackpressureFn, Limits, UniqueNodeId};
 use rr_slots::Body;
 use rr_table::Table;
-use std::marker::Model;
 
 mod creating;
 mod handles;
 mod leaving;
-mod lending;
 mod loaning;
 mod querying;
-mod queues;
 mod receiving;
-mod releasing;
 mod sending;
-mod settings;
-mod values;
-mod writing;
 
 /// How many numbers a store gives to ports and handles: 2^62, as many as iceoryx2 has request ids.
 pub const NUMBERS: u64 = 4611686018427387904;
 
-/// All ports, handles and messages of a service. Contracts see them as parts, of which nothing is claimed: each method
-/// changes one thing.
+/// All ports, handles and messages of a service, in the open: a call of a core changes the side, or the table, that it speaks of.
+/// `opened` tells what it is as parts.
 ///
-/// A message stands once, in a slot of the sender of the port that sends it. A handle is an entry of the table, under its
-/// number; it names its message by sender and slot, as entries of queues do by slot.
+/// A handle is an entry of the table, under its number; it names its message by sender and slot.
+///
+/// `QB` and `QH` are the body and the user header of requests, `PB` and `PH` those of responses, and `K` is the type of
+/// backpressure handlers.
 #[derive(Drop)]
 pub struct Store<QB: Body, QH: Default + Drop, PB: Body, PH: Default + Drop, K: BackpressureFn> {
     // What nearly every call looks at stands in front, where an instruction reaches it with a byte.
-    pub(crate) next: u64,
-    pub(crate) client_senders: Vec<OwnedSender<QB, RequestDetails, QH>>,
-    pub(crate) table: Table<HandleEntry>,
-    pub(crate) server_senders: Vec<OwnedSender<PB, ResponseDetails, PH>>,
-    pub(crate) servers: Vec<ServerPort<K>>,
-    pub(crate) clients: Vec<ClientPort<K>>,
-    pub(crate) limits: Limits,
-    pub(crate) node_id: UniqueNodeId,
-    // In the order in which they left.
-    pub(crate) left_clients: Vec<LeftPort>,
-    pub(crate) left_servers: Vec<LeftPort>,
-    // What a slot that isn't there would show.
-    pub(crate) spare_request_header: QH,
-    pub(crate) spare_response_header: PH,
-}
-
-impl<QB: Body, QH: Default + Drop, PB: Body, PH: Default + Drop, K: BackpressureFn> Model
-    for Store<QB, QH, PB, PH, K> {
-    ghost use Rattle.std.specs.Coded.{codes};
-    ghost use Rattle.rr_table.specs.TableView.{table_code};
-    ghost use Rattle.rr_store.specs.Parts.{Parts};
-    ghost use Rattle.rr_store.specs.Inside.{parts_of};
-    ghost use Rattle.rr_store.specs.contracts.handle_entry.HandleEntry as handle_entry;
-
-    ghost Value = { Parts QB.Item QH PB.Item PH K };
-
-    ghost coded = { Prim.hlevel (codes, table_code handle_entry.the_row.coded) };
-
-    ghost view = { λ s. parts_of s };
+    /// The number that is given next.
+    pub next: u64,
+    /// The clients, and all requests.
+    pub clients: Side<QB, RequestDetails, QH, ClientPort<K>>,
+    /// The handles by number.
+    pub table: Table<HandleEntry>,
+    /// The servers, and all responses.
+    pub servers: Side<PB, ResponseDetails, PH, ServerPort<K>>,
+    /// The limits of the service.
+    pub limits: Limits,
+    /// The node.
+    pub node_id: UniqueNodeId,
 }

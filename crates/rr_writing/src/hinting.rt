@@ -3,6 +3,7 @@ ghost use Rattle.std.specs.Prelude.{◌≡◌, Some};
 ghost use Rattle.rr_protocol.specs.Messages.{with_hint};
 ghost use Rattle.rr_protocol.specs.Queries.{kind_at};
 ghost use Rattle.rr_protocol.specs.State.{with_changed};
+ghost use Rattle.rr_store.specs.Opened.{opened};
 ghost use Rattle.rr_store.specs.Reaching.{IsCore};
 ghost use Rattle.rr_store.specs.Views.{state_of};
 ghost use Rattle.rr_table.specs.TableView.{IsAt};
@@ -21,17 +22,17 @@ pub fn set_disconnect_hint_at<
     PH: Default + Drop,
     K: BackpressureFn,
 >(store: &mut Store<QB, QH, PB, PH, K>, number: u64, place: Place)
-    requires core { IsCore store.old }
+    requires core { IsCore (opened store.old) }
     requires at { IsAt store.old.table number place }
-    requires kind { kind_at (state_of store.old) number ≡ Some Kind.PendingResponse }
-    ensures core { IsCore store.new }
-    ensures view { state_of store.new ≡ with_changed (state_of store.old) number with_hint }
+    requires kind { kind_at (state_of (opened store.old)) number ≡ Some Kind.PendingResponse }
+    ensures core { IsCore (opened store.new) }
+    ensures view { state_of (opened store.new) ≡ with_changed (state_of (opened store.old)) number with_hint }
 {
-    let entry = store.at(number, place);
+    let entry = store.table.at(number, place);
     let hinted = HandleEntry {
         stage: entry.stage.hinted(),
         sender: entry.sender,
         slot: entry.slot,
     };
-    store.replace(number, place, hinted);
+    store.table.set_at(number, place, hinted);
 }

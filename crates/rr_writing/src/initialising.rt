@@ -3,6 +3,7 @@ ghost use Rattle.std.specs.Prelude.{◌≡◌, ◌⊎◌, true, Some, IsSomeAnd}
 ghost use Rattle.rr_protocol.specs.Queries.{kind_at};
 ghost use Rattle.rr_protocol.specs.State.{handle_at, with_changed};
 ghost use Rattle.rr_protocol.specs.Writing.{after_init};
+ghost use Rattle.rr_store.specs.Opened.{opened};
 ghost use Rattle.rr_store.specs.Reaching.{IsCore};
 ghost use Rattle.rr_store.specs.Views.{state_of};
 ghost use Rattle.rr_store.specs.Writing.{is_ready};
@@ -22,18 +23,18 @@ pub fn assume_init_at<
     PH: Default + Drop,
     K: BackpressureFn,
 >(store: &mut Store<QB, QH, PB, PH, K>, number: u64, place: Place)
-    requires core { IsCore store.old }
+    requires core { IsCore (opened store.old) }
     requires at { IsAt store.old.table number place }
-    requires uninit { (kind_at (state_of store.old) number ≡ Some Kind.RequestMutUninit) ⊎ (kind_at (state_of store.old) number ≡ Some Kind.ResponseMutUninit) }
-    requires complete { IsSomeAnd (handle_at (state_of store.old) number) (λ handle. is_ready handle ≡ true) }
-    ensures core { IsCore store.new }
-    ensures view { state_of store.new ≡ with_changed (state_of store.old) number after_init }
+    requires uninit { (kind_at (state_of (opened store.old)) number ≡ Some Kind.RequestMutUninit) ⊎ (kind_at (state_of (opened store.old)) number ≡ Some Kind.ResponseMutUninit) }
+    requires complete { IsSomeAnd (handle_at (state_of (opened store.old)) number) (λ handle. is_ready handle ≡ true) }
+    ensures core { IsCore (opened store.new) }
+    ensures view { state_of (opened store.new) ≡ with_changed (state_of (opened store.old)) number after_init }
 {
-    let entry = store.at(number, place);
+    let entry = store.table.at(number, place);
     let ready = HandleEntry {
         stage: entry.stage.initialised(),
         sender: entry.sender,
         slot: entry.slot,
     };
-    store.replace(number, place, ready);
+    store.table.set_at(number, place, ready);
 }

@@ -4,6 +4,7 @@ ghost use Rattle.rr_protocol.specs.Messages.{request_in};
 ghost use Rattle.rr_protocol.specs.Queries.{kind_at};
 ghost use Rattle.rr_protocol.specs.State.{handle_at, with_changed};
 ghost use Rattle.rr_protocol.specs.Writing.{is_complete, with_element, with_element_at, with_request_content, with_user_header};
+ghost use Rattle.rr_store.specs.Opened.{opened};
 ghost use Rattle.rr_store.specs.Reaching.{IsCore};
 ghost use Rattle.rr_store.specs.Views.{state_of};
 ghost use Rattle.rr_table.specs.TableView.{IsAt};
@@ -23,14 +24,14 @@ pub fn push_request_at<
     PH: Default + Drop,
     K: BackpressureFn,
 >(store: &mut Store<QB, QH, PB, PH, K>, number: u64, place: Place, item: QB::Item) -> bool
-    requires core { IsCore store.old }
+    requires core { IsCore (opened store.old) }
     requires at { IsAt store.old.table number place }
-    requires kind { kind_at (state_of store.old) number ≡ Some Kind.RequestMutUninit }
-    ensures core { IsCore store.new }
-    ensures view { IsSomeAnd (option_and_then request_in (handle_at (state_of store.old) number)) (λ m. (result ≡ not (is_complete m.content)) × (state_of store.new ≡ (if result then with_changed (state_of store.old) number (with_request_content (with_element item)) else state_of store.old))) }
+    requires kind { kind_at (state_of (opened store.old)) number ≡ Some Kind.RequestMutUninit }
+    ensures core { IsCore (opened store.new) }
+    ensures view { IsSomeAnd (option_and_then request_in (handle_at (state_of (opened store.old)) number)) (λ m. (result ≡ not (is_complete m.content)) × (state_of (opened store.new) ≡ (if result then with_changed (state_of (opened store.old)) number (with_request_content (with_element item)) else state_of (opened store.old)))) }
 {
-    let entry = store.at(number, place);
-    store.push_request(entry.sender, entry.slot, item)
+    let entry = store.table.at(number, place);
+    store.clients.push(entry.sender, entry.slot, item)
 }
 
 /// Makes another element the one at an index of the request in this place, which was not sent, and tells whether one stood there:
@@ -49,14 +50,16 @@ pub fn write_request_element_at<
     index: usize,
     element: QB::Item,
 ) -> bool
-    requires core { IsCore store.old }
+    requires core { IsCore (opened store.old) }
     requires at { IsAt store.old.table number place }
-    requires kind { (kind_at (state_of store.old) number ≡ Some Kind.RequestMutUninit) ⊎ (kind_at (state_of store.old) number ≡ Some Kind.RequestMut) }
-    ensures core { IsCore store.new }
-    ensures view { IsSomeAnd (option_and_then request_in (handle_at (state_of store.old) number)) (λ m. (result ≡ nat_lt index (length m.content.elements)) × (state_of store.new ≡ (if result then with_changed (state_of store.old) number (with_request_content (with_element_at index element)) else state_of store.old))) }
+    requires kind { (kind_at (state_of (opened store.old)) number ≡ Some Kind.RequestMutUninit) ⊎ (kind_at (state_of (opened store.old)) number ≡ Some Kind.RequestMut) }
+    ensures core { IsCore (opened store.new) }
+    ensures view { IsSomeAnd (option_and_then request_in (handle_at (state_of (opened store.old)) number)) (λ m. (result ≡ nat_lt index (length m.content.elements)) × (state_of (opened store.new) ≡ (if result then with_changed (state_of (opened store.old)) number (with_request_content (with_element_at index element)) else state_of (opened store.old)))) }
 {
-    let entry = store.at(number, place);
-    store.write_request_element(entry.sender, entry.slot, index, element)
+    let entry = store.table.at(number, place);
+    store
+        .clients
+        .write_element(entry.sender, entry.slot, index, element)
 }
 
 /// Makes another user header the one of the request in this place, which was not sent.
@@ -68,12 +71,14 @@ pub fn write_request_user_header_at<
     PH: Default + Drop,
     K: BackpressureFn,
 >(store: &mut Store<QB, QH, PB, PH, K>, number: u64, place: Place, header: QH)
-    requires core { IsCore store.old }
+    requires core { IsCore (opened store.old) }
     requires at { IsAt store.old.table number place }
-    requires kind { (kind_at (state_of store.old) number ≡ Some Kind.RequestMutUninit) ⊎ (kind_at (state_of store.old) number ≡ Some Kind.RequestMut) }
-    ensures core { IsCore store.new }
-    ensures view { state_of store.new ≡ with_changed (state_of store.old) number (with_request_content (with_user_header header)) }
+    requires kind { (kind_at (state_of (opened store.old)) number ≡ Some Kind.RequestMutUninit) ⊎ (kind_at (state_of (opened store.old)) number ≡ Some Kind.RequestMut) }
+    ensures core { IsCore (opened store.new) }
+    ensures view { state_of (opened store.new) ≡ with_changed (state_of (opened store.old)) number (with_request_content (with_user_header header)) }
 {
-    let entry = store.at(number, place);
-    store.write_request_user_header(entry.sender, entry.slot, header);
+    let entry = store.table.at(number, place);
+    store
+        .clients
+        .write_user_header(entry.sender, entry.slot, header);
 }

@@ -4,6 +4,7 @@ ghost use Rattle.rr_protocol.specs.Messages.{request_in, response_in};
 ghost use Rattle.rr_protocol.specs.Queries.{kind_at};
 ghost use Rattle.rr_protocol.specs.State.{handle_at, with_changed};
 ghost use Rattle.rr_protocol.specs.Writing.{after_init, filled, with_elements, with_request_content, with_response_content};
+ghost use Rattle.rr_store.specs.Opened.{opened};
 ghost use Rattle.rr_store.specs.Reaching.{IsCore};
 ghost use Rattle.rr_store.specs.Views.{state_of};
 ghost use Rattle.rr_table.specs.TableView.{IsAt};
@@ -23,20 +24,20 @@ pub fn write_request_at<
     PH: Default + Drop,
     K: BackpressureFn,
 >(store: &mut Store<QB, QH, PB, PH, K>, number: u64, place: Place, element: QB::Item)
-    requires core { IsCore store.old }
+    requires core { IsCore (opened store.old) }
     requires at { IsAt store.old.table number place }
-    requires kind { kind_at (state_of store.old) number ≡ Some Kind.RequestMutUninit }
-    requires asked { IsSomeAnd (option_and_then request_in (handle_at (state_of store.old) number)) (λ m. m.content.asked_len ≡ 1) }
-    ensures core { IsCore store.new }
-    ensures view { state_of store.new ≡ with_changed (with_changed (state_of store.old) number (with_request_content (with_elements (element ∷ [])))) number after_init }
+    requires kind { kind_at (state_of (opened store.old)) number ≡ Some Kind.RequestMutUninit }
+    requires asked { IsSomeAnd (option_and_then request_in (handle_at (state_of (opened store.old)) number)) (λ m. m.content.asked_len ≡ 1) }
+    ensures core { IsCore (opened store.new) }
+    ensures view { state_of (opened store.new) ≡ with_changed (with_changed (state_of (opened store.old)) number (with_request_content (with_elements (element ∷ [])))) number after_init }
 {
-    let entry = store.at(number, place);
+    let entry = store.table.at(number, place);
     let ready = HandleEntry {
         stage: Stage::RequestMut,
         ..entry
     };
-    store.replace(number, place, ready);
-    store.write_request(entry.sender, entry.slot, element);
+    store.table.set_at(number, place, ready);
+    store.clients.write(entry.sender, entry.slot, element);
 }
 
 /// Makes an element the only one of the response of one element that is being written in this place, which can be sent then. One that
@@ -49,20 +50,20 @@ pub fn write_response_at<
     PH: Default + Drop,
     K: BackpressureFn,
 >(store: &mut Store<QB, QH, PB, PH, K>, number: u64, place: Place, element: PB::Item)
-    requires core { IsCore store.old }
+    requires core { IsCore (opened store.old) }
     requires at { IsAt store.old.table number place }
-    requires kind { kind_at (state_of store.old) number ≡ Some Kind.ResponseMutUninit }
-    requires asked { IsSomeAnd (option_and_then response_in (handle_at (state_of store.old) number)) (λ m. m.content.asked_len ≡ 1) }
-    ensures core { IsCore store.new }
-    ensures view { state_of store.new ≡ with_changed (with_changed (state_of store.old) number (with_response_content (with_elements (element ∷ [])))) number after_init }
+    requires kind { kind_at (state_of (opened store.old)) number ≡ Some Kind.ResponseMutUninit }
+    requires asked { IsSomeAnd (option_and_then response_in (handle_at (state_of (opened store.old)) number)) (λ m. m.content.asked_len ≡ 1) }
+    ensures core { IsCore (opened store.new) }
+    ensures view { state_of (opened store.new) ≡ with_changed (with_changed (state_of (opened store.old)) number (with_response_content (with_elements (element ∷ [])))) number after_init }
 {
-    let entry = store.at(number, place);
+    let entry = store.table.at(number, place);
     let ready = HandleEntry {
         stage: Stage::ResponseMut,
         ..entry
     };
-    store.replace(number, place, ready);
-    store.write_response(entry.sender, entry.slot, element);
+    store.table.set_at(number, place, ready);
+    store.servers.write(entry.sender, entry.slot, element);
 }
 
 /// Makes an element each of those that are asked for of the request that is being written in this place, which can be sent then. Those
@@ -75,19 +76,19 @@ pub fn fill_request_at<
     PH: Default + Drop,
     K: BackpressureFn,
 >(store: &mut Store<QB, QH, PB, PH, K>, number: u64, place: Place, element: QB::Item)
-    requires core { IsCore store.old }
+    requires core { IsCore (opened store.old) }
     requires at { IsAt store.old.table number place }
-    requires kind { kind_at (state_of store.old) number ≡ Some Kind.RequestMutUninit }
-    ensures core { IsCore store.new }
-    ensures view { state_of store.new ≡ with_changed (with_changed (state_of store.old) number (with_request_content (filled element))) number after_init }
+    requires kind { kind_at (state_of (opened store.old)) number ≡ Some Kind.RequestMutUninit }
+    ensures core { IsCore (opened store.new) }
+    ensures view { state_of (opened store.new) ≡ with_changed (with_changed (state_of (opened store.old)) number (with_request_content (filled element))) number after_init }
 {
-    let entry = store.at(number, place);
+    let entry = store.table.at(number, place);
     let ready = HandleEntry {
         stage: Stage::RequestMut,
         ..entry
     };
-    store.replace(number, place, ready);
-    store.fill_request(entry.sender, entry.slot, element);
+    store.table.set_at(number, place, ready);
+    store.clients.fill(entry.sender, entry.slot, element);
 }
 
 /// Makes an element each of those that are asked for of the response that is being written in this place, which can be sent then. Those
@@ -100,17 +101,17 @@ pub fn fill_response_at<
     PH: Default + Drop,
     K: BackpressureFn,
 >(store: &mut Store<QB, QH, PB, PH, K>, number: u64, place: Place, element: PB::Item)
-    requires core { IsCore store.old }
+    requires core { IsCore (opened store.old) }
     requires at { IsAt store.old.table number place }
-    requires kind { kind_at (state_of store.old) number ≡ Some Kind.ResponseMutUninit }
-    ensures core { IsCore store.new }
-    ensures view { state_of store.new ≡ with_changed (with_changed (state_of store.old) number (with_response_content (filled element))) number after_init }
+    requires kind { kind_at (state_of (opened store.old)) number ≡ Some Kind.ResponseMutUninit }
+    ensures core { IsCore (opened store.new) }
+    ensures view { state_of (opened store.new) ≡ with_changed (with_changed (state_of (opened store.old)) number (with_response_content (filled element))) number after_init }
 {
-    let entry = store.at(number, place);
+    let entry = store.table.at(number, place);
     let ready = HandleEntry {
         stage: Stage::ResponseMut,
         ..entry
     };
-    store.replace(number, place, ready);
-    store.fill_response(entry.sender, entry.slot, element);
+    store.table.set_at(number, place, ready);
+    store.servers.fill(entry.sender, entry.slot, element);
 }

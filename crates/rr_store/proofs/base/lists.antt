@@ -10,6 +10,7 @@ pub mod ReadAt
 pub mod EachOnce
 pub mod Mapped
 pub mod Rising
+pub mod Seen
 pub mod Bisected
 pub mod Removed
 pub mod Alone

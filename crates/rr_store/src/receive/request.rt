@@ -86,8 +86,8 @@ pub fn is_waited<B: Body, H: Drop>(
 
 /// Returns the place in the table of a handle by which a server has the request in a slot.
 #[inline(always)]
-pub fn active_place<B: Body, H: Drop>(
-    senders: &[OwnedSender<B, RequestDetails, H>],
+pub fn active_place<B: Body, N: Copy, H: Drop>(
+    senders: &[OwnedSender<B, N, H>],
     sender: usize,
     receiver: usize,
     slot: usize,

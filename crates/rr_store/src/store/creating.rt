@@ -1,19 +1,19 @@
-//! What the creation of a store and of ports changes.
-ghost use Rattle.std.specs.Prelude.{◌≡◌, ◌≢◌, ◌<◌, ◌≤◌, ◌+◌, ◌^◌, ℕ, None, Some, IfOk, OnErr, OnOk, length, slice_get};
+//! Creation of a store and of ports.
+ghost use Rattle.std.specs.Prelude.{◌≡◌, ◌<◌, ◌+◌, ◌^◌, None, IfOk, OnErr, OnOk};
 ghost use Rattle.rr_protocol.specs.Creation.{client_refusal, server_refusal};
 ghost use Rattle.rr_protocol.specs.Limits.{hub_refusal, max_loaned_responses};
 ghost use Rattle.rr_table.specs.TableView.{IsRenewed};
 ghost use Rattle.rr_store.specs.Asked.{CanTakeOver};
 ghost use Rattle.rr_store.specs.Changes.{with_client_again, with_new_client, with_new_server, with_server_again};
-ghost use Rattle.rr_store.specs.Creating.{idle_left, left_at};
-ghost use Rattle.rr_store.specs.Draining.{AreThere};
-ghost use Rattle.rr_store.specs.Parts.{ClientPart, ServerPart};
+ghost use Rattle.rr_store.specs.Creating.{left_at};
+ghost use Rattle.rr_store.specs.Opened.{opened};
 ghost use Rattle.rr_store.specs.Start.{start_parts};
 ghost use Rattle.rr_store.specs.Views.{sender_of, state_of};
 
 use crate::create::{ClientStore, server as of_server};
+use crate::side::Side;
 use crate::store::{NUMBERS, Store};
-use crate::{ResponseDetails, create};
+use crate::{ClientPort, ResponseDetails, create};
 use rr_protocol::{
     BackpressureFn, ClientCreateError, ClientSettings, Limits, ServerCreateError, ServerSettings,
     UniqueNodeId,
@@ -32,39 +32,26 @@ impl<QB: Body, QH: Default + Drop, PB: Body, PH: Default + Drop, K: Backpressure
 > {
     /// Makes a store in which nothing was made. It takes no memory.
     pub fn new(alloc: Global, limits: Limits, node_id: UniqueNodeId) -> Self
-        ensures { result ≡ start_parts limits node_id.0 result.spare_request_header result.spare_response_header }
+        ensures { opened result ≡ start_parts limits node_id.0 result.clients.spare_header result.servers.spare_header }
     {
         Store {
+            next: 0,
+            clients: Side::new(alloc),
+            table: Table::new(alloc),
+            servers: Side::new(alloc),
             limits,
             node_id,
-            next: 0,
-            clients: Vec::new(alloc),
-            servers: Vec::new(alloc),
-            client_senders: Vec::new(alloc),
-            server_senders: Vec::new(alloc),
-            left_clients: Vec::new(alloc),
-            left_servers: Vec::new(alloc),
-            table: Table::new(alloc),
-            spare_request_header: QH::default(),
-            spare_response_header: PH::default(),
         }
-    }
-
-    /// Returns the limits.
-    pub fn limits(&self) -> Limits
-        ensures { result ≡ self.now.limits }
-    {
-        self.limits
     }
 
     /// Returns the first reason against one more client.
     pub fn client_refusal(&self) -> Option<ClientCreateError>
-        ensures { result ≡ client_refusal (state_of self.now) }
+        ensures { result ≡ client_refusal (state_of (opened self.now)) }
     {
         if NUMBERS <= self.next {
             return Some(ClientCreateError::UnableToCreatePortTag);
         }
-        if self.limits.max_clients <= self.clients.len() {
+        if self.limits.max_clients <= self.clients.port_count() {
             return Some(ClientCreateError::ExceedsMaxSupportedClients);
         }
         None
@@ -73,72 +60,18 @@ impl<QB: Body, QH: Default + Drop, PB: Body, PH: Default + Drop, K: Backpressure
     /// Returns the first reason against one more server with these settings.
     pub fn server_refusal(&self, settings: &ServerSettings<K>) -> Option<ServerCreateError>
         requires { hub_refusal self.now.limits ≡ None }
-        ensures { result ≡ server_refusal (state_of self.now) settings.now }
+        ensures { result ≡ server_refusal (state_of (opened self.now)) settings.now }
     {
         if NUMBERS <= self.next {
             return Some(ServerCreateError::UnableToCreatePortTag);
         }
-        if self.limits.max_servers <= self.servers.len() {
+        if self.limits.max_servers <= self.servers.port_count() {
             return Some(ServerCreateError::ExceedsMaxSupportedServers);
         }
         match self.limits.worst_case_responses(settings.loans.max(1)) {
             Some(_) => None,
             None => Some(ServerCreateError::UnableToCreateDataSegment),
         }
-    }
-
-    /// Returns a receiver that no client is.
-    pub fn free_client_receiver(&self) -> usize
-        requires { length self.now.clients < self.now.limits.max_clients }
-        ensures inside { result < self.now.limits.max_clients }
-        ensures vacant { (i : ℕ) (c : ClientPart K) → slice_get self.now.clients i ≡ Some c → c.receiver ≢ result }
-    {
-        create::free_receiver(self.clients.as_slice(), self.limits.max_clients)
-    }
-
-    /// Returns a receiver that no server is.
-    pub fn free_server_receiver(&self) -> usize
-        requires { length self.now.servers < self.now.limits.max_servers }
-        ensures inside { result < self.now.limits.max_servers }
-        ensures vacant { (i : ℕ) (s : ServerPart K) → slice_get self.now.servers i ≡ Some s → s.receiver ≢ result }
-    {
-        create::free_receiver(self.servers.as_slice(), self.limits.max_servers)
-    }
-
-    /// Gets room for one more client among those that left, so that it can leave without memory. Returns `AllocError` if
-    /// memory was refused; the store has as much room as before then.
-    pub fn reserve_left_client(&mut self) -> Result<(), AllocError>
-        ensures rest { self.new ≡ record self.old { client_room = self.new.client_room } }
-        ensures more { self.old.client_room ≤ self.new.client_room }
-        ensures room { OnOk result (length self.old.clients + 1 + length self.old.left_clients ≤ self.new.client_room) }
-    {
-        self.left_clients.reserve(self.clients.len() + 1)
-    }
-
-    /// Gets room for one more server among those that left, so that it can leave without memory. Returns `AllocError` if
-    /// memory was refused; the store has as much room as before then.
-    pub fn reserve_left_server(&mut self) -> Result<(), AllocError>
-        ensures rest { self.new ≡ record self.old { server_room = self.new.server_room } }
-        ensures more { self.old.server_room ≤ self.new.server_room }
-        ensures room { OnOk result (length self.old.servers + 1 + length self.old.left_servers ≤ self.new.server_room) }
-    {
-        self.left_servers.reserve(self.servers.len() + 1)
-    }
-
-    /// Returns which of the clients that left is the first whose sender nothing uses. Looks at each at most once.
-    pub fn idle_client(&self) -> Option<usize>
-        requires { AreThere self.now.client_senders self.now.left_clients }
-        ensures { result ≡ idle_left self.now.client_senders self.now.left_clients }
-    {
-        create::idle_left(self.client_senders.as_slice(), self.left_clients.as_slice())
-    }
-
-    /// Returns which of the servers that left is the first whose sender nothing uses. Looks at each at most once.
-    pub fn idle_server(&self) -> Option<usize>
-        requires { AreThere self.now.server_senders self.now.left_servers }
-        ensures { result ≡ idle_left self.now.server_senders self.now.left_servers }
-    {
-        create::idle_left(self.server_senders.as_slice(), self.left_servers.as_slice())
     }
 
     /// Adds a client with so many slots under the next number, which it returns. Returns `AllocError` if memory was refused;
@@ -153,19 +86,22 @@ impl<QB: Body, QH: Default + Drop, PB: Body, PH: Default + Drop, K: Backpressure
     ) -> Result<u64, AllocError>
         requires { self.old.next + 1 < 2 ^ 64 }
         ensures number { IfOk result (λ number. number ≡ self.old.next) }
-        ensures ok { OnOk result (self.new ≡ with_new_client self.old settings slots receiver client.messages client.marks.items client.row_len) }
-        ensures err { OnErr result (self.new ≡ self.old) }
+        ensures ok { OnOk result (opened self.new ≡ with_new_client (opened self.old) settings slots receiver client.messages client.marks.items client.row_len) }
+        ensures err { OnErr result (opened self.new ≡ opened self.old) }
     {
         let number = self.next;
-        let sender = self.client_senders.len();
+        let sender = self.clients.sender_count();
         let port = create::client_port(number, settings, slots, sender, receiver);
-        create::insert_client(
+        self.clients.insert(
             alloc,
-            &mut self.clients,
-            &mut self.client_senders,
             &mut self.table,
-            port,
-            client,
+            ClientPort {
+                port,
+                loans_made: 0,
+            },
+            client.messages,
+            client.marks,
+            client.row_len,
         )?;
         self.next = number + 1;
         Ok(number)
@@ -184,24 +120,27 @@ impl<QB: Body, QH: Default + Drop, PB: Body, PH: Default + Drop, K: Backpressure
         client: ClientStore<QB, QH>,
     ) -> Result<u64, AllocError>
         requires next { self.old.next + 1 < 2 ^ 64 }
-        requires left { CanTakeOver self.old.client_senders self.old.left_clients self.old.table.rows index }
+        requires left { CanTakeOver (opened self.old).client_senders (opened self.old).left_clients self.old.table.rows index }
         ensures number { IfOk result (λ number. number ≡ self.old.next) }
-        ensures ok { OnOk result (self.new ≡ with_client_again self.old settings slots receiver client.messages client.marks.items index self.new.table) }
-        ensures table { OnOk result (IsRenewed (sender_of (left_at index self.old.left_clients).sender self.old.client_senders).row client.row_len self.old.table self.new.table) }
-        ensures err { OnErr result (self.new ≡ self.old) }
+        ensures ok { OnOk result (opened self.new ≡ with_client_again (opened self.old) settings slots receiver client.messages client.marks.items index self.new.table) }
+        ensures table { OnOk result (IsRenewed (sender_of (left_at index (opened self.old).left_clients).sender (opened self.old).client_senders).row client.row_len self.old.table self.new.table) }
+        ensures err { OnErr result (opened self.new ≡ opened self.old) }
     {
         let number = self.next;
-        let sender = self.left_clients[index].sender;
+        let sender = self.clients.left_sender(index);
         let port = create::client_port(number, settings, slots, sender, receiver);
-        create::insert_client_again(
+        self.clients.insert_again(
             alloc,
-            &mut self.clients,
-            &mut self.client_senders,
             &mut self.table,
-            port,
-            client,
+            ClientPort {
+                port,
+                loans_made: 0,
+            },
+            index,
+            client.messages,
+            client.marks,
+            client.row_len,
         )?;
-        self.left_clients.remove(index);
         self.next = number + 1;
         Ok(number)
     }
@@ -221,17 +160,15 @@ impl<QB: Body, QH: Default + Drop, PB: Body, PH: Default + Drop, K: Backpressure
         requires clients { 0 < self.old.limits.max_clients }
         requires loans { max_loaned_responses self.old.limits loans < 2 ^ 64 }
         ensures number { IfOk result (λ number. number ≡ self.old.next) }
-        ensures ok { OnOk result (self.new ≡ with_new_server self.old settings loans slots receiver messages) }
-        ensures err { OnErr result (self.new ≡ self.old) }
+        ensures ok { OnOk result (opened self.new ≡ with_new_server (opened self.old) settings loans slots receiver messages) }
+        ensures err { OnErr result (opened self.new ≡ opened self.old) }
     {
         let number = self.next;
-        let sender = self.server_senders.len();
+        let sender = self.servers.sender_count();
         let limits = &self.limits;
         let server = of_server::server(limits, number, settings, loans, slots, sender, receiver);
-        create::insert_port(
+        self.servers.insert(
             alloc,
-            &mut self.servers,
-            &mut self.server_senders,
             &mut self.table,
             server,
             messages,
@@ -258,27 +195,25 @@ impl<QB: Body, QH: Default + Drop, PB: Body, PH: Default + Drop, K: Backpressure
         requires next { self.old.next + 1 < 2 ^ 64 }
         requires clients { 0 < self.old.limits.max_clients }
         requires loans { max_loaned_responses self.old.limits loans < 2 ^ 64 }
-        requires left { CanTakeOver self.old.server_senders self.old.left_servers self.old.table.rows index }
+        requires left { CanTakeOver (opened self.old).server_senders (opened self.old).left_servers self.old.table.rows index }
         ensures number { IfOk result (λ number. number ≡ self.old.next) }
-        ensures ok { OnOk result (self.new ≡ with_server_again self.old settings loans slots receiver messages index self.new.table) }
-        ensures table { OnOk result (IsRenewed (sender_of (left_at index self.old.left_servers).sender self.old.server_senders).row slots self.old.table self.new.table) }
-        ensures err { OnErr result (self.new ≡ self.old) }
+        ensures ok { OnOk result (opened self.new ≡ with_server_again (opened self.old) settings loans slots receiver messages index self.new.table) }
+        ensures table { OnOk result (IsRenewed (sender_of (left_at index (opened self.old).left_servers).sender (opened self.old).server_senders).row slots self.old.table self.new.table) }
+        ensures err { OnErr result (opened self.new ≡ opened self.old) }
     {
         let number = self.next;
-        let sender = self.left_servers[index].sender;
+        let sender = self.servers.left_sender(index);
         let limits = &self.limits;
         let server = of_server::server(limits, number, settings, loans, slots, sender, receiver);
-        create::insert_port_again(
+        self.servers.insert_again(
             alloc,
-            &mut self.servers,
-            &mut self.server_senders,
             &mut self.table,
             server,
+            index,
             messages,
             Vec::new(alloc),
             slots,
         )?;
-        self.left_servers.remove(index);
         self.next = number + 1;
         Ok(number)
     }

@@ -1,21 +1,17 @@
-//! What a query reads.
-ghost use Rattle.std.specs.Prelude.{◌≡◌, ◌≤◌, ◌<◌, ◌+◌, ◌*◌, ℕ, [], IsSomeAnd, Some, length, nat_lt, option_map, slice_get};
-ghost use Rattle.std.specs.FinMap as fin_map;
-ghost use Rattle.rr_slots.specs.Pools.{written};
-ghost use Rattle.rr_table.specs.TableView.{value_in};
-ghost use Rattle.rr_sender.specs.Senders.{content_at};
-ghost use Rattle.rr_protocol.specs.State.{is_client_value, is_server_value};
-ghost use Rattle.rr_store.specs.Leaving.{is_client_used, is_server_used};
-ghost use Rattle.rr_store.specs.Order.{IsRising};
+//! What a query asks of both sides.
+ghost use Rattle.std.specs.Prelude.{◌≡◌, ◌≤◌, ◌<◌, ◌+◌, ◌*◌, ℕ, [], Some, length, nat_lt, not, slice_get, slice_index_or};
+ghost use Rattle.std.specs.List.{list_any};
+ghost use Rattle.rr_store.specs.Changes.{is_closed_to};
+ghost use Rattle.rr_store.specs.Delivering.{HasQueue, is_blocked_in};
+ghost use Rattle.rr_store.specs.Opened.{opened};
 ghost use Rattle.rr_store.specs.Parts.{ServerPart};
-ghost use Rattle.rr_store.specs.Sound.{own_place};
-ghost use Rattle.rr_store.specs.Views.{request_at, response_at, sender_of, state_of, waiting_at};
+ghost use Rattle.rr_store.specs.Views.{sender_of, waiting_at};
 
+use crate::query;
+use crate::send::{request as of_request, response as of_response};
 use crate::store::Store;
-use crate::{HandleEntry, query};
-use rr_protocol::{BackpressureFn, UniqueNodeId};
+use rr_protocol::BackpressureFn;
 use rr_slots::Body;
-use rr_table::Place;
 
 impl<QB: Body, QH: Default + Drop, PB: Body, PH: Default + Drop, K: BackpressureFn> Store<
     QB,
@@ -24,143 +20,47 @@ impl<QB: Body, QH: Default + Drop, PB: Body, PH: Default + Drop, K: Backpressure
     PH,
     K,
 > {
-    /// Returns whether a client has this number and lives by value. Looks at about ten of 1,000.
-    #[inline(always)]
-    pub fn is_client_value(&self, number: u64) -> bool
-        requires { IsRising (λ c. c.port.id) self.now.clients }
-        ensures { result ≡ is_client_value (state_of self.now) number }
-    {
-        query::is_value(self.clients.as_slice(), number)
-    }
-
-    /// Returns whether a server has this number and lives by value. Looks at about ten of 1,000.
-    #[inline(always)]
-    pub fn is_server_value(&self, number: u64) -> bool
-        requires { IsRising (λ s. s.port.id) self.now.servers }
-        ensures { result ≡ is_server_value (state_of self.now) number }
-    {
-        query::is_value(self.servers.as_slice(), number)
-    }
-
-    /// Returns whether the value of the client at an index lives, or it has a handle. Looks at most once at each server's sender
-    /// and channel.
-    #[cold]
-    pub fn is_client_used(&self, index: usize) -> bool
-        requires index { IsSomeAnd (slice_get self.now.clients index) (λ c. c.sender < length self.now.client_senders) }
-        requires receivers { IsSomeAnd (slice_get self.now.clients index) (λ c. (l : ℕ) → l < length self.now.server_senders → c.receiver < length (sender_of l self.now.server_senders).messages.borrowed) }
-        ensures { IsSomeAnd (slice_get self.now.clients index) (λ c. result ≡ is_client_used self.now c) }
-    {
-        let port = &self.clients[index].port;
-        let sender = &self.client_senders[port.sender];
-        if port.has_value || sender.loans > 0 || sender.pendings > 0 {
-            return true;
-        }
-        query::is_borrowing(self.server_senders.as_slice(), port.receiver)
-    }
-
-    /// Returns whether the value of the server at an index lives, or it has a handle. Looks at most once at each client's sender.
-    #[cold]
-    pub fn is_server_used(&self, index: usize) -> bool
-        requires index { IsSomeAnd (slice_get self.now.servers index) (λ s. s.sender < length self.now.server_senders) }
-        requires receivers { IsSomeAnd (slice_get self.now.servers index) (λ s. (l : ℕ) → l < length self.now.client_senders → s.receiver < length (sender_of l self.now.client_senders).messages.borrowed) }
-        ensures { IsSomeAnd (slice_get self.now.servers index) (λ s. result ≡ is_server_used self.now s) }
-    {
-        let port = &self.servers[index].port;
-        let sender = &self.server_senders[port.sender];
-        if port.has_value || sender.loans > 0 {
-            return true;
-        }
-        query::is_borrowing(self.client_senders.as_slice(), port.receiver)
-    }
-
-    /// Returns where a handle stands, or `None` if it stands nowhere. Walks over the table.
-    #[cold]
-    pub fn find(&self, number: u64) -> Option<Place>
-        ensures { result ≡ option_map (λ s. s.place) (fin_map.get self.now.table.entries number) }
-    {
-        self.table.find(number)
-    }
-
-    /// Returns the handle under a number if it stands in this very place.
-    #[inline(always)]
-    pub fn get_at(&self, number: u64, place: Place) -> Option<HandleEntry>
-        ensures { result ≡ value_in self.now.table number place }
-    {
-        self.table.get_at(number, place)
-    }
-
-    /// Returns the place of the own handle of the request in a slot.
-    #[inline(always)]
-    pub fn own_place(&self, sender: usize, slot: usize) -> Place
-        requires { sender < length self.now.client_senders }
-        ensures { result ≡ own_place self.now sender slot }
-    {
-        Place {
-            row: self.client_senders[sender].row,
-            index: slot,
-        }
-    }
-
-    /// Returns the body of the request in a slot.
-    #[inline(always)]
-    pub fn request_body(&self, sender: usize, slot: usize) -> &QB
-        requires sender { sender < length self.now.client_senders }
-        requires slot { slot < length (sender_of sender self.now.client_senders).messages.held }
-        ensures { written QB.asked_len QB.elements result.now ≡ content_at (sender_of sender self.now.client_senders).messages slot }
-    {
-        self.client_senders[sender].messages.body(slot)
-    }
-
-    /// Returns the body of the response in a slot.
-    #[inline(always)]
-    pub fn response_body(&self, sender: usize, slot: usize) -> &PB
-        requires sender { sender < length self.now.server_senders }
-        requires slot { slot < length (sender_of sender self.now.server_senders).messages.held }
-        ensures { written PB.asked_len PB.elements result.now ≡ content_at (sender_of sender self.now.server_senders).messages slot }
-    {
-        self.server_senders[sender].messages.body(slot)
-    }
-
-    /// Returns the user header of the request in a slot.
-    #[inline(always)]
-    pub fn request_user_header(&self, sender: usize, slot: usize) -> &QH
-        requires sender { sender < length self.now.client_senders }
-        requires slot { slot < length (sender_of sender self.now.client_senders).messages.held }
-        ensures { result.now ≡ (request_at self.now sender slot).content.user_header }
-    {
-        self.client_senders[sender].messages.user_header(slot)
-    }
-
-    /// Returns the user header of the response in a slot.
-    #[inline(always)]
-    pub fn response_user_header(&self, sender: usize, slot: usize) -> &PH
-        requires sender { sender < length self.now.server_senders }
-        requires slot { slot < length (sender_of sender self.now.server_senders).messages.held }
-        ensures { result.now ≡ (response_at self.now sender slot).content.user_header }
-    {
-        self.server_senders[sender].messages.user_header(slot)
-    }
-
-    /// Returns the node.
-    #[inline(always)]
-    pub fn node_id(&self) -> UniqueNodeId
-        ensures { result.0 ≡ self.now.node_id }
-    {
-        self.node_id
-    }
-
     /// Returns whether a connected server may still answer the request in a slot. Looks once at each connected server.
     #[inline(always)]
     pub fn is_answerable(&self, sender: usize, slot: usize) -> bool
-        requires sender { sender < length self.now.client_senders }
-        requires start { slot * self.now.limits.max_servers ≤ length (sender_of sender self.now.client_senders).may_answer }
-        requires marks { (i : ℕ) (s : ServerPart K) → slice_get self.now.servers i ≡ Some s → slot * self.now.limits.max_servers + s.receiver < length (sender_of sender self.now.client_senders).may_answer }
-        ensures { result ≡ nat_lt 0 (length (waiting_at self.now sender slot)) }
+        requires sender { sender < length (opened self.now).client_senders }
+        requires start { slot * self.now.limits.max_servers ≤ length (sender_of sender (opened self.now).client_senders).may_answer }
+        requires marks { (i : ℕ) (s : ServerPart K) → slice_get (opened self.now).servers i ≡ Some s → slot * self.now.limits.max_servers + s.receiver < length (sender_of sender (opened self.now).client_senders).may_answer }
+        ensures { result ≡ nat_lt 0 (length (waiting_at (opened self.now) sender slot)) }
     {
         query::is_any_marked(
-            self.servers.as_slice(),
-            self.client_senders[sender].may_answer.as_slice(),
+            self.servers.connected(),
+            self.clients.marks(sender),
             slot * self.limits.max_servers,
         )
+    }
+
+    /// Returns whether each queue from a client's sender to a server takes one more. Looks at most once at each server.
+    #[inline(always)]
+    pub fn is_request_deliverable(&self, sender: usize) -> bool
+        requires sender { sender < length (opened self.now).client_senders }
+        requires queues { (i : ℕ) (s : ServerPart K) → slice_get (opened self.now).servers i ≡ Some s → (s.receiver < length (sender_of sender (opened self.now).client_senders).messages.queues) × (0 < length (slice_index_or (sender_of sender (opened self.now).client_senders).messages.queues s.receiver [])) }
+        ensures { result ≡ not (list_any (is_closed_to (opened self.now) sender) (opened self.now).servers) }
+    {
+        let messages = self.clients.messages(sender);
+        let overflow = self.limits.enable_safe_overflow_for_requests;
+        !of_request::is_any_blocked(messages, self.servers.connected(), overflow)
+    }
+
+    /// Returns whether the queue that is reached from a server's sender on a channel takes one more, if any is reached.
+    #[inline(always)]
+    pub fn is_response_deliverable(
+        &self,
+        sender: usize,
+        channel: usize,
+        reach: Option<usize>,
+    ) -> bool
+        requires sender { sender < length (opened self.now).server_senders }
+        requires queue { HasQueue (sender_of sender (opened self.now).server_senders).messages channel reach }
+        ensures { result ≡ not (is_blocked_in (sender_of sender (opened self.now).server_senders).messages self.now.limits.enable_safe_overflow_for_responses channel reach) }
+    {
+        let messages = self.servers.messages(sender);
+        let overflow = self.limits.enable_safe_overflow_for_responses;
+        !of_response::is_blocked(messages, reach, channel, overflow)
     }
 }

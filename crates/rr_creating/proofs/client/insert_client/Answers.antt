@@ -1,68 +1,89 @@
-use Rattle.std.proofs.Common.{length, ap, ◌∙◌}
-use Rattle.rr_store.specs.Parts.{Parts}
+use Rattle.std.proofs.Common.{length, refl, ap, ◌∙◌, arith}
+use Rattle.std.proofs.lemmas.List.{length-map}
+use Rattle.rr_store.specs.Parts.{ClientPart, Parts}
+use Rattle.rr_store.specs.Opened.{opened}
+use Rattle.rr_store.specs.Ports.{client_part}
+use Rattle.rr_store.proofs.base.lists.Seen.{seen_vacant}
 use Rattle.rr_creating.proofs.steps.Client.{room_asked, next_asked, hub_asked, there_asked, left_asked, core_again, core_then, ok_again, ok_then}
 use Rattle.rr_creating.proofs.steps.Rooms.{as_many, one_more, then_ok}
 use Rattle.rr_creating.proofs.client.insert_client.Goals as goal
 
 pub worst_case_requests-requires : goal.worst_case_requests-requires
 worst_case_requests-requires g c =
-    hub_asked c.args.store.now c.requires.core c.args.settings c.requires.due c.requires.room _ c.limits-limits.ensures
+    hub_asked (opened c.args.store.now) c.requires.core c.args.settings c.requires.due c.requires.room _ refl
 
-pub free_client_receiver-receiver-requires : goal.free_client_receiver-receiver-requires
-free_client_receiver-receiver-requires g c = room_asked c.args.store.now c.requires.core c.args.settings c.requires.due c.requires.room
+pub free_receiver-receiver-requires : goal.free_receiver-receiver-requires
+free_receiver-receiver-requires g c =
+    omega (
+      arith,
+      length-map c.args.store.now.clients.ports client_part,
+      (room_asked (opened c.args.store.now) c.requires.core
+          c.args.settings c.requires.due c.requires.room),
+    )
 
-pub idle_client-requires : goal.idle_client-requires
-idle_client-requires g c = there_asked c.args.store.now c.requires.core c.args.settings c.requires.due c.requires.room
+pub idle_left-requires : goal.idle_left-requires
+idle_left-requires g c = there_asked (opened c.args.store.now) c.requires.core c.args.settings c.requires.due c.requires.room
 
 pub add_client_again-requires-clause-next : goal.add_client_again-requires-clause-next
-add_client_again-requires-clause-next g c = next_asked c.args.store.now c.requires.core c.args.settings c.requires.due c.requires.room
+add_client_again-requires-clause-next g c = next_asked (opened c.args.store.now) c.requires.core c.args.settings c.requires.due
+    c.requires.room
 
 pub add_client_again-requires-clause-left : goal.add_client_again-requires-clause-left
 add_client_again-requires-clause-left g c =
-    left_asked c.args.store.now c.requires.core c.args.settings c.requires.due c.requires.room c.in-Some.index c.in-Some.ensures
+    left_asked (opened c.args.store.now) c.requires.core c.args.settings c.requires.due c.requires.room c.in-Some.index c.in-Some.ensures
 
 pub returns-in-Some-clause-core : goal.returns-in-Some-clause-core
 returns-in-Some-clause-core g c =
-    core_again c.args.store.now c.requires.core c.args.settings c.requires.due c.requires.room _ c.limits-limits.ensures _ c.worst_case_requests.ensures _
-    c.pool_size-slots.ensures _ c.free_client_receiver-receiver.ensures.inside c.free_client_receiver-receiver.ensures.vacant _
+    core_again (opened c.args.store.now) c.requires.core c.args.settings c.requires.due c.requires.room _ refl _
+    c.worst_case_requests.ensures _
+    c.pool_size-slots.ensures _ c.free_receiver-receiver.ensures.inside (seen_vacant client_part c.args.store.now.clients.ports
+    (λ (x : ClientPart _). x.receiver) _ c.free_receiver-receiver.ensures.vacant) _
     c.in_ok-client.ensures.messages _ c.in_ok-client.ensures.marks _ c.in_ok-client.ensures.row c.in_ok-client.ensures.fits c.in-Some.index
-    c.in-Some.ensures c.add_client_again.new.self c.add_client_again.result c.add_client_again.ensures.ok c.add_client_again.ensures.table
+    c.in-Some.ensures (opened c.add_client_again.new.self) c.add_client_again.result c.add_client_again.ensures.ok
+    c.add_client_again.ensures.table
     c.add_client_again.ensures.err
 
 pub returns-in-Some-clause-ok : goal.returns-in-Some-clause-ok
 returns-in-Some-clause-ok g c =
-    ok_again c.args.store.now c.requires.core c.args.settings c.requires.due c.requires.room _ c.limits-limits.ensures _ c.worst_case_requests.ensures _
-    c.pool_size-slots.ensures _ c.free_client_receiver-receiver.ensures.inside c.free_client_receiver-receiver.ensures.vacant _
+    ok_again (opened c.args.store.now) c.requires.core c.args.settings c.requires.due c.requires.room _ refl _
+    c.worst_case_requests.ensures _
+    c.pool_size-slots.ensures _ c.free_receiver-receiver.ensures.inside (seen_vacant client_part c.args.store.now.clients.ports
+    (λ (x : ClientPart _). x.receiver) _ c.free_receiver-receiver.ensures.vacant) _
     c.in_ok-client.ensures.messages _ c.in_ok-client.ensures.marks _ c.in_ok-client.ensures.row c.in_ok-client.ensures.fits c.in-Some.index
-    c.in-Some.ensures c.add_client_again.new.self c.add_client_again.result c.add_client_again.ensures.ok c.add_client_again.ensures.table
+    c.in-Some.ensures (opened c.add_client_again.new.self) c.add_client_again.result c.add_client_again.ensures.ok
+    c.add_client_again.ensures.table
 
 pub add_client-requires : goal.add_client-requires
-add_client-requires g c = next_asked c.args.store.now c.requires.core c.args.settings c.requires.due c.requires.room
+add_client-requires g c = next_asked (opened c.args.store.now) c.requires.core c.args.settings c.requires.due c.requires.room
 
 pub returns-in-None-clause-core : goal.returns-in-None-clause-core
 returns-in-None-clause-core g c =
-    core_then c.args.store.now c.requires.core c.args.settings c.requires.due c.requires.room _ c.limits-limits.ensures _ c.worst_case_requests.ensures _
-    c.pool_size-slots.ensures _ c.free_client_receiver-receiver.ensures.inside c.free_client_receiver-receiver.ensures.vacant _
+    core_then (opened c.args.store.now) c.requires.core c.args.settings c.requires.due c.requires.room _ refl _
+    c.worst_case_requests.ensures _
+    c.pool_size-slots.ensures _ c.free_receiver-receiver.ensures.inside (seen_vacant client_part c.args.store.now.clients.ports
+    (λ (x : ClientPart _). x.receiver) _ c.free_receiver-receiver.ensures.vacant) _
     c.in_ok-client.ensures.messages _ c.in_ok-client.ensures.marks _ c.in_ok-client.ensures.row c.in_ok-client.ensures.fits
-    c.add_client.new.self c.add_client.result c.add_client.ensures.ok c.add_client.ensures.err
+    (opened c.add_client.new.self) c.add_client.result c.add_client.ensures.ok c.add_client.ensures.err
 
 pub returns-in-None-clause-ok : goal.returns-in-None-clause-ok
 returns-in-None-clause-ok g c =
-    ok_then c.args.store.now c.requires.core c.args.settings c.requires.due c.requires.room _ c.limits-limits.ensures _ c.worst_case_requests.ensures _
-    c.pool_size-slots.ensures _ c.free_client_receiver-receiver.ensures.inside c.free_client_receiver-receiver.ensures.vacant _
+    ok_then (opened c.args.store.now) c.requires.core c.args.settings c.requires.due c.requires.room _ refl _
+    c.worst_case_requests.ensures _
+    c.pool_size-slots.ensures _ c.free_receiver-receiver.ensures.inside (seen_vacant client_part c.args.store.now.clients.ports
+    (λ (x : ClientPart _). x.receiver) _ c.free_receiver-receiver.ensures.vacant) _
     c.in_ok-client.ensures.messages _ c.in_ok-client.ensures.marks _ c.in_ok-client.ensures.row c.in_ok-client.ensures.fits
-    c.add_client.new.self c.add_client.result c.add_client.ensures.ok
+    (opened c.add_client.new.self) c.add_client.result c.add_client.ensures.ok
 
 pub returns-in-Some-clause-senders : goal.returns-in-Some-clause-senders
 returns-in-Some-clause-senders g c =
-    let p = c.args.store.now in
+    let p = (opened c.args.store.now) in
     then_ok c.add_client_again.result
     (λ added. ap (λ (q : Parts _ _ _ _ _). length q.client_senders) added
     ∙ as_many p.client_senders p.left_clients c.in-Some.index _ _ c.in-Some.ensures) c.add_client_again.ensures.ok
 
 pub returns-in-None-clause-senders : goal.returns-in-None-clause-senders
 returns-in-None-clause-senders g c =
-    let p = c.args.store.now in
+    let p = (opened c.args.store.now) in
     then_ok c.add_client.result
     (λ added. ap (λ (q : Parts _ _ _ _ _). length q.client_senders) added
     ∙ one_more p.client_senders p.left_clients _ c.in-None.ensures) c.add_client.ensures.ok

@@ -1,90 +1,109 @@
-use Rattle.std.proofs.Common.{length, ap, ◌∙◌}
-use Rattle.rr_store.specs.Parts.{Parts}
+use Rattle.std.proofs.Common.{length, refl, ap, ◌∙◌, arith}
+use Rattle.std.proofs.lemmas.List.{length-map}
+use Rattle.rr_store.specs.Parts.{ServerPart, Parts}
+use Rattle.rr_store.specs.Opened.{opened}
+use Rattle.rr_store.specs.Ports.{server_part}
+use Rattle.rr_store.proofs.base.lists.Seen.{seen_vacant}
 use Rattle.rr_creating.proofs.steps.Server.{room_asked, next_asked, clients_asked, hub_asked, counts_asked, loans_asked, there_asked, left_asked, core_again, core_then, ok_again, ok_then}
 use Rattle.rr_creating.proofs.steps.Rooms.{as_many, one_more, then_ok}
 use Rattle.rr_creating.proofs.server.insert_server.Goals as goal
 
 pub worst_case_responses-requires-clause-hub : goal.worst_case_responses-requires-clause-hub
 worst_case_responses-requires-clause-hub g c =
-    hub_asked c.args.store.now c.requires.core c.args.settings c.requires.due c.requires.room _ c.limits-limits.ensures
+    hub_asked (opened c.args.store.now) c.requires.core c.args.settings c.requires.due c.requires.room _ refl
 
 pub worst_case_responses-requires-clause-counts : goal.worst_case_responses-requires-clause-counts
 worst_case_responses-requires-clause-counts g c =
-    counts_asked c.args.store.now c.requires.core c.args.settings c.requires.due c.requires.room _ c.limits-limits.ensures _ c.max-loans.ensures
+    counts_asked (opened c.args.store.now) c.requires.core c.args.settings c.requires.due c.requires.room _ refl _ c.max-loans.ensures
 
-pub free_server_receiver-receiver-requires : goal.free_server_receiver-receiver-requires
-free_server_receiver-receiver-requires g c = room_asked c.args.store.now c.requires.core c.args.settings c.requires.due c.requires.room
+pub free_receiver-receiver-requires : goal.free_receiver-receiver-requires
+free_receiver-receiver-requires g c =
+    omega (
+      arith,
+      length-map c.args.store.now.servers.ports server_part,
+      (room_asked (opened c.args.store.now) c.requires.core
+          c.args.settings c.requires.due c.requires.room),
+    )
 
 pub server_messages-requires-clause-hub : goal.server_messages-requires-clause-hub
 server_messages-requires-clause-hub g c =
-    hub_asked c.args.store.now c.requires.core c.args.settings c.requires.due c.requires.room _ c.limits-limits.ensures
+    hub_asked (opened c.args.store.now) c.requires.core c.args.settings c.requires.due c.requires.room _ refl
 
 pub add_server-requires-clause-clients : goal.add_server-requires-clause-clients
-add_server-requires-clause-clients g c = clients_asked c.args.store.now c.requires.core c.args.settings c.requires.due c.requires.room
+add_server-requires-clause-clients g c = clients_asked (opened c.args.store.now) c.requires.core c.args.settings c.requires.due
+    c.requires.room
 
 pub add_server-requires-clause-loans : goal.add_server-requires-clause-loans
 add_server-requires-clause-loans g c =
-    loans_asked c.args.store.now c.requires.core c.args.settings c.requires.due c.requires.room _ c.limits-limits.ensures _ c.max-loans.ensures
+    loans_asked (opened c.args.store.now) c.requires.core c.args.settings c.requires.due c.requires.room _ refl _ c.max-loans.ensures
 
 pub add_server-requires-clause-next : goal.add_server-requires-clause-next
-add_server-requires-clause-next g c = next_asked c.args.store.now c.requires.core c.args.settings c.requires.due c.requires.room
+add_server-requires-clause-next g c = next_asked (opened c.args.store.now) c.requires.core c.args.settings c.requires.due c.requires.room
 
-pub idle_server-requires : goal.idle_server-requires
-idle_server-requires g c = there_asked c.args.store.now c.requires.core c.args.settings c.requires.due c.requires.room
+pub idle_left-requires : goal.idle_left-requires
+idle_left-requires g c = there_asked (opened c.args.store.now) c.requires.core c.args.settings c.requires.due c.requires.room
 
 pub add_server_again-requires-clause-clients : goal.add_server_again-requires-clause-clients
-add_server_again-requires-clause-clients g c = clients_asked c.args.store.now c.requires.core c.args.settings c.requires.due c.requires.room
+add_server_again-requires-clause-clients g c = clients_asked (opened c.args.store.now) c.requires.core c.args.settings c.requires.due
+    c.requires.room
 
 pub add_server_again-requires-clause-loans : goal.add_server_again-requires-clause-loans
 add_server_again-requires-clause-loans g c =
-    loans_asked c.args.store.now c.requires.core c.args.settings c.requires.due c.requires.room _ c.limits-limits.ensures _ c.max-loans.ensures
+    loans_asked (opened c.args.store.now) c.requires.core c.args.settings c.requires.due c.requires.room _ refl _ c.max-loans.ensures
 
 pub add_server_again-requires-clause-next : goal.add_server_again-requires-clause-next
-add_server_again-requires-clause-next g c = next_asked c.args.store.now c.requires.core c.args.settings c.requires.due c.requires.room
+add_server_again-requires-clause-next g c = next_asked (opened c.args.store.now) c.requires.core c.args.settings c.requires.due
+    c.requires.room
 
 pub add_server_again-requires-clause-left : goal.add_server_again-requires-clause-left
 add_server_again-requires-clause-left g c =
-    left_asked c.args.store.now c.requires.core c.args.settings c.requires.due c.requires.room c.in-Some.index c.in-Some.ensures
+    left_asked (opened c.args.store.now) c.requires.core c.args.settings c.requires.due c.requires.room c.in-Some.index c.in-Some.ensures
 
 pub returns-in-Some-clause-core : goal.returns-in-Some-clause-core
 returns-in-Some-clause-core g c =
-    core_again c.args.store.now c.requires.core c.args.settings c.requires.due c.requires.room _ c.limits-limits.ensures _ c.max-loans.ensures _
-    c.worst_case_responses.ensures _ c.pool_size-slots.ensures _ c.free_server_receiver-receiver.ensures.inside
-    c.free_server_receiver-receiver.ensures.vacant _ c.in_ok-messages.ensures c.in-Some.index
-    c.in-Some.ensures c.add_server_again.new.self c.add_server_again.result c.add_server_again.ensures.ok c.add_server_again.ensures.table
+    core_again (opened c.args.store.now) c.requires.core c.args.settings c.requires.due c.requires.room _ refl _ c.max-loans.ensures _
+    c.worst_case_responses.ensures _ c.pool_size-slots.ensures _ c.free_receiver-receiver.ensures.inside
+    (seen_vacant server_part c.args.store.now.servers.ports (λ (x : ServerPart _). x.receiver) _ c.free_receiver-receiver.ensures.vacant)
+    _ c.in_ok-messages.ensures c.in-Some.index
+    c.in-Some.ensures (opened c.add_server_again.new.self) c.add_server_again.result c.add_server_again.ensures.ok
+    c.add_server_again.ensures.table
     c.add_server_again.ensures.err
 
 pub returns-in-Some-clause-ok : goal.returns-in-Some-clause-ok
 returns-in-Some-clause-ok g c =
-    ok_again c.args.store.now c.requires.core c.args.settings c.requires.due c.requires.room _ c.limits-limits.ensures _ c.max-loans.ensures _
-    c.worst_case_responses.ensures _ c.pool_size-slots.ensures _ c.free_server_receiver-receiver.ensures.inside
-    c.free_server_receiver-receiver.ensures.vacant _ c.in_ok-messages.ensures c.in-Some.index
-    c.in-Some.ensures c.add_server_again.new.self c.add_server_again.result c.add_server_again.ensures.ok c.add_server_again.ensures.table
+    ok_again (opened c.args.store.now) c.requires.core c.args.settings c.requires.due c.requires.room _ refl _ c.max-loans.ensures _
+    c.worst_case_responses.ensures _ c.pool_size-slots.ensures _ c.free_receiver-receiver.ensures.inside
+    (seen_vacant server_part c.args.store.now.servers.ports (λ (x : ServerPart _). x.receiver) _ c.free_receiver-receiver.ensures.vacant)
+    _ c.in_ok-messages.ensures c.in-Some.index
+    c.in-Some.ensures (opened c.add_server_again.new.self) c.add_server_again.result c.add_server_again.ensures.ok
+    c.add_server_again.ensures.table
 
 pub returns-in-None-clause-core : goal.returns-in-None-clause-core
 returns-in-None-clause-core g c =
-    core_then c.args.store.now c.requires.core c.args.settings c.requires.due c.requires.room _ c.limits-limits.ensures _ c.max-loans.ensures _
-    c.worst_case_responses.ensures _ c.pool_size-slots.ensures _ c.free_server_receiver-receiver.ensures.inside
-    c.free_server_receiver-receiver.ensures.vacant _ c.in_ok-messages.ensures c.add_server.new.self
+    core_then (opened c.args.store.now) c.requires.core c.args.settings c.requires.due c.requires.room _ refl _ c.max-loans.ensures _
+    c.worst_case_responses.ensures _ c.pool_size-slots.ensures _ c.free_receiver-receiver.ensures.inside
+    (seen_vacant server_part c.args.store.now.servers.ports (λ (x : ServerPart _). x.receiver) _ c.free_receiver-receiver.ensures.vacant)
+    _ c.in_ok-messages.ensures (opened c.add_server.new.self)
     c.add_server.result c.add_server.ensures.ok c.add_server.ensures.err
 
 pub returns-in-None-clause-ok : goal.returns-in-None-clause-ok
 returns-in-None-clause-ok g c =
-    ok_then c.args.store.now c.requires.core c.args.settings c.requires.due c.requires.room _ c.limits-limits.ensures _ c.max-loans.ensures _
-    c.worst_case_responses.ensures _ c.pool_size-slots.ensures _ c.free_server_receiver-receiver.ensures.inside
-    c.free_server_receiver-receiver.ensures.vacant _ c.in_ok-messages.ensures c.add_server.new.self
+    ok_then (opened c.args.store.now) c.requires.core c.args.settings c.requires.due c.requires.room _ refl _ c.max-loans.ensures _
+    c.worst_case_responses.ensures _ c.pool_size-slots.ensures _ c.free_receiver-receiver.ensures.inside
+    (seen_vacant server_part c.args.store.now.servers.ports (λ (x : ServerPart _). x.receiver) _ c.free_receiver-receiver.ensures.vacant)
+    _ c.in_ok-messages.ensures (opened c.add_server.new.self)
     c.add_server.result c.add_server.ensures.ok
 
 pub returns-in-Some-clause-senders : goal.returns-in-Some-clause-senders
 returns-in-Some-clause-senders g c =
-    let p = c.args.store.now in
+    let p = (opened c.args.store.now) in
     then_ok c.add_server_again.result
     (λ added. ap (λ (q : Parts _ _ _ _ _). length q.server_senders) added
     ∙ as_many p.server_senders p.left_servers c.in-Some.index _ _ c.in-Some.ensures) c.add_server_again.ensures.ok
 
 pub returns-in-None-clause-senders : goal.returns-in-None-clause-senders
 returns-in-None-clause-senders g c =
-    let p = c.args.store.now in
+    let p = (opened c.args.store.now) in
     then_ok c.add_server.result
     (λ added. ap (λ (q : Parts _ _ _ _ _). length q.server_senders) added
     ∙ one_more p.server_senders p.left_servers _ c.in-None.ensures) c.add_server.ensures.ok

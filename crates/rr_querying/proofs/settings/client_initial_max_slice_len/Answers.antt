@@ -1,19 +1,36 @@
-use Rattle.std.proofs.Common.{◌≡◌}
+use Rattle.std.proofs.Common.{◌≡◌, refl, sym, subst}
+use Rattle.std.specs.Prelude.{◌==◌, IsSomeAnd}
+use Rattle.rr_store.specs.Opened.{opened}
+use Rattle.rr_store.specs.declared.port.ClientPort.{ClientPort}
+use Rattle.rr_store.specs.Parts.{ClientPart}
+use Rattle.rr_store.specs.Ports.{client_part}
+use Rattle.rr_store.proofs.base.senders.Ports.{found_within}
+use Rattle.rr_store.proofs.base.lists.Seen.{kept_rising, kept_some, seen_at, seen_found}
 use Rattle.rr_querying.proofs.steps.Naming.{clients_asked}
-use Rattle.rr_querying.proofs.steps.Ports.{client_asked, client_index_asked, client_then}
+use Rattle.rr_querying.proofs.steps.Ports.{client_asked, client_then}
 use Rattle.rr_querying.proofs.settings.client_initial_max_slice_len.Goals as goal
 
-pub client_index-index-requires-clause-rising : goal.client_index-index-requires-clause-rising
-client_index-index-requires-clause-rising g c = clients_asked c.args.store.now c.requires.core c.args.client
+pub index_of-index-requires-clause-rising : goal.index_of-index-requires-clause-rising
+index_of-index-requires-clause-rising g c =
+    kept_rising client_part c.args.store.now.clients.ports (λ (x : ClientPart _). x.port.id) (clients_asked (opened c.args.store.now)
+    c.requires.core c.args.client)
 
-pub client_index-index-requires-clause-found : goal.client_index-index-requires-clause-found
-client_index-index-requires-clause-found g c = client_asked c.args.store.now c.args.client c.requires.kind
+pub index_of-index-requires-clause-present : goal.index_of-index-requires-clause-present
+index_of-index-requires-clause-present g c =
+    kept_some client_part c.args.store.now.clients.ports (λ (x : ClientPart _). x.port.id == c.args.client) (client_asked (opened
+    c.args.store.now) c.args.client c.requires.kind)
 
-pub client_initial_max_slice_len-requires : goal.client_initial_max_slice_len-requires
-client_initial_max_slice_len-requires g c = client_index_asked c.args.store.now c.args.client _ c.client_index-index.ensures
+pub port-requires : goal.port-requires
+port-requires g c =
+    found_within (λ (x : ClientPort _). x.port.id == c.args.client) c.args.store.now.clients.ports c.index_of-index.result
+    c.index_of-index.ensures
 
 pub returns : goal.returns
 returns g c =
-    client_then c.args.store.now c.args.client _ c.client_index-index.ensures
-    (λ port. c.client_initial_max_slice_len.result ≡ port.port.initial_max_slice_len)
-    c.client_initial_max_slice_len.ensures
+    client_then (opened c.args.store.now) c.args.client _ (seen_found client_part c.args.store.now.clients.ports (λ (x : ClientPart _).
+    x.port.id == c.args.client) _ c.index_of-index.ensures)
+    (λ port. c.port.result.now.port.initial_max_slice_len ≡ port.port.initial_max_slice_len)
+    (seen_at client_part c.args.store.now.clients.ports c.index_of-index.result (λ (x : ClientPart _).
+    c.port.result.now.port.initial_max_slice_len ≡ x.port.initial_max_slice_len)
+    (subst (λ o. IsSomeAnd o (λ (x : ClientPort _). c.port.result.now.port.initial_max_slice_len ≡ x.port.initial_max_slice_len)) (sym
+    c.port.ensures) refl))

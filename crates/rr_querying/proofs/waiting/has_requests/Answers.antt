@@ -1,26 +1,44 @@
+use Rattle.std.proofs.Common.{◌≡◌}
+use Rattle.std.specs.Prelude.{◌==◌}
+use Rattle.rr_store.specs.Opened.{opened}
+use Rattle.rr_store.specs.declared.port.ServerPort.{ServerPort}
+use Rattle.rr_store.specs.Parts.{ServerPart}
+use Rattle.rr_store.specs.Ports.{server_part}
+use Rattle.rr_store.proofs.base.senders.Ports.{found_within}
+use Rattle.rr_store.proofs.base.lists.Seen.{kept_rising, kept_some, seen_at, seen_found}
 use Rattle.rr_querying.proofs.steps.Apart.{no_handle}
 use Rattle.rr_querying.proofs.steps.Naming.{servers_asked}
-use Rattle.rr_querying.proofs.steps.Ports.{server_asked, server_index_asked}
+use Rattle.rr_querying.proofs.steps.Ports.{server_asked}
 use Rattle.rr_querying.proofs.steps.Waiting.{requests_asked, requests_then}
 use Rattle.rr_querying.proofs.waiting.has_requests.Goals as goal
 
-pub server_index-index-requires-clause-rising : goal.server_index-index-requires-clause-rising
-server_index-index-requires-clause-rising g c = servers_asked c.args.store.now c.requires.core c.args.server
+pub index_of-index-requires-clause-rising : goal.index_of-index-requires-clause-rising
+index_of-index-requires-clause-rising g c =
+    kept_rising server_part c.args.store.now.servers.ports (λ (x : ServerPart _). x.port.id) (servers_asked (opened c.args.store.now)
+    c.requires.core c.args.server)
 
-pub server_index-index-requires-clause-found : goal.server_index-index-requires-clause-found
-server_index-index-requires-clause-found g c = server_asked c.args.store.now c.args.server c.requires.kind
+pub index_of-index-requires-clause-present : goal.index_of-index-requires-clause-present
+index_of-index-requires-clause-present g c =
+    kept_some server_part c.args.store.now.servers.ports (λ (x : ServerPart _). x.port.id == c.args.server) (server_asked (opened
+    c.args.store.now) c.args.server c.requires.kind)
 
-pub server_receiver-receiver-requires : goal.server_receiver-receiver-requires
-server_receiver-receiver-requires g c = server_index_asked c.args.store.now c.args.server _ c.server_index-index.ensures
+pub receiver_of_port-receiver-requires : goal.receiver_of_port-receiver-requires
+receiver_of_port-receiver-requires g c =
+    found_within (λ (x : ServerPort _). x.port.id == c.args.server) c.args.store.now.servers.ports c.index_of-index.result
+    c.index_of-index.ensures
 
-pub has_requests-requires : goal.has_requests-requires
-has_requests-requires g c =
-    requests_asked c.args.store.now c.requires.core c.args.server _ c.server_index-index.ensures _ c.server_receiver-receiver.ensures
+pub is_waiting-requires : goal.is_waiting-requires
+is_waiting-requires g c =
+    requests_asked (opened c.args.store.now) c.requires.core c.args.server _ (seen_found server_part c.args.store.now.servers.ports
+    (λ (x : ServerPart _). x.port.id == c.args.server) _ c.index_of-index.ensures) _ (seen_at server_part c.args.store.now.servers.ports
+    c.index_of-index.result (λ (x : ServerPart _). c.receiver_of_port-receiver.result ≡ x.receiver) c.receiver_of_port-receiver.ensures)
 
 pub returns-clause-waits : goal.returns-clause-waits
 returns-clause-waits g c =
-    requests_then c.args.store.now c.requires.core c.args.server _ c.server_index-index.ensures _ c.server_receiver-receiver.ensures _
-    c.has_requests.ensures
+    requests_then (opened c.args.store.now) c.requires.core c.args.server _ (seen_found server_part c.args.store.now.servers.ports
+    (λ (x : ServerPart _). x.port.id == c.args.server) _ c.index_of-index.ensures) _ (seen_at server_part c.args.store.now.servers.ports
+    c.index_of-index.result (λ (x : ServerPart _). c.receiver_of_port-receiver.result ≡ x.receiver) c.receiver_of_port-receiver.ensures) _
+    c.is_waiting.ensures
 
 pub returns-clause-apart : goal.returns-clause-apart
-returns-clause-apart g c = no_handle c.args.store.now c.requires.core c.args.server c.requires.kind
+returns-clause-apart g c = no_handle (opened c.args.store.now) c.requires.core c.args.server c.requires.kind

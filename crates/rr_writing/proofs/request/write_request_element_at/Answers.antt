@@ -1,27 +1,32 @@
+use Rattle.std.proofs.Common.{ap, ◌∙◌}
+use Rattle.rr_store.specs.Opened.{opened}
+use Rattle.rr_store.proofs.base.senders.Written.{whole_or}
 use Rattle.rr_writing.proofs.steps.Request.{loan_either, sender_asked, slot_asked, element_core, element_view}
 use Rattle.rr_writing.proofs.request.write_request_element_at.Goals as goal
 
 pub at-entry-requires : goal.at-entry-requires
 at-entry-requires g c = c.requires.at
 
-pub write_request_element-requires-clause-sender : goal.write_request_element-requires-clause-sender
-write_request_element-requires-clause-sender g c =
-    sender_asked c.args.store.now c.args.number c.args.place _ c.at-entry.ensures c.requires.core
-    (loan_either c.args.store.now c.args.number c.args.place _ c.at-entry.ensures c.requires.kind)
+pub write_element-requires-clause-sender : goal.write_element-requires-clause-sender
+write_element-requires-clause-sender g c =
+    sender_asked (opened c.args.store.now) c.args.number c.args.place _ c.at-entry.ensures c.requires.core
+    (loan_either (opened c.args.store.now) c.args.number c.args.place _ c.at-entry.ensures c.requires.kind)
 
-pub write_request_element-requires-clause-slot : goal.write_request_element-requires-clause-slot
-write_request_element-requires-clause-slot g c =
-    slot_asked c.args.store.now c.args.number c.args.place _ c.at-entry.ensures c.requires.core
-    (loan_either c.args.store.now c.args.number c.args.place _ c.at-entry.ensures c.requires.kind)
+pub write_element-requires-clause-slot : goal.write_element-requires-clause-slot
+write_element-requires-clause-slot g c =
+    slot_asked (opened c.args.store.now) c.args.number c.args.place _ c.at-entry.ensures c.requires.core
+    (loan_either (opened c.args.store.now) c.args.number c.args.place _ c.at-entry.ensures c.requires.kind)
 
 pub returns-clause-core : goal.returns-clause-core
 returns-clause-core g c =
-    element_core c.args.store.now c.args.number c.args.place _ c.at-entry.ensures c.requires.core
-    (loan_either c.args.store.now c.args.number c.args.place _ c.at-entry.ensures c.requires.kind) c.args.index c.args.element _
-    c.write_request_element.ensures.told _ c.write_request_element.ensures.written
+    element_core (opened c.args.store.now) c.args.number c.args.place _ c.at-entry.ensures c.requires.core
+    (loan_either (opened c.args.store.now) c.args.number c.args.place _ c.at-entry.ensures c.requires.kind) c.args.index c.args.element _
+    c.write_element.ensures.told _ (ap (λ s. opened (record c.args.store.now { clients = s })) c.write_element.ensures.written ∙ whole_or
+    (λ s. opened (record c.args.store.now { clients = s })) c.write_element.result _ _)
 
 pub returns-clause-view : goal.returns-clause-view
 returns-clause-view g c =
-    element_view c.args.store.now c.args.number c.args.place _ c.at-entry.ensures c.requires.core
-    (loan_either c.args.store.now c.args.number c.args.place _ c.at-entry.ensures c.requires.kind) c.args.index c.args.element _
-    c.write_request_element.ensures.told _ c.write_request_element.ensures.written
+    element_view (opened c.args.store.now) c.args.number c.args.place _ c.at-entry.ensures c.requires.core
+    (loan_either (opened c.args.store.now) c.args.number c.args.place _ c.at-entry.ensures c.requires.kind) c.args.index c.args.element _
+    c.write_element.ensures.told _ (ap (λ s. opened (record c.args.store.now { clients = s })) c.write_element.ensures.written ∙ whole_or
+    (λ s. opened (record c.args.store.now { clients = s })) c.write_element.result _ _)

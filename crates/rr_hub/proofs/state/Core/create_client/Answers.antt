@@ -1,10 +1,11 @@
 use Rattle.rr_store.specs.Sound.{empty_hand}
 use Rattle.rr_store.specs.Views.{state_of}
+use Rattle.rr_store.specs.Opened.{opened}
 use Rattle.rr_store.proofs.base.lookups.NextNumber.{next_names_nothing}
 use Rattle.rr_hub.proofs.Unnamed.{by_client}
 use Rattle.rr_hub.proofs.state.Core.create_client.Goals as goal
 
 pub returns-clause-unnamed : goal.returns-clause-unnamed
 returns-clause-unnamed g c =
-    rw (← c.self.view_is) (by_client (state_of c.self.inside.parts)
-    (next_names_nothing c.self.inside.parts empty_hand c.self.invariant.sound) c.args.settings _ _ c.create_client.ensures.view)
+    rw (← c.self.view_is) (by_client (state_of (opened c.self.inside.parts))
+    (next_names_nothing (opened c.self.inside.parts) empty_hand c.self.invariant.sound) c.args.settings _ _ c.create_client.ensures.view)

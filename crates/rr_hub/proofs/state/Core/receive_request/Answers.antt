@@ -1,5 +1,6 @@
 use Rattle.rr_store.specs.Sound.{empty_hand}
 use Rattle.rr_store.specs.Views.{state_of}
+use Rattle.rr_store.specs.Opened.{opened}
 use Rattle.rr_store.proofs.base.lookups.NextNumber.{next_names_nothing}
 use Rattle.rr_hub.proofs.Unnamed.{by_receive}
 use Rattle.rr_hub.proofs.state.Core.receive_request.Goals as goal
@@ -9,5 +10,6 @@ returns-clause-receives g c = rw (← c.self.view_is) c.receive_request.ensures.
 
 pub returns-clause-unnamed : goal.returns-clause-unnamed
 returns-clause-unnamed g c =
-    rw (← c.self.view_is) (by_receive (state_of c.self.inside.parts)
-    (next_names_nothing c.self.inside.parts empty_hand c.self.invariant.sound) c.args.server _ _ c.receive_request.ensures.receives)
+    rw (← c.self.view_is) (by_receive (state_of (opened c.self.inside.parts))
+    (next_names_nothing (opened c.self.inside.parts) empty_hand c.self.invariant.sound) c.args.server _ _
+    c.receive_request.ensures.receives)

@@ -1,16 +1,4 @@
-use Rattle.std.proofs.Common.{List, map, subst}
-use Rattle.std.specs.Prelude.{IfSome}
-use Rattle.rr_store.specs.declared.port.OwnedSender.{OwnedSender}
-use Rattle.rr_store.specs.Ending.{IsAskedPlace}
-use Rattle.rr_store.specs.Ports.{sender_part}
 use Rattle.rr_store.proofs.store.Store.end_loan_from.Goals as goal
 
 pub returns-clause-ended : goal.returns-clause-ended
-returns-clause-ended g c =
-    rw (← c.self.view_is) (
-      c.asked_place-at.result,
-      subst (λ (senders : List (OwnedSender _ _ _ _)). IfSome c.asked_place-at.result (IsAskedPlace
-          (map sender_part senders) c.args.details c.args.receiver))
-          c.as_slice.ensures.value c.asked_place-at.ensures,
-      c.end_loan_from.ensures,
-    )
+returns-clause-ended g c = (c.asked_place-at.result, c.asked_place-at.ensures, c.end_loan_from.ensures)

@@ -1,50 +1,57 @@
-use Rattle.std.proofs.Common.{◌≡◌, ◌<◌, ℕ, length, map, nat_lt, sym, ap, ◌∙◌, arith}
+use Rattle.std.proofs.Common.{◌≡◌, ◌<◌, ℕ, Some, length, nat_lt, sym, ◌∙◌, subst, arith}
+use Rattle.std.specs.Prelude.{IsSomeAnd, slice_get}
 use Rattle.std.proofs.lemmas.Bool.{le-ltb}
-use Rattle.rr_store.specs.declared.port.ClientPort.{ClientPort}
-use Rattle.rr_store.specs.Inside.{parts_of}
+use Rattle.std.proofs.lemmas.List.{length-map}
 use Rattle.rr_store.specs.Leaving.{is_borrowing, is_client_used}
-use Rattle.rr_store.specs.Parts.{ClientPart, Sender}
-use Rattle.rr_store.specs.Ports.{client_part, sender_part}
+use Rattle.rr_store.specs.Opened.{opened}
+use Rattle.rr_store.specs.Parts.{ClientPart}
+use Rattle.rr_store.specs.Ports.{client_part}
 use Rattle.rr_store.specs.Views.{sender_of}
-use Rattle.rr_store.proofs.base.lists.Mapped.{of_index, to_index}
-use Rattle.rr_store.proofs.base.senders.Ports.{asked_within, of_read, to_read}
-use Rattle.rr_store.proofs.base.senders.Stored.{stored_is}
-use Rattle.rr_store.proofs.querying.Used.{each_stored, last_of_four}
+use Rattle.rr_store.proofs.base.senders.Ports.{asked_within}
+use Rattle.rr_store.proofs.base.views.Counts.{listed}
+use Rattle.rr_store.proofs.querying.Used.{last_of_four}
+use Rattle.rr_store.proofs.store.Store.is_client_used.Goals.{After-port}
 use Rattle.rr_store.proofs.store.Store.is_client_used.Goals as goal
+
+pub port-requires : goal.port-requires
+port-requires g c =
+    let p = opened c.args.self.now in
+    omega (
+      arith,
+      asked_within p.clients c.args.index (λ x. x.sender < length p.client_senders) c.requires.index,
+      length-map c.args.self.now.clients.ports client_part,
+    )
+
+-- the client that was read is the one at the index
+there : (g : _) (c : After-port g) → slice_get (opened c.args.self.now).clients c.args.index ≡ Some (client_part c.port.result.now)
+there g c = listed client_part c.args.self.now.clients.ports c.args.index c.port.result.now c.port.ensures
+
+-- its sender is there
+its_sender : (g : _) (c : After-port g) → c.port.result.now.port.sender < length (opened c.args.self.now).client_senders
+its_sender g c =
+    subst (λ o. IsSomeAnd o (λ (x : ClientPart _). x.sender < length (opened c.args.self.now).client_senders)) (there g c) c.requires.index
+
+pub loans-requires : goal.loans-requires
+loans-requires g c = its_sender g (goal.at.loans-requires g c).After-port
+
+pub pendings-requires : goal.pendings-requires
+pendings-requires g c = its_sender g (goal.at.pendings-requires g c).After-port
 
 pub is_borrowing-requires : goal.is_borrowing-requires
 is_borrowing-requires g c =
-    let p = parts_of c.self.inside in
-    let items = c.self.inside.clients.items in
-    let port = c.index.result.now in
-    let R : ClientPart _ → Type 0 =
-    λ d. (l : ℕ) → l < length p.server_senders → d.receiver < length (sender_of l p.server_senders).messages.borrowed in
-    let S : ClientPort _ → Type 0 = λ d. R (client_part d) in
-    let asked = rw (← c.self.view_is) at c.requires.receivers in
-    each_stored c.self.inside.server_senders.items c.as_slice.result.now c.as_slice.ensures.value
-    (λ (l : Sender _ _ _). port.port.receiver < length l.messages.borrowed)
-    (of_read items c.args.index port c.index.ensures S (of_index client_part items c.args.index R S (λ d h. h) asked))
+    let p = opened c.args.self.now in
+    subst (λ o. IsSomeAnd o (λ (x : ClientPart _). (l : ℕ) → l < length p.server_senders
+    → x.receiver < length (sender_of l p.server_senders).messages.borrowed))
+    (there g (goal.at.is_borrowing-requires g c).After-port) c.requires.receivers
 
 pub returns : goal.returns
 returns g c =
-    let p = parts_of c.self.inside in
-    let items = c.self.inside.clients.items in
-    let senders = c.self.inside.client_senders.items in
-    let port = c.index.result.now in
-    let R : ClientPart _ → Type 0 = λ d. d.sender < length p.client_senders in
-    let S : ClientPort _ → Type 0 = λ d. R (client_part d) in
-    let asked = of_index client_part items c.args.index R S (λ d h. h) (rw (← c.self.view_is) at c.requires.index) in
-    let there = of_read items c.args.index port c.index.ensures S asked in
-    let read = stored_is senders port.port.sender c.index-sender.result.now there c.index-sender.ensures in
-    let l = sender_of port.port.sender p.client_senders in
-    let loans = le-ltb 0 l.loans (omega (arith, ap (λ (l : Sender _ _ _). l.loans) read, c.if-sender-gt0.false)) in
-    let pendings = le-ltb 0 l.pendings (omega (arith, ap (λ (l : Sender _ _ _). l.pendings) read, c.if-sender-gt0-2.false)) in
-    let told : c.is_borrowing.result ≡ is_client_used p (client_part port) =
-    c.is_borrowing.ensures
-    ∙ ap (λ ls. is_borrowing (map sender_part ls) port.port.receiver) c.as_slice.ensures.value
-    ∙ sym (last_of_four port.port.has_value (nat_lt 0 l.loans) (nat_lt 0 l.pendings)
-    (is_borrowing p.server_senders port.port.receiver) c.if-port.false loans pendings) in
-    rw (← c.self.view_is) (to_index client_part items c.args.index (λ d. c.is_borrowing.result ≡ is_client_used p d)
-    (λ d. c.is_borrowing.result ≡ is_client_used p (client_part d)) (λ d h. h)
-    (to_read items c.args.index port c.index.ensures (λ d. c.is_borrowing.result ≡ is_client_used p (client_part d))
-    (asked_within items c.args.index S asked) told))
+    let p = opened c.args.self.now in
+    let port = c.port.result.now.port in
+    let l = sender_of port.sender p.client_senders in
+    let loans = le-ltb 0 l.loans (omega (arith, c.loans.ensures, c.if-loans-gt0.false)) in
+    let pendings = le-ltb 0 l.pendings (omega (arith, c.pendings.ensures, c.if-pendings-gt0.false)) in
+    subst (λ o. IsSomeAnd o (λ (x : ClientPart _). c.is_borrowing.result ≡ is_client_used p x))
+    (sym (there g (goal.at.returns g c).After-port))
+    (c.is_borrowing.ensures ∙ sym (last_of_four port.has_value (nat_lt 0 l.loans) (nat_lt 0 l.pendings)
+    (is_borrowing p.server_senders port.receiver) c.if-port.false loans pendings))

@@ -1,59 +1,32 @@
-use Rattle.std.proofs.Common.{◌≡◌, ◌<◌, ◌+◌, ◌*◌, ◌^◌, ℕ, Some, length, map, ap, ◌∙◌, arith}
-use Rattle.std.specs.Prelude.{slice_get, slice_index}
+use Rattle.std.proofs.Common.{length, map, ap, ◌∙◌, arith}
 use Rattle.std.proofs.lemmas.List.{length-map}
-use Rattle.rr_sender.specs.Senders.{uses}
-use Rattle.rr_store.specs.declared.port.ServerPort.{ServerPort}
-use Rattle.rr_store.specs.Inside.{parts_of}
-use Rattle.rr_store.specs.Loaning.{with_sender_at}
+use Rattle.rr_store.specs.Opened.{opened}
 use Rattle.rr_store.specs.Ports.{server_part}
-use Rattle.rr_store.specs.Sending.{HasQueues, after_queued}
+use Rattle.rr_store.specs.Sending.{after_queued}
+use Rattle.rr_store.specs.Sides.{with_sender}
 use Rattle.rr_store.specs.Views.{sender_of}
-use Rattle.rr_store.proofs.releasing.request.Fields.{sender_asked}
 use Rattle.rr_store.proofs.sending.request.Stored.{has_queues, has_marks}
 use Rattle.rr_store.proofs.store.Store.queue_request.Goals as goal
 
-pub queue_in-requires-clause-queues : goal.queue_in-requires-clause-queues
-queue_in-requires-clause-queues g c =
-    let p = parts_of c.self.inside in
-    let slice = c.as_slice-servers.result.now in
-    let there = rw (← c.self.view_is) at c.requires.sender in
-    let queues = rw (← c.self.view_is) at c.requires.queues in
-    sender_asked c.self.inside.client_senders.items c.args.sender there (λ l. HasQueues l.messages slice) (λ l. HasQueues l.messages slice)
-    (λ l h. h)
-    (has_queues c.self.inside.servers.items slice c.as_slice-servers.ensures.value
-    (sender_of c.args.sender p.client_senders).messages queues)
+pub queue-requires-clause-queues : goal.queue-requires-clause-queues
+queue-requires-clause-queues g c =
+    has_queues c.args.self.now.servers.ports c.connected-servers.result.now c.connected-servers.ensures
+    (sender_of c.args.sender c.args.self.now.clients.senders).messages c.requires.queues
 
-pub queue_in-requires-clause-held : goal.queue_in-requires-clause-held
-queue_in-requires-clause-held g c =
-    let items = c.self.inside.servers.items in
-    let slice = c.as_slice-servers.result.now in
-    let there = rw (← c.self.view_is) at c.requires.sender in
-    let takes = rw (← c.self.view_is) at c.requires.takes in
-    sender_asked c.self.inside.client_senders.items c.args.sender there
-    (λ l. (0 < l.messages.capacity) × (0 < slice_index l.messages.held c.args.slot)
-    × (uses l.messages c.args.slot + length slice < 2 ^ 64))
-    (λ l. (0 < l.messages.capacity) × (0 < slice_index l.messages.held c.args.slot)
-    × (uses l.messages c.args.slot + length (map server_part items) < 2 ^ 64))
-    (λ l h. (h.0, h.1, omega (arith, h.2, length-map items server_part, ap length c.as_slice-servers.ensures.value))) takes
+pub queue-requires-clause-takes : goal.queue-requires-clause-takes
+queue-requires-clause-takes g c =
+    let h = c.requires.takes in
+    (h.0, h.1, omega (arith, h.2, length-map c.args.self.now.servers.ports server_part, ap length c.connected-servers.ensures))
 
-pub queue_in-requires-clause-marks : goal.queue_in-requires-clause-marks
-queue_in-requires-clause-marks g c =
-    let slice = c.as_slice-servers.result.now in
-    let receivers = c.self.inside.limits.max_servers in
-    let there = rw (← c.self.view_is) at c.requires.sender in
-    let marks = rw (← c.self.view_is) at c.requires.marks in
-    sender_asked c.self.inside.client_senders.items c.args.sender there
-    (λ l. (i : ℕ) (s : ServerPort _) → slice_get slice i ≡ Some s → c.args.slot * receivers + s.port.receiver < length l.may_answer.items)
-    (λ l. (i : ℕ) (s : ServerPort _) → slice_get slice i ≡ Some s → c.args.slot * receivers + s.port.receiver < length l.may_answer)
-    (λ l h. h)
-    (has_marks c.self.inside.servers.items slice c.as_slice-servers.ensures.value
-    (sender_of c.args.sender (parts_of c.self.inside).client_senders).may_answer c.args.slot receivers marks)
+pub queue-requires-clause-marks : goal.queue-requires-clause-marks
+queue-requires-clause-marks g c =
+    has_marks c.args.self.now.servers.ports c.connected-servers.result.now c.connected-servers.ensures
+    (sender_of c.args.sender c.args.self.now.clients.senders).may_answer c.args.slot c.args.self.now.limits.max_servers c.requires.marks
 
 pub returns : goal.returns
 returns g c =
-    let p = parts_of c.self.inside in
-    rw (← c.self.view_is)
-    (ap (λ ls. record p { client_senders = ls }) (c.queue_in.ensures
-    ∙ ap (λ servers. with_sender_at p.client_senders c.args.sender
-    (after_queued p.limits.enable_safe_overflow_for_requests p.limits.max_servers c.args.slot (map server_part servers)))
-    c.as_slice-servers.ensures.value))
+    let s = c.args.self.now in
+    ap (λ x. opened (record s { clients = x })) (c.queue.ensures
+    ∙ ap (λ servers. with_sender s.clients c.args.sender
+    (after_queued s.limits.enable_safe_overflow_for_requests s.limits.max_servers c.args.slot (map server_part servers)))
+    c.connected-servers.ensures)

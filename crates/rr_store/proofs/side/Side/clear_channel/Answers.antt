@@ -1,0 +1,9 @@
+use Rattle.std.proofs.Common.{ap}
+use Rattle.rr_store.specs.SideInside.{side_of}
+use Rattle.rr_store.proofs.side.Side.clear_channel.Goals as goal
+
+pub clear_channel-requires : goal.clear_channel-requires
+clear_channel-requires g c = rw (← c.self.view_is) at c.requires
+
+pub returns : goal.returns
+returns g c = rw (← c.self.view_is) (ap (λ ls. record (side_of c.self.inside) { senders = ls }) c.clear_channel.ensures)

@@ -1,9 +1,0 @@
-use Rattle.std.proofs.Common.{ap}
-use Rattle.rr_store.specs.Inside.{parts_of}
-use Rattle.rr_store.proofs.store.Store.clear_channel.Goals as goal
-
-pub clear_channel-requires : goal.clear_channel-requires
-clear_channel-requires g c = rw (← c.self.view_is) at c.requires
-
-pub returns : goal.returns
-returns g c = rw (← c.self.view_is) (ap (λ ls. record (parts_of c.self.inside) { server_senders = ls }) c.clear_channel.ensures)

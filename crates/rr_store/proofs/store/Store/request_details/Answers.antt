@@ -1,9 +1,0 @@
-use Rattle.rr_store.specs.Views.{no_request}
-use Rattle.rr_store.proofs.base.senders.Stored.{details_are}
-use Rattle.rr_store.proofs.store.Store.request_details.Goals as goal
-
-pub returns : goal.returns
-returns g c =
-    let there = rw (← c.self.view_is) at c.requires.sender in
-    rw (← c.self.view_is)
-    (details_are c.self.inside.client_senders.items c.args.sender _ there c.index.ensures c.args.slot _ no_request c.details.ensures)

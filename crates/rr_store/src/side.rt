@@ -1,0 +1,55 @@
+//! One side of a store: its connected ports, the senders from which they send, and who left.
+ghost use Rattle.std.specs.Prelude.{◌≡◌};
+ghost use Rattle.rr_store.specs.Sides.{start_side};
+
+use crate::{LeftPort, OwnedSender};
+use rr_slots::Body;
+use std::alloc::Global;
+use std::marker::Model;
+
+mod counts;
+mod leaving;
+mod lending;
+mod messages;
+mod ports;
+mod queues;
+mod slots;
+
+/// The clients of a service with all requests, or the servers with all responses. Contracts see it as parts, of which nothing is
+/// claimed: each method reads or changes one thing.
+///
+/// A message stands once, in a slot of the sender of the port that sends it; entries of queues name it by that slot.
+#[derive(Drop)]
+pub struct Side<B: Body, N: Copy, H: Drop, P: Drop> {
+    /// What the ports send from. The sender of a port that left stays for those who have its messages.
+    pub senders: Vec<OwnedSender<B, N, H>>,
+    /// The connected ports, in the order of their numbers.
+    pub ports: Vec<P>,
+    /// The ports that left, in the order in which they did.
+    pub left: Vec<LeftPort>,
+    /// What a slot that isn't there would show.
+    pub spare_header: H,
+}
+
+impl<B: Body, N: Copy, H: Drop, P: Drop> Model for Side<B, N, H, P> {
+    ghost use Rattle.rr_store.specs.Sides.{SideParts};
+    ghost use Rattle.rr_store.specs.SideInside.{side_of};
+
+    ghost Value = { SideParts B.Item N H P };
+
+    ghost view = { λ s. side_of s };
+}
+
+impl<B: Body, N: Copy, H: Default + Drop, P: Drop> Side<B, N, H, P> {
+    /// Makes a side without ports. It takes no memory.
+    pub fn new(alloc: Global) -> Self
+        ensures { result ≡ start_side result.spare_header }
+    {
+        Side {
+            senders: Vec::new(alloc),
+            ports: Vec::new(alloc),
+            left: Vec::new(alloc),
+            spare_header: H::default(),
+        }
+    }
+}

@@ -1,0 +1,189 @@
+//! Ports by index and by number, their creation, and those that left.
+ghost use Rattle.std.specs.Prelude.{◌≡◌, ◌≢◌, ℕ, ◌<◌, ◌==◌, ◌&&◌, [], ◌∷◌, ◌++◌, true, IsSome, IsSomeAnd, OnErr, OnOk, Some, length, slice_get, slice_set};
+ghost use Rattle.std.specs.List.{list_any, position, remove};
+ghost use Rattle.rr_table.specs.TableView.{IsRenewed, with_row};
+ghost use Rattle.rr_store.specs.Creating.{left_at};
+ghost use Rattle.rr_store.specs.Order.{IsRising};
+ghost use Rattle.rr_store.specs.Views.{sender_of};
+
+use crate::side::Side;
+use crate::{ConnectedPort, HandleEntry, LeftPort, create, index_of_present, query};
+use rr_sender::Sender;
+use rr_slots::Body;
+use rr_table::Table;
+use std::alloc::{AllocError, Global};
+
+impl<B: Body, N: Copy, H: Drop, P: Drop> Side<B, N, H, P> {
+    /// Returns the port at an index.
+    #[inline(always)]
+    pub fn port(&self, index: usize) -> &P
+        requires { index < length self.now.ports }
+        ensures { slice_get self.now.ports index ≡ Some result.now }
+    {
+        &self.ports[index]
+    }
+
+    /// Returns how many ports are connected.
+    pub fn port_count(&self) -> usize
+        ensures { result ≡ length self.now.ports }
+    {
+        self.ports.len()
+    }
+
+    /// Returns how many senders there are: of the connected ports, and of those that left.
+    pub fn sender_count(&self) -> usize
+        ensures { result ≡ length self.now.senders }
+    {
+        self.senders.len()
+    }
+
+    /// Returns the sender of the port that left as the one at an index.
+    pub fn left_sender(&self, index: usize) -> usize
+        requires { index < length self.now.left }
+        ensures { result ≡ (left_at index self.now.left).sender }
+    {
+        self.left[index].sender
+    }
+
+    /// Returns all connected ports, in the order of their numbers.
+    #[inline(always)]
+    pub fn connected(&self) -> &[P]
+        ensures { result.now ≡ self.now.ports }
+    {
+        self.ports.as_slice()
+    }
+}
+
+impl<B: Body, N: Copy, H: Drop, P: ConnectedPort> Side<B, N, H, P> {
+    /// Returns where among the ports the one with this number stands, in O(log ports).
+    #[inline(always)]
+    pub fn index_of(&self, number: u64) -> usize
+        requires rising { IsRising P.id self.now.ports }
+        requires present { IsSome (position (λ p. P.id p == number) self.now.ports) }
+        ensures { position (λ p. P.id p == number) self.now.ports ≡ Some result }
+    {
+        index_of_present(self.ports.as_slice(), number)
+    }
+
+    /// Returns where the port that sends from a sender stands, in O(log ports).
+    #[cold]
+    pub fn index_of_sender(&self, sender: usize) -> usize
+        requires sender { sender < length self.now.senders }
+        requires rising { IsRising P.id self.now.ports }
+        requires present { IsSome (position (λ p. P.id p == (sender_of sender self.now.senders).owner) self.now.ports) }
+        ensures { position (λ p. P.id p == (sender_of sender self.now.senders).owner) self.now.ports ≡ Some result }
+    {
+        self.index_of(self.senders[sender].owner)
+    }
+
+    /// Returns from which sender the port at an index sends.
+    #[inline(always)]
+    pub fn sender_of_port(&self, index: usize) -> usize
+        requires { index < length self.now.ports }
+        ensures { IsSomeAnd (slice_get self.now.ports index) (λ p. result ≡ P.sender p) }
+    {
+        self.ports[index].sender()
+    }
+
+    /// Returns which receiver of the other side the port at an index is.
+    #[inline(always)]
+    pub fn receiver_of_port(&self, index: usize) -> usize
+        requires { index < length self.now.ports }
+        ensures { IsSomeAnd (slice_get self.now.ports index) (λ p. result ≡ P.receiver p) }
+    {
+        self.ports[index].receiver()
+    }
+
+    /// Returns the number and the sender of the port at an index, as they are noted when it leaves.
+    #[cold]
+    pub fn leaving(&self, index: usize) -> LeftPort
+        requires { index < length self.now.ports }
+        ensures { IsSomeAnd (slice_get self.now.ports index) (λ p. result ≡ record { number = P.id p; sender = P.sender p }) }
+    {
+        let port = &self.ports[index];
+        LeftPort {
+            number: port.id(),
+            sender: port.sender(),
+        }
+    }
+
+    /// Returns whether a port has this number and lives by value, in O(log ports).
+    #[inline(always)]
+    pub fn is_value(&self, number: u64) -> bool
+        requires { IsRising P.id self.now.ports }
+        ensures { result ≡ list_any (λ p. P.id p == number && P.has_value p) self.now.ports }
+    {
+        query::is_value(self.ports.as_slice(), number)
+    }
+
+    /// Returns a receiver, of so many, that no port is.
+    pub fn free_receiver(&self, receivers: usize) -> usize
+        requires { length self.now.ports < receivers }
+        ensures inside { result < receivers }
+        ensures vacant { (i : ℕ) (p : P) → slice_get self.now.ports i ≡ Some p → P.receiver p ≢ result }
+    {
+        create::free_receiver(self.ports.as_slice(), receivers)
+    }
+
+    /// Adds a port, the sender from which it sends, and a row of the table for its messages. Returns `AllocError` if memory was
+    /// refused; nothing has changed then.
+    pub fn insert(
+        &mut self,
+        alloc: Global,
+        table: &mut Table<HandleEntry>,
+        port: P,
+        messages: Sender<B, N, H>,
+        may_answer: Vec<u64>,
+        row_len: usize,
+    ) -> Result<(), AllocError>
+        ensures ok { OnOk result (self.new ≡ record self.old { ports = self.old.ports ++ port ∷ []; senders = self.old.senders ++ record { owner = P.id port; row = length table.old.rows; receiver = P.receiver port; has_value = true; loans = 0; pendings = 0; may_answer = may_answer.items; messages = messages } ∷ [] }) }
+        ensures table { OnOk result (table.new ≡ with_row table.old row_len) }
+        ensures err { OnErr result (self.new ≡ self.old) }
+        ensures unchanged { OnErr result (table.new ≡ table.old) }
+    {
+        create::insert_port(
+            alloc,
+            &mut self.ports,
+            &mut self.senders,
+            table,
+            port,
+            messages,
+            may_answer,
+            row_len,
+        )
+    }
+
+    /// Adds a port that sends from the sender of the one that left as the one at an index: that sender becomes a new one, its row is
+    /// made anew, and that port is no longer noted. Returns `AllocError` if memory was refused; nothing has changed then.
+    pub fn insert_again(
+        &mut self,
+        alloc: Global,
+        table: &mut Table<HandleEntry>,
+        port: P,
+        index: usize,
+        messages: Sender<B, N, H>,
+        may_answer: Vec<u64>,
+        row_len: usize,
+    ) -> Result<(), AllocError>
+        requires listed { index < length self.old.left }
+        requires sender { P.sender port < length self.old.senders }
+        requires row { (sender_of (P.sender port) self.old.senders).row < length table.old.rows }
+        ensures ok { OnOk result (self.new ≡ record self.old { ports = self.old.ports ++ port ∷ []; senders = slice_set self.old.senders (P.sender port) (record { owner = P.id port; row = (sender_of (P.sender port) self.old.senders).row; receiver = P.receiver port; has_value = true; loans = 0; pendings = 0; may_answer = may_answer.items; messages = messages }); left = remove self.old.left index }) }
+        ensures renewed { OnOk result (IsRenewed (sender_of (P.sender port) self.old.senders).row row_len table.old table.new) }
+        ensures err { OnErr result (self.new ≡ self.old) }
+        ensures unchanged { OnErr result (table.new ≡ table.old) }
+    {
+        create::insert_port_again(
+            alloc,
+            &mut self.ports,
+            &mut self.senders,
+            table,
+            port,
+            messages,
+            may_answer,
+            row_len,
+        )?;
+        self.left.remove(index);
+        Ok(())
+    }
+}

@@ -1,0 +1,117 @@
+//! Slots that are loaned, read, written and given back.
+ghost use Rattle.std.specs.Prelude.{◌≡◌, ◌<◌, ◌↔◌, [], ◌∷◌, not, true, length, nat_lt, Some, IfOk, IsErrOf, IsTrue, OnErr, if◌then◌else◌, slice_get, slice_index};
+ghost use Rattle.rr_slots.specs.Families.{takes_len};
+ghost use Rattle.rr_slots.specs.Pools.{appended, filled, with_element_at, with_elements};
+ghost use Rattle.rr_sender.specs.Senders.{all_entries, content_at, given_back, loaned, times, used_count, with_changed_at, with_user_header};
+ghost use Rattle.rr_store.specs.Sides.{with_sent};
+ghost use Rattle.rr_store.specs.Views.{sender_of};
+ghost use Rattle.rr_store.specs.Writing.{is_written};
+
+use crate::loan::loan_from;
+use crate::side::Side;
+use crate::write;
+use rr_slots::{AcquireError, Body, FillBody};
+use rr_table::Place;
+
+impl<B: Body, N: Copy, H: Drop, P: Drop> Side<B, N, H, P> {
+    /// Loans a slot for a message of `len` elements, a length that the body's family takes. Returns the place of its handle.
+    ///
+    /// # Errors
+    ///
+    /// - `Full` if each slot of the sender is used.
+    /// - `NoRoom` if the slot has less room than `len`, and memory was refused.
+    ///
+    /// The side is unchanged then.
+    #[inline(always)]
+    pub fn loan(
+        &mut self,
+        sender: usize,
+        len: usize,
+        details: N,
+        user_header: H,
+    ) -> Result<Place, AcquireError>
+        requires sender { sender < length self.old.senders }
+        requires len { IsTrue (takes_len B.family len) }
+        ensures row { IfOk result (λ place. place.row ≡ (sender_of sender self.old.senders).row) }
+        ensures free { IfOk result (λ place. slice_get (sender_of sender self.old.senders).messages.held place.index ≡ Some 0) }
+        ensures unused { IfOk result (λ place. times place.index (all_entries (sender_of sender self.old.senders).messages.queues) ≡ 0) }
+        ensures ok { IfOk result (λ place. self.new ≡ with_sent self.old sender (λ m. loaned m place.index len details user_header)) }
+        ensures full { IsErrOf result AcquireError.Full ↔ (used_count (sender_of sender self.old.senders).messages ≡ length (sender_of sender self.old.senders).messages.held) }
+        ensures no_room { IsErrOf result AcquireError.NoRoom → (sender_of sender self.old.senders).messages.room < len }
+        ensures err { OnErr result (self.new ≡ self.old) }
+    {
+        loan_from(&mut self.senders, sender, len, details, user_header)
+    }
+
+    /// Gives back a hold on the message in a slot. What stands in the slot is dropped with the last use.
+    #[inline(always)]
+    pub fn give_back(&mut self, sender: usize, slot: usize)
+        requires sender { sender < length self.old.senders }
+        requires held { 0 < slice_index (sender_of sender self.old.senders).messages.held slot }
+        ensures { self.new ≡ with_sent self.old sender (λ m. given_back m slot) }
+    {
+        self.senders[sender].messages.give_back(slot);
+    }
+
+    /// Appends an element to the message in a slot, unless it is complete, and returns whether it did.
+    #[inline(always)]
+    pub fn push(&mut self, sender: usize, slot: usize, item: B::Item) -> bool
+        requires sender { sender < length self.old.senders }
+        requires slot { slot < length (sender_of sender self.old.senders).messages.held }
+        ensures told { result ≡ not (is_written (content_at (sender_of sender self.old.senders).messages slot)) }
+        ensures pushed { self.new ≡ (if result then with_sent self.old sender (λ m. with_changed_at m slot (appended item)) else self.old) }
+    {
+        write::push_in(&mut self.senders, sender, slot, item)
+    }
+
+    /// Makes an element the only one of the message in a slot, of which one is asked for at least. Old ones are dropped.
+    #[inline(always)]
+    pub fn write(&mut self, sender: usize, slot: usize, element: B::Item)
+        requires sender { sender < length self.old.senders }
+        requires slot { slot < length (sender_of sender self.old.senders).messages.held }
+        requires asked { 0 < (content_at (sender_of sender self.old.senders).messages slot).asked_len }
+        ensures { self.new ≡ with_sent self.old sender (λ m. with_changed_at m slot (with_elements (element ∷ []))) }
+    {
+        write::write_in(&mut self.senders, sender, slot, element);
+    }
+
+    /// Makes another user header the one of the message in a slot. The old one is dropped.
+    #[inline(always)]
+    pub fn write_user_header(&mut self, sender: usize, slot: usize, header: H)
+        requires sender { sender < length self.old.senders }
+        requires slot { slot < length (sender_of sender self.old.senders).messages.held }
+        ensures { self.new ≡ with_sent self.old sender (λ m. with_user_header m slot header) }
+    {
+        *self.senders[sender].messages.user_header_mut(slot) = header;
+    }
+
+    /// Makes another element the one at an index of the message in a slot, if one stands there, and returns whether one did. The
+    /// old one is dropped.
+    #[inline(always)]
+    pub fn write_element(
+        &mut self,
+        sender: usize,
+        slot: usize,
+        index: usize,
+        element: B::Item,
+    ) -> bool
+        requires sender { sender < length self.old.senders }
+        requires slot { slot < length (sender_of sender self.old.senders).messages.held }
+        ensures told { result ≡ nat_lt index (length (content_at (sender_of sender self.old.senders).messages slot).elements) }
+        ensures written { self.new ≡ (if result then with_sent self.old sender (λ m. with_changed_at m slot (with_element_at index element)) else self.old) }
+    {
+        write::write_element_in(&mut self.senders, sender, slot, index, element)
+    }
+}
+
+impl<B: FillBody, N: Copy, H: Drop, P: Drop> Side<B, N, H, P> {
+    /// Makes an element each of those that are asked for of the message in a slot. Old ones are dropped.
+    #[inline(always)]
+    pub fn fill(&mut self, sender: usize, slot: usize, element: B::Item)
+        requires sender { sender < length self.old.senders }
+        requires slot { slot < length (sender_of sender self.old.senders).messages.held }
+        ensures { self.new ≡ with_sent self.old sender (λ m. with_changed_at m slot (filled element)) }
+    {
+        write::fill_in(&mut self.senders, sender, slot, element);
+    }
+}
