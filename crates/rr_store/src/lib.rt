@@ -11,7 +11,7 @@ mod loan;
 mod port;
 mod query;
 mod receive;
-pub mod release;
+mod release;
 mod send;
 mod side;
 mod store;
