@@ -1,5 +1,4 @@
 //! What round trips are measured in.
-
 use rr_ports::Limits;
 
 /// A hub, and the round trips that are made in it.

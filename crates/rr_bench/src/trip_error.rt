@@ -1,5 +1,4 @@
 //! Why a round trip failed.
-
 use rr_ports::{LoanError, ReceiveError, RequestSendError, SendError};
 use thiserror::Error;
 

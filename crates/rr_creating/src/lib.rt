@@ -3,6 +3,7 @@
 
 mod client;
 mod making;
+mod pools;
 mod server;
 
 pub use client::create_client;

@@ -1,19 +1,22 @@
 //! Creating servers.
-ghost use Rattle.std.specs.Prelude.{◌≡◌, ◌≤◌, ◌+◌, None, IsTrue, IfOk, OnErr, OnOk, length};
+ghost use Rattle.std.specs.Prelude.{◌≡◌, ◌≤◌, ◌+◌, None, IsTrue, IfOk, OnErr, OnOk, length, ◌<◌, ◌^◌, true};
 ghost use Rattle.rr_slots.specs.Families.{takes_len};
 ghost use Rattle.rr_protocol.specs.Creation.{CreatesServer, server_refusal, with_server};
-ghost use Rattle.rr_protocol.specs.Limits.{hub_refusal, worst_case_requests};
-ghost use Rattle.rr_store.specs.Creating.{IsNew, senders_after};
+ghost use Rattle.rr_protocol.specs.Limits.{hub_refusal, worst_case_requests, max_loaned_responses, worst_case_responses};
+ghost use Rattle.rr_store.specs.Creating.{IsNew, senders_after, left_at};
 ghost use Rattle.rr_store.specs.Opened.{opened};
 ghost use Rattle.rr_store.specs.Reaching.{IsCore};
-ghost use Rattle.rr_store.specs.Views.{no_response, state_of};
+ghost use Rattle.rr_store.specs.Views.{no_response, state_of, sender_of};
+ghost use Rattle.rr_table.specs.TableView.{IsRenewed};
+ghost use Rattle.rr_store.specs.Asked.{CanTakeOver};
+ghost use Rattle.rr_store.specs.Changes.{with_new_server, with_server_again};
+ghost use Rattle.rr_store.specs.Ports.{connected_of, server_part};
 
+use crate::pools::{pool_size, worst_case_requests, worst_case_responses};
 use rr_protocol::{BackpressureFn, Limits, ServerCreateError, ServerSettings};
 use rr_sender::{Sender, SenderSize};
 use rr_slots::Body;
-use rr_store::create::server::worst_case_responses;
-use rr_store::create::{pool_size, worst_case_requests};
-use rr_store::{ResponseDetails, Store};
+use rr_store::{NUMBERS, Port, ResponseDetails, ServerPort, Store};
 use std::alloc::{AllocError, Global};
 
 /// Stands for the details of no response.
@@ -30,7 +33,7 @@ const NO_RESPONSE: ResponseDetails = ResponseDetails {
 
 /// Creates a server under the next number.
 ///
-/// Returns `UnableToCreatePortTag` if no number is left, `ExceedsMaxSupportedServers` if as many servers are connected as may
+/// Returns `UnableToCreatePortTag` if no number remains, `ExceedsMaxSupportedServers` if as many servers are connected as may
 /// be, `UnableToCreateDataSegment` if the worst-case number of responses is more than a `usize` counts, or memory was refused;
 /// nothing has changed then. The initial length is one that the body's family takes.
 pub fn create_server<QB: Body, QH: Default + Drop, PB: Body, PH: Default + Drop, K: BackpressureFn>(
@@ -43,7 +46,7 @@ pub fn create_server<QB: Body, QH: Default + Drop, PB: Body, PH: Default + Drop,
     ensures core { IsCore (opened store.new) }
     ensures view { CreatesServer (state_of (opened store.old)) settings result (state_of (opened store.new)) }
 {
-    match store.server_refusal(&settings) {
+    match server_refusal(store, &settings) {
         Some(refusal) => Err(refusal),
         None => match add_server(store, alloc, settings) {
             Ok(number) => Ok(number),
@@ -93,10 +96,10 @@ fn insert_server<QB: Body, QH: Default + Drop, PB: Body, PH: Default + Drop, K: 
     let receiver = store.servers.free_receiver(limits.max_servers);
     let messages = server_messages(alloc, &limits, slots, settings.initial_max_slice_len)?;
     match store.servers.idle_left() {
-        Some(index) => store.add_server_again(
-            alloc, settings, loans, slots, receiver, index, messages,
+        Some(index) => append_server_again(
+            store, alloc, settings, loans, slots, receiver, index, messages,
         ),
-        None => store.add_server(alloc, settings, loans, slots, receiver, messages),
+        None => append_server(store, alloc, settings, loans, slots, receiver, messages),
     }
 }
 
@@ -120,4 +123,148 @@ fn server_messages<B: Body, H: Default + Drop>(
         capacity: limits.max_response_buffer_size,
     };
     Sender::new(alloc, size, NO_RESPONSE)
+}
+
+/// Returns the first reason against one more server with these settings.
+fn server_refusal<QB: Body, QH: Default + Drop, PB: Body, PH: Default + Drop, K: BackpressureFn>(
+    store: &Store<QB, QH, PB, PH, K>,
+    settings: &ServerSettings<K>,
+) -> Option<ServerCreateError>
+    requires { hub_refusal store.now.limits ≡ None }
+    ensures { result ≡ server_refusal (state_of (opened store.now)) settings.now }
+{
+    if NUMBERS <= store.next {
+        return Some(ServerCreateError::UnableToCreatePortTag);
+    }
+    if store.limits.max_servers <= store.servers.port_count() {
+        return Some(ServerCreateError::ExceedsMaxSupportedServers);
+    }
+    match store.limits.worst_case_responses(settings.loans.max(1)) {
+        Some(_) => None,
+        None => Some(ServerCreateError::UnableToCreateDataSegment),
+    }
+}
+
+/// Adds a server with so many slots, and so many responses on loan for each request, under the next number, which it
+/// returns. Returns `AllocError` if memory was refused; nothing has changed then.
+fn append_server<QB: Body, QH: Default + Drop, PB: Body, PH: Default + Drop, K: BackpressureFn>(
+    store: &mut Store<QB, QH, PB, PH, K>,
+    alloc: Global,
+    settings: ServerSettings<K>,
+    loans: usize,
+    slots: usize,
+    receiver: usize,
+    messages: Sender<PB, ResponseDetails, PH>,
+) -> Result<u64, AllocError>
+    requires next { store.old.next + 1 < 2 ^ 64 }
+    requires clients { 0 < store.old.limits.max_clients }
+    requires loans { max_loaned_responses store.old.limits loans < 2 ^ 64 }
+    ensures number { IfOk result (λ number. number ≡ store.old.next) }
+    ensures ok { OnOk result (opened store.new ≡ with_new_server (opened store.old) settings loans slots receiver messages) }
+    ensures err { OnErr result (opened store.new ≡ opened store.old) }
+{
+    let number = store.next;
+    let sender = store.servers.sender_count();
+    let limits = &store.limits;
+    let server = server_of(limits, number, settings, loans, slots, sender, receiver);
+    store.servers.insert(
+        alloc,
+        &mut store.table,
+        server,
+        messages,
+        Vec::new(alloc),
+        slots,
+    )?;
+    store.next = number + 1;
+    Ok(number)
+}
+
+/// Adds a server as `append_server` does, which sends from the sender of the server that left as the one at an index: that
+/// sender becomes a new one, and that server is no longer noted. Returns `AllocError` if memory was refused; nothing has
+/// changed then.
+fn append_server_again<
+    QB: Body,
+    QH: Default + Drop,
+    PB: Body,
+    PH: Default + Drop,
+    K: BackpressureFn,
+>(
+    store: &mut Store<QB, QH, PB, PH, K>,
+    alloc: Global,
+    settings: ServerSettings<K>,
+    loans: usize,
+    slots: usize,
+    receiver: usize,
+    index: usize,
+    messages: Sender<PB, ResponseDetails, PH>,
+) -> Result<u64, AllocError>
+    requires next { store.old.next + 1 < 2 ^ 64 }
+    requires clients { 0 < store.old.limits.max_clients }
+    requires loans { max_loaned_responses store.old.limits loans < 2 ^ 64 }
+    requires left { CanTakeOver (opened store.old).server_senders (opened store.old).left_servers store.old.table.rows index }
+    ensures number { IfOk result (λ number. number ≡ store.old.next) }
+    ensures ok { OnOk result (opened store.new ≡ with_server_again (opened store.old) settings loans slots receiver messages index store.new.table) }
+    ensures table { OnOk result (IsRenewed (sender_of (left_at index (opened store.old).left_servers).sender (opened store.old).server_senders).row slots store.old.table store.new.table) }
+    ensures err { OnErr result (opened store.new ≡ opened store.old) }
+{
+    let number = store.next;
+    let sender = store.servers.left_sender(index);
+    let limits = &store.limits;
+    let server = server_of(limits, number, settings, loans, slots, sender, receiver);
+    store.servers.insert_again(
+        alloc,
+        &mut store.table,
+        server,
+        index,
+        messages,
+        Vec::new(alloc),
+        slots,
+    )?;
+    store.next = number + 1;
+    Ok(number)
+}
+
+/// A server's port.
+fn server_port<K: Drop>(
+    id: u64,
+    settings: ServerSettings<K>,
+    pool_size: usize,
+    sender: usize,
+    receiver: usize,
+) -> Port<K>
+    ensures { connected_of result ≡ record { port = record { id = id; strategy = settings.strategy; handler = settings.handler; allocation_strategy = settings.allocation_strategy; initial_max_slice_len = settings.initial_max_slice_len; pool_size = pool_size; has_value = true }; sender = sender; receiver = receiver } }
+{
+    Port {
+        id,
+        strategy: settings.strategy,
+        handler: settings.handler,
+        allocation_strategy: settings.allocation_strategy,
+        initial_max_slice_len: settings.initial_max_slice_len,
+        pool_size,
+        has_value: true,
+        sender,
+        receiver,
+    }
+}
+
+/// A server, with so many responses that it may have on loan for each request.
+fn server_of<K: Drop>(
+    limits: &Limits,
+    id: u64,
+    settings: ServerSettings<K>,
+    loans: usize,
+    pool_size: usize,
+    sender: usize,
+    receiver: usize,
+) -> ServerPort<K>
+    requires clients { 0 < limits.now.max_clients }
+    requires loans { max_loaned_responses limits.now loans < 2 ^ 64 }
+    ensures { server_part result ≡ record { connected = record { port = record { id = id; strategy = settings.strategy; handler = settings.handler; allocation_strategy = settings.allocation_strategy; initial_max_slice_len = settings.initial_max_slice_len; pool_size = pool_size; has_value = true }; sender = sender; receiver = receiver }; max_loaned_responses_per_request = loans; max_loaned_responses = max_loaned_responses limits.now loans } }
+{
+    let max_loaned_responses = loans * limits.max_active_requests_per_client * limits.max_clients;
+    ServerPort {
+        port: server_port(id, settings, pool_size, sender, receiver),
+        max_loaned_responses_per_request: loans,
+        max_loaned_responses,
+    }
 }

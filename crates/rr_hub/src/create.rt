@@ -24,7 +24,7 @@ impl<QB: Body, QH: Default + Drop, PB: Body, PH: Default + Drop, K: Backpressure
     /// # Errors
     ///
     /// An error leaves the hub as it was.
-    /// - `UnableToCreatePortTag` if no number is left.
+    /// - `UnableToCreatePortTag` if no number remains.
     /// - `ExceedsMaxSupportedClients` if as many clients are connected as may be.
     /// - `UnableToCreateDataSegment` if memory was refused.
     pub fn create_client(&mut self, settings: ClientSettings<K>) -> Result<u64, ClientCreateError>
@@ -41,7 +41,7 @@ impl<QB: Body, QH: Default + Drop, PB: Body, PH: Default + Drop, K: Backpressure
     /// # Errors
     ///
     /// An error leaves the hub as it was.
-    /// - `UnableToCreatePortTag` if no number is left.
+    /// - `UnableToCreatePortTag` if no number remains.
     /// - `ExceedsMaxSupportedServers` if as many servers are connected as may be.
     /// - `UnableToCreateDataSegment` if the worst-case number of responses is more than a `usize` counts, or memory was refused.
     pub fn create_server(&mut self, settings: ServerSettings<K>) -> Result<u64, ServerCreateError>

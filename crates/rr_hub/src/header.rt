@@ -8,10 +8,6 @@ use crate::state::Core;
 use rr_protocol::{
     BackpressureFn, Kind, RequestHeader, ResponseHeader, UniqueClientId, UniqueServerId,
 };
-use rr_querying::{
-    request_header_at, request_origin_at, request_user_header_at, response_header_at,
-    response_origin_at, response_user_header_at,
-};
 use rr_slots::Body;
 use rr_store::HandleId;
 
@@ -29,12 +25,18 @@ impl<QB: Body, QH: Default + Drop, PB: Body, PH: Default + Drop, K: Backpressure
         requires { IsSome (option_and_then request_in (handle_at self.now id.now)) }
         ensures { IsSomeAnd (option_and_then request_in (handle_at self.now id.now)) (λ m. result ≡ request_header self.now m) }
     {
-        let place = id.place();
-        if self.parts.is_place_of(id.number(), place) {
-            request_header_at(&self.parts, id.number(), place)
-        } else {
-            let place = self.parts.place_of(id.number());
-            request_header_at(&self.parts, id.number(), place)
+        let entry = self.parts.look_up(id.number(), id.place());
+        let details = self.parts.clients.details(entry.sender, entry.slot);
+        let asked_len = self
+            .parts
+            .clients
+            .body(entry.sender, entry.slot)
+            .asked_len();
+        RequestHeader {
+            client_id: UniqueClientId(details.client),
+            request_id: details.request_id,
+            number_of_elements: asked_len as u64,
+            node_id: self.parts.node_id,
         }
     }
 
@@ -44,12 +46,18 @@ impl<QB: Body, QH: Default + Drop, PB: Body, PH: Default + Drop, K: Backpressure
         requires { IsSome (option_and_then response_in (handle_at self.now id.now)) }
         ensures { IsSomeAnd (option_and_then response_in (handle_at self.now id.now)) (λ m. result ≡ response_header self.now m) }
     {
-        let place = id.place();
-        if self.parts.is_place_of(id.number(), place) {
-            response_header_at(&self.parts, id.number(), place)
-        } else {
-            let place = self.parts.place_of(id.number());
-            response_header_at(&self.parts, id.number(), place)
+        let entry = self.parts.look_up(id.number(), id.place());
+        let details = self.parts.servers.details(entry.sender, entry.slot);
+        let asked_len = self
+            .parts
+            .servers
+            .body(entry.sender, entry.slot)
+            .asked_len();
+        ResponseHeader {
+            server_id: UniqueServerId(details.server),
+            request_id: details.request_id,
+            number_of_elements: asked_len as u64,
+            node_id: self.parts.node_id,
         }
     }
 
@@ -60,13 +68,8 @@ impl<QB: Body, QH: Default + Drop, PB: Body, PH: Default + Drop, K: Backpressure
         requires { IsSome (option_and_then request_in (handle_at self.now id.now)) }
         ensures { IsSomeAnd (option_and_then request_in (handle_at self.now id.now)) (λ m. result.now ≡ m.content.user_header) }
     {
-        let place = id.place();
-        if self.parts.is_place_of(id.number(), place) {
-            request_user_header_at(&self.parts, id.number(), place)
-        } else {
-            let place = self.parts.place_of(id.number());
-            request_user_header_at(&self.parts, id.number(), place)
-        }
+        let entry = self.parts.look_up(id.number(), id.place());
+        self.parts.clients.user_header(entry.sender, entry.slot)
     }
 
     /// Returns the user header of a handle's response. One look. After iceoryx2's `user_header` of `ResponseMut` and
@@ -76,13 +79,8 @@ impl<QB: Body, QH: Default + Drop, PB: Body, PH: Default + Drop, K: Backpressure
         requires { IsSome (option_and_then response_in (handle_at self.now id.now)) }
         ensures { IsSomeAnd (option_and_then response_in (handle_at self.now id.now)) (λ m. result.now ≡ m.content.user_header) }
     {
-        let place = id.place();
-        if self.parts.is_place_of(id.number(), place) {
-            response_user_header_at(&self.parts, id.number(), place)
-        } else {
-            let place = self.parts.place_of(id.number());
-            response_user_header_at(&self.parts, id.number(), place)
-        }
+        let entry = self.parts.look_up(id.number(), id.place());
+        self.parts.servers.user_header(entry.sender, entry.slot)
     }
 
     /// Returns the client that sent an active request's request. One look. After iceoryx2's `ActiveRequest::origin`.
@@ -91,13 +89,8 @@ impl<QB: Body, QH: Default + Drop, PB: Body, PH: Default + Drop, K: Backpressure
         requires { kind_at self.now id.now ≡ Some Kind.ActiveRequest }
         ensures { IsSomeAnd (active_at self.now id.now) (λ active. result.0 ≡ active.message.client) }
     {
-        let place = id.place();
-        if self.parts.is_place_of(id.number(), place) {
-            request_origin_at(&self.parts, id.number(), place)
-        } else {
-            let place = self.parts.place_of(id.number());
-            request_origin_at(&self.parts, id.number(), place)
-        }
+        let entry = self.parts.look_up(id.number(), id.place());
+        UniqueClientId(self.parts.clients.details(entry.sender, entry.slot).client)
     }
 
     /// Returns the server that sent a received response. One look. After iceoryx2's `Response::origin`.
@@ -106,12 +99,7 @@ impl<QB: Body, QH: Default + Drop, PB: Body, PH: Default + Drop, K: Backpressure
         requires { kind_at self.now id.now ≡ Some Kind.Response }
         ensures { IsSomeAnd (option_and_then response_in (handle_at self.now id.now)) (λ m. result.0 ≡ m.server) }
     {
-        let place = id.place();
-        if self.parts.is_place_of(id.number(), place) {
-            response_origin_at(&self.parts, id.number(), place)
-        } else {
-            let place = self.parts.place_of(id.number());
-            response_origin_at(&self.parts, id.number(), place)
-        }
+        let entry = self.parts.look_up(id.number(), id.place());
+        UniqueServerId(self.parts.servers.details(entry.sender, entry.slot).server)
     }
 }

@@ -1,8 +1,11 @@
 //! A hub's core: all ports, handles and messages of a service, each call a step of the message machine.
 #![tactic(auto)]
 
+mod connected;
 mod create;
 mod header;
+mod hint;
+mod kinds;
 mod lend;
 mod loan;
 mod making;

@@ -21,7 +21,7 @@ impl<QB: Body, QH: Default + Drop, PB: Body, PH: Default + Drop, K: Backpressure
     K,
 > {
     /// Loans a request of `len` elements, a length that the body's family takes, from a client whose value lives. It has the
-    /// next number, of which one is left, any free channel and a default user header. After iceoryx2's `Client::loan_uninit`.
+    /// next number, of which one remains, any free channel and a default user header. After iceoryx2's `Client::loan_uninit`.
     ///
     /// # Errors
     ///
@@ -43,7 +43,7 @@ impl<QB: Body, QH: Default + Drop, PB: Body, PH: Default + Drop, K: Backpressure
     }
 
     /// Loans a response of `len` elements, a length that the body's family takes, from an active request. It has the next
-    /// number, of which one is left, a default user header, and the request's channel. After iceoryx2's
+    /// number, of which one remains, a default user header, and the request's channel. After iceoryx2's
     /// `ActiveRequest::loan_uninit`.
     ///
     /// # Errors

@@ -40,7 +40,7 @@ impl<QB: Body, QH: Default + Drop, PB: Body, PH: Default + Drop, K: Backpressure
         NUMBERS - self.parts.next
     }
 
-    /// Returns the number that is given next, if one is left. It names nothing yet. Our own.
+    /// Returns the number that is given next, if one remains. It names nothing yet. Our own.
     pub fn next_number(&self) -> u64
         ensures number { result ≡ self.now.next }
         ensures free { kind_at self.now result ≡ None }

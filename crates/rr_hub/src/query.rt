@@ -3,16 +3,13 @@ ghost use Rattle.std.specs.Prelude.{◌≡◌, false, nat_lt, length, None, Some
 ghost use Rattle.rr_laws.specs.Complete.{HasComplete};
 ghost use Rattle.rr_protocol.specs.Counts.{is_alive};
 ghost use Rattle.rr_protocol.specs.Messages.{request_in, response_in};
-ghost use Rattle.rr_protocol.specs.Queries.{has_disconnect_hint, kind_at};
+ghost use Rattle.rr_protocol.specs.Queries.{kind_at};
 ghost use Rattle.rr_protocol.specs.State.{handle_at, pending_at, active_at, is_client_value, is_server_value};
 
+use crate::connected::is_answerable;
+use crate::kinds::{kind_of, port_kind_of};
 use crate::state::Core;
 use rr_protocol::{BackpressureFn, Kind};
-use rr_querying::{
-    has_disconnect_hint_at, is_active_connected_at, is_pending_connected_at, kind_of,
-    number_of_server_connections_at, port_kind_of, request_body_at, request_number_at,
-    response_body_at,
-};
 use rr_slots::Body;
 use rr_store::HandleId;
 
@@ -24,8 +21,8 @@ impl<QB: Body, QH: Default + Drop, PB: Body, PH: Default + Drop, K: Backpressure
     K,
 > {
     /// Returns what a number names: a client or a server whose value lives, or a handle. Returns `None` if it names nothing.
-    /// Finds a handle where its id says, and a port among about ten of 1,000; walks over the table at last, where the id is wrong or
-    /// the number names nothing. Our own.
+    /// Finds a handle where its id says, and a port in O(log ports); walks over the table at last, where the id is wrong or the
+    /// number names nothing. Our own.
     #[inline(always)]
     pub fn kind(&self, id: &HandleId) -> Option<Kind>
         ensures { result ≡ kind_at self.now id.now }
@@ -34,7 +31,7 @@ impl<QB: Body, QH: Default + Drop, PB: Body, PH: Default + Drop, K: Backpressure
     }
 
     /// Returns which port a number names: a client or a server whose value lives. Returns `None` if it names none, also if it
-    /// names a handle. Looks at about ten of 1,000 ports, and never walks over the table. Our own.
+    /// names a handle. Takes O(log ports), and never walks over the table. Our own.
     #[inline(always)]
     pub fn port_kind(&self, number: u64) -> Option<Kind>
         ensures { result ≡ (if is_client_value self.now number then Some Kind.Client else if is_server_value self.now number then Some Kind.Server else None) }
@@ -53,13 +50,8 @@ impl<QB: Body, QH: Default + Drop, PB: Body, PH: Default + Drop, K: Backpressure
         // The payload of every handle but a `RequestMutUninit` is complete.
         ensures complete { IsSomeAnd (handle_at self.now id.now) HasComplete }
     {
-        let place = id.place();
-        if self.parts.is_place_of(id.number(), place) {
-            request_body_at(&self.parts, id.number(), place)
-        } else {
-            let place = self.parts.place_of(id.number());
-            request_body_at(&self.parts, id.number(), place)
-        }
+        let entry = self.parts.look_up(id.number(), id.place());
+        self.parts.clients.body(entry.sender, entry.slot)
     }
 
     /// Returns the body of a handle's response, as far as it was written. After iceoryx2's `payload` of `ResponseMut` and
@@ -73,13 +65,8 @@ impl<QB: Body, QH: Default + Drop, PB: Body, PH: Default + Drop, K: Backpressure
         // The payload of every handle but a `ResponseMutUninit` is complete.
         ensures complete { IsSomeAnd (handle_at self.now id.now) HasComplete }
     {
-        let place = id.place();
-        if self.parts.is_place_of(id.number(), place) {
-            response_body_at(&self.parts, id.number(), place)
-        } else {
-            let place = self.parts.place_of(id.number());
-            response_body_at(&self.parts, id.number(), place)
-        }
+        let entry = self.parts.look_up(id.number(), id.place());
+        self.parts.servers.body(entry.sender, entry.slot)
     }
 
     /// Returns whether a connected server may still answer a pending response's request. Looks once at each connected server.
@@ -89,13 +76,8 @@ impl<QB: Body, QH: Default + Drop, PB: Body, PH: Default + Drop, K: Backpressure
         requires { kind_at self.now id.now ≡ Some Kind.PendingResponse }
         ensures { IsSomeAnd (pending_at self.now id.now) (λ pending. result ≡ nat_lt 0 (length pending.servers)) }
     {
-        let place = id.place();
-        if self.parts.is_place_of(id.number(), place) {
-            is_pending_connected_at(&self.parts, id.number(), place)
-        } else {
-            let place = self.parts.place_of(id.number());
-            is_pending_connected_at(&self.parts, id.number(), place)
-        }
+        let entry = self.parts.look_up(id.number(), id.place());
+        is_answerable(&self.parts, entry.sender, entry.slot)
     }
 
     /// Returns whether the pending response of an active request's request lives. Looks at the one place where that handle can
@@ -105,12 +87,12 @@ impl<QB: Body, QH: Default + Drop, PB: Body, PH: Default + Drop, K: Backpressure
         requires { kind_at self.now id.now ≡ Some Kind.ActiveRequest }
         ensures { IsSomeAnd (active_at self.now id.now) (λ active. result ≡ is_alive self.now active.message.number) }
     {
-        let place = id.place();
-        if self.parts.is_place_of(id.number(), place) {
-            is_active_connected_at(&self.parts, id.number(), place)
-        } else {
-            let place = self.parts.place_of(id.number());
-            is_active_connected_at(&self.parts, id.number(), place)
+        let entry = self.parts.look_up(id.number(), id.place());
+        let details = self.parts.clients.details(entry.sender, entry.slot);
+        let own = self.parts.clients.own_place(entry.sender, entry.slot);
+        match self.parts.table.get_at(details.number, own) {
+            Some(request) => request.stage.is_pending(),
+            None => false,
         }
     }
 
@@ -121,44 +103,7 @@ impl<QB: Body, QH: Default + Drop, PB: Body, PH: Default + Drop, K: Backpressure
         requires { IsSome (active_at self.now id.now) }
         ensures { IsSomeAnd (active_at self.now id.now) (λ active. result ≡ active.message.number) }
     {
-        let place = id.place();
-        if self.parts.is_place_of(id.number(), place) {
-            request_number_at(&self.parts, id.number(), place)
-        } else {
-            let place = self.parts.place_of(id.number());
-            request_number_at(&self.parts, id.number(), place)
-        }
-    }
-
-    /// Returns how many queues took a pending response's request as it was sent. One look. After iceoryx2's
-    /// `PendingResponse::number_of_server_connections`.
-    #[inline(always)]
-    pub fn number_of_server_connections(&self, id: &HandleId) -> usize
-        requires { kind_at self.now id.now ≡ Some Kind.PendingResponse }
-        ensures { IsSomeAnd (pending_at self.now id.now) (λ pending. result ≡ pending.connections) }
-    {
-        let place = id.place();
-        if self.parts.is_place_of(id.number(), place) {
-            number_of_server_connections_at(&self.parts, id.number(), place)
-        } else {
-            let place = self.parts.place_of(id.number());
-            number_of_server_connections_at(&self.parts, id.number(), place)
-        }
-    }
-
-    /// Returns whether the pending response of an active request's request lives and has its hint set. Looks at the one place
-    /// where that handle can stand. After iceoryx2's `ActiveRequest::has_disconnect_hint`.
-    #[inline(always)]
-    pub fn has_disconnect_hint(&self, id: &HandleId) -> bool
-        requires { kind_at self.now id.now ≡ Some Kind.ActiveRequest }
-        ensures { IsSomeAnd (active_at self.now id.now) (λ active. result ≡ has_disconnect_hint self.now active.message.number) }
-    {
-        let place = id.place();
-        if self.parts.is_place_of(id.number(), place) {
-            has_disconnect_hint_at(&self.parts, id.number(), place)
-        } else {
-            let place = self.parts.place_of(id.number());
-            has_disconnect_hint_at(&self.parts, id.number(), place)
-        }
+        let entry = self.parts.look_up(id.number(), id.place());
+        self.parts.clients.details(entry.sender, entry.slot).number
     }
 }

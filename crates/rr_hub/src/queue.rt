@@ -6,9 +6,7 @@ ghost use Rattle.rr_protocol.specs.State.{handle_at, pending_at, request_at, res
 
 use crate::state::Core;
 use rr_protocol::{BackpressureFn, Kind};
-use rr_querying::{
-    has_requests, has_response_at, is_request_deliverable_at, is_response_deliverable_at,
-};
+use rr_sending::{takes_request, takes_response};
 use rr_slots::Body;
 use rr_store::HandleId;
 
@@ -19,8 +17,8 @@ impl<QB: Body, QH: Default + Drop, PB: Body, PH: Default + Drop, K: Backpressure
     PH,
     K,
 > {
-    /// Returns whether a request waits for a server whose value lives, also one that nobody waits for. Looks at about ten of
-    /// 1,000 servers, and at most once at each client's sender, also those of clients that left. After iceoryx2's
+    /// Returns whether a request waits for a server whose value lives, also one that nobody waits for. Takes
+    /// O(log servers), and a look at most at each client's sender, also those of clients that left. After iceoryx2's
     /// `Server::has_requests`.
     #[inline(always)]
     pub fn has_requests(&self, server: u64) -> bool
@@ -30,7 +28,9 @@ impl<QB: Body, QH: Default + Drop, PB: Body, PH: Default + Drop, K: Backpressure
         // A server's number is no handle's.
         ensures apart { handle_at self.now server ≡ None }
     {
-        has_requests(&self.parts, server)
+        let index = self.parts.servers.index_of(server);
+        let receiver = self.parts.servers.receiver_of_port(index);
+        self.parts.clients.is_waiting(receiver, 0)
     }
 
     /// Returns whether a response waits for a pending response. Looks at most once at each server's sender, also those of servers
@@ -40,13 +40,9 @@ impl<QB: Body, QH: Default + Drop, PB: Body, PH: Default + Drop, K: Backpressure
         requires { kind_at self.now id.now ≡ Some Kind.PendingResponse }
         ensures { IsSomeAnd (pending_at self.now id.now) (λ pending. IsTrue result ↔ HasResponse self.now pending) }
     {
-        let place = id.place();
-        if self.parts.is_place_of(id.number(), place) {
-            has_response_at(&self.parts, id.number(), place)
-        } else {
-            let place = self.parts.place_of(id.number());
-            has_response_at(&self.parts, id.number(), place)
-        }
+        let entry = self.parts.look_up(id.number(), id.place());
+        let receiver = self.parts.clients.receiver_of(entry.sender);
+        self.parts.servers.is_waiting(receiver, entry.slot)
     }
 
     /// Returns whether each queue that a request would reach takes it: none is full, or full ones may overflow. Looks at most once
@@ -56,13 +52,8 @@ impl<QB: Body, QH: Default + Drop, PB: Body, PH: Default + Drop, K: Backpressure
         requires { kind_at self.now id.now ≡ Some Kind.RequestMut }
         ensures { IsSomeAnd (request_at self.now id.now) (λ m. result ≡ is_request_deliverable self.now m) }
     {
-        let place = id.place();
-        if self.parts.is_place_of(id.number(), place) {
-            is_request_deliverable_at(&self.parts, id.number(), place)
-        } else {
-            let place = self.parts.place_of(id.number());
-            is_request_deliverable_at(&self.parts, id.number(), place)
-        }
+        let entry = self.parts.look_up(id.number(), id.place());
+        takes_request(&self.parts, entry.sender)
     }
 
     /// Returns whether the queue that a response would reach takes it, if it would reach one: it is not full, or may overflow.
@@ -72,12 +63,12 @@ impl<QB: Body, QH: Default + Drop, PB: Body, PH: Default + Drop, K: Backpressure
         requires { kind_at self.now id.now ≡ Some Kind.ResponseMut }
         ensures { IsSomeAnd (response_at self.now id.now) (λ m. result ≡ is_response_deliverable self.now m) }
     {
-        let place = id.place();
-        if self.parts.is_place_of(id.number(), place) {
-            is_response_deliverable_at(&self.parts, id.number(), place)
-        } else {
-            let place = self.parts.place_of(id.number());
-            is_response_deliverable_at(&self.parts, id.number(), place)
-        }
+        let entry = self.parts.look_up(id.number(), id.place());
+        let details = self.parts.servers.details(entry.sender, entry.slot);
+        let reach = self
+            .parts
+            .clients
+            .reached_receiver(&self.parts.table, details);
+        takes_response(&self.parts, entry.sender, details.channel, reach)
     }
 }

@@ -40,11 +40,11 @@ impl<QB: Body, QH: Default + Drop, PB: Body, PH: Default + Drop, K: Backpressure
         }
     }
 
-    /// Receives the oldest request of some client for a server whose value lives. It has the next number, of which one is left.
+    /// Receives the oldest request of some client for a server whose value lives. It has the next number, of which one remains.
     /// Drops requests whose pending responses were released on the way, where they are the oldest of their clients, unless the
-    /// limits have fire-and-forget requests. Returns `None` if no request is queued then. Looks at about ten of 1,000 servers, at
-    /// most once at the sender of each client, of those that left as well until a creation takes it, and once at each request that
-    /// it drops or finds in front. Takes no memory. After iceoryx2's `Server::receive`.
+    /// limits have fire-and-forget requests. Returns `None` if no request is queued then. Takes O(log servers), a look
+    /// at most at the sender of each client, also of one that left until a creation takes it, and one at each request that it
+    /// drops or finds in front. Takes no memory. After iceoryx2's `Server::receive`.
     ///
     /// # Errors
     ///

@@ -48,9 +48,9 @@ impl<QB: Body, QH: Default + Drop, PB: Body, PH: Default + Drop, K: Backpressure
     ///
     /// A request or response on loan is never sent then. With a pending response go the responses on its channel that were not
     /// received, and nobody waits for the request any more. An active request's server will not answer it any more, but for
-    /// responses that are on loan from it already. It looks for the active request of a response on loan in one place, for the
-    /// server of an active request among about ten of 1,000, with a pending response at the sender of each server, of those that
-    /// left as well until a creation takes it, and takes no memory. After the drops of iceoryx2's handles.
+    /// responses that are on loan from it already. Looks in one place for the active request of a response on loan, takes
+    /// O(log servers) for an active request, and for a pending response a look at the sender of each server, also of one that left
+    /// until a creation takes it. Takes no memory. After the drops of iceoryx2's handles.
     #[inline(always)]
     pub fn release(&mut self, id: &HandleId)
         requires { IsSome (handle_at self.old id.now) }

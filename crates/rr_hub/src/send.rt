@@ -18,8 +18,8 @@ impl<QB: Body, QH: Default + Drop, PB: Body, PH: Default + Drop, K: Backpressure
     K,
 > {
     /// Sends a request to every connected server, and returns how many queues took it. The request is a pending response from
-    /// then on, and keeps its number. Looks a few times at each connected server, and where a queue is full and may not overflow
-    /// at about ten of 1,000 clients. Takes no memory. After iceoryx2's `RequestMut::send`.
+    /// then on, and keeps its number. Takes O(servers), and O(log clients) where a queue is full and may not overflow.
+    /// Takes no memory. After iceoryx2's `RequestMut::send`.
     ///
     /// # Errors
     ///
@@ -41,8 +41,8 @@ impl<QB: Body, QH: Default + Drop, PB: Body, PH: Default + Drop, K: Backpressure
     }
 
     /// Sends a response to its request, if that is still a pending response of a connected client, and releases the handle.
-    /// Else releases the response alone. Looks for the request and for the active request in one place each, at one queue, and
-    /// where that is full and may not overflow at about ten of 1,000 servers. Takes no memory. After iceoryx2's
+    /// Else releases the response alone. Looks for the request and for the active request in one place each, and at one queue;
+    /// takes O(log servers) where that is full and may not overflow. Takes no memory. After iceoryx2's
     /// `ResponseMut::send`.
     ///
     /// # Errors

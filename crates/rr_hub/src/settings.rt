@@ -6,10 +6,6 @@ ghost use Rattle.rr_protocol.specs.State.{client_at, server_at};
 
 use crate::state::Core;
 use rr_protocol::{BackpressureFn, BackpressureStrategy, Kind, Limits, UniqueNodeId};
-use rr_querying::{
-    client_backpressure_strategy, client_initial_max_slice_len, server_backpressure_strategy,
-    server_initial_max_slice_len,
-};
 use rr_slots::Body;
 
 impl<QB: Body, QH: Default + Drop, PB: Body, PH: Default + Drop, K: BackpressureFn> Core<
@@ -38,27 +34,29 @@ impl<QB: Body, QH: Default + Drop, PB: Body, PH: Default + Drop, K: Backpressure
         self.parts.node_id
     }
 
-    /// Returns the backpressure strategy of a client whose value lives. Looks at about ten of 1,000. After iceoryx2's
+    /// Returns the backpressure strategy of a client whose value lives, in O(log clients). After iceoryx2's
     /// `Client::backpressure_strategy`.
     #[inline(always)]
     pub fn client_backpressure_strategy(&self, client: u64) -> BackpressureStrategy
         requires { kind_at self.now client ≡ Some Kind.Client }
         ensures { IsSomeAnd (client_at self.now client) (λ c. result ≡ c.port.strategy) }
     {
-        client_backpressure_strategy(&self.parts, client)
+        let index = self.parts.clients.index_of(client);
+        self.parts.clients.port(index).port.strategy
     }
 
-    /// Returns for how many elements each slot of a client whose value lives has room from the start. Looks at about ten of 1,000.
+    /// Returns for how many elements each slot of a client whose value lives has room from the start, in O(log clients).
     /// After iceoryx2's `Client::initial_max_slice_len`.
     #[inline(always)]
     pub fn client_initial_max_slice_len(&self, client: u64) -> usize
         requires { kind_at self.now client ≡ Some Kind.Client }
         ensures { IsSomeAnd (client_at self.now client) (λ c. result ≡ c.port.initial_max_slice_len) }
     {
-        client_initial_max_slice_len(&self.parts, client)
+        let index = self.parts.clients.index_of(client);
+        self.parts.clients.port(index).port.initial_max_slice_len
     }
 
-    /// Returns the backpressure strategy of a server whose value lives. Looks at about ten of 1,000. After iceoryx2's
+    /// Returns the backpressure strategy of a server whose value lives, in O(log servers). After iceoryx2's
     /// `Server::backpressure_strategy`.
     #[inline(always)]
     pub fn server_backpressure_strategy(&self, server: u64) -> BackpressureStrategy
@@ -68,10 +66,11 @@ impl<QB: Body, QH: Default + Drop, PB: Body, PH: Default + Drop, K: Backpressure
         // A server's number is no client's.
         ensures apart { client_at self.now server ≡ None }
     {
-        server_backpressure_strategy(&self.parts, server)
+        let index = self.parts.servers.index_of(server);
+        self.parts.servers.port(index).port.strategy
     }
 
-    /// Returns for how many elements each slot of a server whose value lives has room from the start. Looks at about ten of 1,000.
+    /// Returns for how many elements each slot of a server whose value lives has room from the start, in O(log servers).
     /// After iceoryx2's `Server::initial_max_slice_len`.
     #[inline(always)]
     pub fn server_initial_max_slice_len(&self, server: u64) -> usize
@@ -81,6 +80,7 @@ impl<QB: Body, QH: Default + Drop, PB: Body, PH: Default + Drop, K: Backpressure
         // A server's number is no client's.
         ensures apart { client_at self.now server ≡ None }
     {
-        server_initial_max_slice_len(&self.parts, server)
+        let index = self.parts.servers.index_of(server);
+        self.parts.servers.port(index).port.initial_max_slice_len
     }
 }

@@ -1,21 +1,19 @@
-//! Writing what a loaned message says, before it is sent, and the hint of one that was sent.
-ghost use Rattle.std.specs.Prelude.{◌≡◌, ◌⊎◌, [], ◌∷◌, not, true, length, nat_lt, Some, IsSomeAnd, if◌then◌else◌, option_and_then};
-ghost use Rattle.rr_protocol.specs.Messages.{request_in, response_in, with_hint};
+//! A message that can be sent once it is written, and the hint of a pending response.
+ghost use Rattle.std.specs.Prelude.{◌≡◌, ◌⊎◌, not, true, Some, IsSomeAnd};
+ghost use Rattle.rr_protocol.specs.Messages.{with_hint};
 ghost use Rattle.rr_protocol.specs.Queries.{kind_at};
 ghost use Rattle.rr_protocol.specs.State.{handle_at, with_changed};
-ghost use Rattle.rr_protocol.specs.Writing.{is_complete, with_element, with_element_at, with_elements, filled, with_request_content, with_response_content, with_user_header, after_init};
+ghost use Rattle.rr_protocol.specs.Writing.{after_init};
 ghost use Rattle.rr_store.specs.Writing.{is_ready};
 
 use crate::state::Core;
 use rr_protocol::{BackpressureFn, Kind};
-use rr_slots::{Body, FillBody};
+use rr_slots::Body;
 use rr_store::HandleId;
-use rr_writing::{
-    assume_init_at, fill_request_at, fill_response_at, push_request_at, push_response_at,
-    set_disconnect_hint_at, write_request_at, write_request_element_at,
-    write_request_user_header_at, write_response_at, write_response_element_at,
-    write_response_user_header_at,
-};
+use rr_writing::{assume_init_at, set_disconnect_hint_at};
+
+mod request;
+mod response;
 
 impl<QB: Body, QH: Default + Drop, PB: Body, PH: Default + Drop, K: BackpressureFn> Core<
     QB,
@@ -24,42 +22,6 @@ impl<QB: Body, QH: Default + Drop, PB: Body, PH: Default + Drop, K: Backpressure
     PH,
     K,
 > {
-    /// Appends an element to a request that is being written, and returns `true`. Returns `false` if the body is complete; the
-    /// element is dropped then, and the hub stays as it was.
-    ///
-    /// Our own: it stands for writes through the `MaybeUninit` that iceoryx2's `RequestMutUninit::payload_mut` lends.
-    #[inline(always)]
-    pub fn push_request(&mut self, id: &HandleId, item: QB::Item) -> bool
-        requires { kind_at self.old id.now ≡ Some Kind.RequestMutUninit }
-        ensures { IsSomeAnd (option_and_then request_in (handle_at self.old id.now)) (λ m. (result ≡ not (is_complete m.content)) × (self.new ≡ (if result then with_changed self.old id.now (with_request_content (with_element item)) else self.old))) }
-    {
-        let place = id.place();
-        if self.parts.is_place_of(id.number(), place) {
-            push_request_at(&mut self.parts, id.number(), place, item)
-        } else {
-            let place = self.parts.place_of(id.number());
-            push_request_at(&mut self.parts, id.number(), place, item)
-        }
-    }
-
-    /// Appends an element to a response that is being written, and returns `true`. Returns `false` if the body is complete; the
-    /// element is dropped then, and the hub stays as it was.
-    ///
-    /// Our own: it stands for writes through the `MaybeUninit` that iceoryx2's `ResponseMutUninit::payload_mut` lends.
-    #[inline(always)]
-    pub fn push_response(&mut self, id: &HandleId, item: PB::Item) -> bool
-        requires { kind_at self.old id.now ≡ Some Kind.ResponseMutUninit }
-        ensures { IsSomeAnd (option_and_then response_in (handle_at self.old id.now)) (λ m. (result ≡ not (is_complete m.content)) × (self.new ≡ (if result then with_changed self.old id.now (with_response_content (with_element item)) else self.old))) }
-    {
-        let place = id.place();
-        if self.parts.is_place_of(id.number(), place) {
-            push_response_at(&mut self.parts, id.number(), place, item)
-        } else {
-            let place = self.parts.place_of(id.number());
-            push_response_at(&mut self.parts, id.number(), place, item)
-        }
-    }
-
     /// Makes a message that is being written, and complete, one that can be sent.
     ///
     /// After iceoryx2's `RequestMutUninit::assume_init` and `ResponseMutUninit::assume_init`.
@@ -78,44 +40,6 @@ impl<QB: Body, QH: Default + Drop, PB: Body, PH: Default + Drop, K: Backpressure
         }
     }
 
-    /// Makes an element the only one of a request of one element that is being written, and the request one that can be sent. An
-    /// element that was written before is dropped.
-    ///
-    /// After iceoryx2's `RequestMutUninit::write_payload`.
-    #[inline(always)]
-    pub fn write_request(&mut self, id: &HandleId, element: QB::Item)
-        requires uninit { kind_at self.old id.now ≡ Some Kind.RequestMutUninit }
-        requires asked { IsSomeAnd (option_and_then request_in (handle_at self.old id.now)) (λ m. m.content.asked_len ≡ 1) }
-        ensures { self.new ≡ with_changed (with_changed self.old id.now (with_request_content (with_elements (element ∷ [])))) id.now after_init }
-    {
-        let place = id.place();
-        if self.parts.is_place_of(id.number(), place) {
-            write_request_at(&mut self.parts, id.number(), place, element);
-        } else {
-            let place = self.parts.place_of(id.number());
-            write_request_at(&mut self.parts, id.number(), place, element);
-        }
-    }
-
-    /// Makes an element the only one of a response of one element that is being written, and the response one that can be sent. An
-    /// element that was written before is dropped.
-    ///
-    /// After iceoryx2's `ResponseMutUninit::write_payload`.
-    #[inline(always)]
-    pub fn write_response(&mut self, id: &HandleId, element: PB::Item)
-        requires uninit { kind_at self.old id.now ≡ Some Kind.ResponseMutUninit }
-        requires asked { IsSomeAnd (option_and_then response_in (handle_at self.old id.now)) (λ m. m.content.asked_len ≡ 1) }
-        ensures { self.new ≡ with_changed (with_changed self.old id.now (with_response_content (with_elements (element ∷ [])))) id.now after_init }
-    {
-        let place = id.place();
-        if self.parts.is_place_of(id.number(), place) {
-            write_response_at(&mut self.parts, id.number(), place, element);
-        } else {
-            let place = self.parts.place_of(id.number());
-            write_response_at(&mut self.parts, id.number(), place, element);
-        }
-    }
-
     /// Sets the hint of a pending response that its client wants no more responses. Whether a hint was set before is not told.
     ///
     /// After iceoryx2's `PendingResponse::set_disconnect_hint`.
@@ -130,130 +54,6 @@ impl<QB: Body, QH: Default + Drop, PB: Body, PH: Default + Drop, K: Backpressure
         } else {
             let place = self.parts.place_of(id.number());
             set_disconnect_hint_at(&mut self.parts, id.number(), place);
-        }
-    }
-
-    /// Replaces the element at an index of a request that was not sent, and returns `true`. Returns `false` if no element stands
-    /// there; the element is dropped then, and the hub stays as it was.
-    ///
-    /// Our own: it stands for writes through what iceoryx2's `RequestMut::payload_mut` lends.
-    #[inline(always)]
-    pub fn write_request_element(&mut self, id: &HandleId, index: usize, element: QB::Item) -> bool
-        requires { (kind_at self.old id.now ≡ Some Kind.RequestMutUninit) ⊎ (kind_at self.old id.now ≡ Some Kind.RequestMut) }
-        ensures { IsSomeAnd (option_and_then request_in (handle_at self.old id.now)) (λ m. (result ≡ nat_lt index (length m.content.elements)) × (self.new ≡ (if result then with_changed self.old id.now (with_request_content (with_element_at index element)) else self.old))) }
-    {
-        let place = id.place();
-        if self.parts.is_place_of(id.number(), place) {
-            write_request_element_at(&mut self.parts, id.number(), place, index, element)
-        } else {
-            let place = self.parts.place_of(id.number());
-            write_request_element_at(&mut self.parts, id.number(), place, index, element)
-        }
-    }
-
-    /// Replaces the user header of a request that was not sent. The old one is dropped.
-    ///
-    /// Our own: it stands for writes through what iceoryx2's `RequestMut::user_header_mut` lends.
-    #[inline(always)]
-    pub fn write_request_user_header(&mut self, id: &HandleId, header: QH)
-        requires { (kind_at self.old id.now ≡ Some Kind.RequestMutUninit) ⊎ (kind_at self.old id.now ≡ Some Kind.RequestMut) }
-        ensures { self.new ≡ with_changed self.old id.now (with_request_content (with_user_header header)) }
-    {
-        let place = id.place();
-        if self.parts.is_place_of(id.number(), place) {
-            write_request_user_header_at(&mut self.parts, id.number(), place, header);
-        } else {
-            let place = self.parts.place_of(id.number());
-            write_request_user_header_at(&mut self.parts, id.number(), place, header);
-        }
-    }
-
-    /// Replaces the element at an index of a response that was not sent, and returns `true`. Returns `false` if no element stands
-    /// there; the element is dropped then, and the hub stays as it was.
-    ///
-    /// Our own: it stands for writes through what iceoryx2's `ResponseMut::payload_mut` lends.
-    #[inline(always)]
-    pub fn write_response_element(&mut self, id: &HandleId, index: usize, element: PB::Item) -> bool
-        requires { (kind_at self.old id.now ≡ Some Kind.ResponseMutUninit) ⊎ (kind_at self.old id.now ≡ Some Kind.ResponseMut) }
-        ensures { IsSomeAnd (option_and_then response_in (handle_at self.old id.now)) (λ m. (result ≡ nat_lt index (length m.content.elements)) × (self.new ≡ (if result then with_changed self.old id.now (with_response_content (with_element_at index element)) else self.old))) }
-    {
-        let place = id.place();
-        if self.parts.is_place_of(id.number(), place) {
-            write_response_element_at(&mut self.parts, id.number(), place, index, element)
-        } else {
-            let place = self.parts.place_of(id.number());
-            write_response_element_at(&mut self.parts, id.number(), place, index, element)
-        }
-    }
-
-    /// Replaces the user header of a response that was not sent. The old one is dropped.
-    ///
-    /// Our own: it stands for writes through what iceoryx2's `ResponseMut::user_header_mut` lends.
-    #[inline(always)]
-    pub fn write_response_user_header(&mut self, id: &HandleId, header: PH)
-        requires { (kind_at self.old id.now ≡ Some Kind.ResponseMutUninit) ⊎ (kind_at self.old id.now ≡ Some Kind.ResponseMut) }
-        ensures { self.new ≡ with_changed self.old id.now (with_response_content (with_user_header header)) }
-    {
-        let place = id.place();
-        if self.parts.is_place_of(id.number(), place) {
-            write_response_user_header_at(&mut self.parts, id.number(), place, header);
-        } else {
-            let place = self.parts.place_of(id.number());
-            write_response_user_header_at(&mut self.parts, id.number(), place, header);
-        }
-    }
-}
-
-impl<QB: FillBody, QH: Default + Drop, PB: Body, PH: Default + Drop, K: BackpressureFn> Core<
-    QB,
-    QH,
-    PB,
-    PH,
-    K,
-> {
-    /// Makes an element each of those that are asked for of a request that is being written, and the request one that can be sent.
-    /// Elements that were written before are dropped.
-    ///
-    /// After iceoryx2's `RequestMutUninit::write_from_fn` with a function that always returns this element; with a default element it is what
-    /// `loan_slice` does.
-    #[inline(always)]
-    pub fn fill_request(&mut self, id: &HandleId, element: QB::Item)
-        requires { kind_at self.old id.now ≡ Some Kind.RequestMutUninit }
-        ensures { self.new ≡ with_changed (with_changed self.old id.now (with_request_content (filled element))) id.now after_init }
-    {
-        let place = id.place();
-        if self.parts.is_place_of(id.number(), place) {
-            fill_request_at(&mut self.parts, id.number(), place, element);
-        } else {
-            let place = self.parts.place_of(id.number());
-            fill_request_at(&mut self.parts, id.number(), place, element);
-        }
-    }
-}
-
-impl<QB: Body, QH: Default + Drop, PB: FillBody, PH: Default + Drop, K: BackpressureFn> Core<
-    QB,
-    QH,
-    PB,
-    PH,
-    K,
-> {
-    /// Makes an element each of those that are asked for of a response that is being written, and the response one that can be sent.
-    /// Elements that were written before are dropped.
-    ///
-    /// After iceoryx2's `ResponseMutUninit::write_from_fn` with a function that always returns this element; with a default element it is what
-    /// `loan_slice` does.
-    #[inline(always)]
-    pub fn fill_response(&mut self, id: &HandleId, element: PB::Item)
-        requires { kind_at self.old id.now ≡ Some Kind.ResponseMutUninit }
-        ensures { self.new ≡ with_changed (with_changed self.old id.now (with_response_content (filled element))) id.now after_init }
-    {
-        let place = id.place();
-        if self.parts.is_place_of(id.number(), place) {
-            fill_response_at(&mut self.parts, id.number(), place, element);
-        } else {
-            let place = self.parts.place_of(id.number());
-            fill_response_at(&mut self.parts, id.number(), place, element);
         }
     }
 }

@@ -24,7 +24,7 @@ use Rattle.rr_laws.specs.Left.{IsLeftFit}
 use Rattle.rr_laws.specs.Following.{queued, WasReceived, Follows}
 use Rattle.rr_laws.specs.Settling.{listed}
 use Rattle.rr_laws.specs.Completing.{Completes}
-use Rattle.rr_maps.proofs.ListFacts.{any_found, any_weaker}
+use Rattle.rr_map_laws.proofs.ListFacts.{any_found, any_weaker}
 use Rattle.rr_laws.proofs.RoleLaws.{role_at}
 use Rattle.rr_laws.proofs.Opening.{some_and, from_pending}
 use Rattle.rr_laws.proofs.Counts.{and_first}

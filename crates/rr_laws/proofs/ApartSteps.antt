@@ -1,10 +1,10 @@
 -- Each step keeps requests and responses apart.
 use Rattle.std.proofs.Common.{◌≡◌, ℕ, Bool, true, false, cond, List, [], ◌∷◌, Option, Some, None, MatchOption, Result, Ok, Err, sym, ap, ◌∙◌, subst, ⊎_elim, eqb, option_and_then, arith}
 use Rattle.std.specs.Prelude.{count_by}
-use Rattle.rr_maps.proofs.MapLaws.{map_values-empty}
+use Rattle.rr_map_laws.proofs.MapLaws.{map_values-empty}
 use Rattle.rr_protocol.specs.Lists.{no_lists}
 use Rattle.rr_protocol.specs.Keys.{ResponseKey, response_key_cmp}
-use Rattle.rr_protocol.specs.Messages.{ResponseMessage}
+use Rattle.rr_protocol.specs.Messages.{ResponseMessage, Content, with_hint}
 use Rattle.rr_protocol.proofs.ListsLaws.{at-no_lists}
 use Rattle.std.specs.Ordering.{nat_cmp}
 use Rattle.std.specs.FinMap.{get-empty}
@@ -17,7 +17,6 @@ use Rattle.rr_protocol.specs.declared.error.ClientCreateError.{ClientCreateError
 use Rattle.rr_protocol.specs.declared.error.ServerCreateError.{ServerCreateError}
 use Rattle.rr_protocol.specs.declared.error.LoanError.{LoanError}
 use Rattle.rr_protocol.specs.Limits.{hub_refusal}
-use Rattle.rr_protocol.specs.Messages.{Content, with_hint}
 use Rattle.rr_protocol.specs.Writing.{with_element, with_element_at, with_elements, with_user_header, with_request_content, with_response_content, after_init}
 use Rattle.rr_protocol.specs.State.{State, empty_hub, handle_at}
 use Rattle.rr_protocol.specs.Creation.{CreatesClient, CreatesServer}

@@ -4,7 +4,7 @@ use Rattle.std.specs.Option.{option_map_or}
 use Rattle.std.specs.Ordering.{nat_cmp}
 use Rattle.std.specs.FinMap.{get, get-empty, insert, empty}
 use Rattle.std.proofs.lemmas.Bool.{eq-eqb}
-use Rattle.rr_maps.proofs.MapLaws.{get-insert_same}
+use Rattle.rr_map_laws.proofs.MapLaws.{get-insert_same}
 use Rattle.rr_slots.specs.declared.family.Family.{Family}
 use Rattle.rr_protocol.specs.declared.kind.Kind.{Kind}
 use Rattle.rr_protocol.specs.declared.limits.Limits.{Limits}

@@ -26,7 +26,7 @@ use Rattle.rr_commands.specs.Run.{Run}
 use Rattle.rr_laws.specs.Reached.{has_client, has_server, is_port, IsReached}
 use Rattle.rr_laws.specs.Left.{IsLeftFit}
 use Rattle.rr_laws.specs.Expired.{SendersFit, ExpiredFit}
-use Rattle.rr_maps.proofs.ListFacts.{or_true}
+use Rattle.rr_map_laws.proofs.ListFacts.{or_true}
 use Rattle.rr_laws.proofs.Opening.{some_and}
 use Rattle.rr_laws.proofs.Naming.{client_value_connected, server_value_connected}
 use Rattle.rr_laws.proofs.Creating.{empty_hub_reached}

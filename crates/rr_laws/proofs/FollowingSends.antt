@@ -11,7 +11,7 @@ use Rattle.rr_commands.specs.declared.reply.Reply.{Reply}
 use Rattle.rr_commands.specs.AnswerRule.{Event, IsSubsequence, is_answer, sent_for, received_from}
 use Rattle.rr_laws.specs.Roles.{Question, ReceivedRequest, LoanedResponse, Answer, roles_of}
 use Rattle.rr_laws.specs.Following.{queued, Moves, WasReceived, WasSent, Follows}
-use Rattle.rr_maps.proofs.ListFacts.{all_append, all_drop}
+use Rattle.rr_map_laws.proofs.ListFacts.{all_append, all_drop}
 use Rattle.rr_laws.proofs.Occurring.{subsequence_then, subsequence_of, subsequence_dropped}
 use Rattle.rr_laws.proofs.Growing.{EventFits, loaned_below, loaned_answers, loaned_answers_one, received_now, all_sent_later, answer-grown, sent_for-grown, received_from-grown}
 use Rattle.rr_laws.proofs.Coming.{said_of_another, IsSend, received_comes, responded_comes}

@@ -4,7 +4,7 @@ use Rattle.std.specs.List.{AllByRecursion}
 use Rattle.std.specs.Ordering.{nat_cmp}
 use Rattle.std.specs.FinMap.{get, get-empty}
 use Rattle.std.proofs.lemmas.List.{append-nil}
-use Rattle.rr_maps.proofs.MapLaws.{map_values-empty}
+use Rattle.rr_map_laws.proofs.MapLaws.{map_values-empty}
 use Rattle.rr_slots.specs.declared.family.Family.{Family}
 use Rattle.rr_protocol.specs.declared.limits.Limits.{Limits}
 use Rattle.rr_protocol.specs.declared.settings.BackpressureAction.{BackpressureAction}

@@ -13,7 +13,7 @@ use Rattle.rr_protocol.specs.State.{State}
 use Rattle.rr_protocol.specs.Releases.{has_responses_from, has_requests_from, kept_senders, room_for_expired_clients, with_expired_client, with_expired_server}
 use Rattle.rr_laws.specs.Reached.{has_server, PortsFit}
 use Rattle.rr_laws.specs.Left.{IsGone, LeftFit}
-use Rattle.rr_maps.proofs.ListFacts.{all_each, all_append, all_drop, find-append, find-gone}
+use Rattle.rr_map_laws.proofs.ListFacts.{all_each, all_append, all_drop, find-append, find-gone}
 use Rattle.rr_laws.proofs.Connected.{has_below, hasn't-append, has-same, not_both}
 use Rattle.rr_laws.proofs.Putting.{each_list_with}
 

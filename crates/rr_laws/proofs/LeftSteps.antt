@@ -24,7 +24,7 @@ use Rattle.rr_protocol.specs.Releases.{after_client_left, after_server_left, wit
 use Rattle.rr_laws.specs.Roles.{Role, LoanedRequest, SentRequest, ReceivedRequest, LoanedResponse, ReceivedResponse, role_of}
 use Rattle.rr_laws.specs.Reached.{has_client, has_port, IsReached}
 use Rattle.rr_laws.specs.Left.{IsGone, LeftFit, IsLeftFit}
-use Rattle.rr_maps.proofs.ListFacts.{all_each, all_filter}
+use Rattle.rr_map_laws.proofs.ListFacts.{all_each, all_filter}
 use Rattle.rr_laws.proofs.RoleLaws.{role_at}
 use Rattle.rr_laws.proofs.Opening.{some_and, open_request_mut, open_response_mut, open_active}
 use Rattle.rr_laws.proofs.Connected.{has_below, hadn't, port_number}

@@ -8,8 +8,8 @@ use Rattle.std.specs.List.{AllByRecursion}
 use Rattle.std.specs.Option.{option_map_or}
 use Rattle.std.specs.FinMap.{get, insert}
 use Rattle.std.proofs.lemmas.Bool.{cases_eq, eq-eqb, ne_eqb}
-use Rattle.rr_maps.specs.Maps.{mark}
-use Rattle.rr_maps.proofs.MapLaws.{get-insert_same, get-insert_other, get-insert_cases}
+use Rattle.rr_map_laws.specs.Maps.{mark}
+use Rattle.rr_map_laws.proofs.MapLaws.{get-insert_same, get-insert_other, get-insert_cases}
 use Rattle.rr_protocol.specs.declared.error.ReceiveError.{ReceiveError}
 use Rattle.rr_protocol.specs.Lists.{at, with_at}
 use Rattle.rr_protocol.specs.Keys.{ResponseKey, response_key_cmp}
@@ -27,8 +27,8 @@ use Rattle.rr_laws.specs.Following.{waiting_question, is_servers, channel_key, e
 use Rattle.rr_laws.specs.Settling.{Settles}
 use Rattle.rr_laws.proofs.RoleLaws.{role_at, roles-insert}
 use Rattle.rr_laws.proofs.Opening.{some_and, open_active, from_pending}
-use Rattle.rr_maps.proofs.Counting.{count-cons}
-use Rattle.rr_maps.proofs.MapFacts.{itself}
+use Rattle.rr_map_laws.proofs.Counting.{count-cons}
+use Rattle.rr_map_laws.proofs.MapFacts.{itself}
 use Rattle.rr_laws.proofs.Occurring.{false_is_true}
 use Rattle.rr_laws.proofs.Following.{GainsRequest, GainsLoan}
 use Rattle.rr_laws.proofs.Moving.{entries-waiting, entries-none, entries-same_role, none_for, moves_same, moves_with_role}

@@ -5,8 +5,8 @@ use Rattle.std.specs.List.{list_any}
 use Rattle.std.specs.FinMap.{get}
 use Rattle.std.proofs.lemmas.Bool.{eq-eqb, eqb-true}
 use Rattle.std.proofs.lemmas.List.Folds.{list_any-append}
-use Rattle.rr_maps.specs.Maps.{mark}
-use Rattle.rr_maps.proofs.MapLaws.{get-insert_same}
+use Rattle.rr_map_laws.specs.Maps.{mark}
+use Rattle.rr_map_laws.proofs.MapLaws.{get-insert_same}
 use Rattle.rr_slots.specs.declared.family.Family.{Family}
 use Rattle.rr_slots.specs.declared.family.Family.TheVariants.{Typed, Sliced}
 use Rattle.rr_protocol.specs.declared.settings.BackpressureStrategy.{BackpressureStrategy}
@@ -25,10 +25,10 @@ use Rattle.rr_laws.specs.Roles.{Question, Role, roles_of, asking, asking_at}
 use Rattle.rr_laws.specs.Reached.{IsReached}
 use Rattle.rr_laws.specs.Following.{entries_for}
 use Rattle.rr_laws.specs.Settling.{listed, IsNew, IsWaiting, Settles}
-use Rattle.rr_maps.proofs.ListFacts.{any-append}
+use Rattle.rr_map_laws.proofs.ListFacts.{any-append}
 use Rattle.rr_laws.proofs.Opening.{some_and}
 use Rattle.rr_laws.proofs.Connected.{has_below}
-use Rattle.rr_maps.proofs.Counting.{count-cons}
+use Rattle.rr_map_laws.proofs.Counting.{count-cons}
 use Rattle.rr_laws.proofs.Occurring.{false_is_true}
 use Rattle.rr_laws.proofs.Telling.{three_true}
 use Rattle.rr_laws.proofs.LeftPorts.{found-append_cases}

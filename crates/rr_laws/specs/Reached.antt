@@ -2,7 +2,7 @@
 use Rattle.std.specs.Prelude.{◌≡◌, ℕ, ◌<◌, ◌≤◌, Bool, true, false, ◌||◌, List, length, Some, None, is_some, find, ◌==◌}
 use Rattle.std.specs.List.{AllByRecursion}
 use Rattle.std.specs.FinMap as fin_map
-use Rattle.rr_maps.specs.Maps.{tally}
+use Rattle.rr_map_laws.specs.Maps.{tally}
 use Rattle.rr_protocol.specs.declared.limits.Limits.{Limits}
 use Rattle.rr_protocol.specs.Limits.{worst_case_requests, max_loaned_responses, hub_refusal}
 use Rattle.rr_protocol.specs.Lists.{Lists, at}

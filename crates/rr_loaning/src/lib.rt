@@ -1,6 +1,7 @@
 //! Loans of messages from a store, each as the message machine loans it.
 #![tactic(auto)]
 
+mod limits;
 mod request;
 mod response;
 

@@ -1,23 +1,27 @@
 //! Loans of responses.
-ghost use Rattle.std.specs.Prelude.{◌≡◌, ◌≢◌, ◌<◌, Some, Err, IsTrue};
+ghost use Rattle.std.specs.Prelude.{◌≡◌, ◌≢◌, ◌<◌, Some, Err, IsTrue, IsSomeAnd, length, slice_get};
 ghost use Rattle.rr_slots.specs.Families.{takes_len};
-ghost use Rattle.rr_protocol.specs.declared.kind.Kind.TheVariants as kind;
 ghost use Rattle.rr_protocol.specs.Loans.{LoansResponse};
 ghost use Rattle.rr_protocol.specs.Queries.{kind_at};
 ghost use Rattle.rr_protocol.specs.State.{numbers_left};
 ghost use Rattle.rr_laws.specs.Unreduced.{ServerHasPool};
 ghost use Rattle.rr_store.specs.Opened.{opened};
 ghost use Rattle.rr_store.specs.Reaching.{IsCore};
-ghost use Rattle.rr_store.specs.Views.{state_of};
+ghost use Rattle.rr_store.specs.Views.{state_of, sender_of};
 ghost use Rattle.rr_table.specs.TableView.{IsAt};
+ghost use Rattle.rr_store.specs.Answering.{response_loan_details_of};
+ghost use Rattle.rr_store.specs.Changes.{response_loan_limit};
+ghost use Rattle.rr_store.specs.Sound.{request_details};
+ghost use Rattle.rr_protocol.specs.declared.kind.Kind.TheVariants as kind;
 
+use crate::limits::{is_at_loan_limit, is_too_long};
 use rr_protocol::{BackpressureFn, LoanError};
 use rr_slots::Body;
-use rr_store::{HandleEntry, HandleId, Stage, Store};
+use rr_store::{HandleEntry, HandleId, ResponseDetails, Stage, Store};
 use rr_table::Place;
 
 /// Loans a response of `len` elements, a length that the body's family takes, from the active request that stands in this
-/// place. It has the next number, of which one is left, and a default user header, and goes to the request's channel.
+/// place. It has the next number, of which one remains, and a default user header, and goes to the request's channel.
 ///
 /// # Errors
 ///
@@ -54,11 +58,11 @@ pub fn loan_response_at<
         None => unreachable!(),
     };
     let index = store.servers.index_of(server);
-    if let Some(refusal) = store.response_loan_limit(index, len, loans) {
+    if let Some(refusal) = response_loan_limit(store, index, len, loans) {
         return Err(refusal);
     }
     let sender = store.servers.sender_of_port(index);
-    let details = store.new_response_details(server, number, active.sender, active.slot);
+    let details = new_response_details(store, server, number, active.sender, active.slot);
     match store.servers.loan(sender, len, details, PH::default()) {
         Ok(own) => {
             store.servers.count_loan(sender);
@@ -75,5 +79,61 @@ pub fn loan_response_at<
             Ok(HandleId::new(loaned, own))
         }
         Err(_) => Err(LoanError::OutOfMemory),
+    }
+}
+
+/// Returns the first reason against one more response of `len` elements: it is too long for the server, or as many are on
+/// loan as may be, from the server or from an active request that has `loans`. Returns `None` if there is no such reason.
+#[inline(always)]
+fn response_loan_limit<
+    QB: Body,
+    QH: Default + Drop,
+    PB: Body,
+    PH: Default + Drop,
+    K: BackpressureFn,
+>(store: &Store<QB, QH, PB, PH, K>, index: usize, len: usize, loans: usize) -> Option<LoanError>
+    requires { IsSomeAnd (slice_get (opened store.now).servers index) (λ s. s.sender < length (opened store.now).server_senders) }
+    ensures { IsSomeAnd (slice_get (opened store.now).servers index) (λ s. result ≡ response_loan_limit (opened store.now) s len loans) }
+{
+    let server = store.servers.port(index);
+    if is_too_long(&server.port, len) {
+        return Some(LoanError::ExceedsMaxLoanSize);
+    }
+    let all = store.servers.loans(server.port.sender);
+    if is_at_loan_limit(server, loans, all) {
+        return Some(LoanError::ExceedsMaxLoans);
+    }
+    None
+}
+
+/// Returns the details of the next response to the request in a slot, from an active request of a server.
+#[inline(always)]
+fn new_response_details<
+    QB: Body,
+    QH: Default + Drop,
+    PB: Body,
+    PH: Default + Drop,
+    K: BackpressureFn,
+>(
+    store: &Store<QB, QH, PB, PH, K>,
+    server: u64,
+    active_request: u64,
+    sender: usize,
+    slot: usize,
+) -> ResponseDetails
+    requires sender { sender < length (opened store.now).client_senders }
+    requires slot { slot < length (sender_of sender (opened store.now).client_senders).messages.held }
+    ensures { result ≡ response_loan_details_of server active_request sender (request_details (opened store.now) sender slot) slot store.now.next }
+{
+    let request = store.clients.details(sender, slot);
+    ResponseDetails {
+        number: store.next,
+        server,
+        active_request,
+        request: request.number,
+        request_id: request.request_id,
+        client: request.client,
+        client_sender: sender,
+        channel: slot,
     }
 }

@@ -1,7 +1,7 @@
 //! A hub with the history of its calls.
 ghost use Rattle.std.specs.Prelude.{◌≡◌, ◌≢◌, ℕ, ◌+◌, ◌*◌, ◌^◌, ◌<◌, ◌≤◌, [], ◌∷◌, ◌++◌, IfSome, IfNone, length, IfOk, OnErr};
 ghost use Rattle.rr_commands.specs.AnswerRule.{KeepsAnswerRule};
-ghost use Rattle.rr_ledger.specs.Sums.{worth};
+ghost use Rattle.rr_receipt_sums.specs.Sums.{worth};
 ghost use Rattle.rr_locked.specs.Receipts.{receipt, opening_number, history_numbers};
 ghost use Rattle.rr_locked.specs.Books.{IsLegal, CreatesBook, OpensBook};
 
@@ -10,8 +10,8 @@ use crate::opening::Opening;
 use crate::receipt::Receipt;
 use crate::seat::Seat;
 use rr_commands::Reply;
-use rr_ledger::add_for;
 use rr_protocol::{HubCreateError, Limits, UniqueNodeId};
+use rr_receipt_sums::add_for;
 use std::alloc::Global;
 use std::marker::Model;
 use std::sync::ledger::{self, Blank, Ledger, Share};

@@ -1,6 +1,6 @@
 //! One caller's place at a hub.
 ghost use Rattle.std.specs.Prelude.{◌≡◌, ℕ, ◌+◌, ◌*◌, ◌≤◌, [], length};
-ghost use Rattle.rr_ledger.specs.Sums.{worth};
+ghost use Rattle.rr_receipt_sums.specs.Sums.{worth};
 ghost use Rattle.rr_locked.specs.Receipts.{joined, receipt_numbers};
 ghost use Rattle.rr_locked.specs.Seats.{Rises};
 

@@ -3,7 +3,7 @@ use Rattle.std.proofs.Common.{◌≡◌, ℕ, ◌+◌, ◌-◌, ◌^◌, ◌≤�
 use Rattle.std.specs.Prelude.{IsSomeAnd, option_and_then, ◌&&◌, ◌||◌, ◌==◌, IfOk, IfSome}
 use Rattle.std.specs.List.{list_any}
 use Rattle.std.specs.FinMap as fin_map
-use Rattle.rr_maps.proofs.MapLaws.{get-insert_same}
+use Rattle.rr_map_laws.proofs.MapLaws.{get-insert_same}
 use Rattle.rr_protocol.specs.declared.kind.Kind.{Kind}
 use Rattle.rr_protocol.specs.declared.error.LoanError.{LoanError}
 use Rattle.rr_protocol.specs.declared.error.RequestSendError.{RequestSendError}

@@ -8,7 +8,7 @@ use Rattle.std.specs.FinMap.{FinMap, insert, same_map, nat_cmp-IsAntisymmetric}
 use Rattle.std.proofs.lemmas.Bool.{cases_eq, ne_eqb, lt-ltb, ltb-true, ltb-false}
 use Rattle.std.proofs.lemmas.List.{length-append, append-nil, append_assoc, nil_from_length}
 use Rattle.std.proofs.Math.Seq.{set-append_seam}
-use Rattle.rr_maps.proofs.MapLaws.{get-insert_same, get-insert_other, insert_itself}
+use Rattle.rr_map_laws.proofs.MapLaws.{get-insert_same, get-insert_other, insert_itself}
 use Rattle.rr_protocol.specs.declared.kind.Kind.{Kind}
 use Rattle.rr_protocol.specs.Messages.{Handle}
 use Rattle.rr_protocol.specs.Queries.{kind_of, kind_at}

@@ -4,7 +4,7 @@ use Rattle.std.specs.Option.{option_map_or}
 use Rattle.std.specs.FinMap as fin_map
 use Rattle.std.specs.FinMap.{get}
 use Rattle.std.proofs.lemmas.Bool.{cases_eq}
-use Rattle.rr_maps.proofs.MapLaws.{get-insert_same, get-insert_other}
+use Rattle.rr_map_laws.proofs.MapLaws.{get-insert_same, get-insert_other}
 use Rattle.rr_protocol.specs.declared.kind.Kind.{Kind}
 use Rattle.rr_protocol.specs.Messages.{Handle}
 use Rattle.rr_protocol.specs.State.{State, handle_at, is_client_value, is_server_value, with_changed}

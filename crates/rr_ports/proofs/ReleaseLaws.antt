@@ -6,7 +6,7 @@ use Rattle.std.specs.Option.{option_map_or}
 use Rattle.std.specs.FinMap as fin_map
 use Rattle.std.specs.FinMap.{get}
 use Rattle.std.proofs.lemmas.Bool.{eqb-true}
-use Rattle.rr_maps.proofs.MapLaws.{get-remove_other}
+use Rattle.rr_map_laws.proofs.MapLaws.{get-remove_other}
 use Rattle.rr_protocol.proofs.HandleLaws.{get-map_handles}
 use Rattle.rr_protocol.specs.Messages.{Handle, RequestMutUninit, RequestMut, PendingResponse, ActiveRequest, ResponseMutUninit, ResponseMut, Response, port_of}
 use Rattle.rr_protocol.specs.Ports.{Port, Client, Server}

@@ -2,8 +2,7 @@
 use Rattle.std.proofs.Common.{◌≡◌, ◌≢◌, ℕ, Bool, not, false, cond, Option, Some, None, option_map, refl, sym, ap, ◌∙◌}
 use Rattle.std.specs.Prelude.{IsSomeAnd}
 use Rattle.rr_protocol.specs.declared.kind.Kind.{Kind}
-use Rattle.rr_protocol.specs.Messages.{Handle, RequestMutUninit, RequestMut, PendingResponse, ActiveRequest, ResponseMutUninit, ResponseMut, Response, with_hint}
-use Rattle.rr_protocol.specs.Messages.{Content}
+use Rattle.rr_protocol.specs.Messages.{Handle, RequestMutUninit, RequestMut, PendingResponse, ActiveRequest, ResponseMutUninit, ResponseMut, Response, with_hint, Content}
 use Rattle.rr_protocol.specs.State.{State, numbers_left, with_changed}
 use Rattle.rr_protocol.specs.Queries.{kind_of, kind_at}
 use Rattle.rr_protocol.specs.Writing.{with_request_content, with_response_content, after_init}

@@ -1,19 +1,22 @@
 //! Receiving requests.
-ghost use Rattle.std.specs.Prelude.{◌≡◌, ◌<◌, Some};
-ghost use Rattle.rr_protocol.specs.declared.kind.Kind.TheVariants as kind;
+ghost use Rattle.std.specs.Prelude.{◌≡◌, ◌<◌, Some, false, true};
 ghost use Rattle.rr_protocol.specs.Queries.{kind_at};
 ghost use Rattle.rr_protocol.specs.Receives.{ReceivesRequest};
 ghost use Rattle.rr_protocol.specs.State.{numbers_left};
 ghost use Rattle.rr_store.specs.Opened.{opened};
 ghost use Rattle.rr_store.specs.Reaching.{IsCore};
 ghost use Rattle.rr_store.specs.Views.{state_of};
+ghost use Rattle.rr_store.specs.Changes.{with_request_senders};
+ghost use Rattle.rr_store.specs.Receiving.{IsNextSender, Reaches};
+ghost use Rattle.rr_store.specs.Skimming.{IsSkimmedTo};
+ghost use Rattle.rr_protocol.specs.declared.kind.Kind.TheVariants as kind;
 
 use rr_protocol::{BackpressureFn, ReceiveError};
 use rr_slots::Body;
 use rr_store::{HandleEntry, HandleId, Stage, Store};
 
 /// Receives the oldest request of some client that a server, whose value lives, has not received yet. It has the next number,
-/// of which one is left.
+/// of which one remains.
 ///
 /// Requests whose pending responses were released are dropped on the way, where they are the oldest of their clients, unless the
 /// limits have fire-and-forget requests; a client of which the server has as many requests as it may is left out. Returns `None`
@@ -39,7 +42,7 @@ pub fn receive_request<
 {
     let index = store.servers.index_of(server);
     let receiver = store.servers.receiver_of_port(index);
-    match store.next_request_sender(receiver) {
+    match next_request_sender(store, receiver) {
         Ok(Some(sender)) => {
             let slot = store.clients.take(sender, receiver, 0);
             let own = store.clients.place_at_receiver(sender, receiver, slot);
@@ -54,4 +57,28 @@ pub fn receive_request<
         Ok(None) => Ok(None),
         Err(error) => Err(error),
     }
+}
+
+/// Returns from which client's sender a server takes its next request. Drops the requests that nobody waits for first, from
+/// the fronts of the queues that it looks at, where the server may have one more, unless the limits have fire-and-forget
+/// requests.
+#[inline(always)]
+fn next_request_sender<
+    QB: Body,
+    QH: Default + Drop,
+    PB: Body,
+    PH: Default + Drop,
+    K: BackpressureFn,
+>(store: &mut Store<QB, QH, PB, PH, K>, receiver: usize) -> Result<Option<usize>, ReceiveError>
+    requires { Reaches store.old.clients.senders receiver 0 }
+    ensures rest { opened store.new ≡ with_request_senders (opened store.old) store.new.clients.senders }
+    ensures kept { store.old.limits.enable_fire_and_forget_requests ≡ true → opened store.new ≡ opened store.old }
+    ensures skimmed { store.old.limits.enable_fire_and_forget_requests ≡ false → IsSkimmedTo store.old.table receiver store.old.limits.max_active_requests_per_client store.old.clients.senders store.new.clients.senders result }
+    ensures next { IsNextSender store.new.clients.senders receiver 0 store.old.limits.max_active_requests_per_client result }
+{
+    let most = store.limits.max_active_requests_per_client;
+    if store.limits.enable_fire_and_forget_requests {
+        return store.clients.next_sender(receiver, 0, most);
+    }
+    store.clients.skim_to_next(&store.table, receiver, most)
 }

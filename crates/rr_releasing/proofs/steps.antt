@@ -1,3 +1,9 @@
+pub mod Client
+pub mod Server
+pub mod UnusedClient
+pub mod UnusedServer
+pub mod ClientLeaves
+pub mod ServerLeaves
 pub mod Request
 pub mod Pending
 pub mod Active

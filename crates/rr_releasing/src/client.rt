@@ -5,10 +5,10 @@ ghost use Rattle.rr_protocol.specs.Queries.{kind_at};
 ghost use Rattle.rr_protocol.specs.Releases.{after_release, without_port_value};
 ghost use Rattle.rr_store.specs.Opened.{opened};
 ghost use Rattle.rr_store.specs.Reaching.{IsCore};
-ghost use Rattle.rr_store.specs.Sound.{IsSound, empty_hand};
+ghost use Rattle.rr_store.specs.Sound.{IsSoundStore, empty_hand};
 ghost use Rattle.rr_store.specs.Views.{state_of};
 
-use rr_leaving::leave_client_if_unused;
+use crate::leaving::client::leave_client_if_unused;
 use rr_protocol::BackpressureFn;
 use rr_slots::Body;
 use rr_store::Store;
@@ -37,7 +37,7 @@ fn end_client_value<QB: Body, QH: Default + Drop, PB: Body, PH: Default + Drop, 
 ) -> usize
     requires core { IsCore (opened store.old) }
     requires kind { kind_at (state_of (opened store.old)) client ≡ Some kind.Client }
-    ensures sound { IsSound (opened store.new) empty_hand }
+    ensures sound { IsSoundStore (opened store.new) empty_hand }
     ensures named { IsSomeAnd (slice_get (opened store.new).clients result) (λ c. c.port.id ≡ client) }
     ensures gone { state_of (opened store.new) ≡ without_port_value (state_of (opened store.old)) client }
 {

@@ -4,6 +4,7 @@
 mod active;
 mod any;
 mod client;
+mod leaving;
 mod pending;
 mod received;
 mod request;
@@ -13,6 +14,7 @@ mod server;
 pub use active::release_active_at;
 pub use any::release_at;
 pub use client::release_client;
+pub use leaving::server::leave_server_of_sender_if_unused;
 pub use pending::release_pending_at;
 pub use received::release_received_at;
 pub use request::release_request_at;

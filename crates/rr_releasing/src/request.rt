@@ -5,11 +5,11 @@ ghost use Rattle.rr_protocol.specs.State.{handle_at};
 ghost use Rattle.rr_store.specs.Opened.{opened};
 ghost use Rattle.rr_store.specs.Releasing.{IsHandleGone, is_loaned_request};
 ghost use Rattle.rr_store.specs.Reaching.{IsCore};
-ghost use Rattle.rr_store.specs.Sound.{HasPort, IsSound, empty_hand};
+ghost use Rattle.rr_store.specs.Sound.{HasPort, IsSoundStore, empty_hand};
 ghost use Rattle.rr_store.specs.Views.{sender_of, state_of};
 ghost use Rattle.rr_table.specs.TableView.{IsAt};
 
-use rr_leaving::leave_client_of_sender_if_unused;
+use crate::leaving::client::leave_client_of_sender_if_unused;
 use rr_protocol::BackpressureFn;
 use rr_slots::Body;
 use rr_store::Store;
@@ -46,7 +46,7 @@ fn end_request<QB: Body, QH: Default + Drop, PB: Body, PH: Default + Drop, K: Ba
     requires core { IsCore (opened store.old) }
     requires at { IsAt store.old.table number place }
     requires kind { IsSomeAnd (handle_at (state_of (opened store.old)) number) (λ handle. is_loaned_request handle ≡ true) }
-    ensures sound { IsSound (opened store.new) empty_hand }
+    ensures sound { IsSoundStore (opened store.new) empty_hand }
     ensures port { HasPort (λ c. c.sender) (opened store.new).clients result }
     ensures gone { IsHandleGone (state_of (opened store.old)) number (sender_of result (opened store.new).client_senders).owner (state_of (opened store.new)) }
 {

@@ -8,7 +8,7 @@ use Rattle.std.specs.FinMap.{FinMap, same_map, nat_cmp-IsAntisymmetric}
 use Rattle.std.specs.Ordering.{nat_cmp}
 use Rattle.std.specs.Cmp.{nat_cmp_total}
 use Rattle.std.proofs.lemmas.Bool.{cases_eq, ne_eqb}
-use Rattle.rr_maps.proofs.MapLaws.{get-insert_same, get-insert_other, insert_itself}
+use Rattle.rr_map_laws.proofs.MapLaws.{get-insert_same, get-insert_other, insert_itself}
 use Rattle.rr_protocol.specs.declared.kind.Kind.{Kind}
 use Rattle.rr_protocol.specs.Messages.{Content, RequestMessage, ResponseMessage, Handle, RequestMutUninit, ResponseMutUninit, request_in, response_in}
 use Rattle.rr_protocol.specs.Ports.{Client}

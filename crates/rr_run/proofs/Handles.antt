@@ -5,7 +5,7 @@ use Rattle.std.specs.Option.{option_map_or}
 use Rattle.std.specs.FinMap as fin_map
 use Rattle.std.specs.FinMap.{get}
 use Rattle.std.proofs.lemmas.Bool.{cases_eq}
-use Rattle.rr_maps.proofs.MapLaws.{get-insert_other, get-remove_other, get-remove_same}
+use Rattle.rr_map_laws.proofs.MapLaws.{get-insert_other, get-remove_other, get-remove_same}
 use Rattle.rr_protocol.specs.declared.settings.BackpressureAction.{BackpressureAction}
 use Rattle.rr_protocol.specs.declared.settings.ClientSettings.{ClientSettings}
 use Rattle.rr_protocol.specs.declared.settings.ServerSettings.{ServerSettings}

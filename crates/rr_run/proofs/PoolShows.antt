@@ -4,7 +4,7 @@ use Rattle.std.specs.Prelude.{◌⊎◌, slice_get, nat_le}
 use Rattle.std.specs.List.{AllByRecursion}
 use Rattle.std.proofs.Math.Nat.{mul_assoc, two-mul}
 use Rattle.std.proofs.lemmas.Bool.{cases_lt, le-leb}
-use Rattle.rr_maps.proofs.Members.{any_there}
+use Rattle.rr_map_laws.proofs.Members.{any_there}
 use Rattle.rr_slots.specs.declared.family.Family.TheVariants.{Typed}
 use Rattle.rr_protocol.specs.declared.limits.Limits.{Limits}
 use Rattle.rr_protocol.specs.declared.no_handler.NoHandler.{NoHandler}

@@ -80,8 +80,8 @@ impl<T: Copy + Default, B: Body<Item = T>, H: Copy + Default, K: BackpressureFn>
 
     /// Returns what a number names: a client or a server whose value lives, or a handle. Returns `None` if it names nothing.
     ///
-    /// Looks at one place of a handle and at about ten of 1,000 ports, unless a place was lost because no memory was found to keep
-    /// it. Our own.
+    /// Looks at one place for a handle and takes O(log ports) for a port, unless a place was lost because no memory was found to
+    /// keep it. Our own.
     pub fn kind(&self, number: u64) -> Option<Kind>
         ensures { result ≡ kind_at self.now number }
     {

@@ -1,2 +1,4 @@
 pub mod Request
 pub mod Response
+pub mod DeliverableRequest
+pub mod DeliverableResponse

@@ -1,8 +1,11 @@
-//! Sends of messages from a store, each as the message machine sends it.
+//! Sends of messages from a store, each as the message machine sends it, and whether a send would be refused.
 #![tactic(auto)]
 
+mod deliverable;
+mod full;
 mod request;
 mod response;
 
+pub use deliverable::{takes_request, takes_response};
 pub use request::send_request_at;
 pub use response::send_response_at;

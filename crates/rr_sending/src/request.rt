@@ -1,17 +1,25 @@
 //! Sends of requests.
-ghost use Rattle.std.specs.Prelude.{◌≡◌, Some};
-ghost use Rattle.rr_protocol.specs.declared.kind.Kind.TheVariants as kind;
+ghost use Rattle.std.specs.Prelude.{◌≡◌, Some, ◌==◌, ◌+◌, ◌<◌, ℕ, [], IsSome, IsSomeAnd, count_by, length, slice_get, slice_index_or, not};
 ghost use Rattle.rr_protocol.specs.Queries.{kind_at};
 ghost use Rattle.rr_protocol.specs.Sends.{SendsRequest};
 ghost use Rattle.rr_store.specs.Opened.{opened};
 ghost use Rattle.rr_store.specs.Reaching.{IsCore};
-ghost use Rattle.rr_store.specs.Views.{state_of};
+ghost use Rattle.rr_store.specs.Views.{state_of, sender_of};
 ghost use Rattle.rr_table.specs.TableView.{IsAt};
+ghost use Rattle.std.specs.List.{position, list_any};
+ghost use Rattle.rr_store.specs.Changes.{is_open_to, request_send_limit};
+ghost use Rattle.rr_store.specs.Order.{IsRising};
+ghost use Rattle.rr_store.specs.Parts.{ServerPart};
+ghost use Rattle.rr_store.specs.Ports.{connected_of};
+ghost use Rattle.rr_store.specs.Sending.{HasQueues, is_blocked_at, is_refused_at};
+ghost use Rattle.rr_protocol.specs.declared.kind.Kind.TheVariants as kind;
 
-use rr_protocol::{BackpressureFn, RequestSendError};
+use crate::full::{discards, is_request_blocked};
+use rr_protocol::{BackpressureFn, RequestSendError, SendError};
 use rr_releasing::release_request_at;
+use rr_sender::Sender;
 use rr_slots::Body;
-use rr_store::{HandleEntry, Stage, Store};
+use rr_store::{HandleEntry, Port, ServerPort, Stage, Store};
 use rr_table::Place;
 
 /// Sends the request that stands in this place to every connected server, and returns how many queues took it. It is a
@@ -42,8 +50,8 @@ pub fn send_request_at<
     ensures sends { SendsRequest K.action (state_of (opened store.old)) number result (state_of (opened store.new)) }
 {
     let entry = store.table.at(number, place);
-    let connections = store.open_connections(entry.sender);
-    if let Some(refusal) = store.request_send_limit(entry.sender, connections) {
+    let connections = open_connections(store, entry.sender);
+    if let Some(refusal) = request_send_limit(store, entry.sender, connections) {
         release_request_at(store, number, place);
         return Err(refusal);
     }
@@ -51,7 +59,101 @@ pub fn send_request_at<
     store
         .table
         .set_at(number, place, HandleEntry { stage, ..entry });
-    store.queue_request(entry.sender, entry.slot);
+    let overflow = store.limits.enable_safe_overflow_for_requests;
+    let receivers = store.limits.max_servers;
+    let servers = store.servers.connected();
+    store
+        .clients
+        .queue(entry.sender, entry.slot, receivers, servers, overflow);
     store.clients.count_as_sent(entry.sender);
     Ok(connections)
+}
+
+/// Returns to how many connected servers the queue from a sender takes one more.
+#[inline(always)]
+fn open_connections<QB: Body, QH: Default + Drop, PB: Body, PH: Default + Drop, K: BackpressureFn>(
+    store: &Store<QB, QH, PB, PH, K>,
+    sender: usize,
+) -> usize
+    requires sender { sender < length (opened store.now).client_senders }
+    requires queues { (i : ℕ) (s : ServerPart K) → slice_get (opened store.now).servers i ≡ Some s → (s.receiver < length (sender_of sender (opened store.now).client_senders).messages.queues) × (0 < length (slice_index_or (sender_of sender (opened store.now).client_senders).messages.queues s.receiver [])) }
+    ensures { result ≡ count_by (is_open_to (opened store.now) sender) (opened store.now).servers }
+{
+    let overflow = store.limits.enable_safe_overflow_for_requests;
+    let servers = store.servers.connected();
+    let messages = store.clients.messages(sender);
+    open_count(messages, servers, overflow)
+}
+
+/// Returns the first reason against one more request from a sender, of which so many queues take one more: its client has
+/// too many pending responses, or the queue to some server is full, may not overflow, and is not passed over.
+#[inline(always)]
+fn request_send_limit<
+    QB: Body,
+    QH: Default + Drop,
+    PB: Body,
+    PH: Default + Drop,
+    K: BackpressureFn,
+>(store: &Store<QB, QH, PB, PH, K>, sender: usize, connections: usize) -> Option<RequestSendError>
+    requires sender { sender < length (opened store.now).client_senders }
+    requires rising { IsRising (λ c. c.port.id) (opened store.now).clients }
+    requires found { IsSome (position (λ c. c.port.id == (sender_of sender (opened store.now).client_senders).owner) (opened store.now).clients) }
+    requires queues { (i : ℕ) (s : ServerPart K) → slice_get (opened store.now).servers i ≡ Some s → (s.receiver < length (sender_of sender (opened store.now).client_senders).messages.queues) × (0 < length (slice_index_or (sender_of sender (opened store.now).client_senders).messages.queues s.receiver [])) }
+    requires connections { connections ≡ count_by (is_open_to (opened store.now) sender) (opened store.now).servers }
+    ensures { IsSomeAnd (position (λ c. c.port.id == (sender_of sender (opened store.now).client_senders).owner) (opened store.now).clients) (λ i. IsSomeAnd (slice_get (opened store.now).clients i) (λ c. result ≡ request_send_limit (opened store.now) K.action c sender)) }
+{
+    if store.limits.max_active_requests_per_client <= store.clients.pendings(sender) {
+        return Some(RequestSendError::ExceedsMaxActiveRequests);
+    }
+    let servers = store.servers.connected();
+    if connections == servers.len() {
+        return None;
+    }
+    let client = store.clients.port(store.clients.index_of_sender(sender));
+    let messages = store.clients.messages(sender);
+    let overflow = store.limits.enable_safe_overflow_for_requests;
+    if is_refused(messages, &client.port, servers, overflow) {
+        return Some(RequestSendError::SendError(SendError::UnableToDeliver));
+    }
+    None
+}
+
+/// Returns whether the queue to some server is full, may not overflow, and is not passed over.
+#[inline(always)]
+fn is_refused<B: Body, N: Copy, H: Drop, K: BackpressureFn>(
+    messages: &Sender<B, N, H>,
+    port: &Port<K>,
+    servers: &[ServerPort<K>],
+    overflow: bool,
+) -> bool
+    requires { HasQueues messages.now servers.now }
+    ensures { result ≡ list_any (is_refused_at K.action (connected_of port.now).port overflow messages.now) servers.now }
+{
+    for server in servers {
+        if is_request_blocked(messages, server.port.receiver, overflow)
+            && !discards(port, server.port.id)
+        {
+            return true;
+        }
+    }
+    false
+}
+
+/// Returns to how many servers the queue takes one more.
+#[inline(always)]
+fn open_count<B: Body, N: Copy, H: Drop, K: Drop>(
+    messages: &Sender<B, N, H>,
+    servers: &[ServerPort<K>],
+    overflow: bool,
+) -> usize
+    requires { HasQueues messages.now servers.now }
+    ensures { result ≡ count_by (λ s. not (is_blocked_at overflow messages.now s.port.receiver)) servers.now }
+{
+    let mut count = 0;
+    for server in servers {
+        if !is_request_blocked(messages, server.port.receiver, overflow) {
+            count += 1;
+        }
+    }
+    count
 }

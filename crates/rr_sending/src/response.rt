@@ -1,18 +1,21 @@
 //! Sends of responses.
-ghost use Rattle.std.specs.Prelude.{◌≡◌, Some};
-ghost use Rattle.rr_protocol.specs.declared.kind.Kind.TheVariants as kind;
+ghost use Rattle.std.specs.Prelude.{◌≡◌, Some, ◌==◌, ◌+◌, ◌<◌, IsSome, IsSomeAnd, length, slice_get};
 ghost use Rattle.rr_protocol.specs.Queries.{kind_at};
 ghost use Rattle.rr_protocol.specs.Sends.{SendsResponse};
 ghost use Rattle.rr_store.specs.Opened.{opened};
 ghost use Rattle.rr_store.specs.Reaching.{IsCore};
-ghost use Rattle.rr_store.specs.Views.{state_of};
+ghost use Rattle.rr_store.specs.Views.{state_of, sender_of};
 ghost use Rattle.rr_table.specs.TableView.{IsAt};
+ghost use Rattle.std.specs.List.{position};
+ghost use Rattle.rr_store.specs.Delivering.{HasQueue, is_refused_in};
+ghost use Rattle.rr_store.specs.Order.{IsRising};
+ghost use Rattle.rr_protocol.specs.declared.kind.Kind.TheVariants as kind;
 
-use rr_leaving::leave_server_of_sender_if_unused;
+use crate::full::{discards, is_response_blocked};
 use rr_protocol::{BackpressureFn, SendError};
-use rr_releasing::release_response_loan_at;
+use rr_releasing::{leave_server_of_sender_if_unused, release_response_loan_at};
 use rr_slots::Body;
-use rr_store::Store;
+use rr_store::{ResponseDetails, Store};
 use rr_table::Place;
 
 /// Sends the response that stands in this place to its request, if that is still a pending response of a connected client,
@@ -39,7 +42,7 @@ pub fn send_response_at<
     let entry = store.table.at(number, place);
     let details = store.servers.details(entry.sender, entry.slot);
     let reach = store.clients.reached_receiver(&store.table, details);
-    if store.is_response_refused(entry.sender, details, reach) {
+    if is_response_refused(store, entry.sender, details, reach) {
         release_response_loan_at(store, number, place);
         return Err(SendError::UnableToDeliver);
     }
@@ -52,4 +55,33 @@ pub fn send_response_at<
     store.end_loan_from(details, receiver);
     leave_server_of_sender_if_unused(store, entry.sender);
     Ok(())
+}
+
+/// Returns whether the queue that a response reaches is full, may not overflow, and is not passed over.
+#[inline(always)]
+fn is_response_refused<
+    QB: Body,
+    QH: Default + Drop,
+    PB: Body,
+    PH: Default + Drop,
+    K: BackpressureFn,
+>(
+    store: &Store<QB, QH, PB, PH, K>,
+    sender: usize,
+    details: ResponseDetails,
+    reach: Option<usize>,
+) -> bool
+    requires sender { sender < length (opened store.now).server_senders }
+    requires rising { IsRising (λ s. s.port.id) (opened store.now).servers }
+    requires found { IsSome (position (λ s. s.port.id == (sender_of sender (opened store.now).server_senders).owner) (opened store.now).servers) }
+    requires queue { HasQueue (sender_of sender (opened store.now).server_senders).messages details.channel reach }
+    ensures { IsSomeAnd (position (λ s. s.port.id == (sender_of sender (opened store.now).server_senders).owner) (opened store.now).servers) (λ i. IsSomeAnd (slice_get (opened store.now).servers i) (λ s. result ≡ is_refused_in K.action s.port (sender_of sender (opened store.now).server_senders).messages store.now.limits.enable_safe_overflow_for_responses details reach)) }
+{
+    let messages = store.servers.messages(sender);
+    let overflow = store.limits.enable_safe_overflow_for_responses;
+    if !is_response_blocked(messages, reach, details.channel, overflow) {
+        return false;
+    }
+    let server = store.servers.port(store.servers.index_of_sender(sender));
+    !discards(&server.port, details.client)
 }

@@ -165,6 +165,7 @@ fn empty_queues(
 {
     let mut queues = Vec::with_capacity(alloc, channels)?;
     for made in 0..channels {
+        // The invariant alone counts.
         let _ = made;
         queues.push(HeapCircularBuffer::with_capacity(alloc, capacity)?)?;
     }

@@ -1,4 +1,3 @@
-pub mod creating
 pub mod base
 pub mod querying
 pub mod loaning

@@ -1,5 +1,1 @@
-pub mod Opened
-pub mod Live
 pub mod LoanedSender
-pub mod request
-pub mod response

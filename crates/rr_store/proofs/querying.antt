@@ -1,4 +1,3 @@
 pub mod Connected
 pub mod Alive
 pub mod Used
-pub mod Waiting

@@ -1,4 +1,2 @@
 pub mod NextSender
-pub mod TakenSender
-pub mod response
 pub mod request

@@ -1,3 +1,1 @@
 pub mod put
-pub mod request
-pub mod response

@@ -1,5 +1,1 @@
 pub mod View
-pub mod Push
-pub mod Restaged
-pub mod Initialise
-pub mod Hint

@@ -1,7 +1,7 @@
 -- What changes besides as a handle in hand is dropped: its message is held once less, and what is stored of it is counted once less.
 use Rattle.std.specs.Prelude.{◌≡◌, ◌≤◌, ◌<◌, ℕ, ◌+◌, List, [], length, Some, slice_get, slice_index, false}
 use Rattle.std.specs.FinMap as fin_map
-use Rattle.rr_maps.specs.Maps.{mark}
+use Rattle.rr_map_laws.specs.Maps.{mark}
 use Rattle.rr_table.specs.TableView.{TableEntry}
 use Rattle.rr_sender.specs.Senders.{times, all_entries, queue_at, borrowed_at}
 use Rattle.rr_store.specs.declared.handle_entry.HandleEntry.{HandleEntry}

@@ -2,7 +2,7 @@
 use Rattle.std.specs.Prelude.{◌≡◌, ◌≢◌, ◌≤◌, ◌<◌, ◌^◌, ℕ, ◌+◌, ◌*◌, Bool, true, false, ◌&&◌, ◌==◌, List, [], length, map, count_by, find, Some, None, slice_get, slice_index, slice_index_or}
 use Rattle.std.specs.Option.{option_map_or}
 use Rattle.std.specs.FinMap as fin_map
-use Rattle.rr_maps.specs.Maps.{tally}
+use Rattle.rr_map_laws.specs.Maps.{tally}
 use Rattle.rr_table.specs.TableView.{TableEntry}
 use Rattle.rr_table.specs.declared.place.Place.{Place}
 use Rattle.rr_sender.specs.Senders.{Messages, times, all_entries, queue_at, borrowed_at, uses}
@@ -278,7 +278,7 @@ module _ {Q QH P PH K : Type 0} (p : Parts Q QH P PH K) where
     pub server_room : length p.servers + length p.left_servers ≤ p.server_room
 
 -- all of it
-pub record IsSound {Q QH P PH K : Type 0} (p : Parts Q QH P PH K) (hand : Hand) : Type 0 where
+pub record IsSoundStore {Q QH P PH K : Type 0} (p : Parts Q QH P PH K) (hand : Hand) : Type 0 where
   pub counted : IsCounted p hand
   pub held_once : IsHeldOnce p hand
   pub numbered : IsNumbered p

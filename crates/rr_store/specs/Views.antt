@@ -2,7 +2,7 @@
 use Rattle.std.specs.Prelude.{ℕ, ◌+◌, ◌*◌, Bool, false, ◌==◌, List, [], map, filter, flat_map, find, length, slice_index_or}
 use Rattle.std.specs.List.{range_with_len}
 use Rattle.std.specs.Option.{option_map_or}
-use Rattle.rr_maps.specs.Maps.{map_values}
+use Rattle.rr_map_laws.specs.Maps.{map_values}
 use Rattle.rr_table.specs.TableView.{TableEntry}
 use Rattle.rr_sender.specs.Senders.{Messages, content_at, queue_at}
 use Rattle.rr_protocol.specs.Lists.{Lists, lists_by}

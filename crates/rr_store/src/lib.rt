@@ -2,20 +2,12 @@
 //! reads or changes one thing. In `specs/` stands what that stands for and what is true of it, in `proofs/` what stays true.
 #![tactic(auto)]
 
-pub mod create;
 mod details;
 mod handle_entry;
 mod handle_id;
-mod leave;
-mod loan;
 mod port;
-mod query;
-mod receive;
-mod release;
-mod send;
 mod side;
 mod store;
-mod write;
 
 pub use details::{RequestDetails, ResponseDetails};
 pub use handle_entry::{HandleEntry, Stage};

@@ -1,14 +1,9 @@
 //! What a core keeps of its connected ports, and the senders from which ports send.
-ghost use Rattle.std.specs.Prelude.{◌≡◌, ◌==◌, ◌||◌, false, IsSome, Some, nat_le};
+ghost use Rattle.std.specs.Prelude.{◌≡◌, ◌==◌, false, IsSome, Some};
 ghost use Rattle.std.specs.List.{position};
-ghost use Rattle.rr_protocol.specs.Backpressure.{discards};
-ghost use Rattle.rr_protocol.specs.Loans.{is_too_long};
 ghost use Rattle.rr_store.specs.Order.{IsRising};
-ghost use Rattle.rr_store.specs.Ports.{connected_of};
 
-use rr_protocol::{
-    AllocationStrategy, BackpressureAction, BackpressureFn, BackpressureInfo, BackpressureStrategy,
-};
+use rr_protocol::{AllocationStrategy, BackpressureStrategy};
 use rr_sender::Sender;
 use rr_slots::Body;
 
@@ -50,7 +45,7 @@ pub const NO_SERVER: u64 = u64::MAX;
 /// responses are pending, and for each slot, and then for each receiver, the number of the server that may still answer the
 /// slot's request. A server's sender has neither pending responses nor such marks.
 ///
-/// A mark names the server and not the receiver alone, so that one that was left over doesn't stand for a later server that is
+/// A mark names the server and not the receiver alone, so that one that remains doesn't stand for a later server that is
 /// the same receiver.
 #[derive(Drop)]
 pub struct OwnedSender<B: Body, N: Copy, H: Drop> {
@@ -72,50 +67,6 @@ pub struct OwnedSender<B: Body, N: Copy, H: Drop> {
 pub struct LeftPort {
     pub number: u64,
     pub sender: usize,
-}
-
-impl<K: Drop> Port<K> {
-    /// Whether a slice is longer than the port has room for, and may not get more.
-    pub fn is_too_long(&self, len: usize) -> bool
-        ensures { result ≡ is_too_long (connected_of self.now).port len }
-    {
-        match self.allocation_strategy {
-            AllocationStrategy::Static => self.initial_max_slice_len < len,
-            AllocationStrategy::BestFit | AllocationStrategy::PowerOfTwo => false,
-        }
-    }
-}
-
-impl<K: BackpressureFn> Port<K> {
-    /// Whether the port passes over the full queue to a receiver: its handler says so, if it has one, or else its strategy.
-    pub fn discards(&self, receiver: u64) -> bool
-        ensures { result ≡ discards K.action (connected_of self.now).port receiver }
-    {
-        let action = match &self.handler {
-            Some(handler) => handler.act(&BackpressureInfo {
-                sender: self.id,
-                receiver,
-            }),
-            None => BackpressureAction::FollowBackpressureStrategy,
-        };
-        match action {
-            BackpressureAction::DiscardData => true,
-            BackpressureAction::FollowBackpressureStrategy => match self.strategy {
-                BackpressureStrategy::DiscardData => true,
-                BackpressureStrategy::RetryUntilDelivered => false,
-            },
-            BackpressureAction::Retry | BackpressureAction::DiscardDataAndFail => false,
-        }
-    }
-}
-
-impl<K: Drop> ServerPort<K> {
-    /// Returns whether an active request with so many responses on loan has as many as it may, or the server with `all` has.
-    pub fn is_at_loan_limit(&self, loans: usize, all: usize) -> bool
-        ensures { result ≡ (nat_le self.now.max_loaned_responses_per_request loans || nat_le self.now.max_loaned_responses all) }
-    {
-        self.max_loaned_responses_per_request <= loans || self.max_loaned_responses <= all
-    }
 }
 
 /// A connected port: its number, its index as a receiver of the other side, the sender from which it sends, and whether its
@@ -223,8 +174,8 @@ impl<K: Drop> ConnectedPort for ServerPort<K> {
     }
 }
 
-/// Returns where among the ports, whose numbers rise, the one with this number stands. Looks at the one in the middle, and then
-/// halves: at 11 of 1,000 at most.
+/// Returns where among the ports, whose numbers rise, the one with this number stands. Takes O(log ports): it looks at the
+/// one in the middle first, and then halves.
 #[inline(always)]
 pub fn index_of<P: ConnectedPort>(ports: &[P], id: u64) -> Option<usize>
     requires { IsRising P.id ports.now }
@@ -257,7 +208,7 @@ pub fn index_of_present<P: ConnectedPort>(ports: &[P], id: u64) -> usize
     }
 }
 
-/// Returns what `index_of` returns. Looks at about as many ports as their count can be halved: at 10 of 1,000.
+/// Returns what `index_of` returns. Takes O(log ports).
 fn index_by_halving<P: ConnectedPort>(ports: &[P], id: u64) -> Option<usize>
     requires { IsRising P.id ports.now }
     ensures { result ≡ position (λ p. P.id p == id) ports.now }

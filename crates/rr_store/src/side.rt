@@ -13,6 +13,7 @@ mod lending;
 mod messages;
 mod ports;
 mod queues;
+mod skimming;
 mod slots;
 
 /// The clients of a service with all requests, or the servers with all responses. Contracts see it as parts, of which nothing is
@@ -27,7 +28,7 @@ pub struct Side<B: Body, N: Copy, H: Drop, P: Drop> {
     pub ports: Vec<P>,
     /// The ports that left, in the order in which they did.
     pub left: Vec<LeftPort>,
-    /// What a slot that isn't there would show.
+    /// What a slot that isn't there would show. Contracts alone speak of it: a reading of a slot has to be defined for each index.
     pub spare_header: H,
 }
 

@@ -5,13 +5,7 @@ use rr_protocol::{BackpressureFn, Limits, UniqueNodeId};
 use rr_slots::Body;
 use rr_table::Table;
 
-mod creating;
 mod handles;
-mod leaving;
-mod loaning;
-mod querying;
-mod receiving;
-mod sending;
 
 /// How many numbers a store gives to ports and handles: 2^62, as many as iceoryx2 has request ids.
 pub const NUMBERS: u64 = 4611686018427387904;

@@ -141,6 +141,7 @@ impl<E: Copy> Table<E> {
         requires { IsAt self.now number place }
         ensures { map.get self.now.entries number ≡ Some (table_entry place result) }
     {
+        // The contract alone speaks of the number: it says which entry the place has.
         let _ = number;
         self.rows[place.row].places[place.index].value
     }
@@ -151,6 +152,7 @@ impl<E: Copy> Table<E> {
         requires { IsAt self.old number place }
         ensures { self.new ≡ inserted self.old number place value }
     {
+        // The contract alone speaks of the number: it says which entry the place has.
         let _ = number;
         self.rows[place.row].places[place.index].value = value;
     }
@@ -217,6 +219,7 @@ fn vacant<E: Copy>(alloc: Global, len: usize, filler: E) -> Result<Row<E>, Alloc
 {
     let mut places = Vec::with_capacity(alloc, len)?;
     for i in 0..len {
+        // The invariant alone counts.
         let _ = i;
         places.push(Entry {
             number: VACANT,

@@ -19,14 +19,14 @@ use Rattle.rr_store.specs.Draining.{AreThere}
 use Rattle.rr_store.specs.Expired.{requests_from}
 use Rattle.rr_store.specs.Parts.{ClientPart, Parts}
 use Rattle.rr_store.specs.Reaching.{IsCore}
-use Rattle.rr_store.specs.Sound.{IsSound, empty_hand}
+use Rattle.rr_store.specs.Sound.{IsSoundStore, empty_hand}
 use Rattle.rr_store.specs.Views.{no_request, no_server, request_lists, sender_of, state_of}
 use Rattle.rr_store.proofs.base.lists.Adding.{fewer, not_refused}
-use Rattle.rr_store.proofs.creating.client.Sound.{client_sound}
-use Rattle.rr_store.proofs.creating.client.View.{client_view}
-use Rattle.rr_store.proofs.creating.IdleLeft.{client_unlisted}
-use Rattle.rr_store.proofs.creating.Renewed.{renewed_table}
-use Rattle.rr_store.proofs.creating.Sites.{IsSited, idle_listed, idle_sender, last_sited, left_sited, request_elsewhere}
+use Rattle.rr_creating.proofs.laws.client.Sound.{client_sound}
+use Rattle.rr_creating.proofs.laws.client.View.{client_view}
+use Rattle.rr_creating.proofs.laws.IdleLeft.{client_unlisted}
+use Rattle.rr_creating.proofs.laws.Renewed.{renewed_table}
+use Rattle.rr_creating.proofs.laws.Sites.{IsSited, idle_listed, idle_sender, last_sited, left_sited, request_elsewhere}
 use Rattle.rr_store.proofs.base.views.Agreeing.{request_sender, response_sender}
 
 module _ {Q QH P PH K : Type 0} (p : Parts Q QH P PH K) (core : IsCore p) (settings : ClientSettings K)
@@ -104,7 +104,7 @@ module _ {Q QH P PH K : Type 0} (p : Parts Q QH P PH K) (core : IsCore p) (setti
         -- and what is true then
         site_core : IsCore q
         site_core = record {
-          sound = subst (λ q. IsSound q empty_hand) (sym after)
+          sound = subst (λ q. IsSoundStore q empty_hand) (sym after)
               (client_sound p settings receiver messages site core.sound sited is_new inside vacant room_asked
               (not_refused (state_of p) due).0 (omega (arith, row_is, fits)) can_leave);
           reached = subst (λ s. IsReached s) (sym site_view) (with_client_reached (state_of p) core.reached settings due);

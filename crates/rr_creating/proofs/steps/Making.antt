@@ -10,10 +10,10 @@ use Rattle.rr_laws.proofs.CompleteRuns.{empty_hub_complete}
 use Rattle.rr_laws.proofs.Creating.{empty_hub_reached}
 use Rattle.rr_store.specs.Parts.{Parts}
 use Rattle.rr_store.specs.Reaching.{IsCore}
-use Rattle.rr_store.specs.Sound.{IsSound, empty_hand}
+use Rattle.rr_store.specs.Sound.{IsSoundStore, empty_hand}
 use Rattle.rr_store.specs.Start.{start_parts}
 use Rattle.rr_store.specs.Views.{state_of}
-use Rattle.rr_store.proofs.creating.hub.View.{start_sound, start_view}
+use Rattle.rr_creating.proofs.laws.hub.View.{start_sound, start_view}
 
 module _ {Q QH P PH K : Type 0} (limits : Limits) (fits : hub_refusal limits ≡ None) (node_id : ℕ) (p : Parts Q QH P PH K)
     (made : p ≡ start_parts limits node_id p.spare_request_header p.spare_response_header) where
@@ -24,7 +24,7 @@ module _ {Q QH P PH K : Type 0} (limits : Limits) (fits : hub_refusal limits ≡
   -- what is true
   pub core_then : IsCore p
   core_then = record {
-    sound = subst (λ q. IsSound q empty_hand) (sym made)
+    sound = subst (λ q. IsSoundStore q empty_hand) (sym made)
         (start_sound Q QH P PH K limits node_id p.spare_request_header p.spare_response_header fits);
     reached = subst (λ s. IsReached s) (sym view_then) (empty_hub_reached limits node_id fits);
     complete = subst (λ s. MessagesComplete s) (sym view_then) (empty_hub_complete Q QH P PH K limits node_id);

@@ -8,7 +8,7 @@ use Rattle.rr_store.specs.Creating.{idle_left, senders_after}
 use Rattle.rr_store.specs.Parts.{Parts, Sender}
 use Rattle.rr_store.specs.Reaching.{IsCore}
 use Rattle.rr_store.specs.Views.{state_of}
-use Rattle.rr_store.proofs.base.frames.Roomier.{roomier_core}
+use Rattle.rr_creating.proofs.laws.Roomier.{roomier_core}
 
 -- what is true in any case is true where there was an error
 pub in_any_case : {X E : Type 0} (A : Type 0) (result : Result X E) → A → OnErr result A
@@ -53,15 +53,6 @@ module _ {Q QH P PH K : Type 0} (p : Parts Q QH P PH K) (core : IsCore p) (q : P
     pub client_room_core : p.client_room ≤ q.client_room → IsCore q
     client_room_core more = subst IsCore (sym rest) (roomier_core p q.client_room p.server_room more (omega arith) core)
 
-    -- one more client can leave
-    pub client_room_asked : length p.clients + 1 + length p.left_clients ≤ q.client_room → length q.clients + 1 + length q.left_clients ≤ q.client_room
-    client_room_asked room = omega (
-      arith,
-      room,
-      ap (λ (r : Parts Q QH P PH K). length r.clients) rest,
-      ap (λ (r : Parts Q QH P PH K). length r.left_clients) rest,
-    )
-
   module _ (rest : q ≡ record p { server_room = q.server_room }) where
     -- contracts see the same
     pub server_room_view : state_of q ≡ state_of p
@@ -70,12 +61,3 @@ module _ {Q QH P PH K : Type 0} (p : Parts Q QH P PH K) (core : IsCore p) (q : P
     -- it is a core
     pub server_room_core : p.server_room ≤ q.server_room → IsCore q
     server_room_core more = subst IsCore (sym rest) (roomier_core p p.client_room q.server_room (omega arith) more core)
-
-    -- one more server can leave
-    pub server_room_asked : length p.servers + 1 + length p.left_servers ≤ q.server_room → length q.servers + 1 + length q.left_servers ≤ q.server_room
-    server_room_asked room = omega (
-      arith,
-      room,
-      ap (λ (r : Parts Q QH P PH K). length r.servers) rest,
-      ap (λ (r : Parts Q QH P PH K). length r.left_servers) rest,
-    )

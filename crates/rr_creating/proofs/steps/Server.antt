@@ -21,14 +21,14 @@ use Rattle.rr_store.specs.Draining.{AreThere}
 use Rattle.rr_store.specs.Expired.{responses_from}
 use Rattle.rr_store.specs.Parts.{Parts, ServerPart}
 use Rattle.rr_store.specs.Reaching.{IsCore}
-use Rattle.rr_store.specs.Sound.{IsSound, empty_hand}
+use Rattle.rr_store.specs.Sound.{IsSoundStore, empty_hand}
 use Rattle.rr_store.specs.Views.{no_response, response_lists, sender_of, state_of}
 use Rattle.rr_store.proofs.base.lists.Adding.{fewer_servers, server_not_refused, some_clients}
-use Rattle.rr_store.proofs.creating.server.Sound.{server_sound}
-use Rattle.rr_store.proofs.creating.server.View.{server_view}
-use Rattle.rr_store.proofs.creating.IdleLeft.{server_unlisted}
-use Rattle.rr_store.proofs.creating.Renewed.{renewed_table}
-use Rattle.rr_store.proofs.creating.Sites.{IsSited, idle_listed, idle_sender, last_sited, left_sited, response_elsewhere}
+use Rattle.rr_creating.proofs.laws.server.Sound.{server_sound}
+use Rattle.rr_creating.proofs.laws.server.View.{server_view}
+use Rattle.rr_creating.proofs.laws.IdleLeft.{server_unlisted}
+use Rattle.rr_creating.proofs.laws.Renewed.{renewed_table}
+use Rattle.rr_creating.proofs.laws.Sites.{IsSited, idle_listed, idle_sender, last_sited, left_sited, response_elsewhere}
 use Rattle.rr_store.proofs.base.views.Agreeing.{request_sender, response_sender}
 
 module _ {Q QH P PH K : Type 0} (p : Parts Q QH P PH K) (core : IsCore p) (settings : ServerSettings K)
@@ -123,7 +123,7 @@ module _ {Q QH P PH K : Type 0} (p : Parts Q QH P PH K) (core : IsCore p) (setti
           -- and what is true then
           site_core : IsCore q
           site_core = record {
-            sound = subst (λ q. IsSound q empty_hand) (sym after)
+            sound = subst (λ q. IsSoundStore q empty_hand) (sym after)
                 (server_sound p settings receiver messages site core.sound sited is_new inside vacant room_asked
                 (server_not_refused (state_of p) settings due).0 can_leave);
             reached = subst (λ s. IsReached s) (sym site_view) (with_server_reached (state_of p) core.reached settings due);

@@ -5,8 +5,8 @@ use Rattle.std.specs.FinMap.{get, insert}
 use Rattle.std.specs.List.{AllByRecursion, list_any}
 use Rattle.std.proofs.lemmas.Bool.{eq-eqb, eqb-false, lt-leb}
 use Rattle.std.proofs.lemmas.List.{map-append}
-use Rattle.rr_maps.proofs.ListFacts.{all_map}
-use Rattle.rr_maps.proofs.MapLaws.{get-insert_same, get-insert_other}
+use Rattle.rr_map_laws.proofs.ListFacts.{all_map}
+use Rattle.rr_map_laws.proofs.MapLaws.{get-insert_same, get-insert_other}
 use Rattle.rr_protocol.specs.declared.limits.Limits.{Limits}
 use Rattle.rr_protocol.specs.declared.settings.BackpressureAction.{BackpressureAction}
 use Rattle.rr_protocol.specs.Keys.{RequestKey, request_key}

@@ -4,7 +4,7 @@ use Rattle.std.specs.Prelude.{IsSomeAnd, is_some, find, nat_eq}
 use Rattle.std.specs.FinMap.{get-empty}
 use Rattle.std.specs.List.{AllByRecursion, IsDistinct}
 use Rattle.std.proofs.lemmas.Bool.{eqb-true, ne_eqb}
-use Rattle.rr_maps.proofs.ListFacts.{all_each, all_found, passes_found}
+use Rattle.rr_map_laws.proofs.ListFacts.{all_each, all_found, passes_found}
 use Rattle.rr_slots.specs.declared.family.Family.TheVariants.{Typed}
 use Rattle.rr_protocol.specs.declared.limits.Limits.{Limits}
 use Rattle.rr_protocol.specs.declared.settings.BackpressureAction.{BackpressureAction}

@@ -4,22 +4,6 @@ ghost use Rattle.std.specs.Prelude.{◌≡◌, ◌<◌, IfOk, length};
 use rr_slots::Connection;
 use std::alloc::{AllocError, Global};
 
-/// What a connection returns of its size: channels, capacity, and whether it is empty.
-fn size(connection: &Connection) -> (usize, usize, bool) {
-    (
-        connection.channels(),
-        connection.capacity(),
-        connection.is_empty(),
-    )
-}
-
-#[test]
-fn a_new_connection_is_empty(rt: HostRuntime) -> Result<(), AllocError> {
-    assert!(rt; size(&Connection::new(rt.alloc(), 2, 3)?) == (2, 3, true));
-    assert!(rt; size(&Connection::new(rt.alloc(), 0, 8)?) == (0, 8, true));
-    Ok(())
-}
-
 /// Returns what five pushes to a queue of three give up.
 fn pushed(alloc: Global) -> Result<[Option<usize>; 5], AllocError> {
     let mut connection = Connection::new(alloc, 2, 3)?;
@@ -88,14 +72,6 @@ fn filled(alloc: Global) -> Result<[Filled; 4], AllocError> {
     Ok([one, two, less, fill(&connection, 1)])
 }
 
-#[test]
-fn a_queue_is_full_at_its_capacity(rt: HostRuntime) {
-    let one = (1, true, false, false);
-    let two = (2, true, true, false);
-    let none = (0, false, false, true);
-    assert!(rt; filled(rt.alloc()) == Ok([one, two, one, none]));
-}
-
 /// A connection of three channels with one entry in the first and two in the last, of three that were pushed.
 fn uneven(alloc: Global) -> Result<Connection, AllocError>
     ensures { IfOk result (λ connection. length connection.queues ≡ 3) }
@@ -108,12 +84,6 @@ fn uneven(alloc: Global) -> Result<Connection, AllocError>
     Ok(connection)
 }
 
-/// Returns the length of each of three queues.
-fn lengths(alloc: Global) -> Result<[usize; 3], AllocError> {
-    let connection = uneven(alloc)?;
-    Ok([connection.len(0), connection.len(1), connection.len(2)])
-}
-
 /// Returns what is taken from three queues.
 fn taken(alloc: Global) -> Result<[Option<usize>; 4], AllocError> {
     let mut connection = uneven(alloc)?;
@@ -123,27 +93,6 @@ fn taken(alloc: Global) -> Result<[Option<usize>; 4], AllocError> {
         connection.pop(2),
         connection.pop(2),
     ])
-}
-
-#[test]
-fn a_channel_leaves_the_others_alone(rt: HostRuntime) {
-    assert!(rt; lengths(rt.alloc()) == Ok([1, 0, 2]));
-    assert!(rt; taken(rt.alloc()) == Ok([None, Some(5), Some(6), Some(7)]));
-}
-
-/// Returns what two pushes and a pop of a queue of one entry give.
-fn newest(alloc: Global) -> Result<[Option<usize>; 3], AllocError> {
-    let mut connection = Connection::new(alloc, 1, 1)?;
-    Ok([
-        connection.push(0, 1),
-        connection.push(0, 2),
-        connection.pop(0),
-    ])
-}
-
-#[test]
-fn a_queue_of_one_entry_holds_the_newest(rt: HostRuntime) {
-    assert!(rt; newest(rt.alloc()) == Ok([None, Some(1), Some(2)]));
 }
 
 /// Returns what a push and a pop of a queue without room give, and how it is filled between them.

@@ -1,5 +1,4 @@
 //! Each call of a pool once with ample memory, at elements that own memory, and at lengths that no memory holds.
-use super::texts;
 use rr_slots::{AcquireError, Body, Pool, SliceBody};
 use std::alloc::{AllocError, Global};
 
@@ -17,11 +16,6 @@ fn taken(alloc: Global) -> Option<(usize, usize, usize, bool)> {
         return None;
     };
     Some((free, less, pool.free_slots(), first != second))
-}
-
-#[test]
-fn a_taken_slot_is_not_free(rt: HostRuntime) {
-    assert!(rt; taken(rt.alloc()) == Some((2, 1, 0, true)));
 }
 
 /// Returns whether a full pool refuses, and then gives the slot that is given back.
@@ -83,106 +77,6 @@ fn a_slot_is_free_once_nobody_holds_it(rt: HostRuntime) {
     assert!(rt; held(rt.alloc()) == Some([1, 2]));
 }
 
-/// Writes an optional body in its slot. Returns whether it is read, and the length before and once it was cleared.
-fn written_option(alloc: Global) -> Option<(bool, usize, usize)> {
-    let Ok(mut pool) = Pool::<Option<String>>::new(alloc, 2, 1) else {
-        return None;
-    };
-    let Ok(slot) = pool.acquire(1) else {
-        return None;
-    };
-    pool.push(slot, String::from_str(alloc, "first").ok()?);
-    let is_first = pool.body(slot).get(0).as_str() == "first";
-    let len = pool.body(slot).len();
-    pool.clear(slot);
-    Some((is_first, len, pool.body(slot).len()))
-}
-
-#[test]
-fn an_optional_body_is_written_and_cleared_in_its_slot(rt: HostRuntime) {
-    assert!(rt; written_option(rt.alloc()) == Some((true, 1, 0)));
-}
-
-/// Replaces the element of an optional body in its slot. Returns whether the new one is read.
-fn is_option_replaced(alloc: Global) -> Option<bool> {
-    let Ok(mut pool) = Pool::<Option<String>>::new(alloc, 2, 1) else {
-        return None;
-    };
-    let Ok(slot) = pool.acquire(1) else {
-        return None;
-    };
-    let (first, second) = texts(alloc)?;
-    pool.push(slot, first);
-    *pool.get_mut(slot, 0) = second;
-    Some(pool.body(slot).get(0).as_str() == "second")
-}
-
-#[test]
-fn an_optional_body_is_replaced_in_its_slot(rt: HostRuntime) {
-    assert!(rt; is_option_replaced(rt.alloc()) == Some(true));
-}
-
-/// Sets an optional body in its slot as a whole. Returns its length, and that once the slot was taken again.
-fn set_option(alloc: Global) -> Option<[usize; 2]> {
-    let Ok(mut pool) = Pool::<Option<String>>::new(alloc, 1, 1) else {
-        return None;
-    };
-    let Ok(slot) = pool.acquire(1) else {
-        return None;
-    };
-    *pool.option_mut(slot) = Some(String::from_str(alloc, "before").ok()?);
-    let set = pool.body(slot).len();
-    pool.give_back(slot);
-    let Ok(again) = pool.acquire(1) else {
-        return None;
-    };
-    Some([set, pool.body(again).len()])
-}
-
-#[test]
-fn a_slot_that_is_taken_again_is_empty(rt: HostRuntime) {
-    assert!(rt; set_option(rt.alloc()) == Some([1, 0]));
-}
-
-/// Writes two of three elements of a slice in its slot, and replaces the second. Returns what stands there then.
-fn written_slice(alloc: Global) -> Option<(u64, u64, usize)> {
-    let Ok(mut pool) = Pool::<SliceBody<u64>>::new(alloc, 1, 2) else {
-        return None;
-    };
-    let Ok(slot) = pool.acquire(3) else {
-        return None;
-    };
-    pool.push(slot, 1);
-    pool.push(slot, 2);
-    pool.slice_mut(slot)[1] = 3;
-    let body = pool.body(slot);
-    Some((*body.get(0), *body.get(1), body.len()))
-}
-
-#[test]
-fn a_slice_is_written_in_its_slot(rt: HostRuntime) {
-    assert!(rt; written_slice(rt.alloc()) == Some((1, 3, 2)));
-}
-
-/// Replaces an element of a slice in its slot. Returns whether the new one is read.
-fn is_slice_replaced(alloc: Global) -> Option<bool> {
-    let Ok(mut pool) = Pool::<SliceBody<String>>::new(alloc, 1, 1) else {
-        return None;
-    };
-    let Ok(slot) = pool.acquire(1) else {
-        return None;
-    };
-    let (first, second) = texts(alloc)?;
-    pool.push(slot, first);
-    *pool.get_mut(slot, 0) = second;
-    Some(pool.body(slot).get(0).as_str() == "second")
-}
-
-#[test]
-fn a_slice_is_replaced_in_its_slot(rt: HostRuntime) {
-    assert!(rt; is_slice_replaced(rt.alloc()) == Some(true));
-}
-
 /// Returns what is asked of a slice above the room, how much of it is written, whether it is complete, and how much is lent.
 fn long_slice(alloc: Global) -> Option<(usize, usize, bool, usize)> {
     let Ok(mut pool) = Pool::<SliceBody<u64>>::new(alloc, 1, 2) else {
@@ -214,24 +108,6 @@ fn refused(alloc: Global) -> Option<(bool, usize)> {
 #[test]
 fn a_refused_length_takes_no_slot(rt: HostRuntime) {
     assert!(rt; refused(rt.alloc()) == Some((true, 1)));
-}
-
-/// Returns whether a full pool refuses a length that no memory holds, and the element that was written before.
-fn refused_when_full(alloc: Global) -> Option<(bool, u64)> {
-    let Ok(mut pool) = Pool::<SliceBody<u64>>::new(alloc, 1, 1) else {
-        return None;
-    };
-    let Ok(slot) = pool.acquire(1) else {
-        return None;
-    };
-    pool.push(slot, 7);
-    let is_full = pool.acquire(usize::MAX) == Err(AcquireError::Full);
-    Some((is_full, *pool.body(slot).get(0)))
-}
-
-#[test]
-fn a_full_pool_is_full_for_any_length(rt: HostRuntime) {
-    assert!(rt; refused_when_full(rt.alloc()) == Some((true, 7)));
 }
 
 #[test]

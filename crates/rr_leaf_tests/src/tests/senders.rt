@@ -24,30 +24,6 @@ const ONE_ENTRY: SenderSize = SenderSize {
     capacity: 1,
 };
 
-/// Returns how many slots a sender of two has, how many are free before each loan and then, and whether the loans are two.
-fn loaned(alloc: Global) -> Option<([usize; 4], bool)> {
-    let Ok(mut sender) = Numbers::new(alloc, SIZE, 0) else {
-        return None;
-    };
-    let free = sender.free_slots();
-    let Ok(first) = sender.loan(1, 7, 0) else {
-        return None;
-    };
-    let less = sender.free_slots();
-    let Ok(second) = sender.loan(1, 8, 0) else {
-        return None;
-    };
-    Some((
-        [sender.slots(), free, less, sender.free_slots()],
-        first != second,
-    ))
-}
-
-#[test]
-fn a_loan_holds_a_slot(rt: HostRuntime) {
-    assert!(rt; loaned(rt.alloc()) == Some(([2, 2, 1, 0], true)));
-}
-
 /// Returns whether a sender refuses a third loan from two slots.
 fn is_full(alloc: Global) -> Option<bool> {
     let Ok(mut sender) = Numbers::new(alloc, SIZE, 0) else {
@@ -61,96 +37,6 @@ fn is_full(alloc: Global) -> Option<bool> {
 #[test]
 fn a_sender_without_a_free_slot_refuses(rt: HostRuntime) {
     assert!(rt; is_full(rt.alloc()) == Some(true));
-}
-
-/// Returns how many slots are free after each of two holders gave one back.
-fn given_back(alloc: Global) -> Option<[usize; 2]> {
-    let Ok(mut sender) = Numbers::new(alloc, SIZE, 0) else {
-        return None;
-    };
-    let Ok(slot) = sender.loan(1, 7, 0) else {
-        return None;
-    };
-    sender.hold(slot);
-    sender.give_back(slot);
-    let held = sender.free_slots();
-    sender.give_back(slot);
-    Some([held, sender.free_slots()])
-}
-
-#[test]
-fn the_last_handle_frees_a_slot(rt: HostRuntime) {
-    assert!(rt; given_back(rt.alloc()) == Some([1, 2]));
-}
-
-/// Returns whether an entry is its queue's first, and how many slots are free while it alone holds its slot, and once it was
-/// dropped; and the queue's first entry then.
-fn entered(alloc: Global) -> Option<(bool, [usize; 2], Option<usize>)> {
-    let Ok(mut sender) = Numbers::new(alloc, SIZE, 0) else {
-        return None;
-    };
-    let Ok(slot) = sender.loan(1, 7, 0) else {
-        return None;
-    };
-    sender.put(0, 1, slot, false);
-    sender.give_back(slot);
-    let held = sender.free_slots();
-    let is_first = sender.first(0, 1) == Some(slot);
-    sender.drop_first(0, 1);
-    Some((is_first, [held, sender.free_slots()], sender.first(0, 1)))
-}
-
-#[test]
-fn an_entry_holds_its_slot(rt: HostRuntime) {
-    assert!(rt; entered(rt.alloc()) == Some((true, [1, 2], None)));
-}
-
-/// Returns whether what a receiver takes is what was put, whether the queue has entries then, and how many were taken from
-/// it, from the other channel's, and from it once the borrow ended.
-fn taken(alloc: Global) -> Option<(bool, bool, [usize; 3])> {
-    let Ok(mut sender) = Numbers::new(alloc, SIZE, 0) else {
-        return None;
-    };
-    let Ok(slot) = sender.loan(1, 7, 0) else {
-        return None;
-    };
-    sender.put(0, 1, slot, false);
-    let is_same = sender.take(0, 1) == slot;
-    let borrowed = sender.borrowed(0, 1);
-    let elsewhere = sender.borrowed(0, 0);
-    let has_entries = sender.has_entries(0, 1);
-    sender.end_borrow(0, 1);
-    Some((
-        is_same,
-        has_entries,
-        [borrowed, elsewhere, sender.borrowed(0, 1)],
-    ))
-}
-
-#[test]
-fn a_receiver_takes_the_oldest(rt: HostRuntime) {
-    assert!(rt; taken(rt.alloc()) == Some((true, false, [1, 0, 0])));
-}
-
-/// Returns how many slots are free while a taken entry alone holds its slot, and then.
-fn handed_out(alloc: Global) -> Option<[usize; 2]> {
-    let Ok(mut sender) = Numbers::new(alloc, SIZE, 0) else {
-        return None;
-    };
-    let Ok(slot) = sender.loan(1, 7, 0) else {
-        return None;
-    };
-    sender.put(0, 0, slot, false);
-    let taken = sender.take(0, 0);
-    sender.give_back(slot);
-    let held = sender.free_slots();
-    sender.give_back(taken);
-    Some([held, sender.free_slots()])
-}
-
-#[test]
-fn a_taken_entry_is_a_handle(rt: HostRuntime) {
-    assert!(rt; handed_out(rt.alloc()) == Some([1, 2]));
 }
 
 /// Returns whether the second entry takes the first one's place in a queue of one, and how many slots are free then.
@@ -173,24 +59,6 @@ fn overflown(alloc: Global) -> Option<(bool, usize)> {
 #[test]
 fn overflow_gives_up_the_oldest(rt: HostRuntime) {
     assert!(rt; overflown(rt.alloc()) == Some((true, 1)));
-}
-
-/// Returns whether a queue of two is full once an entry was put twice, and whether the other channel's is.
-fn filled(alloc: Global) -> Option<[bool; 2]> {
-    let Ok(mut sender) = Numbers::new(alloc, SIZE, 0) else {
-        return None;
-    };
-    let Ok(slot) = sender.loan(1, 7, 0) else {
-        return None;
-    };
-    sender.put(0, 0, slot, false);
-    sender.put(0, 0, slot, false);
-    Some([sender.is_full(0, 0), sender.is_full(0, 1)])
-}
-
-#[test]
-fn a_queue_is_full_at_its_capacity(rt: HostRuntime) {
-    assert!(rt; filled(rt.alloc()) == Some([true, false]));
 }
 
 /// Returns whether a second entry leaves the first one of a full queue of one.

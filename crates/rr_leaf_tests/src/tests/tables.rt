@@ -44,65 +44,6 @@ fn gets_what_was_inserted_whatever_place_is_tried_first(rt: HostRuntime) -> Resu
     Ok(())
 }
 
-/// Returns what stands under 7 in each place, and under 9 in its own.
-fn found_at(alloc: Global) -> Result<[Option<u32>; 5], AllocError> {
-    let table = two_rows(alloc)?;
-    Ok([
-        table.get_at(7, PLACES[0]),
-        table.get_at(7, PLACES[1]),
-        table.get_at(7, PLACES[2]),
-        table.get_at(7, PLACES[3]),
-        table.get_at(9, PLACES[2]),
-    ])
-}
-
-#[test]
-fn gets_only_what_stands_in_the_place(rt: HostRuntime) {
-    assert!(rt; found_at(rt.alloc()) == Ok([Some(70), None, None, None, Some(90)]));
-}
-
-/// Returns where 7 stands, in which of the places it stands, and what was taken from there once 71 was set.
-fn taken_from_its_place(
-    alloc: Global,
-) -> Result<(Option<Place>, [bool; 4], Option<u32>), AllocError> {
-    let mut table = two_rows(alloc)?;
-    let stands = [
-        table.is_at(7, PLACES[0]),
-        table.is_at(7, PLACES[1]),
-        table.is_at(7, PLACES[2]),
-        table.is_at(7, PLACES[3]),
-    ];
-    let found = table.find(7);
-    if table.is_at(7, PLACES[0]) {
-        table.set_at(7, PLACES[0], 71);
-    }
-    if table.is_at(7, PLACES[0]) {
-        let value = table.take_at(7, PLACES[0]);
-        return Ok((found, stands, Some(value)));
-    }
-    Ok((found, stands, None))
-}
-
-#[test]
-fn takes_a_value_from_its_place(rt: HostRuntime) {
-    let expected = (Some(PLACES[0]), [true, false, false, false], Some(71));
-    assert!(rt; taken_from_its_place(rt.alloc()) == Ok(expected));
-}
-
-/// Returns the numbers of three rows.
-fn row_numbers(alloc: Global) -> Result<[usize; 3], AllocError> {
-    let mut table: Table<u32> = Table::new(alloc);
-    let first = table.add_row(alloc, 2, 0)?;
-    let second = table.add_row(alloc, 0, 0)?;
-    let third = table.add_row(alloc, 1, 0)?;
-    Ok([first, second, third])
-}
-
-#[test]
-fn numbers_its_rows(rt: HostRuntime) {
-    assert!(rt; row_numbers(rt.alloc()) == Ok([0, 1, 2]));
-}
-
 /// Returns what is found under 7 and 9 once 9 was set by the place of 7.
 fn set_by_a_wrong_place(alloc: Global) -> Result<[Option<u32>; 2], AllocError> {
     let mut table = two_rows(alloc)?;

@@ -25,7 +25,7 @@ use Rattle.rr_store.specs.Loaning.{loan_details, with_loan_made, with_messages, 
 use Rattle.rr_store.specs.Order.{IsRising}
 use Rattle.rr_store.specs.Parts.{ClientPart, Parts, Sender}
 use Rattle.rr_store.specs.Reaching.{IsCore}
-use Rattle.rr_store.specs.Sound.{IsSound, empty_hand}
+use Rattle.rr_store.specs.Sound.{IsSoundStore, empty_hand}
 use Rattle.rr_store.specs.Views.{client_of, no_sender, sender_of, state_of}
 use Rattle.rr_store.proofs.base.hands.Vacant.{own_vacant}
 use Rattle.rr_store.proofs.base.lists.Replaced.{Standing, find_mapped, set_alike, standing, standing_nowhere}
@@ -35,8 +35,8 @@ use Rattle.rr_store.proofs.base.senders.Entries.{used_le}
 use Rattle.rr_store.proofs.base.senders.Owners.{clients_rise}
 use Rattle.rr_store.proofs.base.senders.Stored.{stored_twice}
 use Rattle.rr_store.proofs.base.views.Counts.{listed}
-use Rattle.rr_store.proofs.loaning.request.Refusals.{first_due, second_due, none_due, pool_refusal, refusal_stored, refuses, lends, stored_refusal}
-use Rattle.rr_store.proofs.loaning.request.Sound.{loan_sound}
+use Rattle.rr_loaning.proofs.laws.request.Refusals.{first_due, second_due, none_due, pool_refusal, refusal_stored, refuses, lends, stored_refusal}
+use Rattle.rr_loaning.proofs.laws.request.Sound.{loan_sound}
 
 -- the first of two reasons, or none
 reasons : (a b : Bool) (r : Option LoanError)
@@ -63,9 +63,6 @@ module _ {Q QH P PH K : Type 0} (p : Parts Q QH P PH K) (core : IsCore p) (n : �
   module _ (index : ℕ) (told : position (λ (c : ClientPart K). c.port.id == n) p.clients ≡ Some index) where
     stands : Standing (λ (c : ClientPart K). c.port.id == n) p.clients index
     stands = standing (λ (c : ClientPart K). c.port.id == n) p.clients index told
-
-    pub index_asked : index < length p.clients
-    index_asked = slice_get_within p.clients index stands.it stands.at
 
     named : stands.it.port.id ≡ n
     named = eqb-true stands.it.port.id n stands.passes
@@ -282,7 +279,7 @@ module _ {Q QH P PH K : Type 0} (p : Parts Q QH P PH K) (core : IsCore p) (n : �
 
                 pub core_then : (IsDefault : QH → Type 0) → IsDefault header → IsCore t
                 core_then IsDefault default = record {
-                  sound = subst (λ q. IsSound q empty_hand) (sym after)
+                  sound = subst (λ q. IsSoundStore q empty_hand) (sym after)
                       (loan_sound p core.sound index stands.it stands.at place.index len header its_free its_unused (omega (arith, left)));
                   reached = loans_request_reached (state_of p) core.reached IsDefault n len (Ok k) (state_of t) (loans IsDefault default);
                   complete = loans_request_complete (state_of p) core.complete IsDefault n len (Ok k) (state_of t)

@@ -9,7 +9,7 @@ use Rattle.std.proofs.lemmas.Option.{slice_get_within, get_or_from_slice_get}
 use Rattle.rr_slots.specs.declared.pool.AcquireError.{AcquireError}
 use Rattle.rr_table.specs.TableView.{TableEntry, IsInside, IsVacant, table_entry}
 use Rattle.rr_table.specs.declared.place.Place.{Place}
-use Rattle.rr_maps.proofs.MapLaws.{get-insert_cases, get-insert_other}
+use Rattle.rr_map_laws.proofs.MapLaws.{get-insert_cases, get-insert_other}
 use Rattle.rr_sender.specs.Senders.{all_entries, loaned, times, used_count}
 use Rattle.rr_protocol.specs.declared.error.LoanError.{LoanError}
 use Rattle.rr_protocol.specs.declared.kind.Kind.{Kind}
@@ -29,7 +29,7 @@ use Rattle.rr_store.specs.Loaning.{with_messages, with_one_loan}
 use Rattle.rr_store.specs.Order.{IsRising}
 use Rattle.rr_store.specs.Parts.{ServerPart, Parts, Sender}
 use Rattle.rr_store.specs.Reaching.{IsCore}
-use Rattle.rr_store.specs.Sound.{IsSound, empty_hand, is_active_of, is_of_request, request_details, server_place}
+use Rattle.rr_store.specs.Sound.{IsSoundStore, empty_hand, is_active_of, is_of_request, request_details, server_place}
 use Rattle.rr_store.specs.Views.{no_sender, sender_of, state_of}
 use Rattle.rr_store.proofs.base.hands.Vacant.{response_vacant}
 use Rattle.rr_store.proofs.base.lists.Replaced.{Standing, set_alike, standing}
@@ -40,11 +40,11 @@ use Rattle.rr_store.proofs.base.senders.Entries.{used_le}
 use Rattle.rr_store.proofs.base.senders.Owners.{First, first_by, servers_rise}
 use Rattle.rr_store.proofs.base.senders.Stored.{stored_twice}
 use Rattle.rr_store.proofs.base.views.Counts.{listed}
-use Rattle.rr_store.proofs.loaning.response.Active.{answers_fit, loans_from_fit}
-use Rattle.rr_store.proofs.loaning.response.Inserted.{response_loan_sound}
-use Rattle.rr_store.proofs.loaning.response.Refusals.{first_due, second_due, none_due, pool_refusal, refuses, lends, stored_refusal}
+use Rattle.rr_loaning.proofs.laws.response.Active.{answers_fit, loans_from_fit}
+use Rattle.rr_loaning.proofs.laws.response.Inserted.{response_loan_sound}
+use Rattle.rr_loaning.proofs.laws.response.Refusals.{first_due, second_due, none_due, pool_refusal, refuses, lends, stored_refusal}
 use Rattle.rr_store.proofs.querying.Connected.{active_stage, of_kind}
-use Rattle.rr_store.proofs.releasing.active.Sound.{server_placed}
+use Rattle.rr_store.proofs.base.senders.Connected.{server_placed}
 
 -- what is there is not nothing
 some_is_some : {X : Type 0} {x : X} (o : Option X) → o ≡ Some x → o ≡ None → ⊥
@@ -378,7 +378,7 @@ module _ {Q QH P PH K : Type 0} (p : Parts Q QH P PH K) (core : IsCore p) (n : �
 
                     pub core_then : (IsDefault : PH → Type 0) → IsDefault header → IsCore t
                     core_then IsDefault default = record {
-                      sound = subst (λ q. IsSound q empty_hand) (sym after)
+                      sound = subst (λ q. IsSoundStore q empty_hand) (sym after)
                           (response_loan_sound p core.sound index stands.it stands.at n entry.sender entry.slot loans
                           (table_entry place entry)
                           at is given own_place.index len header its_free its_unused (omega (arith, left)));

@@ -1,15 +1,15 @@
 //! Requests and their responses, as iceoryx2's documents have them.
 #![tactic(auto, using(rr_ports::proofs::Frames::kinds))]
 
-use super::limits;
+use super::LIMITS;
 use rr_ports::typed::Hub;
-use rr_ports::{UniqueNodeId, UpdateConnections};
+use rr_ports::{Limits, UniqueNodeId, UpdateConnections};
 use std::test::Fail;
 
 /// A server writes a value into a loaned response, and the client receives it.
 #[test]
 fn a_written_response_is_received(rt: HostRuntime) -> Result<(), Fail> {
-    let mut hub: Hub<u64, u64, u64, u64> = Hub::new(rt.alloc(), limits(false), UniqueNodeId(7))?;
+    let mut hub: Hub<u64, u64, u64, u64> = Hub::new(rt.alloc(), LIMITS, UniqueNodeId(7))?;
     let client = hub
         .client_builder()
         .create(&mut hub)
@@ -43,7 +43,11 @@ fn a_written_response_is_received(rt: HostRuntime) -> Result<(), Fail> {
 /// With fire-and-forget a server is handed a request that nobody waits for.
 #[test]
 fn a_request_is_received_though_nobody_waits(rt: HostRuntime) -> Result<(), Fail> {
-    let mut hub: Hub<u64, u64, u64, u64> = Hub::new(rt.alloc(), limits(true), UniqueNodeId(7))?;
+    let limits = Limits {
+        enable_fire_and_forget_requests: true,
+        ..LIMITS
+    };
+    let mut hub: Hub<u64, u64, u64, u64> = Hub::new(rt.alloc(), limits, UniqueNodeId(7))?;
     let client = hub
         .client_builder()
         .create(&mut hub)
@@ -71,7 +75,7 @@ fn a_request_is_received_though_nobody_waits(rt: HostRuntime) -> Result<(), Fail
 /// A response tells the server that sent it, and the headers tell both ports and the node.
 #[test]
 fn headers_name_the_ports_and_the_node(rt: HostRuntime) -> Result<(), Fail> {
-    let mut hub: Hub<u64, u64, u64, u64> = Hub::new(rt.alloc(), limits(false), UniqueNodeId(7))?;
+    let mut hub: Hub<u64, u64, u64, u64> = Hub::new(rt.alloc(), LIMITS, UniqueNodeId(7))?;
     let client = hub
         .client_builder()
         .create(&mut hub)
@@ -106,8 +110,8 @@ fn headers_name_the_ports_and_the_node(rt: HostRuntime) -> Result<(), Fail> {
 /// A hub holds what it lists, and not what was released there under the same number's kind.
 #[test]
 fn a_hub_holds_its_own_ports(rt: HostRuntime) -> Result<(), Fail> {
-    let mut hub: Hub<u64, u64, u64, u64> = Hub::new(rt.alloc(), limits(false), UniqueNodeId(7))?;
-    let mut other: Hub<u64, u64, u64, u64> = Hub::new(rt.alloc(), limits(false), UniqueNodeId(8))?;
+    let mut hub: Hub<u64, u64, u64, u64> = Hub::new(rt.alloc(), LIMITS, UniqueNodeId(7))?;
+    let mut other: Hub<u64, u64, u64, u64> = Hub::new(rt.alloc(), LIMITS, UniqueNodeId(8))?;
     let client = hub
         .client_builder()
         .create(&mut hub)

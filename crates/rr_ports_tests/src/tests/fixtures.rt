@@ -6,7 +6,7 @@ ghost use Rattle.rr_protocol.specs.declared.kind.Kind.TheVariants as kind;
 ghost use Rattle.rr_protocol.specs.State.{numbers_left};
 ghost use Rattle.rr_ports.specs.Kinds.{Names, KeepsKinds};
 
-use super::limits;
+use super::LIMITS;
 use rr_ports::typed::{ActiveRequest, Client, Hub, PendingResponse, Server};
 use rr_ports::{ReceiveError, UniqueNodeId};
 use std::alloc::Global;
@@ -29,7 +29,7 @@ pub fn connect(rt: &impl Abort, alloc: Global, loans: Option<usize>) -> Result<C
     ensures server { IfOk result (λ c. Names c.hub c.server kind.Server) }
     ensures numbers { IfOk result (λ c. 9 < numbers_left c.hub) }
 {
-    let mut hub: Service = Hub::new(alloc, limits(false), UniqueNodeId(7))?;
+    let mut hub: Service = Hub::new(alloc, LIMITS, UniqueNodeId(7))?;
     let client = hub.client_builder().create(&mut hub).expect(rt, "a client");
     let factory = match loans {
         Some(loans) => hub.server_builder().max_loaned_responses_per_request(loans),

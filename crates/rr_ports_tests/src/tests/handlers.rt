@@ -1,7 +1,7 @@
 //! Handlers of full queues, set through the factories of ports.
 #![tactic(auto, using(rr_ports::proofs::Frames::kinds))]
 
-use super::limits;
+use super::LIMITS;
 use rr_ports::typed::Hub;
 use rr_ports::{
     BackpressureAction, BackpressureFn, BackpressureInfo, BackpressureStrategy, RequestSendError,
@@ -39,7 +39,7 @@ fn third_request(
     strategy: BackpressureStrategy,
     handler: At,
 ) -> Result<Result<usize, RequestSendError>, Fail> {
-    let mut hub: Hub<u64, u64, u64, u64, At> = Hub::new(alloc, limits(false), UniqueNodeId(7))?;
+    let mut hub: Hub<u64, u64, u64, u64, At> = Hub::new(alloc, LIMITS, UniqueNodeId(7))?;
     let factory = hub
         .client_builder()
         .backpressure_strategy(strategy)

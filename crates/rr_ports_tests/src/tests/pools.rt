@@ -6,8 +6,8 @@ ghost use Rattle.rr_protocol.specs.declared.kind.Kind.TheVariants as kind;
 ghost use Rattle.rr_protocol.specs.State.{numbers_left};
 ghost use Rattle.rr_ports.specs.Kinds.{Names, KeepsKinds};
 
+use super::LIMITS;
 use super::fixtures::{Connected, Service, ask, connect};
-use super::limits;
 use rr_ports::typed::{ActiveRequest, Hub};
 use rr_ports::{ClientCreateError, LoanError, ServerCreateError, UniqueNodeId};
 use std::test::Fail;
@@ -62,7 +62,7 @@ fn loans_are_counted_per_request(rt: HostRuntime) -> Result<(), Fail> {
 /// A server whose pool was overridden by 0 has one slot.
 #[test]
 fn an_override_of_responses_is_at_least_one(rt: HostRuntime) -> Result<(), Fail> {
-    let mut hub: Service = Hub::new(rt.alloc(), limits(false), UniqueNodeId(7))?;
+    let mut hub: Service = Hub::new(rt.alloc(), LIMITS, UniqueNodeId(7))?;
     let client = hub
         .client_builder()
         .create(&mut hub)
@@ -116,7 +116,7 @@ fn server_refusal(hub: &mut Service, slots: usize) -> Option<ServerCreateError> 
 /// would be found.
 #[test]
 fn an_override_is_at_most_the_worst_case(rt: HostRuntime) -> Result<(), Fail> {
-    let mut hub: Service = Hub::new(rt.alloc(), limits(false), UniqueNodeId(7))?;
+    let mut hub: Service = Hub::new(rt.alloc(), LIMITS, UniqueNodeId(7))?;
     for slots in [11, 12, usize::MAX] {
         assert_eq!(rt; client_refusal(&mut hub, slots), None);
     }

@@ -24,19 +24,19 @@ use Rattle.rr_store.specs.Parts.{Parts, ServerPart}
 use Rattle.rr_store.specs.Reaching.{IsCore}
 use Rattle.rr_store.specs.Receiving.{IsNextSender, Reaches, borrowed_from, queue_from}
 use Rattle.rr_store.specs.Skimming.{IsSkimmedTo, with_received_request}
-use Rattle.rr_store.specs.Sound.{IsSound, active_place, empty_hand, server_place}
+use Rattle.rr_store.specs.Sound.{IsSoundStore, active_place, empty_hand, server_place}
 use Rattle.rr_store.specs.Views.{sender_of, server_of, state_of}
 use Rattle.rr_store.proofs.base.lists.Replaced.{find_mapped, standing, standing_nowhere}
 use Rattle.rr_store.proofs.base.lookups.Asking.{requests_fit}
 use Rattle.rr_store.proofs.base.lookups.Numbers.{server_there}
 use Rattle.rr_store.proofs.base.senders.Owners.{First, servers_rise}
 use Rattle.rr_store.proofs.base.senders.Ports.{of_found}
-use Rattle.rr_store.proofs.receiving.request.Inserted.{received_request_sound}
-use Rattle.rr_store.proofs.receiving.request.Ready.{IsReady, answered, its_limits, its_next, its_place, its_self, its_server, own_place}
-use Rattle.rr_store.proofs.receiving.request.Ready.{ready_as_is, ready_skimmed, server_reaches, waited}
-use Rattle.rr_store.proofs.receiving.request.Refusals.{receives_error, receives_none, receives_one}
-use Rattle.rr_store.proofs.receiving.request.Sound.{same_of}
-use Rattle.rr_store.proofs.receiving.request.Vacant.{active_vacant, within_row}
+use Rattle.rr_receiving.proofs.laws.request.Inserted.{received_request_sound}
+use Rattle.rr_receiving.proofs.laws.request.Ready.{IsReady, answered, its_limits, its_next, its_place, its_self, its_server, own_place}
+use Rattle.rr_receiving.proofs.laws.request.Ready.{ready_as_is, ready_skimmed, server_reaches, waited}
+use Rattle.rr_receiving.proofs.laws.request.Refusals.{receives_error, receives_none, receives_one}
+use Rattle.rr_receiving.proofs.laws.request.Sound.{same_of}
+use Rattle.rr_receiving.proofs.laws.request.Vacant.{active_vacant, within_row}
 
 module _ {Q QH P PH K : Type 0} (p : Parts Q QH P PH K) (core : IsCore p) (n : ℕ)
     (its_kind : kind_at (state_of p) n ≡ Some kind.Server) where
@@ -328,7 +328,7 @@ module _ {Q QH P PH K : Type 0} (p : Parts Q QH P PH K) (core : IsCore p) (n : �
                 -- what is true of each core is true of them
                 pub core_then : IsCore t
                 core_then = record {
-                  sound = subst (λ q. IsSound q empty_hand) (sym t_is)
+                  sound = subst (λ q. IsSoundStore q empty_hand) (sym t_is)
                       (received_request_sound q ready.sound below sender here.0 server.index server.it still slot first_is);
                   reached = receives_request_reached (state_of p) core.reached n (Ok (Some k)) (state_of t) receives_then;
                   complete = receives_request_complete (state_of p) core.complete n (Ok (Some k)) (state_of t) receives_then;

@@ -21,7 +21,7 @@ use Rattle.rr_store.specs.Kinds.{stage_kind}
 use Rattle.rr_store.specs.Parts.{ClientPart, Parts}
 use Rattle.rr_store.specs.Reaching.{IsCore}
 use Rattle.rr_store.specs.Receiving.{IsNextSender, Reaches, borrowed_from, queue_from, received_held, with_received_response, with_taken_response}
-use Rattle.rr_store.specs.Sound.{IsSound, empty_hand, response_details, response_place, is_pending}
+use Rattle.rr_store.specs.Sound.{IsSoundStore, empty_hand, response_details, response_place, is_pending}
 use Rattle.rr_store.specs.Views.{handle_of, sender_of, state_of}
 use Rattle.rr_store.proofs.base.hands.Vacant.{response_vacant}
 use Rattle.rr_store.proofs.base.lookups.Asking.{borrows_fit}
@@ -31,9 +31,10 @@ use Rattle.rr_store.proofs.base.lookups.Shown.{request_spot}
 use Rattle.rr_store.proofs.base.senders.Owners.{First, client_receiver, port_of_sender}
 use Rattle.rr_store.proofs.base.senders.Queues.{times_queue}
 use Rattle.rr_store.proofs.querying.Connected.{of_kind, pending_has_request, pending_stage}
-use Rattle.rr_store.proofs.receiving.response.Inserted.{entry_waits, no_handle, not_held, received_sound}
-use Rattle.rr_store.proofs.receiving.response.Refusals.{IsAsking, asking, by_error, reaches, receives, receives_nothing}
-use Rattle.rr_store.proofs.receiving.response.Sound.{details_same, same_of}
+use Rattle.rr_receiving.proofs.laws.response.Inserted.{entry_waits, no_handle, not_held, received_sound}
+use Rattle.rr_receiving.proofs.laws.response.Refusals.{IsAsking, asking, by_error, receives, receives_nothing}
+use Rattle.rr_store.proofs.base.senders.Connected.{reaches}
+use Rattle.rr_receiving.proofs.laws.response.Sound.{details_same, same_of}
 
 module _ {Q QH P PH K : Type 0} (p : Parts Q QH P PH K) (core : IsCore p) (n : ℕ) (place : Place) (entry : HandleEntry)
     (taken : fin_map.get p.table.entries n ≡ Some (table_entry place entry))
@@ -237,7 +238,7 @@ module _ {Q QH P PH K : Type 0} (p : Parts Q QH P PH K) (core : IsCore p) (n : �
               -- what is true of each core is true of them
               pub core_then : IsCore t
               core_then = record {
-                sound = subst (λ q. IsSound q empty_hand) (sym t_is)
+                sound = subst (λ q. IsSoundStore q empty_hand) (sym t_is)
                     (received_sound p core.sound sender here.0 client.index client.it client.at entry.slot slot asks.inside first_is);
                 reached = receives_response_reached (state_of p) core.reached n (Ok (Some k)) (state_of t) receives_then;
                 complete = receives_response_complete (state_of p) core.complete n (Ok (Some k)) (state_of t) receives_then;

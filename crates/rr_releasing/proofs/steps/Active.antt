@@ -16,7 +16,7 @@ use Rattle.rr_store.specs.Order.{IsRising}
 use Rattle.rr_store.specs.Parts.{ServerPart, Sender, Parts}
 use Rattle.rr_store.specs.Reaching.{IsCore}
 use Rattle.rr_store.specs.Releasing.{IsHandleGone, borrow_ended, borrow_given_back, is_active_request, server_of_stage, without_mark}
-use Rattle.rr_store.specs.Sound.{HasPort, IsSound, empty_hand, server_place}
+use Rattle.rr_store.specs.Sound.{HasPort, IsSoundStore, empty_hand, server_place}
 use Rattle.rr_store.specs.Views.{no_sender, sender_of, state_of}
 use Rattle.rr_store.proofs.base.frames.Emptied.{emptied_sound, emptied_view}
 use Rattle.rr_store.proofs.base.senders.Emptied.{among_emptied, requests_emptied}
@@ -27,13 +27,14 @@ use Rattle.rr_store.proofs.base.lookups.Placed.{value_there}
 use Rattle.rr_store.proofs.base.lookups.Shown.{held_within}
 use Rattle.rr_store.proofs.base.senders.Owners.{First, first_by, servers_rise}
 use Rattle.rr_store.proofs.base.senders.Ports.{of_found, told_at}
-use Rattle.rr_store.proofs.releasing.active.Fields.{ActiveFound, active_found}
+use Rattle.rr_releasing.proofs.laws.active.Fields.{ActiveFound, active_found}
 use Rattle.rr_store.proofs.base.views.Counts.{listed}
 use Rattle.rr_store.proofs.querying.Connected.{mark_within}
-use Rattle.rr_store.proofs.releasing.active.Sound.{after_active, active_sound, server_placed, server_is}
-use Rattle.rr_store.proofs.releasing.active.View.{active_view}
-use Rattle.rr_store.proofs.releasing.response.Fields.{queue_there}
-use Rattle.rr_store.proofs.releasing.View.{gone_as}
+use Rattle.rr_releasing.proofs.laws.active.Sound.{after_active, active_sound}
+use Rattle.rr_store.proofs.base.senders.Connected.{server_placed, server_is}
+use Rattle.rr_releasing.proofs.laws.active.View.{active_view}
+use Rattle.rr_releasing.proofs.laws.response.Fields.{queue_there}
+use Rattle.rr_releasing.proofs.laws.View.{gone_as}
 
 module _ {Q QH P PH K : Type 0} (p : Parts Q QH P PH K) (core : IsCore p) (n : ℕ) (place : Place) (entry : HandleEntry)
     (taken : fin_map.get p.table.entries n ≡ Some (table_entry place entry))
@@ -149,8 +150,8 @@ module _ {Q QH P PH K : Type 0} (p : Parts Q QH P PH K) (core : IsCore p) (n : �
           before_is : before ≡ after_active p core.sound n found.table_entry found.at found.server found.loans found.active
           before_is = ap held_less (sym found.is)
 
-          before_sound : IsSound before empty_hand
-          before_sound = subst (λ q. IsSound q empty_hand) (sym before_is)
+          before_sound : IsSoundStore before empty_hand
+          before_sound = subst (λ q. IsSoundStore q empty_hand) (sym before_is)
               (active_sound p core.sound n found.table_entry found.at found.server found.loans found.active)
 
           -- and where it may be
@@ -170,8 +171,8 @@ module _ {Q QH P PH K : Type 0} (p : Parts Q QH P PH K) (core : IsCore p) (n : �
               (with_messages l (borrow_given_back l.messages its 0 entry.slot))
               (record { rest = refl; messages = among_emptied (entry.slot ∷ []) (borrow_ended l.messages its 0 entry.slot) })
 
-          pub sound_then : IsSound t empty_hand
-          sound_then = subst (λ q. IsSound q empty_hand) (sym after_is) (emptied_sound before after emptied empty_hand before_sound)
+          pub sound_then : IsSoundStore t empty_hand
+          sound_then = subst (λ q. IsSoundStore q empty_hand) (sym after_is) (emptied_sound before after emptied empty_hand before_sound)
 
           module _ (sender : ℕ) (its : IsSomeAnd (slice_get t.servers index) (λ s. sender ≡ s.sender)) where
             sender_is : sender ≡ server.it.sender

@@ -13,14 +13,14 @@ use Rattle.rr_store.specs.Leaving.{without_client_value}
 use Rattle.rr_store.specs.Order.{IsRising}
 use Rattle.rr_store.specs.Parts.{ClientPart, Parts}
 use Rattle.rr_store.specs.Reaching.{IsCore}
-use Rattle.rr_store.specs.Sound.{IsSound, empty_hand}
+use Rattle.rr_store.specs.Sound.{IsSoundStore, empty_hand}
 use Rattle.rr_store.specs.Views.{client_of, state_of}
 use Rattle.rr_store.proofs.base.lists.Replaced.{Standing, find_mapped, standing, standing_nowhere}
 use Rattle.rr_store.proofs.base.lookups.Numbers.{client_there}
 use Rattle.rr_store.proofs.base.senders.Owners.{clients_rise}
 use Rattle.rr_store.proofs.base.views.Counts.{listed}
-use Rattle.rr_store.proofs.leaving.ClientValue.{client_value_sound}
-use Rattle.rr_store.proofs.leaving.ClientValueView.{client_value_view}
+use Rattle.rr_releasing.proofs.laws.leaving.ClientValue.{client_value_sound}
+use Rattle.rr_releasing.proofs.laws.leaving.ClientValueView.{client_value_view}
 
 module _ {Q QH P PH K : Type 0} (p : Parts Q QH P PH K) (core : IsCore p) (n : ℕ)
     (its_kind : kind_at (state_of p) n ≡ Some kind.Client) where
@@ -56,8 +56,8 @@ module _ {Q QH P PH K : Type 0} (p : Parts Q QH P PH K) (core : IsCore p) (n : �
       t_is : t ≡ without_client_value p index it.it
       t_is = subst (λ o. IsSomeAnd o (λ c. t ≡ without_client_value p index c)) it.at ended
 
-      pub sound_then : IsSound t empty_hand
-      sound_then = subst (λ q. IsSound q empty_hand) (sym t_is) (client_value_sound p core.sound index it.it it.at)
+      pub sound_then : IsSoundStore t empty_hand
+      sound_then = subst (λ q. IsSoundStore q empty_hand) (sym t_is) (client_value_sound p core.sound index it.it it.at)
 
       -- the client without its value
       abbrev gone : ClientPart K

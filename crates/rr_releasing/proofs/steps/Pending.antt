@@ -17,7 +17,7 @@ use Rattle.rr_store.specs.Parts.{ClientPart, Parts, Sender}
 use Rattle.rr_store.specs.Reaching.{IsCore}
 use Rattle.rr_store.specs.Receiving.{Reaches}
 use Rattle.rr_store.specs.Releasing.{IsHandleGone, held_once_less}
-use Rattle.rr_store.specs.Sound.{HasPort, IsSound, empty_hand}
+use Rattle.rr_store.specs.Sound.{HasPort, IsSoundStore, empty_hand}
 use Rattle.rr_store.specs.Views.{no_sender, sender_of, state_of}
 use Rattle.rr_store.proofs.base.frames.Emptied.{emptied_sound, emptied_view}
 use Rattle.rr_store.proofs.base.senders.Emptied.{among_emptied, each_emptied, one_emptied}
@@ -25,11 +25,11 @@ use Rattle.rr_store.proofs.base.lists.Replaced.{set_alike}
 use Rattle.rr_store.proofs.base.lookups.Placed.{value_there}
 use Rattle.rr_store.proofs.base.senders.Owners.{First, client_receiver, port_of_sender, client_owner}
 use Rattle.rr_store.proofs.base.senders.Stored.{stored_twice}
-use Rattle.rr_store.proofs.receiving.response.Refusals.{reaches}
-use Rattle.rr_store.proofs.releasing.pending.Fields.{PendingFound, pending_found}
-use Rattle.rr_store.proofs.releasing.pending.Sound.{after_pending, has_pending, inside, pending_sound}
-use Rattle.rr_store.proofs.releasing.pending.View.{pending_view}
-use Rattle.rr_store.proofs.releasing.View.{gone_as}
+use Rattle.rr_store.proofs.base.senders.Connected.{reaches}
+use Rattle.rr_releasing.proofs.laws.pending.Fields.{PendingFound, pending_found}
+use Rattle.rr_releasing.proofs.laws.pending.Sound.{after_pending, has_pending, inside, pending_sound}
+use Rattle.rr_releasing.proofs.laws.pending.View.{pending_view}
+use Rattle.rr_releasing.proofs.laws.View.{gone_as}
 
 module _ {Q QH P PH K : Type 0} (p : Parts Q QH P PH K) (core : IsCore p) (n : ℕ) (place : Place) (entry : HandleEntry)
     (taken : fin_map.get p.table.entries n ≡ Some (table_entry place entry))
@@ -123,8 +123,8 @@ module _ {Q QH P PH K : Type 0} (p : Parts Q QH P PH K) (core : IsCore p) (n : �
             server_senders = map (with_empty_queue receiver_there h.slot) p.server_senders;
           }) (sym found.is)
 
-          before_sound : IsSound before empty_hand
-          before_sound = subst (λ q. IsSound q empty_hand) (sym before_is)
+          before_sound : IsSoundStore before empty_hand
+          before_sound = subst (λ q. IsSoundStore q empty_hand) (sym before_is)
               (pending_sound p core.sound n found.table_entry found.at found.hint found.connections found.pending client.index client.it
               client.at sends)
 
@@ -166,8 +166,8 @@ module _ {Q QH P PH K : Type 0} (p : Parts Q QH P PH K) (core : IsCore p) (n : �
           port_then = subst (λ (q : Parts Q QH P PH K). HasPort (λ (c : ClientPart K). c.sender) q.clients entry.sender) (sym after_is)
               (client.index, client.it, client.at, client.is)
 
-          pub sound_then : IsSound t empty_hand
-          sound_then = subst (λ q. IsSound q empty_hand) (sym after_is) (emptied_sound before after emptied empty_hand before_sound)
+          pub sound_then : IsSoundStore t empty_hand
+          sound_then = subst (λ q. IsSoundStore q empty_hand) (sym after_is) (emptied_sound before after emptied empty_hand before_sound)
 
           -- contracts see the handle go
           pub gone_then : IsHandleGone (state_of p) n (sender_of entry.sender t.client_senders).owner (state_of t)

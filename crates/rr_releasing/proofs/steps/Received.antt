@@ -14,7 +14,7 @@ use Rattle.rr_store.specs.Loaning.{with_messages}
 use Rattle.rr_store.specs.Parts.{ClientPart, Parts}
 use Rattle.rr_store.specs.Reaching.{IsCore}
 use Rattle.rr_store.specs.Releasing.{IsHandleGone, borrow_ended, borrow_given_back, is_received_response}
-use Rattle.rr_store.specs.Sound.{HasPort, IsSound, empty_hand, response_details}
+use Rattle.rr_store.specs.Sound.{HasPort, IsSoundStore, empty_hand, response_details}
 use Rattle.rr_store.specs.Views.{sender_of, state_of}
 use Rattle.rr_store.proofs.base.frames.Emptied.{emptied_sound, emptied_view}
 use Rattle.rr_store.proofs.base.senders.Emptied.{among_emptied, responses_emptied}
@@ -22,9 +22,9 @@ use Rattle.rr_store.proofs.base.lookups.Placed.{value_there}
 use Rattle.rr_store.proofs.base.lookups.Shown.{held_within}
 use Rattle.rr_store.proofs.base.senders.Owners.{First, first_by}
 use Rattle.rr_store.proofs.base.views.Counts.{listed}
-use Rattle.rr_store.proofs.releasing.response.Fields.{ReceivedFound, received_found, queue_there}
-use Rattle.rr_store.proofs.releasing.response.Sound.{after_received, has_received, received_sound, received_view}
-use Rattle.rr_store.proofs.releasing.View.{gone_as}
+use Rattle.rr_releasing.proofs.laws.response.Fields.{ReceivedFound, received_found, queue_there}
+use Rattle.rr_releasing.proofs.laws.response.Sound.{after_received, has_received, received_sound, received_view}
+use Rattle.rr_releasing.proofs.laws.View.{gone_as}
 
 module _ {Q QH P PH K : Type 0} (p : Parts Q QH P PH K) (core : IsCore p) (n : ℕ) (place : Place) (entry : HandleEntry)
     (taken : fin_map.get p.table.entries n ≡ Some (table_entry place entry))
@@ -116,8 +116,8 @@ module _ {Q QH P PH K : Type 0} (p : Parts Q QH P PH K) (core : IsCore p) (n : �
           before_is : before ≡ after_received p core.sound n found.table_entry found.at found.got client.index client.it client.at its_client
           before_is = ap held_less (sym found.is)
 
-          before_sound : IsSound before empty_hand
-          before_sound = subst (λ q. IsSound q empty_hand) (sym before_is)
+          before_sound : IsSoundStore before empty_hand
+          before_sound = subst (λ q. IsSoundStore q empty_hand) (sym before_is)
               (received_sound p core.sound n found.table_entry found.at found.got client.index client.it client.at its_client)
 
           -- and where it may be
@@ -155,8 +155,8 @@ module _ {Q QH P PH K : Type 0} (p : Parts Q QH P PH K) (core : IsCore p) (n : �
           port_then = subst (λ (q : Parts Q QH P PH K). HasPort (λ (c : ClientPart K). c.sender) q.clients details.client_sender)
               (sym after_is) (client.index, client.it, client.at, its_sender)
 
-          pub sound_then : IsSound t empty_hand
-          sound_then = subst (λ q. IsSound q empty_hand) (sym after_is) (emptied_sound before after emptied empty_hand before_sound)
+          pub sound_then : IsSoundStore t empty_hand
+          sound_then = subst (λ q. IsSoundStore q empty_hand) (sym after_is) (emptied_sound before after emptied empty_hand before_sound)
 
           -- contracts see the handle go
           pub gone_then : IsHandleGone (state_of p) n (sender_of details.client_sender t.client_senders).owner (state_of t)

@@ -8,9 +8,9 @@ use Rattle.rr_laws.proofs.Leaving.{after_release_reached}
 use Rattle.rr_store.specs.Parts.{Parts}
 use Rattle.rr_store.specs.Reaching.{IsCore}
 use Rattle.rr_store.specs.Releasing.{IsHandleGone}
-use Rattle.rr_store.specs.Sound.{IsSound, empty_hand}
+use Rattle.rr_store.specs.Sound.{IsSoundStore, empty_hand}
 use Rattle.rr_store.specs.Views.{state_of}
-use Rattle.rr_store.proofs.releasing.View.{release_from}
+use Rattle.rr_releasing.proofs.laws.View.{release_from}
 
 module _ {Q QH P PH K : Type 0} (p : Parts Q QH P PH K) (core : IsCore p) (n port : ℕ) (q : Parts Q QH P PH K)
     (gone : IsHandleGone (state_of p) n port (state_of q)) (t : Parts Q QH P PH K)
@@ -20,7 +20,7 @@ module _ {Q QH P PH K : Type 0} (p : Parts Q QH P PH K) (core : IsCore p) (n por
   view_then = left ∙ sym (release_from (state_of p) (state_of q) n port gone)
 
   -- what is true
-  pub core_then : IsSound t empty_hand → IsCore t
+  pub core_then : IsSoundStore t empty_hand → IsCore t
   core_then sound = record {
     sound = sound;
     reached = subst (λ s. IsReached s) (sym view_then) (after_release_reached (state_of p) n core.reached);

@@ -15,7 +15,7 @@ use Rattle.rr_store.specs.Emptying.{PartsEmptied}
 use Rattle.rr_store.specs.Parts.{ClientPart, Parts, Sender}
 use Rattle.rr_store.specs.Reaching.{IsCore}
 use Rattle.rr_store.specs.Releasing.{IsHandleGone, held_once_less, is_loaned_request, without_loan}
-use Rattle.rr_store.specs.Sound.{HasPort, IsSound, empty_hand, is_request_loan}
+use Rattle.rr_store.specs.Sound.{HasPort, IsSoundStore, empty_hand, is_request_loan}
 use Rattle.rr_store.specs.Views.{no_sender, sender_of, state_of}
 use Rattle.rr_store.proofs.base.frames.Emptied.{emptied_sound, emptied_view}
 use Rattle.rr_store.proofs.base.senders.Emptied.{among_emptied, requests_emptied}
@@ -23,9 +23,9 @@ use Rattle.rr_store.proofs.base.lists.Replaced.{set_alike}
 use Rattle.rr_store.proofs.base.lookups.Placed.{value_there}
 use Rattle.rr_store.proofs.base.senders.Owners.{First, port_of_sender, client_owner}
 use Rattle.rr_store.proofs.base.senders.Stored.{stored_twice}
-use Rattle.rr_store.proofs.releasing.request.Fields.{LoanFound, loan_found}
-use Rattle.rr_store.proofs.releasing.request.Sound.{after_loan, has_loan, released_sound, released_view}
-use Rattle.rr_store.proofs.releasing.View.{gone_as}
+use Rattle.rr_releasing.proofs.laws.request.Fields.{LoanFound, loan_found}
+use Rattle.rr_releasing.proofs.laws.request.Sound.{after_loan, has_loan, released_sound, released_view}
+use Rattle.rr_releasing.proofs.laws.View.{gone_as}
 
 module _ {Q QH P PH K : Type 0} (p : Parts Q QH P PH K) (core : IsCore p) (n : ℕ) (place : Place) (entry : HandleEntry)
     (taken : fin_map.get p.table.entries n ≡ Some (table_entry place entry))
@@ -87,8 +87,8 @@ module _ {Q QH P PH K : Type 0} (p : Parts Q QH P PH K) (core : IsCore p) (n : �
           client_senders = slice_set p.client_senders h.sender (without_loan (given h));
         }) (sym found.is)
 
-        before_sound : IsSound before empty_hand
-        before_sound = subst (λ q. IsSound q empty_hand) (sym before_is)
+        before_sound : IsSoundStore before empty_hand
+        before_sound = subst (λ q. IsSoundStore q empty_hand) (sym before_is)
             (released_sound p core.sound n found.table_entry found.at found.loan client.index client.it client.at sends)
 
         -- and where it may be
@@ -114,8 +114,8 @@ module _ {Q QH P PH K : Type 0} (p : Parts Q QH P PH K) (core : IsCore p) (n : �
         port_then = subst (λ (q : Parts Q QH P PH K). HasPort (λ (c : ClientPart K). c.sender) q.clients entry.sender) (sym after_is)
             (client.index, client.it, client.at, client.is)
 
-        pub sound_then : IsSound t empty_hand
-        sound_then = subst (λ q. IsSound q empty_hand) (sym after_is) (emptied_sound before after emptied empty_hand before_sound)
+        pub sound_then : IsSoundStore t empty_hand
+        sound_then = subst (λ q. IsSoundStore q empty_hand) (sym after_is) (emptied_sound before after emptied empty_hand before_sound)
 
         -- contracts see the handle go
         pub gone_then : IsHandleGone (state_of p) n (sender_of entry.sender t.client_senders).owner (state_of t)

@@ -16,7 +16,7 @@ use Rattle.rr_store.specs.Ending.{IsAskedPlace, IsLoanEnded, found_under}
 use Rattle.rr_store.specs.Parts.{ServerPart, Parts, Sender}
 use Rattle.rr_store.specs.Reaching.{IsCore}
 use Rattle.rr_store.specs.Releasing.{IsHandleGone, held_once_less, is_loaned_response, without_loan}
-use Rattle.rr_store.specs.Sound.{HasPort, IsSound, empty_hand, response_details, is_response_loan}
+use Rattle.rr_store.specs.Sound.{HasPort, IsSoundStore, empty_hand, response_details, is_response_loan}
 use Rattle.rr_store.specs.Views.{no_sender, sender_of, state_of}
 use Rattle.rr_store.proofs.base.frames.Emptied.{emptied_sound, emptied_view}
 use Rattle.rr_store.proofs.base.senders.Emptied.{among_emptied, responses_emptied}
@@ -25,8 +25,8 @@ use Rattle.rr_store.proofs.base.lookups.Placed.{value_there}
 use Rattle.rr_store.proofs.base.lookups.Shown.{held_within}
 use Rattle.rr_store.proofs.base.senders.Owners.{First, port_of_sender, server_receiver, server_owner}
 use Rattle.rr_store.proofs.base.senders.Stored.{stored_twice}
-use Rattle.rr_store.proofs.releasing.response_loan.Fields.{ResponseLoanFound, response_loan_found, has_loan, response_loan_parts}
-use Rattle.rr_store.proofs.releasing.View.{gone_as}
+use Rattle.rr_releasing.proofs.laws.response_loan.Fields.{ResponseLoanFound, response_loan_found, has_loan, response_loan_parts}
+use Rattle.rr_releasing.proofs.laws.View.{gone_as}
 
 module _ {Q QH P PH K : Type 0} (p : Parts Q QH P PH K) (core : IsCore p) (n : ℕ) (place : Place) (entry : HandleEntry)
     (taken : fin_map.get p.table.entries n ≡ Some (table_entry place entry))
@@ -111,7 +111,7 @@ module _ {Q QH P PH K : Type 0} (p : Parts Q QH P PH K) (core : IsCore p) (n : �
             server_senders = slice_set p.server_senders entry.sender (without_loan given);
           }
 
-          both : IsSound before empty_hand × IsHandleGone (state_of p) n server.it.port.id (state_of before)
+          both : IsSoundStore before empty_hand × IsHandleGone (state_of p) n server.it.port.id (state_of before)
           both =
               response_loan_parts p core.sound n entry found server.index server.it server.at server.is details details_are
               before.server_senders t.table refl ended.0
@@ -135,8 +135,8 @@ module _ {Q QH P PH K : Type 0} (p : Parts Q QH P PH K) (core : IsCore p) (n : �
           port_then = subst (λ (q : Parts Q QH P PH K). HasPort (λ (s : ServerPart K). s.sender) q.servers entry.sender) (sym t_is)
               (server.index, server.it, server.at, server.is)
 
-          pub sound_then : IsSound t empty_hand
-          sound_then = subst (λ q. IsSound q empty_hand) (sym t_is)
+          pub sound_then : IsSoundStore t empty_hand
+          sound_then = subst (λ q. IsSoundStore q empty_hand) (sym t_is)
               (emptied_sound before (record loan_ended { table = t.table }) emptied empty_hand both.0)
 
           -- contracts see the handle go

@@ -17,7 +17,7 @@ use Rattle.rr_laws.proofs.Naming.{handle_named}
 use Rattle.rr_laws.proofs.Opening.{some_and}
 use Rattle.rr_store.specs.Parts.{ClientPart, Parts, ServerPart}
 use Rattle.rr_store.specs.Reaching.{IsCore}
-use Rattle.rr_store.specs.Sound.{IsSound, empty_hand}
+use Rattle.rr_store.specs.Sound.{IsSoundStore, empty_hand}
 use Rattle.rr_store.specs.Views.{state_of}
 
 module _ {Q QH P PH : Type 0} where
@@ -53,7 +53,7 @@ module _ {Q QH P PH K : Type 0} (p : Parts Q QH P PH K) (core : IsCore p) (n : �
         (after_handle_gone (record (state_of p) { handles = fin_map.remove (state_of p).handles n }) handle) (port_of handle)) o
         (without_unused_port (without_port_value (state_of p) n) n)) (no_handle named is other))
 
-    core_then : IsSound t empty_hand → IsCore t
+    core_then : IsSoundStore t empty_hand → IsCore t
     core_then sound = record {
       sound = sound;
       reached = subst (λ s. IsReached s) (sym view_then) (after_release_reached (state_of p) n core.reached);
@@ -75,7 +75,7 @@ module _ {Q QH P PH K : Type 0} (p : Parts Q QH P PH K) (core : IsCore p) (n : �
     pub client_view : state_of t ≡ after_release (state_of p) n
     client_view = view_then kind.Client is (λ h. (no_port h).0) q gone t client_left
 
-    pub client_core : IsSound t empty_hand → IsCore t
+    pub client_core : IsSoundStore t empty_hand → IsCore t
     client_core = core_then kind.Client is (λ h. (no_port h).0) q gone t client_left
 
   module _ (is : kind_at (state_of p) n ≡ Some kind.Server) (q : Parts Q QH P PH K)
@@ -93,5 +93,5 @@ module _ {Q QH P PH K : Type 0} (p : Parts Q QH P PH K) (core : IsCore p) (n : �
     pub server_view : state_of t ≡ after_release (state_of p) n
     server_view = view_then kind.Server is (λ h. (no_port h).1) q gone t server_left
 
-    pub server_core : IsSound t empty_hand → IsCore t
+    pub server_core : IsSoundStore t empty_hand → IsCore t
     server_core = core_then kind.Server is (λ h. (no_port h).1) q gone t server_left

@@ -268,6 +268,7 @@ impl Filling {
         ensures filled { OnOk result (HasGrown 0 self.old self.new × HasQueued self.new server 0 × IsSpare self.new request) }
         ensures full { result ≢ Err stop.Full }
     {
+        // The contract alone speaks of it: the one request that is queued.
         let _ = request;
         match self.carry_out(Command::Receive(server))? {
             Outcome::Active => Ok(()),

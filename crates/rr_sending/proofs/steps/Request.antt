@@ -27,7 +27,7 @@ use Rattle.rr_store.specs.Parts.{ClientPart, ServerPart, Parts, Sender}
 use Rattle.rr_store.specs.Reaching.{IsCore}
 use Rattle.rr_store.specs.Releasing.{is_loaned_request}
 use Rattle.rr_store.specs.Sending.{after_queued, pending_held, queued, request_held, server_places, with_one_sent, with_request_sent}
-use Rattle.rr_store.specs.Sound.{IsSound, empty_hand, is_in_sender, is_of_request, is_pending, is_request_loan}
+use Rattle.rr_store.specs.Sound.{IsSoundStore, empty_hand, is_in_sender, is_of_request, is_pending, is_request_loan}
 use Rattle.rr_store.specs.Views.{handle_in, no_sender, request_at, sender_of, state_of}
 use Rattle.rr_store.proofs.base.frames.Emptied.{emptied_sound, emptied_view}
 use Rattle.rr_store.proofs.base.senders.Emptied.{requests_emptied}
@@ -42,13 +42,13 @@ use Rattle.rr_store.proofs.base.senders.Owners.{First, client_named, clients_ris
 use Rattle.rr_store.proofs.base.senders.Ports.{of_found}
 use Rattle.rr_store.proofs.base.senders.Stored.{stored_twice}
 use Rattle.rr_store.proofs.querying.Connected.{mark_within, of_kind}
-use Rattle.rr_store.proofs.sending.put.Emptied.{puts_emptied}
-use Rattle.rr_store.proofs.sending.request.Fields.{request_stage}
-use Rattle.rr_store.proofs.sending.request.Inserted.{sent_sound, taken, taken_sound, used_once}
-use Rattle.rr_store.proofs.sending.request.MayAnswer.{servers_placed}
-use Rattle.rr_store.proofs.sending.request.Refusals as refusals
-use Rattle.rr_store.proofs.sending.request.Sound as sent
-use Rattle.rr_store.proofs.sending.request.View.{sent_view}
+use Rattle.rr_sending.proofs.laws.put.Emptied.{puts_emptied}
+use Rattle.rr_sending.proofs.laws.request.Fields.{request_stage}
+use Rattle.rr_sending.proofs.laws.request.Inserted.{sent_sound, taken, taken_sound, used_once}
+use Rattle.rr_store.proofs.base.senders.Connected.{servers_placed}
+use Rattle.rr_sending.proofs.laws.request.Refusals as refusals
+use Rattle.rr_sending.proofs.laws.request.Sound as sent
+use Rattle.rr_sending.proofs.laws.request.View.{sent_view}
 
 module _ {Q QH P PH K : Type 0} (p : Parts Q QH P PH K) (core : IsCore p) (n : ℕ) (place : Place) (entry : HandleEntry)
     (at : fin_map.get p.table.entries n ≡ Some (table_entry place entry)) (kind : kind_at (state_of p) n ≡ Some Kind.RequestMut)
@@ -225,7 +225,7 @@ module _ {Q QH P PH K : Type 0} (p : Parts Q QH P PH K) (core : IsCore p) (n : �
             abbrev before : Parts Q QH P PH K
             before = with_request_sent p n entry.sender entry.slot connections place
 
-            before_sound : IsSound before empty_hand
+            before_sound : IsSoundStore before empty_hand
             before_sound = sent_sound p core.sound n entry.sender entry.slot connections (table_entry place entry) at is
 
             abbrev after : Parts Q QH P PH K
@@ -263,7 +263,7 @@ module _ {Q QH P PH K : Type 0} (p : Parts Q QH P PH K) (core : IsCore p) (n : �
 
             pub core_then : IsCore t
             core_then = record {
-              sound = subst (λ q. IsSound q empty_hand) (sym after_is) (emptied_sound before after emptied empty_hand before_sound);
+              sound = subst (λ q. IsSoundStore q empty_hand) (sym after_is) (emptied_sound before after emptied empty_hand before_sound);
               reached = sends_request_reached (state_of p) core.reached n action (Ok connections) (state_of t) sends;
               complete = sends_request_complete (state_of p) core.complete n action (Ok connections) (state_of t) sends;
             }

@@ -28,7 +28,7 @@ use Rattle.rr_store.specs.Order.{IsRising}
 use Rattle.rr_store.specs.Parts.{ServerPart, Parts, Sender}
 use Rattle.rr_store.specs.Reaching.{IsCore}
 use Rattle.rr_store.specs.Releasing.{IsHandleGone, held_once_less, is_loaned_response, without_loan}
-use Rattle.rr_store.specs.Sound.{HasPort, IsSound, empty_hand, response_details, is_response_loan}
+use Rattle.rr_store.specs.Sound.{HasPort, IsSoundStore, empty_hand, response_details, is_response_loan}
 use Rattle.rr_store.specs.Views.{no_sender, response_at, sender_of, server_of, state_of}
 use Rattle.rr_store.proofs.base.frames.Emptied.{emptied_sound, emptied_view}
 use Rattle.rr_store.proofs.base.senders.Emptied.{among_emptied, responses_emptied}
@@ -39,10 +39,10 @@ use Rattle.rr_store.proofs.base.senders.Owners.{First, port_of_sender, server_na
 use Rattle.rr_store.proofs.base.senders.Ports.{of_found}
 use Rattle.rr_store.proofs.base.senders.Stored.{stored_twice}
 use Rattle.rr_store.proofs.querying.Connected.{of_kind}
-use Rattle.rr_store.proofs.releasing.response_loan.Fields.{ResponseLoanFound, response_loan_found, has_loan}
-use Rattle.rr_store.proofs.sending.response.Fields as fields
-use Rattle.rr_store.proofs.sending.response.Refusals.{has_capacity, sent_parts}
-use Rattle.rr_store.proofs.releasing.View.{gone_as, release_from}
+use Rattle.rr_releasing.proofs.laws.response_loan.Fields.{ResponseLoanFound, response_loan_found, has_loan}
+use Rattle.rr_sending.proofs.laws.response.Fields as fields
+use Rattle.rr_sending.proofs.laws.response.Refusals.{has_capacity, sent_parts}
+use Rattle.rr_releasing.proofs.laws.View.{gone_as, release_from}
 
 module _ {Q QH P PH K : Type 0} (p : Parts Q QH P PH K) (core : IsCore p) (n : ℕ) (place : Place) (entry : HandleEntry)
     (at : fin_map.get p.table.entries n ≡ Some (table_entry place entry)) (kind : kind_at (state_of p) n ≡ Some Kind.ResponseMut)
@@ -207,7 +207,7 @@ module _ {Q QH P PH K : Type 0} (p : Parts Q QH P PH K) (core : IsCore p) (n : �
                 responses = with_response_put (state_of p) (response_at p entry.sender entry.slot);
               }
 
-              both : IsSound before empty_hand × IsHandleGone delivered_state n server.it.port.id (state_of before)
+              both : IsSoundStore before empty_hand × IsHandleGone delivered_state n server.it.port.id (state_of before)
               both =
                   sent_parts p core.sound n entry found server.index server.it server.at server.is details (sym are) reach told
                   mid before.server_senders t.table refl refl ended.0
@@ -236,8 +236,8 @@ module _ {Q QH P PH K : Type 0} (p : Parts Q QH P PH K) (core : IsCore p) (n : �
               port_then = subst (λ (q : Parts Q QH P PH K). HasPort (λ (s : ServerPart K). s.sender) q.servers entry.sender) (sym t_is)
                   (server.index, server.it, server.at, server.is)
 
-              pub sound_then : IsSound t empty_hand
-              sound_then = subst (λ q. IsSound q empty_hand) (sym t_is) (emptied_sound before after emptied empty_hand both.0)
+              pub sound_then : IsSoundStore t empty_hand
+              sound_then = subst (λ q. IsSoundStore q empty_hand) (sym t_is) (emptied_sound before after emptied empty_hand both.0)
 
               -- contracts see the handle go
               gone_then : IsHandleGone delivered_state n (sender_of entry.sender t.server_senders).owner (state_of t)
@@ -260,7 +260,7 @@ module _ {Q QH P PH K : Type 0} (p : Parts Q QH P PH K) (core : IsCore p) (n : �
                           (sender_of entry.sender t.server_senders).owner gone_then),
                     ) (state_of p) n refl refl
 
-                pub core_then : IsSound w empty_hand → r ≡ false → IsCore w
+                pub core_then : IsSoundStore w empty_hand → r ≡ false → IsCore w
                 core_then sound is = record {
                   sound = sound;
                   reached = sends_response_reached (state_of p) core.reached n {U = ℕ} action (Ok 0) (state_of w) (sends is);

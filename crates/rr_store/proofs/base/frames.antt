@@ -2,4 +2,3 @@ pub mod Frames
 pub mod Kept
 pub mod Rewrites
 pub mod Emptied
-pub mod Roomier

@@ -2,4 +2,3 @@ pub mod Stages
 pub mod Hands
 pub mod Vacant
 pub mod Recounted
-pub mod Dropping

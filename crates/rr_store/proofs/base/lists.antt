@@ -14,3 +14,4 @@ pub mod Seen
 pub mod Bisected
 pub mod Removed
 pub mod Alone
+pub mod Skipped

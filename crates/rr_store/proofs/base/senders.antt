@@ -2,11 +2,8 @@ pub mod Queues
 pub mod Counted
 pub mod Entries
 pub mod Ports
-pub mod GivenBack
-pub mod BorrowEnded
 pub mod Stored
-pub mod Marks
 pub mod Owners
-pub mod Written
 pub mod Emptied
 pub mod Numbered
+pub mod Connected

@@ -1,5 +1,5 @@
 -- The oldest ports that left lose their entries for a receiver, one after another.
-use Rattle.std.proofs.Common.{◌≡◌, ◌<◌, ◌≤◌, ◌+◌, ◌-◌, ◌||◌, ◌&&◌, ◌++◌, ℕ, zero, suc, Bool, true, false, cond, List, [], ◌∷◌, Some, append-nil, length, refl, sym, take, ap, ◌∙◌, arith}
+use Rattle.std.proofs.Common.{◌≡◌, ◌<◌, ◌+◌, ◌-◌, ◌||◌, ◌&&◌, ◌++◌, ℕ, Bool, true, false, cond, List, [], ◌∷◌, Some, append-nil, length, refl, sym, take, ap, ◌∙◌, arith}
 use Rattle.std.specs.Prelude.{◌==◌, slice_get}
 use Rattle.std.proofs.lemmas.Bool.{ne_eqb}
 use Rattle.std.proofs.lemmas.List.{take-append-le, take_all}
@@ -7,13 +7,13 @@ use Rattle.std.proofs.lemmas.List.Elements.{filter_more}
 use Rattle.std.proofs.lemmas.List.Filters.{length-filter_more}
 use Rattle.std.proofs.lemmas.List.Folds.{list_any-append}
 use Rattle.std.proofs.lemmas.Option.{get_or_from_slice_get, slice_get_within}
-use Rattle.rr_maps.proofs.ListFacts.{all_filter}
+use Rattle.rr_map_laws.proofs.ListFacts.{all_filter}
 use Rattle.rr_store.specs.declared.port.LeftPort.{LeftPort}
 use Rattle.rr_store.specs.Draining.{AreApart, SendersDrained}
 use Rattle.rr_store.specs.Leaving.{has_queued, is_of, queued_left}
 use Rattle.rr_store.specs.Parts.{Sender}
 use Rattle.rr_store.specs.Views.{sender_of}
-use Rattle.rr_store.proofs.leaving.Drained.{drained_none, drained_same, drained_twice}
+use Rattle.rr_store.proofs.leaving.Drained.{drained_same, drained_twice}
 use Rattle.rr_store.proofs.leaving.Expiring.{early, gather, none_of, queued_kept, turned}
 use Rattle.rr_store.proofs.leaving.Lists.{all_take}
 
@@ -21,10 +21,6 @@ use Rattle.rr_store.proofs.leaving.Lists.{all_take}
 pub no_more : (b : Bool) → (b && false) ≡ false
 no_more true = refl
 no_more false = refl
-
-take_none : {X : Type 0} (n : ℕ) → take {A = X} n [] ≡ []
-take_none zero = refl
-take_none (suc n) = refl
 
 module _ {T N H : Type 0} (before : List (Sender T N H)) (left : List LeftPort) (receiver : ℕ) where
   -- of the first ports that left, those of which the receiver has an entry
@@ -52,14 +48,6 @@ module _ {T N H : Type 0} (before : List (Sender T N H)) (left : List LeftPort) 
     pub record IsExpiring (i remaining : ℕ) (now : List (Sender T N H)) : Type 0 where
       pub drained : SendersDrained (λ l r. r == receiver && is_of (take excess (queued i)) l) before now
       pub counted : remaining ≡ excess - length (queued i)
-
-    pub expiring_none : IsExpiring 0 excess before
-    expiring_none = record {
-      drained = drained_same (λ l r. false) (λ l r. r == receiver && is_of (take excess (queued 0)) l) before before
-          (λ l r. sym (ap (λ ps. r == receiver && is_of ps l) (take_none excess) ∙ no_more (r == receiver)))
-          (drained_none before);
-      counted = omega arith;
-    }
 
     module _ (i remaining : ℕ) (now : List (Sender T N H)) (so : IsExpiring i remaining now) (x : LeftPort)
         (at : slice_get left i ≡ Some x) where
@@ -129,11 +117,3 @@ module _ {T N H : Type 0} (before : List (Sender T N H)) (left : List LeftPort) 
           (early (λ (p : LeftPort). (p.sender == x.sender) ≡ false) i left
           (λ j y h there. ne_eqb y.sender x.sender (λ e. omega (arith, h, apart j i y x there at e)))))))
           ∙ no_more (receiver == receiver))
-
-    -- all are
-    pub expiring_all : (i remaining : ℕ) (now : List (Sender T N H)) → IsExpiring i remaining now → length left ≤ i
-        → SendersDrained (λ l r. r == receiver && is_of (take excess (queued_left before left receiver)) l) before now
-    expiring_all i remaining now so all =
-        drained_same (λ l r. r == receiver && is_of (take excess (queued i)) l)
-        (λ l r. r == receiver && is_of (take excess (queued_left before left receiver)) l) before now
-        (λ l r. ap (λ ps. r == receiver && is_of (take excess (queued_left before ps receiver)) l) (take_all i left all)) so.drained

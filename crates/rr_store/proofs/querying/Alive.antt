@@ -18,7 +18,7 @@ use Rattle.rr_store.specs.declared.handle_entry.Stage.TheVariants as stage
 use Rattle.rr_store.specs.Hints.{stage_hint}
 use Rattle.rr_store.specs.Parts.{Parts}
 use Rattle.rr_store.specs.Views.{handle_in, handle_of, state_of}
-use Rattle.rr_store.specs.Sound.{IsSound, Hand, is_of_request, is_pending, own_place, place_at, request_details, request_uses}
+use Rattle.rr_store.specs.Sound.{IsSoundStore, Hand, is_of_request, is_pending, own_place, place_at, request_details, request_uses}
 use Rattle.rr_store.proofs.base.lookups.Looking.{table_entry_under, handle_at-state_of}
 use Rattle.rr_store.proofs.base.hands.Stages.{handle_uses_request, pending_is_request}
 
@@ -93,7 +93,7 @@ module _ {Q QH P PH K : Type 0} (p : Parts Q QH P PH K) where
       → has_disconnect_hint (state_of p) k ≡ stage_hint v.stage
   hint_here k own v h = ap hint_in (pending_here k own v h) ∙ hint-handle_in v.stage v.sender v.slot
 
-  module _ (hand : Hand) (sound : IsSound p hand) where
+  module _ (hand : Hand) (sound : IsSoundStore p hand) where
     -- a request with a handle is used
     pub used : (n : ℕ) (entry : HandleEntry) → value_at p.table n ≡ Some entry → is_of_request entry.stage ≡ true
         → 0 < request_uses p entry.sender entry.slot

@@ -1,4 +1,1 @@
 pub mod MayAnswer
-pub mod Sound
-pub mod View
-pub mod Fields

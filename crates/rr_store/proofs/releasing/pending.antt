@@ -1,4 +1,1 @@
 pub mod Cleared
-pub mod Sound
-pub mod View
-pub mod Fields

@@ -1,16 +1,14 @@
 -- What contracts see where the slot of one handle is written.
-use Rattle.std.proofs.Common.{◌≡◌, ◌≢◌, ◌<◌, ◌≤◌, ℕ, Bool, true, false, cond, List, [], Some, find, map, length, refl, sym, ap, ◌∙◌, arith}
-use Rattle.std.specs.Prelude.{◌==◌, ◌&&◌, slice_get, slice_set}
+use Rattle.std.proofs.Common.{◌≡◌, ◌≢◌, ◌<◌, ◌≤◌, ℕ, Bool, true, List, [], Some, find, map, length, refl, sym, ap, ◌∙◌, arith}
+use Rattle.std.specs.Prelude.{◌==◌, ◌&&◌, slice_get}
 use Rattle.std.specs.Option.{option_map_or}
 use Rattle.std.specs.FinMap as fin_map
 use Rattle.std.proofs.lemmas.Bool.{eq-eqb}
-use Rattle.std.proofs.lemmas.List.{map-set}
 use Rattle.std.proofs.lemmas.Option.{slice_get-get_or}
-use Rattle.rr_slots.specs.Pools.{Written}
 use Rattle.rr_table.specs.TableView.{TableEntry, value_at}
-use Rattle.rr_maps.specs.Maps.{tally}
-use Rattle.rr_maps.proofs.MapLaws.{map_values-but, tally_one}
-use Rattle.rr_sender.specs.Senders.{Messages, all_entries, times, with_changed_at}
+use Rattle.rr_map_laws.specs.Maps.{tally}
+use Rattle.rr_map_laws.proofs.MapLaws.{map_values-but, tally_one}
+use Rattle.rr_sender.specs.Senders.{Messages, all_entries, times}
 use Rattle.rr_protocol.specs.Keys.{RequestKey, ResponseKey}
 use Rattle.rr_protocol.specs.Messages.{Content, Handle}
 use Rattle.rr_protocol.specs.State.{with_changed}
@@ -22,15 +20,14 @@ use Rattle.rr_store.specs.declared.port.OwnedSender.{OwnedSender}
 use Rattle.rr_store.specs.Ports.{sender_part}
 use Rattle.rr_store.specs.Parts.{Parts, Sender}
 use Rattle.rr_store.specs.Views.{no_sender, sender_of, content_of, request_in_slot, response_in_slot, handle_in, handle_of, requests_at, responses_at, state_of, marked}
-use Rattle.rr_store.specs.Sound.{IsSound, Hand, is_of_request, is_of_response, request_uses, response_uses}
+use Rattle.rr_store.specs.Sound.{IsSoundStore, Hand, is_of_request, is_of_response, request_uses, response_uses}
 use Rattle.rr_store.specs.Frames.{moved}
-use Rattle.rr_store.specs.Writing.{with_messages}
 use Rattle.rr_store.proofs.base.lists.Adding.{mapped}
 use Rattle.rr_store.proofs.base.views.Agreeing.{same_handle, same_requests, same_responses, same_state, same_expired}
 use Rattle.rr_store.proofs.base.lookups.Looking.{table_entry_under, shown}
 use Rattle.rr_store.proofs.base.lookups.Shown.{request_held, response_held, request_spot, response_spot}
 use Rattle.rr_store.proofs.base.frames.Rewrites.{senders_unwritten, rewritten_sound}
-use Rattle.rr_store.proofs.base.views.Unseen.{IsWritten, with_slot, with_written, slot_rewritten, marks_same, shown_other, waiting_same}
+use Rattle.rr_store.proofs.base.views.Unseen.{IsWritten, with_written, slot_rewritten, marks_same, shown_other, waiting_same}
 
 module _ {T H : Type 0} (spare : H) where
   -- what a slot that was not written says
@@ -75,23 +72,6 @@ module _ {B T N H : Type 0} (senders : List (OwnedSender B N H T)) (sender : ℕ
   stored_sender within = mapped sender_part senders sender (sender_of sender (map sender_part senders))
       (slice_get-get_or (map sender_part senders) sender no_sender within)
 
-  -- the senders after a slot was written, or after nothing was
-  pub senders_written : (slot : ℕ) (change : Written T → Written T) (b : Bool) (new : List (OwnedSender B N H T)) (l : OwnedSender B N H T)
-      → sender_part l ≡ sender_of sender (map sender_part senders)
-      → new ≡ cond b (slice_set senders sender (with_messages l (with_changed_at l.messages slot change))) senders
-      → map sender_part new ≡ cond b (with_slot (map sender_part senders) sender slot change) (map sender_part senders)
-  senders_written slot change b new l is e =
-      ap (map sender_part) e
-      ∙ elim b as (λ (a : Bool). map sender_part
-      (cond a (slice_set senders sender (with_messages l (with_changed_at l.messages slot change)))
-      senders) ≡ cond a (with_slot (map sender_part senders) sender slot change) (map sender_part senders)) [
-        | true ↦ map-set sender_part senders sender (with_messages l (with_changed_at l.messages slot change))
-            ∙ ap (λ (x : Sender T N H). slice_set (map sender_part senders) sender
-            (record x { messages = with_changed_at x.messages slot change }))
-            is
-        | false ↦ refl
-      ]
-
 module _ {Q QH P PH K : Type 0} (p : Parts Q QH P PH K) (n : ℕ) (entry : HandleEntry) (h : value_at p.table n ≡ Some entry) where
   -- where one handle alone shows another message, its state is the changed one
   pub viewed : (client_senders : List (Sender Q RequestDetails QH)) (server_senders : List (Sender P ResponseDetails PH))
@@ -128,7 +108,7 @@ module _ {Q QH P PH K : Type 0} (p : Parts Q QH P PH K) (n : ℕ) (entry : Handl
       (rw (eq-eqb x.value.sender entry.sender sender) (rw (eq-eqb x.value.slot entry.slot slot) refl)) in
       tally_one here p.table.entries k n x f.0 once at there f.1 its
 
-  module _ (hand : Hand) (sound : IsSound p hand) where
+  module _ (hand : Hand) (sound : IsSoundStore p hand) where
     module _ (is : is_of_request entry.stage ≡ true) (once : request_uses p entry.sender entry.slot ≤ 1) where
       -- no other handle is of its request, and no entry
       request_alone : (k : ℕ) (x : TableEntry HandleEntry) → fin_map.get p.table.entries k ≡ Some x → is_of_request x.value.stage ≡ true
@@ -144,7 +124,7 @@ module _ {Q QH P PH K : Type 0} (p : Parts Q QH P PH K) (n : ℕ) (entry : Handl
         there = (request_spot p hand sound.counted n entry h is).0
 
         -- its slot is written: the core stays sound
-        pub request_written_sound : IsSound (record p { client_senders = with_written p.client_senders entry.sender new }) hand
+        pub request_written_sound : IsSoundStore (record p { client_senders = with_written p.client_senders entry.sender new }) hand
         request_written_sound =
             rewritten_sound p hand sound (with_written p.client_senders entry.sender new) p.server_senders
             (slot_rewritten p.client_senders entry.sender new entry.slot written there)
@@ -191,7 +171,7 @@ module _ {Q QH P PH K : Type 0} (p : Parts Q QH P PH K) (n : ℕ) (entry : Handl
         room = (response_spot p hand sound.counted n entry h is).0
 
         -- its slot is written: the core stays sound
-        pub response_written_sound : IsSound (record p { server_senders = with_written p.server_senders entry.sender new }) hand
+        pub response_written_sound : IsSoundStore (record p { server_senders = with_written p.server_senders entry.sender new }) hand
         response_written_sound =
             rewritten_sound p hand sound p.client_senders (with_written p.server_senders entry.sender new)
             (senders_unwritten p.client_senders)

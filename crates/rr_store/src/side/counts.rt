@@ -8,11 +8,8 @@ ghost use Rattle.rr_store.specs.Sending.{with_one_sent};
 ghost use Rattle.rr_store.specs.Sides.{with_sender, with_sent};
 ghost use Rattle.rr_store.specs.Views.{sender_of};
 
-use crate::loan::count_loan_in;
-use crate::release::pending as of_pending;
-use crate::send::request as of_request;
 use crate::side::Side;
-use crate::{ClientPort, RequestDetails, release};
+use crate::{ClientPort, NO_SERVER, RequestDetails};
 use rr_slots::Body;
 
 impl<B: Body, N: Copy, H: Drop, P: Drop> Side<B, N, H, P> {
@@ -59,7 +56,7 @@ impl<B: Body, N: Copy, H: Drop, P: Drop> Side<B, N, H, P> {
         requires fits { (sender_of sender self.old.senders).loans + 1 < 2 ^ 64 }
         ensures { self.new ≡ with_sender self.old sender with_one_loan }
     {
-        count_loan_in(&mut self.senders, sender);
+        self.senders[sender].loans += 1;
     }
 
     /// Counts one message less on loan from a sender, and returns which receiver its port is.
@@ -70,7 +67,9 @@ impl<B: Body, N: Copy, H: Drop, P: Drop> Side<B, N, H, P> {
         ensures receiver { result ≡ (sender_of sender self.old.senders).receiver }
         ensures counted { self.new ≡ with_sender self.old sender without_loan }
     {
-        release::end_loan_in(&mut self.senders, sender)
+        let lender = &mut self.senders[sender];
+        lender.loans -= 1;
+        lender.receiver
     }
 
     /// Counts one request less on loan from a sender, and one pending response more.
@@ -81,7 +80,9 @@ impl<B: Body, N: Copy, H: Drop, P: Drop> Side<B, N, H, P> {
         requires fits { (sender_of sender self.old.senders).pendings + 1 < 2 ^ 64 }
         ensures { self.new ≡ with_sender self.old sender with_one_sent }
     {
-        of_request::count_sent_in(&mut self.senders, sender);
+        let owned = &mut self.senders[sender];
+        owned.loans -= 1;
+        owned.pendings += 1;
     }
 
     /// Counts one pending response less of a sender, and returns which receiver its port is.
@@ -92,7 +93,9 @@ impl<B: Body, N: Copy, H: Drop, P: Drop> Side<B, N, H, P> {
         ensures receiver { result ≡ (sender_of sender self.old.senders).receiver }
         ensures counted { self.new ≡ with_sender self.old sender without_pending }
     {
-        of_pending::end_pending_in(&mut self.senders, sender)
+        let owned = &mut self.senders[sender];
+        owned.pendings -= 1;
+        owned.receiver
     }
 
     /// Gives back a hold on a message that was received, and counts one less that its receiver has from the channel. What stands in
@@ -104,7 +107,9 @@ impl<B: Body, N: Copy, H: Drop, P: Drop> Side<B, N, H, P> {
         requires counted { (0 < borrowed_at (sender_of sender self.old.senders).messages receiver channel) × (0 < slice_index (sender_of sender self.old.senders).messages.held slot) }
         ensures { self.new ≡ with_sent self.old sender (λ m. borrow_given_back m receiver channel slot) }
     {
-        release::end_borrow_in(&mut self.senders, sender, receiver, channel, slot);
+        let messages = &mut self.senders[sender].messages;
+        messages.end_borrow(receiver, channel);
+        messages.give_back(slot);
     }
 
     /// Notes that a receiver, of so many, may not answer the message in a slot any more.
@@ -114,7 +119,8 @@ impl<B: Body, N: Copy, H: Drop, P: Drop> Side<B, N, H, P> {
         requires mark { slot * receivers + receiver < length (sender_of sender self.old.senders).may_answer }
         ensures { self.new ≡ with_sender self.old sender (without_mark (slot * receivers + receiver)) }
     {
-        release::clear_mark(&mut self.senders, sender, slot, receivers, receiver);
+        let marks = &mut self.senders[sender].may_answer;
+        marks[slot * receivers + receiver] = NO_SERVER;
     }
 }
 
@@ -128,6 +134,6 @@ impl<B: Body, H: Drop, K: Drop> Side<B, RequestDetails, H, ClientPort<K>> {
         ensures { IsSomeAnd (slice_get self.old.ports index) (λ c. self.new ≡ record self.old { ports = slice_set self.old.ports index (record c { loans_made = c.loans_made + 1 }); senders = with_sender_at self.old.senders sender with_one_loan }) }
     {
         self.ports[index].loans_made += 1;
-        count_loan_in(&mut self.senders, sender);
+        self.count_loan(sender);
     }
 }

@@ -1,15 +1,16 @@
 //! What changes on either side as a port leaves.
-ghost use Rattle.std.specs.Prelude.{◌≡◌, ℕ, ◌+◌, ◌≤◌, ◌==◌, ◌&&◌, ◌<◌, IsSomeAnd, OnOk, Some, length, slice_get, slice_set};
+ghost use Rattle.std.specs.Prelude.{◌≡◌, ℕ, ◌+◌, ◌≤◌, ◌==◌, ◌&&◌, ◌<◌, IsSomeAnd, OnOk, Some, length, slice_get, slice_set, map, take, None, true};
 ghost use Rattle.std.specs.List.{list_any};
-ghost use Rattle.rr_store.specs.Creating.{idle_left};
+ghost use Rattle.rr_store.specs.Creating.{idle_left, is_idle};
 ghost use Rattle.rr_store.specs.Draining.{AreApart, AreThere, HaveQueues, SendersDrained};
-ghost use Rattle.rr_store.specs.Leaving.{is_borrowing, is_of, outdated, valueless};
+ghost use Rattle.rr_store.specs.Leaving.{is_borrowing, is_of, outdated, valueless, has_queued, queued_left};
 ghost use Rattle.rr_store.specs.Loaning.{with_sender_at};
 ghost use Rattle.rr_store.specs.Sides.{without_port};
 ghost use Rattle.rr_store.specs.Views.{sender_of};
+ghost use Rattle.rr_store.specs.Ports.{sender_part};
 
 use crate::side::Side;
-use crate::{ConnectedPort, LeftPort, create, leave, query};
+use crate::{ConnectedPort, LeftPort, OwnedSender};
 use rr_slots::Body;
 use std::alloc::AllocError;
 
@@ -29,7 +30,7 @@ impl<B: Body, N: Copy, H: Drop, P: Drop> Side<B, N, H, P> {
         requires { AreThere self.now.senders self.now.left }
         ensures { result ≡ idle_left self.now.senders self.now.left }
     {
-        create::idle_left(self.senders.as_slice(), self.left.as_slice())
+        idle_left(self.senders.as_slice(), self.left.as_slice())
     }
 
     /// Takes the port at an index out of the connected ones, and notes that it left.
@@ -49,7 +50,7 @@ impl<B: Body, N: Copy, H: Drop, P: Drop> Side<B, N, H, P> {
         requires { (l : ℕ) → l < length self.now.senders → receiver < length (sender_of l self.now.senders).messages.borrowed }
         ensures { result ≡ is_borrowing self.now.senders receiver }
     {
-        query::is_borrowing(self.senders.as_slice(), receiver)
+        is_borrowing(self.senders.as_slice(), receiver)
     }
 
     /// Drops what is queued for a receiver, one step a channel and an entry.
@@ -59,7 +60,7 @@ impl<B: Body, N: Copy, H: Drop, P: Drop> Side<B, N, H, P> {
         ensures rest { self.new ≡ record self.old { senders = self.new.senders } }
         ensures drained { SendersDrained (λ l r. r == receiver) self.old.senders self.new.senders }
     {
-        leave::clear_from_each(&mut self.senders, receiver);
+        clear_from_each(&mut self.senders, receiver);
     }
 
     /// Drops what is queued, for each of these receivers, of the oldest ports that left: of as many as there is no room for as one
@@ -74,7 +75,7 @@ impl<B: Body, N: Copy, H: Drop, P: Drop> Side<B, N, H, P> {
         ensures rest { self.new ≡ record self.old { senders = self.new.senders } }
         ensures drained { SendersDrained (λ l r. list_any (λ p. R.receiver p == r) receivers.now && is_of (outdated self.old.senders self.old.left room leaving r) l) self.old.senders self.new.senders }
     {
-        leave::expire_at_each(
+        expire_at_each(
             &mut self.senders,
             receivers,
             self.left.as_slice(),
@@ -94,6 +95,175 @@ impl<B: Body, N: Copy, H: Drop, P: ConnectedPort> Side<B, N, H, P> {
         let port = &mut self.ports[index];
         let sender = port.sender();
         port.end_value();
-        leave::end_value_in(&mut self.senders, sender);
+        self.senders[sender].has_value = false;
     }
+}
+
+/// Returns whether a sender has an entry for a receiver. Looks at one channel after another until one has.
+#[inline(always)]
+fn has_queued<B: Body, N: Copy, H: Drop>(
+    senders: &[OwnedSender<B, N, H>],
+    sender: usize,
+    receiver: usize,
+) -> bool
+    requires sender { sender < length senders.now }
+    requires queues { receiver < length (sender_of sender (map sender_part senders.now)).messages.queues }
+    ensures { result ≡ has_queued (sender_of sender (map sender_part senders.now)) receiver }
+{
+    senders[sender].messages.has_any(receiver)
+}
+
+/// Drops what waits for a receiver in a sender, one step a channel and an entry.
+fn clear_for<B: Body, N: Copy, H: Drop>(
+    senders: &mut Vec<OwnedSender<B, N, H>>,
+    sender: usize,
+    receiver: usize,
+)
+    requires sender { sender < length senders.old.items }
+    requires queues { receiver < length (sender_of sender (map sender_part senders.old.items)).messages.queues }
+    ensures { SendersDrained (λ l r. l == sender && r == receiver) (map sender_part senders.old.items) (map sender_part senders.new.items) }
+{
+    senders[sender].messages.clear_receiver(receiver);
+}
+
+/// Drops what waits for a receiver in each sender, one step a channel and an entry.
+fn clear_from_each<B: Body, N: Copy, H: Drop>(
+    senders: &mut Vec<OwnedSender<B, N, H>>,
+    receiver: usize,
+)
+    requires { HaveQueues (map sender_part senders.old.items) receiver }
+    ensures { SendersDrained (λ l r. r == receiver) (map sender_part senders.old.items) (map sender_part senders.new.items) }
+{
+    for sender in 0..senders.len() {
+        if has_queued(senders.as_slice(), sender, receiver) {
+            clear_for(senders, sender, receiver);
+        }
+    }
+}
+
+/// Returns how many of the ports that left have an entry for a receiver.
+fn count_queued<B: Body, N: Copy, H: Drop>(
+    senders: &[OwnedSender<B, N, H>],
+    left: &[LeftPort],
+    receiver: usize,
+) -> usize
+    requires queues { HaveQueues (map sender_part senders.now) receiver }
+    requires left { AreThere (map sender_part senders.now) left.now }
+    ensures { result ≡ length (queued_left (map sender_part senders.now) left.now receiver) }
+{
+    let mut count = 0;
+    for port in left {
+        if has_queued(senders, port.sender, receiver) {
+            count += 1;
+        }
+    }
+    count
+}
+
+/// Drops what waits for a receiver of so many of the ports that left, of those of which it has an entry the oldest.
+fn expire_oldest<B: Body, N: Copy, H: Drop>(
+    senders: &mut Vec<OwnedSender<B, N, H>>,
+    left: &[LeftPort],
+    receiver: usize,
+    excess: usize,
+)
+    requires queues { HaveQueues (map sender_part senders.old.items) receiver }
+    requires left { AreThere (map sender_part senders.old.items) left.now }
+    requires apart { AreApart (λ l. l.sender) left.now }
+    ensures { SendersDrained (λ l r. r == receiver && is_of (take excess (queued_left (map sender_part senders.old.items) left.now receiver)) l) (map sender_part senders.old.items) (map sender_part senders.new.items) }
+{
+    let mut remaining = excess;
+    for port in left {
+        if remaining > 0 && has_queued(senders.as_slice(), port.sender, receiver) {
+            clear_for(senders, port.sender, receiver);
+            remaining -= 1;
+        }
+    }
+}
+
+/// Drops what waits for a receiver of the oldest ports that left, for which there is no room as one more leaves.
+fn expire<B: Body, N: Copy, H: Drop>(
+    senders: &mut Vec<OwnedSender<B, N, H>>,
+    left: &[LeftPort],
+    leaving: LeftPort,
+    receiver: usize,
+    room: usize,
+)
+    requires queues { HaveQueues (map sender_part senders.old.items) receiver }
+    requires left { AreThere (map sender_part senders.old.items) left.now }
+    requires leaving { leaving.sender < length (map sender_part senders.old.items) }
+    requires apart { AreApart (λ l. l.sender) left.now }
+    ensures { SendersDrained (λ l r. r == receiver && is_of (outdated (map sender_part senders.old.items) left.now room leaving receiver) l) (map sender_part senders.old.items) (map sender_part senders.new.items) }
+{
+    if has_queued(senders.as_slice(), leaving.sender, receiver) {
+        let queued = count_queued(senders.as_slice(), left, receiver);
+        let excess = queued.saturating_sub(room.saturating_sub(1));
+        expire_oldest(senders, left, receiver, excess);
+        if room == 0 {
+            clear_for(senders, leaving.sender, receiver);
+        }
+    }
+}
+
+/// Drops, for each of these ports, what waits for it of the oldest ports that left: of as many as there is no room for as one more
+/// leaves.
+fn expire_at_each<P: ConnectedPort, B: Body, N: Copy, H: Drop>(
+    senders: &mut Vec<OwnedSender<B, N, H>>,
+    ports: &[P],
+    left: &[LeftPort],
+    leaving: LeftPort,
+    room: usize,
+)
+    requires queues { (i : ℕ) (p : P) → slice_get ports.now i ≡ Some p → HaveQueues (map sender_part senders.old.items) (P.receiver p) }
+    requires ports { AreApart P.receiver ports.now }
+    requires left { AreThere (map sender_part senders.old.items) left.now }
+    requires leaving { leaving.sender < length (map sender_part senders.old.items) }
+    requires apart { AreApart (λ l. l.sender) left.now }
+    ensures { SendersDrained (λ l r. list_any (λ p. P.receiver p == r) ports.now && is_of (outdated (map sender_part senders.old.items) left.now room leaving r) l) (map sender_part senders.old.items) (map sender_part senders.new.items) }
+{
+    for port in ports {
+        expire(senders, left, leaving, port.receiver(), room);
+    }
+}
+
+/// Returns whether a receiver has a message from one of the senders. Looks at most once at each sender and channel.
+fn is_borrowing<B: Body, N: Copy, H: Drop>(
+    senders: &[OwnedSender<B, N, H>],
+    receiver: usize,
+) -> bool
+    requires { (i : ℕ) (l : OwnedSender B N H B.Item) → slice_get senders.now i ≡ Some l → receiver < length l.messages.borrowed }
+    ensures { result ≡ is_borrowing (map sender_part senders.now) receiver }
+{
+    for sender in senders {
+        if sender.messages.has_borrowed(receiver) {
+            return true;
+        }
+    }
+    false
+}
+
+/// Returns whether nothing uses a sender: no handle and no entry holds one of its slots.
+#[inline(always)]
+fn is_idle<B: Body, N: Copy, H: Drop>(senders: &[OwnedSender<B, N, H>], sender: usize) -> bool
+    requires { sender < length senders.now }
+    ensures { result ≡ is_idle (sender_of sender (map sender_part senders.now)) }
+{
+    let messages = &senders[sender].messages;
+    messages.free_slots() == messages.slots()
+}
+
+/// Returns which of the ports that left is the first whose sender nothing uses. Looks at each at most once.
+fn idle_left<B: Body, N: Copy, H: Drop>(
+    senders: &[OwnedSender<B, N, H>],
+    left: &[LeftPort],
+) -> Option<usize>
+    requires { AreThere (map sender_part senders.now) left.now }
+    ensures { result ≡ idle_left (map sender_part senders.now) left.now }
+{
+    for (index, port) in left.iter().enumerate() {
+        if is_idle(senders, port.sender) {
+            return Some(index);
+        }
+    }
+    None
 }

@@ -1,14 +1,11 @@
 //! What a side tells of a message.
-ghost use Rattle.std.specs.Prelude.{◌≡◌, ◌+◌, ◌*◌, ◌<◌, ◌^◌, Option, IfSome, length, map, slice_index_or};
+ghost use Rattle.std.specs.Prelude.{◌≡◌, ◌+◌, ◌*◌, ◌<◌, ◌^◌, Option, IfSome, length, slice_index_or};
 ghost use Rattle.rr_slots.specs.Pools.{written};
 ghost use Rattle.rr_sender.specs.Senders.{content_at};
 ghost use Rattle.rr_store.specs.Delivering.{reached};
 ghost use Rattle.rr_store.specs.Ending.{IsAskedPlace};
 ghost use Rattle.rr_store.specs.Views.{sender_of};
 
-use crate::receive::request::active_place;
-use crate::release::response_loan as of_response_loan;
-use crate::send::response as of_response;
 use crate::side::Side;
 use crate::{HandleEntry, ResponseDetails};
 use rr_sender::Sender;
@@ -82,7 +79,12 @@ impl<B: Body, N: Copy, H: Drop, P: Drop> Side<B, N, H, P> {
         requires { (sender < length self.now.senders) × (receiver + 1 < 2 ^ 64) × ((receiver + 1) * length (sender_of sender self.now.senders).messages.held + slot < 2 ^ 64) }
         ensures { result ≡ record { row = (sender_of sender self.now.senders).row; index = (receiver + 1) * length (sender_of sender self.now.senders).messages.held + slot } }
     {
-        active_place(self.senders.as_slice(), sender, receiver, slot)
+        let owned = &self.senders[sender];
+        let index = (receiver + 1) * owned.messages.slots() + slot;
+        Place {
+            row: owned.row,
+            index,
+        }
     }
 
     /// Returns which receiver the client of a response is. Returns `None` if its request has no pending response any more.
@@ -94,7 +96,15 @@ impl<B: Body, N: Copy, H: Drop, P: Drop> Side<B, N, H, P> {
     ) -> Option<usize>
         ensures { result ≡ reached self.now.senders table.now details }
     {
-        of_response::reached_receiver(self.senders.as_slice(), table, details)
+        let owned = self.senders.get(details.client_sender)?;
+        let row = owned.row;
+        let index = details.channel;
+        let request = table.get_at(details.request, Place { row, index })?;
+        if request.stage.is_pending() {
+            Some(owned.receiver)
+        } else {
+            None
+        }
     }
 
     /// Returns the one place where the active request of a response can stand. `receiver` is the index of its server among the
@@ -103,6 +113,12 @@ impl<B: Body, N: Copy, H: Drop, P: Drop> Side<B, N, H, P> {
     pub fn asked_place(&self, details: ResponseDetails, receiver: usize) -> Option<Place>
         ensures { IfSome result (IsAskedPlace self.now.senders details receiver) }
     {
-        of_response_loan::asked_place(self.senders.as_slice(), details, receiver)
+        let owned = self.senders.get(details.client_sender)?;
+        let row = owned.row;
+        let first = receiver
+            .wrapping_add(1)
+            .wrapping_mul(owned.messages.slots());
+        let index = first.wrapping_add(details.channel);
+        Some(Place { row, index })
     }
 }

@@ -1,13 +1,14 @@
 //! Ports by index and by number, their creation, and those that left.
-ghost use Rattle.std.specs.Prelude.{◌≡◌, ◌≢◌, ℕ, ◌<◌, ◌==◌, ◌&&◌, [], ◌∷◌, ◌++◌, true, IsSome, IsSomeAnd, OnErr, OnOk, Some, length, slice_get, slice_set};
+ghost use Rattle.std.specs.Prelude.{◌≡◌, ◌≢◌, ℕ, ◌<◌, ◌==◌, ◌&&◌, [], ◌∷◌, ◌++◌, true, IsSome, IsSomeAnd, OnErr, OnOk, Some, length, slice_get, slice_set, ◌+◌, None, map, if◌then◌else◌, is_ok};
 ghost use Rattle.std.specs.List.{list_any, position, remove};
 ghost use Rattle.rr_table.specs.TableView.{IsRenewed, with_row};
 ghost use Rattle.rr_store.specs.Creating.{left_at};
 ghost use Rattle.rr_store.specs.Order.{IsRising};
 ghost use Rattle.rr_store.specs.Views.{sender_of};
+ghost use Rattle.rr_store.specs.Ports.{sender_part};
 
 use crate::side::Side;
-use crate::{ConnectedPort, HandleEntry, LeftPort, create, index_of_present, query};
+use crate::{ConnectedPort, HandleEntry, LeftPort, OwnedSender, Stage, index_of, index_of_present};
 use rr_sender::Sender;
 use rr_slots::Body;
 use rr_table::Table;
@@ -113,7 +114,10 @@ impl<B: Body, N: Copy, H: Drop, P: ConnectedPort> Side<B, N, H, P> {
         requires { IsRising P.id self.now.ports }
         ensures { result ≡ list_any (λ p. P.id p == number && P.has_value p) self.now.ports }
     {
-        query::is_value(self.ports.as_slice(), number)
+        match index_of(self.ports.as_slice(), number) {
+            Some(index) => self.ports[index].has_value(),
+            None => false,
+        }
     }
 
     /// Returns a receiver, of so many, that no port is.
@@ -122,7 +126,7 @@ impl<B: Body, N: Copy, H: Drop, P: ConnectedPort> Side<B, N, H, P> {
         ensures inside { result < receivers }
         ensures vacant { (i : ℕ) (p : P) → slice_get self.now.ports i ≡ Some p → P.receiver p ≢ result }
     {
-        create::free_receiver(self.ports.as_slice(), receivers)
+        free_receiver(self.ports.as_slice(), receivers)
     }
 
     /// Adds a port, the sender from which it sends, and a row of the table for its messages. Returns `AllocError` if memory was
@@ -141,7 +145,7 @@ impl<B: Body, N: Copy, H: Drop, P: ConnectedPort> Side<B, N, H, P> {
         ensures err { OnErr result (self.new ≡ self.old) }
         ensures unchanged { OnErr result (table.new ≡ table.old) }
     {
-        create::insert_port(
+        insert_port(
             alloc,
             &mut self.ports,
             &mut self.senders,
@@ -173,7 +177,7 @@ impl<B: Body, N: Copy, H: Drop, P: ConnectedPort> Side<B, N, H, P> {
         ensures err { OnErr result (self.new ≡ self.old) }
         ensures unchanged { OnErr result (table.new ≡ table.old) }
     {
-        create::insert_port_again(
+        insert_port_again(
             alloc,
             &mut self.ports,
             &mut self.senders,
@@ -186,4 +190,102 @@ impl<B: Body, N: Copy, H: Drop, P: ConnectedPort> Side<B, N, H, P> {
         self.left.remove(index);
         Ok(())
     }
+}
+
+/// The entry of no handle: what a vacant place of the table holds.
+const NO_HANDLE: HandleEntry = HandleEntry {
+    stage: Stage::Response,
+    sender: 0,
+    slot: 0,
+};
+
+/// Adds a port, the sender from which it sends, and a row of the table for its messages. Returns `AllocError` if memory was
+/// refused; the lists and the table are unchanged then.
+fn insert_port<P: ConnectedPort, B: Body, N: Copy, H: Drop>(
+    alloc: Global,
+    ports: &mut Vec<P>,
+    senders: &mut Vec<OwnedSender<B, N, H>>,
+    table: &mut Table<HandleEntry>,
+    port: P,
+    messages: Sender<B, N, H>,
+    may_answer: Vec<u64>,
+    row_len: usize,
+) -> Result<(), AllocError>
+    ensures ports { ports.new.items ≡ (if is_ok result then ports.old.items ++ port ∷ [] else ports.old.items) }
+    ensures senders { senders.new.items ≡ (if is_ok result then senders.old.items ++ record { owner = P.id port; row = length table.old.rows; receiver = P.receiver port; has_value = true; loans = 0; pendings = 0; may_answer = may_answer; messages = messages } ∷ [] else senders.old.items) }
+    ensures table { table.new ≡ (if is_ok result then with_row table.old row_len else table.old) }
+{
+    ports.reserve(1)?;
+    senders.reserve(1)?;
+    let row = table.add_row(alloc, row_len, NO_HANDLE)?;
+    senders.push_reserved(OwnedSender {
+        owner: port.id(),
+        row,
+        receiver: port.receiver(),
+        has_value: true,
+        loans: 0,
+        pendings: 0,
+        may_answer,
+        messages,
+    });
+    ports.push_reserved(port);
+    Ok(())
+}
+
+/// Adds a port that sends from a sender that is there, which becomes a new one, and makes its row anew for its messages. Returns
+/// `AllocError` if memory was refused; the lists and the table are unchanged then.
+fn insert_port_again<P: ConnectedPort, B: Body, N: Copy, H: Drop>(
+    alloc: Global,
+    ports: &mut Vec<P>,
+    senders: &mut Vec<OwnedSender<B, N, H>>,
+    table: &mut Table<HandleEntry>,
+    port: P,
+    messages: Sender<B, N, H>,
+    may_answer: Vec<u64>,
+    row_len: usize,
+) -> Result<(), AllocError>
+    requires sender { P.sender port < length senders.old.items }
+    requires row { (sender_of (P.sender port) (map sender_part senders.old.items)).row < length table.old.rows }
+    ensures ports { ports.new.items ≡ (if is_ok result then ports.old.items ++ port ∷ [] else ports.old.items) }
+    ensures senders { map sender_part senders.new.items ≡ (if is_ok result then slice_set (map sender_part senders.old.items) (P.sender port) (record { owner = P.id port; row = (sender_of (P.sender port) (map sender_part senders.old.items)).row; receiver = P.receiver port; has_value = true; loans = 0; pendings = 0; may_answer = may_answer.items; messages = messages }) else map sender_part senders.old.items) }
+    ensures renewed { OnOk result (IsRenewed (sender_of (P.sender port) (map sender_part senders.old.items)).row row_len table.old table.new) }
+    ensures unchanged { OnErr result (table.new ≡ table.old) }
+{
+    ports.reserve(1)?;
+    let sender = port.sender();
+    let row = senders[sender].row;
+    table.renew_row(alloc, row, row_len, NO_HANDLE)?;
+    senders[sender] = OwnedSender {
+        owner: port.id(),
+        row,
+        receiver: port.receiver(),
+        has_value: true,
+        loans: 0,
+        pendings: 0,
+        may_answer,
+        messages,
+    };
+    ports.push_reserved(port);
+    Ok(())
+}
+
+/// Returns a receiver that no port is.
+fn free_receiver<P: ConnectedPort>(ports: &[P], receivers: usize) -> usize
+    requires { length ports.now < receivers }
+    ensures inside { result < receivers }
+    ensures vacant { (i : ℕ) (p : P) → slice_get ports.now i ≡ Some p → P.receiver p ≢ result }
+{
+    for receiver in 0..receivers {
+        if !is_taken(ports, receiver) {
+            return receiver;
+        }
+    }
+    unreachable!()
+}
+
+/// Returns whether a port is this receiver.
+fn is_taken<P: ConnectedPort>(ports: &[P], receiver: usize) -> bool
+    ensures { result ≡ list_any (λ p. P.receiver p == receiver) ports.now }
+{
+    ports.iter().any(|port| port.receiver() == receiver)
 }

@@ -1,26 +1,20 @@
 //! Entries that wait, are looked for, taken, and dropped.
-ghost use Rattle.std.specs.Prelude.{◌≡◌, ◌+◌, ◌*◌, ◌<◌, ◌^◌, ℕ, [], Some, length, map, slice_get, slice_index, slice_index_or};
+ghost use Rattle.std.specs.Prelude.{◌≡◌, ◌+◌, ◌*◌, ◌<◌, ◌^◌, ℕ, [], Some, length, map, slice_get, slice_index, slice_index_or, not};
 ghost use Rattle.rr_sender.specs.Senders.{uses};
 ghost use Rattle.rr_store.specs.Asked.{CanTake};
 ghost use Rattle.rr_store.specs.Delivering.{HasQueue, handed_on};
-ghost use Rattle.rr_store.specs.Ports.{server_part};
+ghost use Rattle.rr_store.specs.Ports.{server_part, sender_part};
 ghost use Rattle.rr_store.specs.Receiving.{IsNextSender, Reaches, queue_from};
 ghost use Rattle.rr_store.specs.Sending.{HasQueues, after_queued};
 ghost use Rattle.rr_store.specs.Sides.{with_channel_emptied, with_first_taken, with_sender, with_sent};
-ghost use Rattle.rr_store.specs.Skimming.{IsSkimmedTo};
 ghost use Rattle.rr_store.specs.Views.{sender_of};
 ghost use Rattle.rr_store.specs.Waiting.{has_entry};
+ghost use Rattle.rr_store.specs.Clearing.{channel_cleared};
 
-use crate::query::is_waiting;
-use crate::receive::next_sender;
-use crate::receive::request::skim_to_next;
-use crate::release::pending as of_pending;
-use crate::send::request as of_request;
 use crate::side::Side;
-use crate::{HandleEntry, RequestDetails, ServerPort};
+use crate::{OwnedSender, ServerPort};
 use rr_protocol::ReceiveError;
 use rr_slots::Body;
-use rr_table::Table;
 
 impl<B: Body, N: Copy, H: Drop, P: Drop> Side<B, N, H, P> {
     /// Returns whether a message is queued for a receiver on a channel. Looks at most once at each sender.
@@ -68,7 +62,7 @@ impl<B: Body, N: Copy, H: Drop, P: Drop> Side<B, N, H, P> {
         requires { Reaches self.old.senders receiver channel }
         ensures { self.new ≡ with_channel_emptied self.old receiver channel }
     {
-        of_pending::clear_channel(&mut self.senders, receiver, channel);
+        clear_channel(&mut self.senders, receiver, channel);
     }
 
     /// Puts a slot into the queue to each server, but for queues that are full and may not overflow, and notes that each of the
@@ -88,14 +82,11 @@ impl<B: Body, N: Copy, H: Drop, P: Drop> Side<B, N, H, P> {
         requires marks { (i : ℕ) (s : ServerPort K) → slice_get servers.now i ≡ Some s → slot * receivers + s.port.receiver < length (sender_of sender self.old.senders).may_answer }
         ensures { self.new ≡ with_sender self.old sender (after_queued overflow receivers slot (map server_part servers.now)) }
     {
-        of_request::queue_in(
-            &mut self.senders,
-            sender,
-            slot,
-            receivers,
-            servers,
-            overflow,
-        );
+        let owned = &mut self.senders[sender];
+        for server in servers {
+            owned.messages.put(server.port.receiver, 0, slot, overflow);
+            owned.may_answer[slot * receivers + server.port.receiver] = server.port.id;
+        }
     }
 
     /// Makes a handle's hold of a slot the hold of an entry in the queue to the receiver that is reached. Gives it back if none is
@@ -124,26 +115,63 @@ impl<B: Body, N: Copy, H: Drop, P: Drop> Side<B, N, H, P> {
     }
 }
 
-impl<B: Body, H: Drop, P: Drop> Side<B, RequestDetails, H, P> {
-    /// Returns from which sender a receiver takes its next request, of which it may have `most` from each. Drops the requests that
-    /// nobody waits for from the fronts of the queues that it looks at, where the receiver may have one more. Returns `None` if no
-    /// request is queued then.
-    ///
-    /// # Errors
-    ///
-    /// - `ExceedsMaxBorrows` if requests are queued alone where the receiver has so many.
-    #[inline(always)]
-    pub fn skim_to_next(
-        &mut self,
-        table: &Table<HandleEntry>,
-        receiver: usize,
-        most: usize,
-    ) -> Result<Option<usize>, ReceiveError>
-        requires { Reaches self.old.senders receiver 0 }
-        ensures rest { self.new ≡ record self.old { senders = self.new.senders } }
-        ensures skimmed { IsSkimmedTo table.now receiver most self.old.senders self.new.senders result }
-        ensures next { IsNextSender self.new.senders receiver 0 most result }
-    {
-        skim_to_next(&mut self.senders, table, receiver, most)
+/// Returns whether a message waits from one of the senders for a receiver on a channel. Looks at most once at each sender.
+#[inline(always)]
+fn is_waiting<B: Body, N: Copy, H: Drop>(
+    senders: &[OwnedSender<B, N, H>],
+    receiver: usize,
+    channel: usize,
+) -> bool
+    requires { (i : ℕ) (l : OwnedSender B N H B.Item) → slice_get senders.now i ≡ Some l → (receiver < length l.messages.queues) × (channel < length (slice_index_or l.messages.queues receiver [])) }
+    ensures { result ≡ has_entry receiver channel (map sender_part senders.now) }
+{
+    for sender in senders {
+        if sender.messages.has_entries(receiver, channel) {
+            return true;
+        }
+    }
+    false
+}
+
+/// Some sender from which a message waits for a receiver on a channel, of which it may have `most` from each.
+///
+/// `None` if no message waits, `ExceedsMaxBorrows` if messages wait alone where the receiver has so many.
+#[inline(always)]
+fn next_sender<B: Body, N: Copy, H: Drop>(
+    senders: &Vec<OwnedSender<B, N, H>>,
+    receiver: usize,
+    channel: usize,
+    most: usize,
+) -> Result<Option<usize>, ReceiveError>
+    requires { Reaches (map sender_part senders.now.items) receiver channel }
+    ensures { IsNextSender (map sender_part senders.now.items) receiver channel most result }
+{
+    let mut is_at_limit = false;
+    for sender in 0..senders.len() {
+        if senders[sender].messages.has_entries(receiver, channel) {
+            if senders[sender].messages.borrowed(receiver, channel) < most {
+                return Ok(Some(sender));
+            }
+            is_at_limit = true;
+        }
+    }
+    if is_at_limit {
+        return Err(ReceiveError::ExceedsMaxBorrows);
+    }
+    Ok(None)
+}
+
+/// Drops what waits in the senders for a receiver on a channel.
+#[inline(always)]
+fn clear_channel<B: Body, N: Copy, H: Drop>(
+    senders: &mut Vec<OwnedSender<B, N, H>>,
+    receiver: usize,
+    channel: usize,
+)
+    requires { Reaches (map sender_part senders.old.items) receiver channel }
+    ensures { map sender_part senders.new.items ≡ map (channel_cleared receiver channel) (map sender_part senders.old.items) }
+{
+    for sender in 0..senders.len() {
+        senders[sender].messages.clear_queue(receiver, channel);
     }
 }

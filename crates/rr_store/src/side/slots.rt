@@ -7,9 +7,7 @@ ghost use Rattle.rr_store.specs.Sides.{with_sent};
 ghost use Rattle.rr_store.specs.Views.{sender_of};
 ghost use Rattle.rr_store.specs.Writing.{is_written};
 
-use crate::loan::loan_from;
 use crate::side::Side;
-use crate::write;
 use rr_slots::{AcquireError, Body, FillBody};
 use rr_table::Place;
 
@@ -40,7 +38,14 @@ impl<B: Body, N: Copy, H: Drop, P: Drop> Side<B, N, H, P> {
         ensures no_room { IsErrOf result AcquireError.NoRoom → (sender_of sender self.old.senders).messages.room < len }
         ensures err { OnErr result (self.new ≡ self.old) }
     {
-        loan_from(&mut self.senders, sender, len, details, user_header)
+        let owned = &mut self.senders[sender];
+        match owned.messages.loan(len, details, user_header) {
+            Ok(slot) => Ok(Place {
+                row: owned.row,
+                index: slot,
+            }),
+            Err(error) => Err(error),
+        }
     }
 
     /// Gives back a hold on the message in a slot. What stands in the slot is dropped with the last use.
@@ -61,7 +66,11 @@ impl<B: Body, N: Copy, H: Drop, P: Drop> Side<B, N, H, P> {
         ensures told { result ≡ not (is_written (content_at (sender_of sender self.old.senders).messages slot)) }
         ensures pushed { self.new ≡ (if result then with_sent self.old sender (λ m. with_changed_at m slot (appended item)) else self.old) }
     {
-        write::push_in(&mut self.senders, sender, slot, item)
+        if self.senders[sender].messages.body(slot).is_complete() {
+            return false;
+        }
+        self.senders[sender].messages.push(slot, item);
+        true
     }
 
     /// Makes an element the only one of the message in a slot, of which one is asked for at least. Old ones are dropped.
@@ -72,7 +81,7 @@ impl<B: Body, N: Copy, H: Drop, P: Drop> Side<B, N, H, P> {
         requires asked { 0 < (content_at (sender_of sender self.old.senders).messages slot).asked_len }
         ensures { self.new ≡ with_sent self.old sender (λ m. with_changed_at m slot (with_elements (element ∷ []))) }
     {
-        write::write_in(&mut self.senders, sender, slot, element);
+        self.senders[sender].messages.write(slot, element);
     }
 
     /// Makes another user header the one of the message in a slot. The old one is dropped.
@@ -100,7 +109,11 @@ impl<B: Body, N: Copy, H: Drop, P: Drop> Side<B, N, H, P> {
         ensures told { result ≡ nat_lt index (length (content_at (sender_of sender self.old.senders).messages slot).elements) }
         ensures written { self.new ≡ (if result then with_sent self.old sender (λ m. with_changed_at m slot (with_element_at index element)) else self.old) }
     {
-        write::write_element_in(&mut self.senders, sender, slot, index, element)
+        if index >= self.senders[sender].messages.body(slot).len() {
+            return false;
+        }
+        *self.senders[sender].messages.get_mut(slot, index) = element;
+        true
     }
 }
 
@@ -112,6 +125,6 @@ impl<B: FillBody, N: Copy, H: Drop, P: Drop> Side<B, N, H, P> {
         requires slot { slot < length (sender_of sender self.old.senders).messages.held }
         ensures { self.new ≡ with_sent self.old sender (λ m. with_changed_at m slot (filled element)) }
     {
-        write::fill_in(&mut self.senders, sender, slot, element);
+        self.senders[sender].messages.fill(slot, element);
     }
 }

@@ -1,22 +1,22 @@
 //! Handles by number and place.
-ghost use Rattle.std.specs.Prelude.{◌≡◌, ◌+◌, ◌<◌, ◌^◌, true, Option, Some, IfSome, IsSome};
-ghost use Rattle.std.specs.FinMap as fin_map;
+ghost use Rattle.std.specs.Prelude.{◌≡◌, ◌+◌, ◌<◌, ◌^◌, true, Option, Some, IfSome, IsSome, None};
 ghost use Rattle.rr_protocol.specs.State.{handle_at};
 ghost use Rattle.rr_table.specs.TableView.{IsAt, table_entry};
 ghost use Rattle.rr_table.specs.declared.place.Place.{Place};
-ghost use Rattle.rr_table.specs.declared.place.Place as place;
 ghost use Rattle.rr_store.specs.Asked.{CanInsert};
 ghost use Rattle.rr_store.specs.Changes.{with_handle, with_new_handle};
-ghost use Rattle.rr_store.specs.Ending.{IsAskedPlace, IsLoanEnded, found_under};
+ghost use Rattle.rr_store.specs.Ending.{IsAskedPlace, IsLoanEnded, found_under, IsCountedLess};
 ghost use Rattle.rr_store.specs.Opened.{opened};
 ghost use Rattle.rr_store.specs.Views.{state_of};
+ghost use Rattle.rr_store.specs.Answering.{active_in};
+ghost use Rattle.std.specs.FinMap as fin_map;
+ghost use Rattle.rr_table.specs.declared.place.Place as place;
 
-use crate::release::response_loan as of_response_loan;
 use crate::store::Store;
-use crate::{HandleEntry, ResponseDetails};
+use crate::{HandleEntry, ResponseDetails, Stage};
 use rr_protocol::BackpressureFn;
 use rr_slots::Body;
-use rr_table::Place;
+use rr_table::{Place, Table};
 
 impl<QB: Body, QH: Default + Drop, PB: Body, PH: Default + Drop, K: BackpressureFn> Store<
     QB,
@@ -90,6 +90,50 @@ impl<QB: Body, QH: Default + Drop, PB: Body, PH: Default + Drop, K: Backpressure
         ensures ended { (at : Option place.Place) × IfSome at (IsAskedPlace self.old.clients.senders details receiver) × IsLoanEnded details.active_request (found_under self.old.table details.active_request at) self.old.table self.new.table }
     {
         let at = self.clients.asked_place(details, receiver);
-        of_response_loan::end_loan_from(&mut self.table, details.active_request, at);
+        end_loan_from(&mut self.table, details.active_request, at);
+    }
+}
+
+/// Counts one response less on loan from an active request, if one stands under the number. Looks in one place alone, where one
+/// is given.
+#[tactic(auto, using(crate::proofs::base::lookups::Placed::kept_there))]
+#[inline(always)]
+fn end_loan_from(table: &mut Table<HandleEntry>, number: u64, at: Option<Place>)
+    ensures { IsLoanEnded number (found_under table.old number at) table.old table.new }
+{
+    match at {
+        Some(place) => {
+            if let Some(entry) = table.get_at(number, place) {
+                end_loan_of(table, number, place, entry);
+            }
+        }
+        None => {
+            if let Some(place) = table.find(number) {
+                let entry = table.at(number, place);
+                end_loan_of(table, number, place, entry);
+            }
+        }
+    }
+}
+
+/// Counts one response less on loan from a handle, if it is an active request.
+#[inline(always)]
+fn end_loan_of(table: &mut Table<HandleEntry>, number: u64, place: Place, entry: HandleEntry)
+    requires { fin_map.get table.old.entries number ≡ Some (table_entry place entry) }
+    ensures { IsCountedLess number entry (active_in entry.stage) table.old table.new }
+{
+    if let Some((server, loans)) = entry.stage.active() {
+        let stage = Stage::ActiveRequest(server, loans.saturating_sub(1));
+        let sender = entry.sender;
+        let slot = entry.slot;
+        table.set_at(
+            number,
+            place,
+            HandleEntry {
+                stage,
+                sender,
+                slot,
+            },
+        );
     }
 }

@@ -23,17 +23,17 @@ use Rattle.rr_store.specs.declared.handle_entry.HandleEntry.{HandleEntry}
 use Rattle.rr_store.specs.Changes.{with_responses}
 use Rattle.rr_store.specs.Parts.{Parts}
 use Rattle.rr_store.specs.Reaching.{IsCore}
-use Rattle.rr_store.specs.Sound.{IsSound, empty_hand, is_response_loan}
+use Rattle.rr_store.specs.Sound.{IsSoundStore, empty_hand, is_response_loan}
 use Rattle.rr_store.specs.Views.{handle_in, response_at, sender_of, state_of}
 use Rattle.rr_store.specs.Writing.{is_written}
 use Rattle.rr_store.proofs.base.hands.Stages.{response_loan_is_response}
 use Rattle.rr_store.proofs.base.lookups.Looking.{shown}
 use Rattle.rr_store.proofs.base.lookups.Placed.{value_there}
 use Rattle.rr_store.proofs.base.lookups.Shown.{of_response}
-use Rattle.rr_store.proofs.base.senders.Written.{whole_or}
+use Rattle.rr_writing.proofs.laws.Written.{whole_or}
 use Rattle.rr_store.proofs.base.views.Unseen.{with_slot}
 use Rattle.rr_store.proofs.querying.Connected.{of_kind}
-use Rattle.rr_store.proofs.writing.Push.{response_mut_stage, response_ready_loan, response_there, says, changed_response_sound, changed_response_view, response_header_sound, response_header_view}
+use Rattle.rr_writing.proofs.laws.Push.{response_mut_stage, response_ready_loan, response_there, says, changed_response_sound, changed_response_view, response_header_sound, response_header_view}
 use Rattle.rr_writing.proofs.steps.Lent.{both}
 
 module _ {Q QH P PH K : Type 0} (p : Parts Q QH P PH K) (n : ℕ) (place : Place) (entry : HandleEntry)
@@ -98,7 +98,7 @@ module _ {Q QH P PH K : Type 0} (p : Parts Q QH P PH K) (n : ℕ) (place : Place
       -- what is true then
       core_after : MessagesComplete (state_of q) → IsCore q
       core_after complete = record {
-        sound = subst (λ q. IsSound q empty_hand) (sym after) (changed_response_sound p core.sound n entry here loan change told);
+        sound = subst (λ q. IsSoundStore q empty_hand) (sym after) (changed_response_sound p core.sound n entry here loan change told);
         reached = push_reached (state_of p) n (with_response_content seen) (response_content_role seen) told (Some true) (λ b. b ≡ true) _
             core.reached (refl, state_then);
         complete = complete;
@@ -144,7 +144,7 @@ module _ {Q QH P PH K : Type 0} (p : Parts Q QH P PH K) (n : ℕ) (place : Place
 
       pub header_core : IsCore q
       header_core = record {
-        sound = subst (λ q. IsSound q empty_hand) (sym written) (response_header_sound p core.sound n entry here loan header);
+        sound = subst (λ q. IsSoundStore q empty_hand) (sym written) (response_header_sound p core.sound n entry here loan header);
         reached = push_reached (state_of p) n (with_response_content (with_user_header header))
             (response_content_role (with_user_header header)) true (Some true) (λ b. b ≡ true) _ core.reached (refl, header_view);
         complete = subst (λ s. MessagesComplete s) (sym header_view)

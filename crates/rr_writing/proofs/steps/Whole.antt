@@ -8,7 +8,7 @@ use Rattle.rr_slots.specs.Pools.{Written}
 use Rattle.rr_table.specs.TableView.{table_entry}
 use Rattle.rr_table.specs.declared.place.Place.{Place}
 use Rattle.rr_sender.specs.Senders.{content_at, with_changed_at}
-use Rattle.rr_maps.proofs.MapLaws.{get-insert_same}
+use Rattle.rr_map_laws.proofs.MapLaws.{get-insert_same}
 use Rattle.rr_protocol.specs.declared.kind.Kind.{Kind}
 use Rattle.rr_protocol.specs.Messages.{ActiveRequest, Content, Handle, PendingResponse, RequestMessage, RequestMut, RequestMutUninit, Response, ResponseMessage, ResponseMut, ResponseMutUninit, request_in, response_in}
 use Rattle.rr_protocol.specs.Queries.{kind_at}
@@ -24,13 +24,13 @@ use Rattle.rr_store.specs.declared.handle_entry.Stage.TheVariants as stage
 use Rattle.rr_store.specs.Changes.{with_handle, with_requests, with_responses}
 use Rattle.rr_store.specs.Parts.{Parts}
 use Rattle.rr_store.specs.Reaching.{IsCore}
-use Rattle.rr_store.specs.Sound.{IsSound, empty_hand, is_request_loan, is_response_loan}
+use Rattle.rr_store.specs.Sound.{IsSoundStore, empty_hand, is_request_loan, is_response_loan}
 use Rattle.rr_store.specs.Views.{handle_in, request_at, response_at, sender_of, state_of}
 use Rattle.rr_store.specs.Writing.{initialised, is_ready}
 use Rattle.rr_store.proofs.base.lookups.Looking.{shown}
 use Rattle.rr_store.proofs.base.lookups.Placed.{value_there}
 use Rattle.rr_store.proofs.querying.Connected.{of_kind}
-use Rattle.rr_store.proofs.writing.Push.{changed_request_sound, changed_request_view, changed_response_sound, changed_response_view, request_mut_stage, request_there, response_mut_stage, response_there, says}
+use Rattle.rr_writing.proofs.laws.Push.{changed_request_sound, changed_request_view, changed_response_sound, changed_response_view, request_mut_stage, request_there, response_mut_stage, response_there, says}
 use Rattle.rr_writing.proofs.steps.Initialising.{IsBeingWritten, core_then, view_then}
 
 module _ {Q QH P PH : Type 0} where
@@ -53,7 +53,7 @@ module _ {Q QH P PH K : Type 0} (p : Parts Q QH P PH K) (core : IsCore p) (n : �
   -- what was asked for is written first, and then the handle is in another stage
   module _ (change : Handle Q QH P PH → Handle Q QH P PH) (same : (h : Handle Q QH P PH) → role_of (change h) ≡ role_of h)
       (ready : is_ready (change (handle_in p entry.stage entry.sender entry.slot)) ≡ true) (q : Parts Q QH P PH K)
-      (sound : IsSound q empty_hand) (view : state_of q ≡ with_changed (state_of p) n change)
+      (sound : IsSoundStore q empty_hand) (view : state_of q ≡ with_changed (state_of p) n change)
       (kept : fin_map.get q.table.entries n ≡ Some (table_entry place entry)) where
     core_between : IsCore q
     core_between = record {
@@ -107,8 +107,8 @@ module _ {Q QH P PH K : Type 0} (p : Parts Q QH P PH K) (core : IsCore p) (n : �
       request_ready : is_ready (with_request_content seen (handle_in p entry.stage entry.sender entry.slot)) ≡ true
       request_ready = ap (λ h. is_ready (with_request_content seen h)) request_shown ∙ complete
 
-      request_written : IsSound q empty_hand
-      request_written = subst (λ x. IsSound x empty_hand) (sym written)
+      request_written : IsSoundStore q empty_hand
+      request_written = subst (λ x. IsSoundStore x empty_hand) (sym written)
           (changed_request_sound p core.sound n entry (value_there p.table n place entry at) request_loan change true)
 
       request_view : state_of q ≡ with_changed (state_of p) n (with_request_content seen)
@@ -173,8 +173,8 @@ module _ {Q QH P PH K : Type 0} (p : Parts Q QH P PH K) (core : IsCore p) (n : �
       response_ready : is_ready (with_response_content seen (handle_in p entry.stage entry.sender entry.slot)) ≡ true
       response_ready = ap (λ h. is_ready (with_response_content seen h)) response_shown ∙ complete
 
-      response_written : IsSound q empty_hand
-      response_written = subst (λ x. IsSound x empty_hand) (sym written)
+      response_written : IsSoundStore q empty_hand
+      response_written = subst (λ x. IsSoundStore x empty_hand) (sym written)
           (changed_response_sound p core.sound n entry (value_there p.table n place entry at) response_loan change true)
 
       response_view : state_of q ≡ with_changed (state_of p) n (with_response_content seen)

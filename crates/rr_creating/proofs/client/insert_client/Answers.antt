@@ -24,12 +24,12 @@ free_receiver-receiver-requires g c =
 pub idle_left-requires : goal.idle_left-requires
 idle_left-requires g c = there_asked (opened c.args.store.now) c.requires.core c.args.settings c.requires.due c.requires.room
 
-pub add_client_again-requires-clause-next : goal.add_client_again-requires-clause-next
-add_client_again-requires-clause-next g c = next_asked (opened c.args.store.now) c.requires.core c.args.settings c.requires.due
+pub append_client_again-requires-clause-next : goal.append_client_again-requires-clause-next
+append_client_again-requires-clause-next g c = next_asked (opened c.args.store.now) c.requires.core c.args.settings c.requires.due
     c.requires.room
 
-pub add_client_again-requires-clause-left : goal.add_client_again-requires-clause-left
-add_client_again-requires-clause-left g c =
+pub append_client_again-requires-clause-left : goal.append_client_again-requires-clause-left
+append_client_again-requires-clause-left g c =
     left_asked (opened c.args.store.now) c.requires.core c.args.settings c.requires.due c.requires.room c.in-Some.index c.in-Some.ensures
 
 pub returns-in-Some-clause-core : goal.returns-in-Some-clause-core
@@ -39,9 +39,9 @@ returns-in-Some-clause-core g c =
     c.pool_size-slots.ensures _ c.free_receiver-receiver.ensures.inside (seen_vacant client_part c.args.store.now.clients.ports
     (λ (x : ClientPart _). x.receiver) _ c.free_receiver-receiver.ensures.vacant) _
     c.in_ok-client.ensures.messages _ c.in_ok-client.ensures.marks _ c.in_ok-client.ensures.row c.in_ok-client.ensures.fits c.in-Some.index
-    c.in-Some.ensures (opened c.add_client_again.new.self) c.add_client_again.result c.add_client_again.ensures.ok
-    c.add_client_again.ensures.table
-    c.add_client_again.ensures.err
+    c.in-Some.ensures (opened c.append_client_again.new.store) c.append_client_again.result c.append_client_again.ensures.ok
+    c.append_client_again.ensures.table
+    c.append_client_again.ensures.err
 
 pub returns-in-Some-clause-ok : goal.returns-in-Some-clause-ok
 returns-in-Some-clause-ok g c =
@@ -50,11 +50,11 @@ returns-in-Some-clause-ok g c =
     c.pool_size-slots.ensures _ c.free_receiver-receiver.ensures.inside (seen_vacant client_part c.args.store.now.clients.ports
     (λ (x : ClientPart _). x.receiver) _ c.free_receiver-receiver.ensures.vacant) _
     c.in_ok-client.ensures.messages _ c.in_ok-client.ensures.marks _ c.in_ok-client.ensures.row c.in_ok-client.ensures.fits c.in-Some.index
-    c.in-Some.ensures (opened c.add_client_again.new.self) c.add_client_again.result c.add_client_again.ensures.ok
-    c.add_client_again.ensures.table
+    c.in-Some.ensures (opened c.append_client_again.new.store) c.append_client_again.result c.append_client_again.ensures.ok
+    c.append_client_again.ensures.table
 
-pub add_client-requires : goal.add_client-requires
-add_client-requires g c = next_asked (opened c.args.store.now) c.requires.core c.args.settings c.requires.due c.requires.room
+pub append_client-requires : goal.append_client-requires
+append_client-requires g c = next_asked (opened c.args.store.now) c.requires.core c.args.settings c.requires.due c.requires.room
 
 pub returns-in-None-clause-core : goal.returns-in-None-clause-core
 returns-in-None-clause-core g c =
@@ -63,7 +63,7 @@ returns-in-None-clause-core g c =
     c.pool_size-slots.ensures _ c.free_receiver-receiver.ensures.inside (seen_vacant client_part c.args.store.now.clients.ports
     (λ (x : ClientPart _). x.receiver) _ c.free_receiver-receiver.ensures.vacant) _
     c.in_ok-client.ensures.messages _ c.in_ok-client.ensures.marks _ c.in_ok-client.ensures.row c.in_ok-client.ensures.fits
-    (opened c.add_client.new.self) c.add_client.result c.add_client.ensures.ok c.add_client.ensures.err
+    (opened c.append_client.new.store) c.append_client.result c.append_client.ensures.ok c.append_client.ensures.err
 
 pub returns-in-None-clause-ok : goal.returns-in-None-clause-ok
 returns-in-None-clause-ok g c =
@@ -72,18 +72,18 @@ returns-in-None-clause-ok g c =
     c.pool_size-slots.ensures _ c.free_receiver-receiver.ensures.inside (seen_vacant client_part c.args.store.now.clients.ports
     (λ (x : ClientPart _). x.receiver) _ c.free_receiver-receiver.ensures.vacant) _
     c.in_ok-client.ensures.messages _ c.in_ok-client.ensures.marks _ c.in_ok-client.ensures.row c.in_ok-client.ensures.fits
-    (opened c.add_client.new.self) c.add_client.result c.add_client.ensures.ok
+    (opened c.append_client.new.store) c.append_client.result c.append_client.ensures.ok
 
 pub returns-in-Some-clause-senders : goal.returns-in-Some-clause-senders
 returns-in-Some-clause-senders g c =
     let p = (opened c.args.store.now) in
-    then_ok c.add_client_again.result
+    then_ok c.append_client_again.result
     (λ added. ap (λ (q : Parts _ _ _ _ _). length q.client_senders) added
-    ∙ as_many p.client_senders p.left_clients c.in-Some.index _ _ c.in-Some.ensures) c.add_client_again.ensures.ok
+    ∙ as_many p.client_senders p.left_clients c.in-Some.index _ _ c.in-Some.ensures) c.append_client_again.ensures.ok
 
 pub returns-in-None-clause-senders : goal.returns-in-None-clause-senders
 returns-in-None-clause-senders g c =
     let p = (opened c.args.store.now) in
-    then_ok c.add_client.result
+    then_ok c.append_client.result
     (λ added. ap (λ (q : Parts _ _ _ _ _). length q.client_senders) added
-    ∙ one_more p.client_senders p.left_clients _ c.in-None.ensures) c.add_client.ensures.ok
+    ∙ one_more p.client_senders p.left_clients _ c.in-None.ensures) c.append_client.ensures.ok

@@ -29,34 +29,34 @@ pub server_messages-requires-clause-hub : goal.server_messages-requires-clause-h
 server_messages-requires-clause-hub g c =
     hub_asked (opened c.args.store.now) c.requires.core c.args.settings c.requires.due c.requires.room _ refl
 
-pub add_server-requires-clause-clients : goal.add_server-requires-clause-clients
-add_server-requires-clause-clients g c = clients_asked (opened c.args.store.now) c.requires.core c.args.settings c.requires.due
+pub append_server-requires-clause-clients : goal.append_server-requires-clause-clients
+append_server-requires-clause-clients g c = clients_asked (opened c.args.store.now) c.requires.core c.args.settings c.requires.due
     c.requires.room
 
-pub add_server-requires-clause-loans : goal.add_server-requires-clause-loans
-add_server-requires-clause-loans g c =
+pub append_server-requires-clause-loans : goal.append_server-requires-clause-loans
+append_server-requires-clause-loans g c =
     loans_asked (opened c.args.store.now) c.requires.core c.args.settings c.requires.due c.requires.room _ refl _ c.max-loans.ensures
 
-pub add_server-requires-clause-next : goal.add_server-requires-clause-next
-add_server-requires-clause-next g c = next_asked (opened c.args.store.now) c.requires.core c.args.settings c.requires.due c.requires.room
+pub append_server-requires-clause-next : goal.append_server-requires-clause-next
+append_server-requires-clause-next g c = next_asked (opened c.args.store.now) c.requires.core c.args.settings c.requires.due c.requires.room
 
 pub idle_left-requires : goal.idle_left-requires
 idle_left-requires g c = there_asked (opened c.args.store.now) c.requires.core c.args.settings c.requires.due c.requires.room
 
-pub add_server_again-requires-clause-clients : goal.add_server_again-requires-clause-clients
-add_server_again-requires-clause-clients g c = clients_asked (opened c.args.store.now) c.requires.core c.args.settings c.requires.due
+pub append_server_again-requires-clause-clients : goal.append_server_again-requires-clause-clients
+append_server_again-requires-clause-clients g c = clients_asked (opened c.args.store.now) c.requires.core c.args.settings c.requires.due
     c.requires.room
 
-pub add_server_again-requires-clause-loans : goal.add_server_again-requires-clause-loans
-add_server_again-requires-clause-loans g c =
+pub append_server_again-requires-clause-loans : goal.append_server_again-requires-clause-loans
+append_server_again-requires-clause-loans g c =
     loans_asked (opened c.args.store.now) c.requires.core c.args.settings c.requires.due c.requires.room _ refl _ c.max-loans.ensures
 
-pub add_server_again-requires-clause-next : goal.add_server_again-requires-clause-next
-add_server_again-requires-clause-next g c = next_asked (opened c.args.store.now) c.requires.core c.args.settings c.requires.due
+pub append_server_again-requires-clause-next : goal.append_server_again-requires-clause-next
+append_server_again-requires-clause-next g c = next_asked (opened c.args.store.now) c.requires.core c.args.settings c.requires.due
     c.requires.room
 
-pub add_server_again-requires-clause-left : goal.add_server_again-requires-clause-left
-add_server_again-requires-clause-left g c =
+pub append_server_again-requires-clause-left : goal.append_server_again-requires-clause-left
+append_server_again-requires-clause-left g c =
     left_asked (opened c.args.store.now) c.requires.core c.args.settings c.requires.due c.requires.room c.in-Some.index c.in-Some.ensures
 
 pub returns-in-Some-clause-core : goal.returns-in-Some-clause-core
@@ -65,9 +65,9 @@ returns-in-Some-clause-core g c =
     c.worst_case_responses.ensures _ c.pool_size-slots.ensures _ c.free_receiver-receiver.ensures.inside
     (seen_vacant server_part c.args.store.now.servers.ports (λ (x : ServerPart _). x.receiver) _ c.free_receiver-receiver.ensures.vacant)
     _ c.in_ok-messages.ensures c.in-Some.index
-    c.in-Some.ensures (opened c.add_server_again.new.self) c.add_server_again.result c.add_server_again.ensures.ok
-    c.add_server_again.ensures.table
-    c.add_server_again.ensures.err
+    c.in-Some.ensures (opened c.append_server_again.new.store) c.append_server_again.result c.append_server_again.ensures.ok
+    c.append_server_again.ensures.table
+    c.append_server_again.ensures.err
 
 pub returns-in-Some-clause-ok : goal.returns-in-Some-clause-ok
 returns-in-Some-clause-ok g c =
@@ -75,35 +75,35 @@ returns-in-Some-clause-ok g c =
     c.worst_case_responses.ensures _ c.pool_size-slots.ensures _ c.free_receiver-receiver.ensures.inside
     (seen_vacant server_part c.args.store.now.servers.ports (λ (x : ServerPart _). x.receiver) _ c.free_receiver-receiver.ensures.vacant)
     _ c.in_ok-messages.ensures c.in-Some.index
-    c.in-Some.ensures (opened c.add_server_again.new.self) c.add_server_again.result c.add_server_again.ensures.ok
-    c.add_server_again.ensures.table
+    c.in-Some.ensures (opened c.append_server_again.new.store) c.append_server_again.result c.append_server_again.ensures.ok
+    c.append_server_again.ensures.table
 
 pub returns-in-None-clause-core : goal.returns-in-None-clause-core
 returns-in-None-clause-core g c =
     core_then (opened c.args.store.now) c.requires.core c.args.settings c.requires.due c.requires.room _ refl _ c.max-loans.ensures _
     c.worst_case_responses.ensures _ c.pool_size-slots.ensures _ c.free_receiver-receiver.ensures.inside
     (seen_vacant server_part c.args.store.now.servers.ports (λ (x : ServerPart _). x.receiver) _ c.free_receiver-receiver.ensures.vacant)
-    _ c.in_ok-messages.ensures (opened c.add_server.new.self)
-    c.add_server.result c.add_server.ensures.ok c.add_server.ensures.err
+    _ c.in_ok-messages.ensures (opened c.append_server.new.store)
+    c.append_server.result c.append_server.ensures.ok c.append_server.ensures.err
 
 pub returns-in-None-clause-ok : goal.returns-in-None-clause-ok
 returns-in-None-clause-ok g c =
     ok_then (opened c.args.store.now) c.requires.core c.args.settings c.requires.due c.requires.room _ refl _ c.max-loans.ensures _
     c.worst_case_responses.ensures _ c.pool_size-slots.ensures _ c.free_receiver-receiver.ensures.inside
     (seen_vacant server_part c.args.store.now.servers.ports (λ (x : ServerPart _). x.receiver) _ c.free_receiver-receiver.ensures.vacant)
-    _ c.in_ok-messages.ensures (opened c.add_server.new.self)
-    c.add_server.result c.add_server.ensures.ok
+    _ c.in_ok-messages.ensures (opened c.append_server.new.store)
+    c.append_server.result c.append_server.ensures.ok
 
 pub returns-in-Some-clause-senders : goal.returns-in-Some-clause-senders
 returns-in-Some-clause-senders g c =
     let p = (opened c.args.store.now) in
-    then_ok c.add_server_again.result
+    then_ok c.append_server_again.result
     (λ added. ap (λ (q : Parts _ _ _ _ _). length q.server_senders) added
-    ∙ as_many p.server_senders p.left_servers c.in-Some.index _ _ c.in-Some.ensures) c.add_server_again.ensures.ok
+    ∙ as_many p.server_senders p.left_servers c.in-Some.index _ _ c.in-Some.ensures) c.append_server_again.ensures.ok
 
 pub returns-in-None-clause-senders : goal.returns-in-None-clause-senders
 returns-in-None-clause-senders g c =
     let p = (opened c.args.store.now) in
-    then_ok c.add_server.result
+    then_ok c.append_server.result
     (λ added. ap (λ (q : Parts _ _ _ _ _). length q.server_senders) added
-    ∙ one_more p.server_senders p.left_servers _ c.in-None.ensures) c.add_server.ensures.ok
+    ∙ one_more p.server_senders p.left_servers _ c.in-None.ensures) c.append_server.ensures.ok

@@ -4,7 +4,7 @@ use Rattle.rr_laws.proofs.Memory.{request_finds_memory}
 use Rattle.rr_store.specs.Opened.{opened}
 use Rattle.rr_store.specs.Parts.{ClientPart}
 use Rattle.rr_store.specs.Ports.{client_part}
-use Rattle.rr_store.proofs.loaning.Opened.{loaned_by}
+use Rattle.rr_loaning.proofs.laws.Opened.{loaned_by}
 use Rattle.rr_store.proofs.base.lists.Seen.{kept_at, kept_rising, kept_some, seen_at, seen_found}
 use Rattle.rr_loaning.proofs.steps.Request.{client_asked, order_asked, refused, not_memory, sender_asked, out_of_memory, limit_asked, client_counts, sender_still, loans_still_fit, add_asked, loans, core_then}
 use Rattle.rr_loaning.proofs.request.loan_request.Goals as goal

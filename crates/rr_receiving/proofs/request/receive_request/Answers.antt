@@ -54,7 +54,7 @@ place_at_receiver-own-requires g c =
     c.next_request_sender.ensures.rest c.next_request_sender.ensures.kept _ c.next_request_sender.ensures.skimmed
     c.next_request_sender.ensures.next _
     (c.in-Ok-Some.is ∙ ap Ok c.in-Ok-Some.field-0-is) c.requires.number _ _ c.take-slot.ensures.first
-    c.take-slot.ensures.within (ap (λ s. opened (record c.next_request_sender.new.self { clients = s })) c.take-slot.ensures.taken)
+    c.take-slot.ensures.within (ap (λ s. opened (record c.next_request_sender.new.store { clients = s })) c.take-slot.ensures.taken)
 
 pub add-number-requires : goal.add-number-requires
 add-number-requires g c =
@@ -66,7 +66,7 @@ add-number-requires g c =
     c.next_request_sender.ensures.rest c.next_request_sender.ensures.kept _ c.next_request_sender.ensures.skimmed
     c.next_request_sender.ensures.next _
     (c.in-Ok-Some.is ∙ ap Ok c.in-Ok-Some.field-0-is) c.requires.number _ _ c.take-slot.ensures.first
-    c.take-slot.ensures.within (ap (λ s. opened (record c.next_request_sender.new.self { clients = s })) c.take-slot.ensures.taken) _
+    c.take-slot.ensures.within (ap (λ s. opened (record c.next_request_sender.new.store { clients = s })) c.take-slot.ensures.taken) _
     c.place_at_receiver-own.ensures
 
 pub returns-in-Ok-Some-clause-core : goal.returns-in-Ok-Some-clause-core
@@ -79,7 +79,7 @@ returns-in-Ok-Some-clause-core g c =
     c.next_request_sender.ensures.rest c.next_request_sender.ensures.kept _ c.next_request_sender.ensures.skimmed
     c.next_request_sender.ensures.next _
     (c.in-Ok-Some.is ∙ ap Ok c.in-Ok-Some.field-0-is) c.requires.number _ _ c.take-slot.ensures.first
-    c.take-slot.ensures.within (ap (λ s. opened (record c.next_request_sender.new.self { clients = s })) c.take-slot.ensures.taken) _
+    c.take-slot.ensures.within (ap (λ s. opened (record c.next_request_sender.new.store { clients = s })) c.take-slot.ensures.taken) _
     c.place_at_receiver-own.ensures _ _
     c.add-number.ensures.number c.add-number.ensures.added _ c.new.ensures
 
@@ -93,7 +93,7 @@ returns-in-Ok-Some-clause-receives g c =
     c.next_request_sender.ensures.rest c.next_request_sender.ensures.kept _ c.next_request_sender.ensures.skimmed
     c.next_request_sender.ensures.next _
     (c.in-Ok-Some.is ∙ ap Ok c.in-Ok-Some.field-0-is) c.requires.number _ _ c.take-slot.ensures.first
-    c.take-slot.ensures.within (ap (λ s. opened (record c.next_request_sender.new.self { clients = s })) c.take-slot.ensures.taken) _
+    c.take-slot.ensures.within (ap (λ s. opened (record c.next_request_sender.new.store { clients = s })) c.take-slot.ensures.taken) _
     c.place_at_receiver-own.ensures _ _
     c.add-number.ensures.number c.add-number.ensures.added _ c.new.ensures
 

@@ -3,7 +3,7 @@ use Rattle.std.specs.Prelude.{◌==◌}
 use Rattle.rr_store.specs.Opened.{opened}
 use Rattle.rr_store.specs.Parts.{ServerPart}
 use Rattle.rr_store.specs.Ports.{server_part}
-use Rattle.rr_store.proofs.leaving.Opened.{valueless_server}
+use Rattle.rr_releasing.proofs.laws.leaving.Opened.{valueless_server}
 use Rattle.rr_store.proofs.base.lists.Seen.{kept_at, kept_rising, kept_some, seen_found}
 use Rattle.rr_releasing.proofs.steps.ServerValue.{found_asked, gone_then, its_sender_asked, named_then, order_asked, sound_then}
 use Rattle.rr_releasing.proofs.server.end_server_value.Goals as goal

@@ -6,21 +6,18 @@ use Rattle.std.specs.FinMap as fin_map
 use Rattle.std.proofs.lemmas.List.{ext_get_or, length-map}
 use Rattle.rr_slots.specs.Pools.{Written}
 use Rattle.rr_table.specs.TableView.{TableEntry}
-use Rattle.rr_maps.proofs.MapLaws.{map_values-same}
+use Rattle.rr_map_laws.proofs.MapLaws.{map_values-same}
 use Rattle.rr_sender.specs.Senders.{Messages, content_at, queue_at, times, uses}
 use Rattle.rr_sender.proofs.EntryLaws.{mark-same}
 use Rattle.rr_protocol.specs.Keys.{RequestKey, ResponseKey}
 use Rattle.rr_protocol.specs.Messages.{RequestMessage, ResponseMessage}
-use Rattle.rr_laws.specs.Complete.{MessagesComplete}
-use Rattle.rr_laws.specs.Reached.{IsReached}
 use Rattle.rr_store.specs.declared.handle_entry.HandleEntry.{HandleEntry}
 use Rattle.rr_store.specs.declared.details.RequestDetails.{RequestDetails}
 use Rattle.rr_store.specs.declared.details.ResponseDetails.{ResponseDetails}
 use Rattle.rr_store.specs.Emptying.{MessagesEmptied, SenderEmptied, SendersEmptied, PartsEmptied}
 use Rattle.rr_store.specs.Parts.{Parts, ClientPart, ServerPart, Sender}
-use Rattle.rr_store.specs.Reaching.{IsCore}
 use Rattle.rr_store.specs.Rewrites.{outline_of, SenderRewritten, SendersRewritten}
-use Rattle.rr_store.specs.Sound.{IsSound, IsCounted, Hand, empty_hand}
+use Rattle.rr_store.specs.Sound.{IsSoundStore, IsCounted, Hand}
 use Rattle.rr_store.specs.Views.{sender_of, no_sender, no_request, no_response, state_of, request_in_slot, response_in_slot, handle_of, requests_at, responses_at, no_server, marked}
 use Rattle.rr_store.proofs.base.frames.Rewrites.{rewritten_sound}
 use Rattle.rr_store.proofs.base.hands.Stages.{handle_uses_request, handle_uses_response}
@@ -198,26 +195,17 @@ module _ {Q QH P PH K : Type 0} (p : Parts Q QH P PH K) (hand : Hand)
       (same_requests other_senders p requests_same) (same_responses other_senders p responses_same)
       (same_expired _ _ (same_requests other_senders p requests_same) (same_responses other_senders p responses_same)) refl
 
-  senders_sound : IsSound p hand → IsSound other_senders hand
+  senders_sound : IsSoundStore p hand → IsSoundStore other_senders hand
   senders_sound sound = rewritten_sound p hand sound client_senders server_senders
       (senders_rewritten p.client_senders client_senders c) (senders_rewritten p.server_senders server_senders s)
 
 module _ {Q QH P PH K : Type 0} (p q : Parts Q QH P PH K) (e : PartsEmptied p q) where
   -- what is true of a core stays true
-  pub emptied_sound : (hand : Hand) → IsSound p hand → IsSound q hand
-  emptied_sound hand sound = subst (λ q. IsSound q hand) (sym e.rest)
+  pub emptied_sound : (hand : Hand) → IsSoundStore p hand → IsSoundStore q hand
+  emptied_sound hand sound = subst (λ q. IsSoundStore q hand) (sym e.rest)
       (senders_sound p hand q.client_senders q.server_senders e.client_senders e.server_senders sound)
 
   -- contracts see the same
-  pub emptied_view : (hand : Hand) → IsSound p hand → state_of q ≡ state_of p
+  pub emptied_view : (hand : Hand) → IsSoundStore p hand → state_of q ≡ state_of p
   emptied_view hand sound = ap state_of e.rest
       ∙ senders_view p hand q.client_senders q.server_senders e.client_senders e.server_senders sound.counted
-
-  pub emptied_core : IsCore p → IsCore q
-  emptied_core core =
-      let same = emptied_view empty_hand core.sound in
-      record {
-        sound = emptied_sound empty_hand core.sound;
-        reached = subst (λ s. IsReached s) (sym same) core.reached;
-        complete = subst (λ s. MessagesComplete s) (sym same) core.complete;
-      }

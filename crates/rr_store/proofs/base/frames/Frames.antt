@@ -11,7 +11,7 @@ use Rattle.rr_store.specs.declared.details.ResponseDetails.{ResponseDetails}
 use Rattle.rr_store.specs.declared.port.LeftPort.{LeftPort}
 use Rattle.rr_store.specs.Parts.{Parts, Connected, ClientPart, Sender}
 use Rattle.rr_store.specs.Views.{sender_of, no_sender}
-use Rattle.rr_store.specs.Sound.{IsSound, IsSized, HavePorts, HaveLeft, HasPort, HasSenders, Hand}
+use Rattle.rr_store.specs.Sound.{IsSoundStore, IsSized, HavePorts, HaveLeft, HasPort, HasSenders, Hand}
 use Rattle.rr_store.specs.Frames.{SenderAlike, SendersAlike, moved, SameFrame}
 use Rattle.std.proofs.lemmas.Bool.{cases_eq, cases_lt}
 use Rattle.std.proofs.lemmas.List.{get_or-set_same, get_or-set_other, length-map, length-set}
@@ -84,7 +84,7 @@ pub ports_set : {C D : Type 0} (read : C → D) (items : List C) (i : ℕ) (c d 
 ports_set read items i c d at same = map-set_alike read items i d c (same ∙ sym (ap read (get_or_from_slice_get items i c c at)))
 
 -- where a change leaves the frame, what is true of ports, senders and rows stays true
-module _ {Q QH P PH K : Type 0} (p : Parts Q QH P PH K) (hand : Hand) (sound : IsSound p hand)
+module _ {Q QH P PH K : Type 0} (p : Parts Q QH P PH K) (hand : Hand) (sound : IsSoundStore p hand)
     (clients : List (ClientPart K)) (client_senders : List (Sender Q RequestDetails QH))
     (server_senders : List (Sender P ResponseDetails PH))
     (entries : fin_map.FinMap nat_cmp (TableEntry HandleEntry)) (next : ℕ)

@@ -11,13 +11,13 @@ use Rattle.rr_store.specs.declared.details.RequestDetails.{RequestDetails}
 use Rattle.rr_store.specs.declared.details.ResponseDetails.{ResponseDetails}
 use Rattle.rr_store.specs.Parts.{Parts, Connected, ClientPart, Sender}
 use Rattle.rr_store.specs.Views.{sender_of}
-use Rattle.rr_store.specs.Sound.{IsSound, IsNumbered, IsAddressed, IsPlaced, Hand, is_of_request, is_of_response, server_place, place_at, request_uses, response_uses, request_details, response_details}
+use Rattle.rr_store.specs.Sound.{IsSoundStore, IsNumbered, IsAddressed, IsPlaced, Hand, is_of_request, is_of_response, server_place, place_at, request_uses, response_uses, request_details, response_details}
 use Rattle.rr_store.specs.Frames.{moved, SameFrame}
 use Rattle.rr_store.specs.Kept.{DetailsKept}
 use Rattle.rr_store.proofs.base.frames.Frames.{client_after, client_before}
 use Rattle.rr_store.proofs.base.hands.Stages.{loan_is_request, pending_is_request, received_is_response}
 
-module _ {Q QH P PH K : Type 0} (p : Parts Q QH P PH K) (hand : Hand) (sound : IsSound p hand)
+module _ {Q QH P PH K : Type 0} (p : Parts Q QH P PH K) (hand : Hand) (sound : IsSoundStore p hand)
     (clients : List (ClientPart K)) (client_senders : List (Sender Q RequestDetails QH))
     (server_senders : List (Sender P ResponseDetails PH))
     (next : ℕ) (frame : SameFrame p clients client_senders server_senders next) where

@@ -6,7 +6,7 @@ use Rattle.rr_store.specs.declared.details.RequestDetails.{RequestDetails}
 use Rattle.rr_store.specs.declared.details.ResponseDetails.{ResponseDetails}
 use Rattle.rr_store.specs.Parts.{Parts, Sender}
 use Rattle.rr_store.specs.Views.{sender_of, no_request, no_response}
-use Rattle.rr_store.specs.Sound.{IsSound, IsCounted, IsHeldOnce, IsStored, IsVacated, Hand, handles, is_response_loan, is_received, is_active_at, request_uses, response_uses, request_details, response_details, server_place}
+use Rattle.rr_store.specs.Sound.{IsSoundStore, IsCounted, IsHeldOnce, IsStored, IsVacated, Hand, handles, is_response_loan, is_received, is_active_at, request_uses, response_uses, request_details, response_details, server_place}
 use Rattle.rr_store.specs.Frames.{SenderAlike, SendersAlike, SameFrame, moved}
 use Rattle.rr_store.specs.Kept.{DetailsKept}
 use Rattle.rr_store.specs.Rewrites.{Outline, SenderRewritten, SendersRewritten}
@@ -54,7 +54,7 @@ module _ {T N H : Type 0} where
         { outline = refl; contents = refl; user_headers = refl; marks = refl; none_more = λ i server fits none. none };
   }
 
-module _ {Q QH P PH K : Type 0} (p : Parts Q QH P PH K) (hand : Hand) (sound : IsSound p hand)
+module _ {Q QH P PH K : Type 0} (p : Parts Q QH P PH K) (hand : Hand) (sound : IsSoundStore p hand)
     (client_senders : List (Sender Q RequestDetails QH)) (server_senders : List (Sender P ResponseDetails PH))
     (c : SendersRewritten p.client_senders client_senders) (s : SendersRewritten p.server_senders server_senders) where
   -- the core with those senders
@@ -140,7 +140,7 @@ module _ {Q QH P PH K : Type 0} (p : Parts Q QH P PH K) (hand : Hand) (sound : I
   }
 
   -- it is sound
-  pub rewritten_sound : IsSound rewritten hand
+  pub rewritten_sound : IsSoundStore rewritten hand
   rewritten_sound = record {
     counted = rewritten_counted;
     held_once = rewritten_once;

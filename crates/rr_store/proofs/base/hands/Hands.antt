@@ -4,14 +4,14 @@ use Rattle.std.specs.Prelude.{◌&&◌, count_by, slice_get}
 use Rattle.std.specs.Ordering.{nat_cmp}
 use Rattle.std.specs.FinMap as fin_map
 use Rattle.std.proofs.lemmas.List.Sums.{sum_by-cons}
-use Rattle.rr_maps.specs.Maps.{mark}
+use Rattle.rr_map_laws.specs.Maps.{mark}
 use Rattle.rr_table.specs.TableView.{TableEntry, table_entry, inserted, removed}
 use Rattle.rr_table.specs.declared.place.Place.{Place}
-use Rattle.rr_maps.proofs.MapLaws.{tally-insert, tally-remove, get-insert_cases, get-insert_other, get-remove_cases, get-remove_same, get-remove_other}
+use Rattle.rr_map_laws.proofs.MapLaws.{tally-insert, tally-remove, get-insert_cases, get-insert_other, get-remove_cases, get-remove_same, get-remove_other}
 use Rattle.rr_store.specs.declared.handle_entry.HandleEntry.{HandleEntry}
 use Rattle.rr_store.specs.declared.handle_entry.Stage.TheVariants as stage
 use Rattle.rr_store.specs.Parts.{ClientPart, Parts, Sender}
-use Rattle.rr_store.specs.Sound.{IsSound, Hand, handles, is_of_response, is_request_loan, is_pending, is_active_of, is_received, is_request_at, is_response_at, is_active_at, is_loan_from, request_uses, response_uses, request_details, response_details, server_place, place_of, IsAddressed, IsPorted, IsSized, IsVacated, HavePorts}
+use Rattle.rr_store.specs.Sound.{IsSoundStore, Hand, handles, is_of_response, is_request_loan, is_pending, is_active_of, is_received, is_request_at, is_response_at, is_active_at, is_loan_from, request_uses, response_uses, request_details, response_details, server_place, place_of, IsAddressed, IsPorted, IsSized, IsVacated, HavePorts}
 use Rattle.rr_store.specs.Frames.{SendersAlike}
 use Rattle.rr_store.specs.Hands.{IsInsertable}
 use Rattle.std.proofs.lemmas.Bool.{cases_eq}
@@ -82,7 +82,7 @@ module _ {Q QH P PH K : Type 0} (p : Parts Q QH P PH K) where
       server_room = n.server_room;
     }
 
-  module _ (hand : Hand) (k : ℕ) (s : TableEntry HandleEntry) (at : fin_map.get p.table.entries k ≡ Some s) (sound : IsSound p hand) where
+  module _ (hand : Hand) (k : ℕ) (s : TableEntry HandleEntry) (at : fin_map.get p.table.entries k ≡ Some s) (sound : IsSoundStore p hand) where
     abbrev taken : Parts Q QH P PH K
     taken = record p { table = removed p.table k }
 
@@ -101,7 +101,7 @@ module _ {Q QH P PH K : Type 0} (p : Parts Q QH P PH K) where
     still j t e = (get-remove_cases p.table.entries k j t e).1
 
     -- what was under a number is in hand
-    pub removed_sound : IsSound taken with_it
+    pub removed_sound : IsSoundStore taken with_it
     removed_sound = record {
       counted = record {
         requests = λ l i. sound.counted.requests l i
@@ -156,7 +156,7 @@ module _ {Q QH P PH K : Type 0} (p : Parts Q QH P PH K) where
         gone j none = ⊎_elim (λ e. get-remove_same p.table.entries k j e) (λ e. get-remove_other p.table.entries k j e ∙ none)
             (cases_eq j k)
 
-  module _ (hand : Hand) (k : ℕ) (place : Place) (entry : HandleEntry) (sound : IsSound p (entry ∷ hand))
+  module _ (hand : Hand) (k : ℕ) (place : Place) (entry : HandleEntry) (sound : IsSoundStore p (entry ∷ hand))
       (new : IsInsertable p hand k place entry) where
     abbrev given : Parts Q QH P PH K
     given = record p { table = inserted p.table k place entry }
@@ -177,7 +177,7 @@ module _ {Q QH P PH K : Type 0} (p : Parts Q QH P PH K) where
         (get-insert_cases p.table.entries k (table_entry place entry) j t e)
 
     -- what was in hand is under a number
-    pub inserted_sound : IsSound given hand
+    pub inserted_sound : IsSoundStore given hand
     inserted_sound = record {
       counted = record {
         requests = λ l i. sound.counted.requests l i

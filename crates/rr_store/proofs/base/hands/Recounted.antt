@@ -1,11 +1,11 @@
 -- A handle of an active request in hand counts other loans.
 use Rattle.std.proofs.Common.{◌≡◌, ℕ, Bool, ◌∷◌, refl, ap, ◌∙◌, arith}
 use Rattle.std.specs.Prelude.{count_by}
-use Rattle.rr_maps.specs.Maps.{mark}
+use Rattle.rr_map_laws.specs.Maps.{mark}
 use Rattle.rr_store.specs.declared.handle_entry.HandleEntry.{HandleEntry}
 use Rattle.rr_store.specs.Answering.{active_entry}
 use Rattle.rr_store.specs.Parts.{Parts}
-use Rattle.rr_store.specs.Sound.{IsSound, Hand, handles, is_active_at, is_response_at}
+use Rattle.rr_store.specs.Sound.{IsSoundStore, Hand, handles, is_active_at, is_response_at}
 use Rattle.rr_store.proofs.base.hands.Hands.{count-cons}
 
 module _ {Q QH P PH K : Type 0} (p : Parts Q QH P PH K) (hand : Hand) (server sender slot before after : ℕ) where
@@ -23,7 +23,7 @@ module _ {Q QH P PH K : Type 0} (p : Parts Q QH P PH K) (hand : Hand) (server se
   same_handles test e = omega (arith, same_counted test e)
 
   -- nothing else tells how many loans it counts
-  pub recounted_sound : IsSound p (active_entry server sender slot before ∷ hand) → IsSound p (active_entry server sender slot after ∷ hand)
+  pub recounted_sound : IsSoundStore p (active_entry server sender slot before ∷ hand) → IsSoundStore p (active_entry server sender slot after ∷ hand)
   recounted_sound sound = record {
     counted = record {
       requests = λ l i. sound.counted.requests l i ∙ same_handles _ refl;

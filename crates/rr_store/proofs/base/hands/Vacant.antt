@@ -6,16 +6,16 @@ use Rattle.std.proofs.Math.Nat.{mul_comm}
 use Rattle.std.proofs.lemmas.Bool.{eq-eqb}
 use Rattle.rr_table.specs.TableView.{TableEntry}
 use Rattle.rr_table.specs.declared.place.Place.{Place}
-use Rattle.rr_maps.proofs.MapLaws.{tally-at}
+use Rattle.rr_map_laws.proofs.MapLaws.{tally-at}
 use Rattle.rr_store.specs.declared.handle_entry.HandleEntry.{HandleEntry}
 use Rattle.rr_store.specs.declared.handle_entry.Stage.{Stage}
 use Rattle.rr_store.specs.declared.handle_entry.Stage.TheVariants as stage
 use Rattle.rr_store.specs.Parts.{Parts}
 use Rattle.rr_store.specs.Views.{sender_of}
-use Rattle.rr_store.specs.Sound.{IsSound, empty_hand, is_of_request, is_of_response, has_request_at, has_response_at, own_place, response_place, place_at, server_place}
+use Rattle.rr_store.specs.Sound.{IsSoundStore, empty_hand, is_of_request, is_of_response, has_request_at, has_response_at, own_place, response_place, place_at, server_place}
 use Rattle.rr_store.proofs.base.views.Agreeing.{request_sender, response_sender}
 
-module _ {Q QH P PH K : Type 0} (p : Parts Q QH P PH K) (sound : IsSound p empty_hand) (sender slot : ℕ) where
+module _ {Q QH P PH K : Type 0} (p : Parts Q QH P PH K) (sound : IsSoundStore p empty_hand) (sender slot : ℕ) where
   -- a slot without a handle has none in its own place
   pub own_vacant : sender < length p.client_senders → slot < length (sender_of sender p.client_senders).messages.held
       → slice_index (sender_of sender p.client_senders).messages.held slot ≡ 0

@@ -3,7 +3,7 @@ use Rattle.std.proofs.Common.{◌≡◌, ◌<◌, ◌≤◌, ◌+◌, ℕ, List,
 use Rattle.std.specs.Prelude.{◌==◌, slice_get}
 use Rattle.std.specs.List.{position}
 use Rattle.std.proofs.lemmas.Bool.{cases_lt, eq-eqb, eqb-true}
-use Rattle.std.proofs.lemmas.Option.{slice_get_within, slice_get-get_or}
+use Rattle.std.proofs.lemmas.Option.{slice_get-get_or}
 use Rattle.rr_store.specs.Order.{IsRising}
 use Rattle.rr_store.proofs.base.lists.Replaced.{standing}
 use Rattle.rr_store.proofs.base.lists.Rising.{rising_once}
@@ -16,14 +16,6 @@ pub record IsBetween {X : Type 0} (read : X → ℕ) (xs : List X) (n low high :
   pub above : (i : ℕ) (x : X) → slice_get xs i ≡ Some x → high ≤ i → n < read x
 
 module _ {X : Type 0} (read : X → ℕ) (xs : List X) (n : ℕ) where
-  -- nothing was looked at
-  pub between_all : IsBetween read xs n 0 (length xs)
-  between_all = record {
-    inside = omega arith;
-    below = λ i x at h. absurd (omega (arith, h));
-    above = λ i x at h. absurd (omega (arith, h, slice_get_within xs i x at));
-  }
-
   -- nothing is left
   pub between_none : (low high : ℕ) → IsBetween read xs n low high → high ≤ low → position (λ x. read x == n) xs ≡ None
   between_none low high between done = go (position (λ x. read x == n) xs) refl

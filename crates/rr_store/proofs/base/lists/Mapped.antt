@@ -40,24 +40,6 @@ module _ {X Y : Type 0} (f : X → Y) where
       subst (λ o. IsSomeAnd o R) (sym (slice_get-map f xs i))
       (to_option (slice_get xs i) R (some_each (slice_get xs i) S (λ x. R (f x)) each h))
 
-  module _ (t : Y → Bool) (xs : List X) (R : ℕ → Y → Type 0) (S : ℕ → X → Type 0) where
-    -- what is asked of the first one that passes
-    pub of_mapped : ((i : ℕ) (x : X) → R i (f x) → S i x)
-        → IsSomeAnd (position t (map f xs)) (λ i. IsSomeAnd (slice_get (map f xs) i) (R i))
-        → IsSomeAnd (position (λ x. t (f x)) xs) (λ i. IsSomeAnd (slice_get xs i) (S i))
-    of_mapped each h =
-        some_each (position (λ x. t (f x)) xs) (λ i. IsSomeAnd (slice_get (map f xs) i) (R i)) (λ i. IsSomeAnd (slice_get xs i) (S i))
-        (λ i. of_index xs i (R i) (S i) (each i))
-        (subst (λ o. IsSomeAnd o (λ i. IsSomeAnd (slice_get (map f xs) i) (R i))) (position-map t xs) h)
-
-    -- and the other way about
-    pub to_mapped : ((i : ℕ) (x : X) → S i x → R i (f x)) → IsSomeAnd (position (λ x. t (f x)) xs) (λ i. IsSomeAnd (slice_get xs i) (S i))
-        → IsSomeAnd (position t (map f xs)) (λ i. IsSomeAnd (slice_get (map f xs) i) (R i))
-    to_mapped each h =
-        subst (λ o. IsSomeAnd o (λ i. IsSomeAnd (slice_get (map f xs) i) (R i))) (sym (position-map t xs))
-        (some_each (position (λ x. t (f x)) xs) (λ i. IsSomeAnd (slice_get xs i) (S i)) (λ i. IsSomeAnd (slice_get (map f xs) i) (R i))
-        (λ i. to_index xs i (R i) (S i) (each i)) h)
-
   -- where one passes, one passes
   pub some_mapped : (t : Y → Bool) (xs : List X) → IsSome (position t (map f xs)) → IsSome (position (λ x. t (f x)) xs)
   some_mapped t xs h = subst IsSome (position-map t xs) h

@@ -1,10 +1,9 @@
 -- An element that was read at an index.
-use Rattle.std.proofs.Common.{◌≡◌, ◌<◌, ◌+◌, ℕ, List, ◌∷◌, Option, Some, length, get_or, sym, ap, ◌∙◌, subst, ⊎_elim, arith}
-use Rattle.std.specs.Prelude.{IsSomeAnd, slice_get, drop}
+use Rattle.std.proofs.Common.{◌≡◌, ◌<◌, ◌+◌, ℕ, List, ◌∷◌, Some, length, get_or, sym, ap, ◌∙◌, subst, ⊎_elim, arith}
+use Rattle.std.specs.Prelude.{slice_get, drop}
 use Rattle.std.proofs.lemmas.Bool.{cases_lt}
 use Rattle.std.proofs.lemmas.List.{drop_more}
 use Rattle.std.proofs.lemmas.Option.{slice_get_within, slice_get-get_or, get_or_from_slice_get}
-use Rattle.rr_store.proofs.base.senders.Ports.{asked_within}
 
 -- the element at an index, and those behind it
 pub drop_here : {X : Type 0} (xs : List X) (i : ℕ) (x : X) → slice_get xs i ≡ Some x → drop i xs ≡ x ∷ drop (i + 1) xs
@@ -26,12 +25,3 @@ one_further P xs n first y there is i x less at =
     let f : Some y ≡ Some x = sym there ∙ ap (slice_get xs) (sym same) ∙ at in
     let one : y ≡ x = cc in subst P one is)
     (cases_lt i n)
-
-module _ {X : Type 0} (xs : List X) (i : ℕ) (x : X) (is : x ≡ get_or xs i x) (R : X → Type 0) where
-  -- what is asked of the element at an index is true of the one that was read
-  pub asked_of : IsSomeAnd (slice_get xs i) R → R x
-  asked_of told = let S : Option X → Type 0 = λ o. IsSomeAnd o R in subst S (item_at xs i x (asked_within xs i R told) is) told
-
-  -- and the other way about
-  pub told_of : i < length xs → R x → IsSomeAnd (slice_get xs i) R
-  told_of within r = let S : Option X → Type 0 = λ o. IsSomeAnd o R in subst S (sym (item_at xs i x within is)) r

@@ -8,8 +8,8 @@ use Rattle.std.proofs.lemmas.List.{length-append}
 use Rattle.std.proofs.lemmas.Option.{slice_get-get_or, get_or_from_slice_get, slice_get_within}
 use Rattle.std.proofs.Math.ListN.{get_or-append}
 use Rattle.std.proofs.Math.Seq.{get_or-append_seam}
-use Rattle.rr_maps.specs.Maps.{tally, mark}
-use Rattle.rr_maps.proofs.MapLaws.{get-remove_other, get-remove_same, map_values-same, tally-map_values, tally-remove}
+use Rattle.rr_map_laws.specs.Maps.{tally, mark}
+use Rattle.rr_map_laws.proofs.MapLaws.{get-remove_other, get-remove_same, map_values-same, tally-map_values, tally-remove}
 
 -- with none in hand it is what the table has
 pub and_none : (n : ℕ) → n ≡ n + 0
@@ -52,12 +52,6 @@ snoc_keeps xs y i x e =
     let within : i < length xs = slice_get_within xs i x e in
     slice_get-get_or (xs ++ y ∷ []) i x (omega (arith, within, length-append xs (y ∷ [])))
     ∙ ap Some (get_or-append xs (y ∷ []) x i within ∙ get_or_from_slice_get xs i x x e)
-
--- the last element of a list with one more
-pub last_at : {X : Type 0} (xs : List X) (y : X) (i : ℕ) → length xs ≡ i → slice_get (xs ++ y ∷ []) i ≡ Some y
-last_at xs y i e =
-    slice_get-get_or (xs ++ y ∷ []) i y (omega (arith, e, length-append xs (y ∷ [])))
-    ∙ ap Some (ap (λ k. get_or (xs ++ y ∷ []) k y) (sym e) ∙ get_or-append_seam xs y [] y)
 
 mark_one : (b : Bool) → mark b ≤ 1
 mark_one true = omega arith

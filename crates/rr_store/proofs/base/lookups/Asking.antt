@@ -1,7 +1,6 @@
 -- The port and the sender that a call works on, and answers about a value that is there.
 use Rattle.std.proofs.Common.{◌≡◌, ◌<◌, ◌≤◌, ◌+◌, ◌*◌, ◌^◌, ℕ, Bool, true, false, cond, List, Option, None, Some, Result, Ok, Err, length, get_or, map, refl, sym, ap, ◌∙◌, mul-add, ⊎_elim, arith}
-use Rattle.std.specs.Prelude.{◌||◌, slice_get}
-use Rattle.std.specs.List.{position}
+use Rattle.std.specs.Prelude.{◌||◌}
 use Rattle.std.proofs.Math.Nat.{mul_comm, le-mul_of_pos_right}
 use Rattle.std.proofs.lemmas.List.{length-map}
 use Rattle.std.proofs.lemmas.Option.{slice_get-get_or, get_or_from_slice_get}
@@ -18,7 +17,6 @@ use Rattle.rr_store.specs.Views.{sender_of, no_sender}
 use Rattle.rr_protocol.proofs.Growth.{large_borrows}
 use Rattle.rr_store.proofs.base.lists.Adding.{some_clients, makes_channels}
 use Rattle.rr_store.proofs.base.views.Counts.{listed}
-use Rattle.rr_store.proofs.base.lists.Replaced.{Standing, standing}
 
 -- a refusal that is due
 pub due_refusal : {K : Type 0} (o : Option LoanError) (port : Port K) (len : ℕ) (error : LoanError) → o ≡ Some error
@@ -29,15 +27,6 @@ due_refusal o port len error e = rw e refl
 pub no_memory : {K : Type 0} (o : Option LoanError) (port : Port K) (len : ℕ) → o ≡ None → port.initial_max_slice_len < len
     → IsLoanRefusal o port len LoanError.OutOfMemory
 no_memory o port len e h = rw e (refl, h)
-
--- where the port with a number stands
-pub standing_at : {X : Type 0} (test : X → Bool) (i : ℕ) (slice items : List X) (o : Option ℕ) → o ≡ position test slice → slice ≡ items
-    → o ≡ Some i → Standing test items i
-standing_at test i slice items o e f h = standing test items i (ap (position test) (sym f) ∙ sym e ∙ h)
-
--- what is read there
-pub read_at : {X : Type 0} (items : List X) (i : ℕ) (x y : X) → slice_get items i ≡ Some x → y ≡ get_or items i y → y ≡ x
-read_at items i x y at e = e ∙ get_or_from_slice_get items i x y at
 
 -- the sender at an index
 pub sender_is : {B N H T : Type 0} (senders : List (OwnedSender B N H T)) (l : ℕ) (x : OwnedSender B N H T) → l < length senders

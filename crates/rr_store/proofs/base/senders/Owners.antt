@@ -5,7 +5,7 @@ use Rattle.std.specs.List.{position}
 use Rattle.std.proofs.lemmas.Bool.{eq-eqb, eqb-true}
 use Rattle.rr_store.specs.Order.{IsRising}
 use Rattle.rr_store.specs.Parts.{Connected, ClientPart, ServerPart, Parts}
-use Rattle.rr_store.specs.Sound.{HasPort, IsSound, Hand}
+use Rattle.rr_store.specs.Sound.{HasPort, IsSoundStore, Hand}
 use Rattle.rr_store.specs.Views.{sender_of}
 use Rattle.rr_store.proofs.base.lists.Rising.{rising_once, rising_unmapped}
 use Rattle.rr_store.proofs.base.senders.Ports.{sender_found}
@@ -38,7 +38,7 @@ pub port_of_sender : {X : Type 0} (sender : X → ℕ) (ports : List X) (l : ℕ
     → First sender (λ x. sender x == l) ports l
 port_of_sender sender ports l has = first_by sender ports l has.0 has.1 has.2 has.3
 
-module _ {Q QH P PH K : Type 0} (p : Parts Q QH P PH K) (hand : Hand) (sound : IsSound p hand) where
+module _ {Q QH P PH K : Type 0} (p : Parts Q QH P PH K) (hand : Hand) (sound : IsSoundStore p hand) where
   -- a sender knows the receiver of its port
   pub client_receiver : (l : ℕ) (f : First (λ (c : ClientPart K). c.sender) (λ (c : ClientPart K). c.sender == l) p.clients l)
       → (sender_of l p.client_senders).receiver ≡ f.it.receiver

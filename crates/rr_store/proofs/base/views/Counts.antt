@@ -4,10 +4,10 @@ use Rattle.std.specs.Prelude.{◌==◌, ◌&&◌, slice_get, count_by}
 use Rattle.std.specs.FinMap as fin_map
 use Rattle.std.proofs.lemmas.Bool.{cases_eq, eq-eqb, ne_eqb}
 use Rattle.std.proofs.lemmas.Option.{slice_get-map}
-use Rattle.rr_maps.specs.Maps.{tally}
+use Rattle.rr_map_laws.specs.Maps.{tally}
 use Rattle.rr_table.specs.TableView.{TableEntry}
-use Rattle.rr_maps.proofs.Counting.{count-map}
-use Rattle.rr_maps.proofs.MapLaws.{tally-map_values}
+use Rattle.rr_map_laws.proofs.Counting.{count-map}
+use Rattle.rr_map_laws.proofs.MapLaws.{tally-map_values}
 use Rattle.rr_protocol.specs.Messages.{Handle}
 use Rattle.rr_protocol.specs.State.{all_handles}
 use Rattle.rr_protocol.specs.Counts.{is_request_loan, is_response_loan, is_response_loan_from, is_pending_of, loaned_requests, loaned_responses, loaned_responses_from, pending_responses}
@@ -17,7 +17,7 @@ use Rattle.rr_store.specs.declared.handle_entry.Stage.TheVariants as stage
 use Rattle.rr_store.specs.Parts.{Parts, Connected, ClientPart, ServerPart, Sender}
 use Rattle.rr_store.specs.Views.{sender_of, state_of, handle_in, handle_of}
 use Rattle.rr_store.specs.Sound as sound_of
-use Rattle.rr_store.specs.Sound.{IsSound, HasSenders, empty_hand, is_of_request, is_of_response, handles, is_in_sender, is_loan_from}
+use Rattle.rr_store.specs.Sound.{IsSoundStore, HasSenders, empty_hand, is_of_request, is_of_response, handles, is_in_sender, is_loan_from}
 use Rattle.rr_store.proofs.base.views.Agreeing.{request_sender, response_sender}
 use Rattle.rr_store.proofs.base.hands.Stages.{handle_uses_request, handle_uses_response}
 use Rattle.rr_store.proofs.base.lists.Tallies.{and_none, tally-same}
@@ -55,7 +55,7 @@ module _ {Q QH P PH K : Type 0} (p : Parts Q QH P PH K) where
   handles_counted test = count-map (λ e. e.1) test (fin_map.entries (state_of p).handles)
       ∙ tally-map_values (handle_of p) test p.table.entries
 
-  module _ (sound : IsSound p empty_hand) where
+  module _ (sound : IsSoundStore p empty_hand) where
     -- a stored number counts the handles that pass a test, if each passes it by its stage and its sender
     counted_by : (is_of : Handle Q QH P PH → Bool) (test : Stage → Bool) (sender : ℕ) {stored : ℕ}
         → stored ≡ handles p (is_in_sender test sender) empty_hand

@@ -13,7 +13,7 @@ use Rattle.rr_laws.proofs.Filled.{filled_gives}
 use Rattle.rr_store.specs.declared.port.LeftPort.{LeftPort}
 use Rattle.rr_store.specs.Expired.{requests_from, responses_from}
 use Rattle.rr_store.specs.Parts.{ClientPart, Connected, Parts, Sender, ServerPart}
-use Rattle.rr_store.specs.Sound.{Hand, HasPort, HasSenders, HaveLeft, IsSound}
+use Rattle.rr_store.specs.Sound.{Hand, HasPort, HasSenders, HaveLeft, IsSoundStore}
 use Rattle.rr_store.specs.Views.{request_lists, requests_at, response_lists, responses_at, sender_of}
 use Rattle.rr_store.proofs.base.lists.Adding.{mapped}
 use Rattle.rr_store.proofs.base.lists.Found.{found_passes, found_somewhere}
@@ -43,7 +43,7 @@ none_filled o exact t lists none = go (list_any t (filled_keys lists)) refl
     go false e = e
     go true e = let f = filled_gives o exact t lists e in absurd (f.1 (none f.0 f.2))
 
-module _ {Q QH P PH K : Type 0} (p : Parts Q QH P PH K) (hand : Hand) (sound : IsSound p hand) where
+module _ {Q QH P PH K : Type 0} (p : Parts Q QH P PH K) (hand : Hand) (sound : IsSoundStore p hand) where
   pub left_client_apart : (i l sender : ℕ) → slice_get (map (λ l. l.number) p.left_clients) i ≡ Some l
       → HasPort (λ c. c.sender) p.clients sender → (sender_of sender p.client_senders).owner ≢ l
   left_client_apart = left_apart (λ (c : ClientPart K). c.connected) p.clients p.client_senders sound.client_ports p.left_clients

@@ -144,15 +144,6 @@ pub shorter : {X : Type 0} (xs ys : List X) (x : X) → ys ≡ drop 1 xs → sli
 shorter [] ys x e f = absurd (let g : None ≡ Some x = f in cc)
 shorter (y ∷ xs) ys x e f = omega (arith, ap length e)
 
--- a queue with a first entry has an entry
-pub first_there : {X : Type 0} (xs : List X) (x : X) → slice_get xs 0 ≡ Some x → 0 < length xs
-first_there xs x e = omega (arith, shorter xs (drop 1 xs) x refl e)
-
--- and one without has none
-pub first_nowhere : {X : Type 0} (xs : List X) → slice_get xs 0 ≡ None → 0 < length xs → ⊥
-first_nowhere [] e h = omega (arith, h)
-first_nowhere (x ∷ xs) e h = let g : Some x ≡ None = e in cc
-
 -- a sender is told once
 told_is : (n m : ℕ) → (let told : ℕ → Result (Option ℕ) ReceiveError = λ l. Ok (Some l) in told n ≡ told m) → n ≡ m
 told_is n m e = cc

@@ -1,7 +1,7 @@
 use Rattle.rr_store.specs.Sound.{empty_hand}
 use Rattle.rr_store.specs.Views.{state_of}
 use Rattle.rr_store.specs.Opened.{opened}
-use Rattle.rr_store.proofs.base.lookups.NextNumber.{next_names_nothing}
+use Rattle.rr_hub.proofs.laws.NextNumber.{next_names_nothing}
 use Rattle.rr_hub.proofs.Unnamed.{by_server}
 use Rattle.rr_hub.proofs.state.Core.create_server.Goals as goal
 

@@ -1,20 +1,24 @@
-use Rattle.std.proofs.Common.{ℕ, subst}
-use Rattle.std.specs.Prelude.{◌↔◌, IsSomeAnd, IsTrue}
-use Rattle.rr_protocol.specs.Queries.{HasResponse}
-use Rattle.rr_protocol.specs.State.{pending_at}
-use Rattle.rr_store.specs.Views.{state_of}
 use Rattle.rr_store.specs.Opened.{opened}
+use Rattle.rr_hub.proofs.Lending.{stands}
+use Rattle.rr_receiving.proofs.steps.Waiting.{sender_asked, responses_asked, responses_then}
 use Rattle.rr_hub.proofs.state.Core.has_response.Goals as goal
 
-pub returns-then-is_place_of : goal.returns-then-is_place_of
-returns-then-is_place_of g c =
-    let s = state_of (opened c.self.inside.parts) in
-    let R : ℕ → Type 0 = λ n. IsSomeAnd (pending_at s n) (λ pending. IsTrue c.has_response_at.result ↔ HasResponse s pending) in
-    rw (← c.self.view_is) (subst R c.number-then-is_place_of.ensures c.has_response_at.ensures)
+pub receiver_of-receiver-requires : goal.receiver_of-receiver-requires
+receiver_of-receiver-requires g c =
+    sender_asked (opened c.self.inside.parts) c.self.invariant _ _ _ (stands (opened c.self.inside.parts) _ _ c.number.ensures
+    c.look_up-entry.result c.look_up-entry.ensures)
+    (rw (← c.self.view_is) at c.requires)
 
-pub returns-else-is_place_of : goal.returns-else-is_place_of
-returns-else-is_place_of g c =
-    let s = state_of (opened c.self.inside.parts) in
-    let R : ℕ → Type 0 = λ n. IsSomeAnd (pending_at s n) (λ pending. IsTrue c.has_response_at-else-is_place_of.result ↔ HasResponse s
-    pending) in
-    rw (← c.self.view_is) (subst R c.number-else-is_place_of-2.ensures c.has_response_at-else-is_place_of.ensures)
+pub is_waiting-requires : goal.is_waiting-requires
+is_waiting-requires g c =
+    responses_asked (opened c.self.inside.parts) c.self.invariant _ _ _ (stands (opened c.self.inside.parts) _ _ c.number.ensures
+    c.look_up-entry.result c.look_up-entry.ensures)
+    (rw (← c.self.view_is) at c.requires) _
+    c.receiver_of-receiver.ensures
+
+pub returns : goal.returns
+returns g c =
+    rw (← c.self.view_is) (responses_then (opened c.self.inside.parts) c.self.invariant _ _ _ (stands (opened c.self.inside.parts) _ _
+    c.number.ensures c.look_up-entry.result c.look_up-entry.ensures)
+    (rw (← c.self.view_is) at c.requires) _
+    c.receiver_of-receiver.ensures _ c.is_waiting.ensures)

@@ -3,7 +3,7 @@ use Rattle.rr_laws.specs.Unreduced.{ServerHasPool}
 use Rattle.rr_store.specs.Sound.{empty_hand}
 use Rattle.rr_store.specs.Views.{state_of}
 use Rattle.rr_store.specs.Opened.{opened}
-use Rattle.rr_store.proofs.base.lookups.NextNumber.{next_names_nothing}
+use Rattle.rr_hub.proofs.laws.NextNumber.{next_names_nothing}
 use Rattle.rr_hub.proofs.Unnamed.{by_response}
 use Rattle.rr_hub.proofs.state.Core.loan_response.Goals as goal
 

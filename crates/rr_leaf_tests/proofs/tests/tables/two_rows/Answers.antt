@@ -1,7 +1,7 @@
 use Rattle.std.proofs.Common.{◌≡◌, ℕ, sym, ap, ◌∙◌, subst, arith}
 use Rattle.std.specs.Ordering.{nat_cmp}
 use Rattle.std.specs.FinMap.{get, get-empty}
-use Rattle.rr_maps.proofs.MapLaws.{get-insert_other}
+use Rattle.rr_map_laws.proofs.MapLaws.{get-insert_other}
 use Rattle.rr_table.proofs.TableLaws.{vacant-empty_table, vacant-inserted}
 use Rattle.rr_table.specs.TableView.{TableView, empty_table, with_row, IsVacant}
 use Rattle.rr_table.specs.Places.{place}

@@ -1,6 +1,15 @@
-use Rattle.std.proofs.Common.{ap}
+use Rattle.std.proofs.Common.{refl, ap}
+use Rattle.std.specs.Prelude.{◌+◌, ◌*◌}
+use Rattle.rr_store.specs.Releasing.{without_mark}
 use Rattle.rr_store.specs.SideInside.{side_of}
+use Rattle.rr_store.proofs.base.lookups.Asking.{senders_many}
+use Rattle.rr_store.proofs.base.senders.Stored.{stored_changed}
 use Rattle.rr_store.proofs.side.Side.clear_mark.Goals as goal
 
 pub returns : goal.returns
-returns g c = rw (← c.self.view_is) (ap (λ ls. record (side_of c.self.inside) { senders = ls }) c.clear_mark.ensures)
+returns g c =
+    let items = c.self.inside.senders.items in
+    let there = rw (← c.self.view_is) at c.requires.sender in
+    rw (← c.self.view_is) (ap (λ ls. record (side_of c.self.inside) { senders = ls })
+    (stored_changed items c.args.sender c.index_mut.result.now (senders_many items c.args.sender there) c.index_mut.ensures.value _
+    (without_mark (c.args.slot * c.args.receivers + c.args.receiver)) refl))

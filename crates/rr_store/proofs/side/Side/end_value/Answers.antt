@@ -1,4 +1,4 @@
-use Rattle.std.proofs.Common.{◌≡◌, ◌<◌, length, ap, ◌∙◌, arith}
+use Rattle.std.proofs.Common.{◌≡◌, ◌<◌, length, refl, ap, ◌∙◌, arith}
 use Rattle.std.specs.Prelude.{slice_set}
 use Rattle.std.proofs.lemmas.List.{length-map}
 use Rattle.rr_store.specs.Leaving.{valueless}
@@ -6,10 +6,13 @@ use Rattle.rr_store.specs.Loaning.{with_sender_at}
 use Rattle.rr_store.specs.Ports.{sender_part}
 use Rattle.rr_store.specs.SideInside.{side_of}
 use Rattle.rr_store.proofs.base.senders.Ports.{asked_within, of_read, to_read}
+use Rattle.rr_store.proofs.base.senders.Stored.{stored_changed}
+use Rattle.rr_store.proofs.side.Side.end_value.Goals.{After-sender-sender}
 use Rattle.rr_store.proofs.side.Side.end_value.Goals as goal
 
-pub end_value_in-requires : goal.end_value_in-requires
-end_value_in-requires g c =
+-- the port's sender is there
+its_sender : (g : _) (c : After-sender-sender g) → c.sender-sender.result < length c.self.inside.senders.items
+its_sender g c =
     let s = side_of c.self.inside in
     omega (
       arith,
@@ -19,11 +22,18 @@ end_value_in-requires g c =
       length-map c.self.inside.senders.items sender_part,
     )
 
+pub index_mut-requires : goal.index_mut-requires
+index_mut-requires g c =
+    let there = its_sender g (goal.at.index_mut-requires g c).After-sender-sender in
+    omega (arith, there, c.self.inside.senders.ok.0)
+
 pub returns : goal.returns
 returns g c =
     let s = side_of c.self.inside in
     let i = c.args.index in
     let within = asked_within s.ports i (λ p. g.P.ConnectedPort.sender p < length s.senders) (rw (← c.self.view_is) at c.requires) in
+    let changed = stored_changed c.self.inside.senders.items c.sender-sender.result c.index_mut.result.now
+    (its_sender g (goal.at.returns g c).After-sender-sender) c.index_mut.ensures.value _ valueless refl in
     rw (← c.self.view_is) (to_read s.ports i c.index_mut-port.result.now c.index_mut-port.ensures.value
     (λ p. _ ≡ record s {
       ports = slice_set s.ports i (g.P.ConnectedPort.valueless p);
@@ -32,5 +42,5 @@ returns g c =
     within
     (λ k. record s {
       ports = slice_set s.ports i (c.end_value.ensures k);
-      senders = (c.end_value_in.ensures ∙ ap (λ n. with_sender_at s.senders n valueless) c.sender-sender.ensures) k;
+      senders = (changed ∙ ap (λ n. with_sender_at s.senders n valueless) c.sender-sender.ensures) k;
     }))

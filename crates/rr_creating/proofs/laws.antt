@@ -1,0 +1,9 @@
+pub mod IdleLeft
+pub mod NewPort
+pub mod NewSenders
+pub mod Renewed
+pub mod Roomier
+pub mod Sites
+pub mod client
+pub mod hub
+pub mod server

@@ -1,0 +1,9 @@
+pub mod Request
+pub mod Response
+pub mod Pending
+pub mod Active
+pub mod Number
+pub mod Naming
+pub mod Received
+pub mod Ports
+pub mod Named

@@ -1,0 +1,46 @@
+//! What a core tells of hints and connections of pending responses. No query changes it.
+ghost use Rattle.std.specs.Prelude.{◌≡◌, false, None, Some, IsSomeAnd};
+ghost use Rattle.rr_protocol.specs.Queries.{has_disconnect_hint, kind_at};
+ghost use Rattle.rr_protocol.specs.State.{pending_at, active_at};
+
+use crate::state::Core;
+use rr_protocol::{BackpressureFn, Kind};
+use rr_slots::Body;
+use rr_store::HandleId;
+
+impl<QB: Body, QH: Default + Drop, PB: Body, PH: Default + Drop, K: BackpressureFn> Core<
+    QB,
+    QH,
+    PB,
+    PH,
+    K,
+> {
+    /// Returns how many queues took a pending response's request as it was sent. One look. After iceoryx2's
+    /// `PendingResponse::number_of_server_connections`.
+    #[inline(always)]
+    pub fn number_of_server_connections(&self, id: &HandleId) -> usize
+        requires { kind_at self.now id.now ≡ Some Kind.PendingResponse }
+        ensures { IsSomeAnd (pending_at self.now id.now) (λ pending. result ≡ pending.connections) }
+    {
+        self.parts
+            .look_up(id.number(), id.place())
+            .stage
+            .connections()
+    }
+
+    /// Returns whether the pending response of an active request's request lives and has its hint set. Looks at the one place
+    /// where that handle can stand. After iceoryx2's `ActiveRequest::has_disconnect_hint`.
+    #[inline(always)]
+    pub fn has_disconnect_hint(&self, id: &HandleId) -> bool
+        requires { kind_at self.now id.now ≡ Some Kind.ActiveRequest }
+        ensures { IsSomeAnd (active_at self.now id.now) (λ active. result ≡ has_disconnect_hint self.now active.message.number) }
+    {
+        let entry = self.parts.look_up(id.number(), id.place());
+        let details = self.parts.clients.details(entry.sender, entry.slot);
+        let own = self.parts.clients.own_place(entry.sender, entry.slot);
+        match self.parts.table.get_at(details.number, own) {
+            Some(request) => request.stage.has_hint(),
+            None => false,
+        }
+    }
+}

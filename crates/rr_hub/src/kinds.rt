@@ -1,0 +1,57 @@
+//! What a number names.
+ghost use Rattle.std.specs.Prelude.{◌≡◌, None, Some, if◌then◌else◌};
+ghost use Rattle.rr_protocol.specs.declared.kind.Kind.TheVariants as kind;
+ghost use Rattle.rr_protocol.specs.Queries.{kind_at};
+ghost use Rattle.rr_protocol.specs.State.{is_client_value, is_server_value};
+ghost use Rattle.rr_store.specs.Opened.{opened};
+ghost use Rattle.rr_store.specs.Reaching.{IsCore};
+ghost use Rattle.rr_store.specs.Views.{state_of};
+
+use rr_protocol::{BackpressureFn, Kind};
+use rr_slots::Body;
+use rr_store::Store;
+use rr_table::Place;
+
+/// Returns what a number names: a client or a server whose value lives, or a handle. Returns `None` if it names nothing.
+///
+/// Looks in the place first, then among the ports in O(log ports), and walks over the table at last.
+#[inline(always)]
+pub fn kind_of<QB: Body, QH: Default + Drop, PB: Body, PH: Default + Drop, K: BackpressureFn>(
+    store: &Store<QB, QH, PB, PH, K>,
+    number: u64,
+    place: Place,
+) -> Option<Kind>
+    requires { IsCore (opened store.now) }
+    ensures { result ≡ kind_at (state_of (opened store.now)) number }
+{
+    if store.table.is_at(number, place) {
+        return Some(store.table.at(number, place).stage.kind());
+    }
+    if let Some(kind) = port_kind_of(store, number) {
+        return Some(kind);
+    }
+    match store.table.find(number) {
+        Some(place) => Some(store.table.at(number, place).stage.kind()),
+        None => None,
+    }
+}
+
+/// Returns which port a number names: a client or a server whose value lives. Returns `None` if it names none.
+///
+/// Takes O(log ports), and looks at no handle.
+#[inline(always)]
+pub fn port_kind_of<QB: Body, QH: Default + Drop, PB: Body, PH: Default + Drop, K: BackpressureFn>(
+    store: &Store<QB, QH, PB, PH, K>,
+    number: u64,
+) -> Option<Kind>
+    requires { IsCore (opened store.now) }
+    ensures { result ≡ (if is_client_value (state_of (opened store.now)) number then Some kind.Client else if is_server_value (state_of (opened store.now)) number then Some kind.Server else None) }
+{
+    if store.clients.is_value(number) {
+        return Some(Kind::Client);
+    }
+    if store.servers.is_value(number) {
+        return Some(Kind::Server);
+    }
+    None
+}

@@ -1,0 +1,108 @@
+//! Writing a response, before it is sent.
+ghost use Rattle.std.specs.Prelude.{◌≡◌, ◌⊎◌, [], ◌∷◌, not, true, length, nat_lt, Some, IsSomeAnd, if◌then◌else◌, option_and_then};
+ghost use Rattle.rr_protocol.specs.Messages.{response_in};
+ghost use Rattle.rr_protocol.specs.Queries.{kind_at};
+ghost use Rattle.rr_protocol.specs.State.{handle_at, with_changed};
+ghost use Rattle.rr_protocol.specs.Writing.{is_complete, with_element, with_element_at, with_elements, filled, with_response_content, with_user_header, after_init};
+
+use crate::state::Core;
+use rr_protocol::{BackpressureFn, Kind};
+use rr_slots::{Body, FillBody};
+use rr_store::HandleId;
+use rr_writing::{fill_response_at, write_response_at};
+
+impl<QB: Body, QH: Default + Drop, PB: Body, PH: Default + Drop, K: BackpressureFn> Core<
+    QB,
+    QH,
+    PB,
+    PH,
+    K,
+> {
+    /// Appends an element to a response that is being written, and returns `true`. Returns `false` if the body is complete; the
+    /// element is dropped then, and the hub stays as it was.
+    ///
+    /// Our own: it stands for writes through the `MaybeUninit` that iceoryx2's `ResponseMutUninit::payload_mut` lends.
+    #[inline(always)]
+    pub fn push_response(&mut self, id: &HandleId, item: PB::Item) -> bool
+        requires { kind_at self.old id.now ≡ Some Kind.ResponseMutUninit }
+        ensures { IsSomeAnd (option_and_then response_in (handle_at self.old id.now)) (λ m. (result ≡ not (is_complete m.content)) × (self.new ≡ (if result then with_changed self.old id.now (with_response_content (with_element item)) else self.old))) }
+    {
+        let entry = self.parts.look_up(id.number(), id.place());
+        self.parts.servers.push(entry.sender, entry.slot, item)
+    }
+
+    /// Makes an element the only one of a response of one element that is being written, and the response one that can be sent. An
+    /// element that was written before is dropped.
+    ///
+    /// After iceoryx2's `ResponseMutUninit::write_payload`.
+    #[inline(always)]
+    pub fn write_response(&mut self, id: &HandleId, element: PB::Item)
+        requires uninit { kind_at self.old id.now ≡ Some Kind.ResponseMutUninit }
+        requires asked { IsSomeAnd (option_and_then response_in (handle_at self.old id.now)) (λ m. m.content.asked_len ≡ 1) }
+        ensures { self.new ≡ with_changed (with_changed self.old id.now (with_response_content (with_elements (element ∷ [])))) id.now after_init }
+    {
+        let place = id.place();
+        if self.parts.is_place_of(id.number(), place) {
+            write_response_at(&mut self.parts, id.number(), place, element);
+        } else {
+            let place = self.parts.place_of(id.number());
+            write_response_at(&mut self.parts, id.number(), place, element);
+        }
+    }
+
+    /// Replaces the element at an index of a response that was not sent, and returns `true`. Returns `false` if no element stands
+    /// there; the element is dropped then, and the hub stays as it was.
+    ///
+    /// Our own: it stands for writes through what iceoryx2's `ResponseMut::payload_mut` lends.
+    #[inline(always)]
+    pub fn write_response_element(&mut self, id: &HandleId, index: usize, element: PB::Item) -> bool
+        requires { (kind_at self.old id.now ≡ Some Kind.ResponseMutUninit) ⊎ (kind_at self.old id.now ≡ Some Kind.ResponseMut) }
+        ensures { IsSomeAnd (option_and_then response_in (handle_at self.old id.now)) (λ m. (result ≡ nat_lt index (length m.content.elements)) × (self.new ≡ (if result then with_changed self.old id.now (with_response_content (with_element_at index element)) else self.old))) }
+    {
+        let entry = self.parts.look_up(id.number(), id.place());
+        self.parts
+            .servers
+            .write_element(entry.sender, entry.slot, index, element)
+    }
+
+    /// Replaces the user header of a response that was not sent. The old one is dropped.
+    ///
+    /// Our own: it stands for writes through what iceoryx2's `ResponseMut::user_header_mut` lends.
+    #[inline(always)]
+    pub fn write_response_user_header(&mut self, id: &HandleId, header: PH)
+        requires { (kind_at self.old id.now ≡ Some Kind.ResponseMutUninit) ⊎ (kind_at self.old id.now ≡ Some Kind.ResponseMut) }
+        ensures { self.new ≡ with_changed self.old id.now (with_response_content (with_user_header header)) }
+    {
+        let entry = self.parts.look_up(id.number(), id.place());
+        self.parts
+            .servers
+            .write_user_header(entry.sender, entry.slot, header);
+    }
+}
+
+impl<QB: Body, QH: Default + Drop, PB: FillBody, PH: Default + Drop, K: BackpressureFn> Core<
+    QB,
+    QH,
+    PB,
+    PH,
+    K,
+> {
+    /// Makes an element each of those that are asked for of a response that is being written, and the response one that can be sent.
+    /// Elements that were written before are dropped.
+    ///
+    /// After iceoryx2's `ResponseMutUninit::write_from_fn` with a function that always returns this element; with a default element it is what
+    /// `loan_slice` does.
+    #[inline(always)]
+    pub fn fill_response(&mut self, id: &HandleId, element: PB::Item)
+        requires { kind_at self.old id.now ≡ Some Kind.ResponseMutUninit }
+        ensures { self.new ≡ with_changed (with_changed self.old id.now (with_response_content (filled element))) id.now after_init }
+    {
+        let place = id.place();
+        if self.parts.is_place_of(id.number(), place) {
+            fill_response_at(&mut self.parts, id.number(), place, element);
+        } else {
+            let place = self.parts.place_of(id.number());
+            fill_response_at(&mut self.parts, id.number(), place, element);
+        }
+    }
+}

@@ -1,0 +1,4 @@
+pub mod Live
+pub mod Opened
+pub mod request
+pub mod response

@@ -1,0 +1,4 @@
+pub mod Live
+pub mod Refusals
+pub mod Sound
+pub mod View

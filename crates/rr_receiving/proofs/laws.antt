@@ -1,0 +1,4 @@
+pub mod Waiting
+pub mod request
+pub mod response
+pub mod TakenSender

@@ -1,0 +1,7 @@
+pub mod Inserted
+pub mod Ready
+pub mod Refusals
+pub mod Skimmed
+pub mod Sound
+pub mod Vacant
+pub mod View

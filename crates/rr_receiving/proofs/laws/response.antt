@@ -1,0 +1,4 @@
+pub mod Inserted
+pub mod Refusals
+pub mod Sound
+pub mod View

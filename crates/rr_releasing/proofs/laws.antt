@@ -1,0 +1,12 @@
+pub mod active
+pub mod leaving
+pub mod pending
+pub mod request
+pub mod response
+pub mod response_loan
+pub mod BorrowEnded
+pub mod Dropping
+pub mod GivenBack
+pub mod Marks
+pub mod Uncounted
+pub mod View

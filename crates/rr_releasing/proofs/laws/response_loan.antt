@@ -1,0 +1,5 @@
+pub mod Fields
+pub mod Place
+pub mod Sound
+pub mod Taken
+pub mod View

@@ -1,0 +1,3 @@
+pub mod put
+pub mod request
+pub mod response

@@ -1,0 +1,3 @@
+pub mod Emptied
+pub mod One
+pub mod Sender

@@ -1,8 +1,0 @@
-use Rattle.std.proofs.Common.{map}
-use Rattle.rr_store.specs.Ports.{sender_part}
-use Rattle.rr_store.proofs.leaving.Expiring.{IsClearedBelow}
-use Rattle.rr_store.proofs.leave.clear_from_each.Given as goal
-
--- the senders so far are cleared
-abbrev pub invariant-loop-sender : goal.invariant-loop-sender
-invariant-loop-sender g l = IsClearedBelow l.receiver l.sender (map sender_part l.fn.senders.items) (map sender_part l.senders.items)

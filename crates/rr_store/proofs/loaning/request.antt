@@ -1,4 +1,0 @@
-pub mod Sound
-pub mod View
-pub mod Live
-pub mod Refusals

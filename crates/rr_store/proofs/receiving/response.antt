@@ -1,4 +1,0 @@
-pub mod Sound
-pub mod Inserted
-pub mod View
-pub mod Refusals

@@ -1,0 +1,51 @@
+use Rattle.std.proofs.Common.{◌≡◌, false, length, map, nat_lt, sym, ap, ◌∙◌, arith}
+use Rattle.std.proofs.lemmas.Bool.{false≢true, lt-ltb}
+use Rattle.std.proofs.lemmas.Option.{slice_get_within}
+use Rattle.rr_map_laws.proofs.Members.{any_there}
+use Rattle.rr_sender.specs.Senders.{queue_at}
+use Rattle.rr_store.specs.declared.port.OwnedSender.{OwnedSender}
+use Rattle.rr_store.specs.Parts.{Sender}
+use Rattle.rr_store.specs.Ports.{sender_part}
+use Rattle.rr_store.proofs.base.lists.ReadAt.{item_at, one_further}
+use Rattle.rr_store.proofs.base.lookups.Looking.{list_any-map}
+use Rattle.rr_store.proofs.base.views.Counts.{listed}
+use Rattle.rr_store.proofs.querying.Connected.{none_pass}
+use Rattle.rr_store.proofs.receiving.NextSender.{empty_of}
+use Rattle.rr_store.proofs.side.queues.is_waiting.Goals as goal
+
+pub has_entries-requires-clause-receiver : goal.has_entries-requires-clause-receiver
+has_entries-requires-clause-receiver g c =
+    (c.requires c.loop-sender.sender-index c.sender-item.result
+    (item_at c.args.senders.now c.loop-sender.sender-index c.sender-item.result c.loop-sender-test.true c.sender-item.is)).0
+
+pub has_entries-requires-clause-channel : goal.has_entries-requires-clause-channel
+has_entries-requires-clause-channel g c =
+    (c.requires c.loop-sender.sender-index c.sender-item.result
+    (item_at c.args.senders.now c.loop-sender.sender-index c.sender-item.result c.loop-sender-test.true c.sender-item.is)).1
+
+pub returns-then-has_entries : goal.returns-then-has_entries
+returns-then-has_entries g c =
+    let senders = c.args.senders.now in
+    let sender = c.sender-item.result in
+    sym (any_there (λ (l : Sender _ _ _). nat_lt 0 (length (queue_at l.messages c.args.receiver c.args.channel)))
+    (map sender_part senders) c.loop-sender.sender-index (sender_part sender)
+    (listed sender_part senders c.loop-sender.sender-index sender
+    (item_at senders c.loop-sender.sender-index sender c.loop-sender-test.true c.sender-item.is))
+    (lt-ltb 0 (length (queue_at sender.messages c.args.receiver c.args.channel)) (c.has_entries.ensures.0 c.if-has_entries.true)))
+
+pub loop-sender-preserved : goal.loop-sender-preserved
+loop-sender-preserved g c =
+    let senders = c.args.senders.now in
+    let sender = c.sender-item.result in
+    one_further (λ (s : OwnedSender _ _ _ _). nat_lt 0 (length (queue_at s.messages c.args.receiver c.args.channel)) ≡ false) senders
+    c.loop-sender.sender-index c.loop-sender.invariant sender
+    (item_at senders c.loop-sender.sender-index sender c.loop-sender-test.true c.sender-item.is)
+    (ap (λ queue. nat_lt 0 (length queue)) (empty_of (queue_at sender.messages c.args.receiver c.args.channel)
+    (λ h. false≢true (sym c.if-has_entries.false ∙ c.has_entries.ensures.1 h))))
+
+pub returns : goal.returns
+returns g c =
+    let senders = c.args.senders.now in
+    sym (list_any-map sender_part (λ (l : Sender _ _ _). nat_lt 0 (length (queue_at l.messages c.args.receiver c.args.channel))) senders
+    ∙ none_pass (λ (s : OwnedSender _ _ _ _). nat_lt 0 (length (queue_at s.messages c.args.receiver c.args.channel))) senders
+    (λ i s at. c.loop-sender.invariant i s (omega (arith, slice_get_within senders i s at, c.loop-sender-test.false)) at))

@@ -1,0 +1,8 @@
+use Rattle.std.proofs.Common.{map}
+use Rattle.rr_store.specs.Ports.{sender_part}
+use Rattle.rr_store.specs.Receiving.{IsLookedThrough}
+use Rattle.rr_store.proofs.side.queues.next_sender.Given as goal
+
+-- the senders so far were looked through
+abbrev pub invariant-loop-sender : goal.invariant-loop-sender
+invariant-loop-sender g l = IsLookedThrough (map sender_part l.senders.items) l.receiver l.channel l.most l.sender l.is_at_limit

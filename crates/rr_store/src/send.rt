@@ -1,3 +1,0 @@
-//! Sends.
-pub mod request;
-pub mod response;

@@ -1,0 +1,110 @@
+//! Requests that nobody waits for, which a receive drops.
+ghost use Rattle.std.specs.Prelude.{◌≡◌, ◌<◌, ◌↔◌, ℕ, [], Some, map, length, slice_index_or, IsTrue};
+ghost use Rattle.rr_sender.specs.Senders.{queue_at};
+ghost use Rattle.rr_store.specs.Ports.{sender_part};
+ghost use Rattle.rr_store.specs.Receiving.{IsNextSender, Reaches};
+ghost use Rattle.rr_store.specs.Skimming.{IsFrontAlive, IsSkimmedTo, SkimsSender, is_waited};
+
+use crate::side::Side;
+use crate::{HandleEntry, OwnedSender, RequestDetails};
+use rr_protocol::ReceiveError;
+use rr_slots::Body;
+use rr_table::{Place, Table};
+
+impl<B: Body, H: Drop, P: Drop> Side<B, RequestDetails, H, P> {
+    /// Returns from which sender a receiver takes its next request, of which it may have `most` from each. Drops the requests that
+    /// nobody waits for from the fronts of the queues that it looks at, where the receiver may have one more. Returns `None` if no
+    /// request is queued then.
+    ///
+    /// # Errors
+    ///
+    /// - `ExceedsMaxBorrows` if requests are queued alone where the receiver has so many.
+    #[inline(always)]
+    pub fn skim_to_next(
+        &mut self,
+        table: &Table<HandleEntry>,
+        receiver: usize,
+        most: usize,
+    ) -> Result<Option<usize>, ReceiveError>
+        requires { Reaches self.old.senders receiver 0 }
+        ensures rest { self.new ≡ record self.old { senders = self.new.senders } }
+        ensures skimmed { IsSkimmedTo table.now receiver most self.old.senders self.new.senders result }
+        ensures next { IsNextSender self.new.senders receiver 0 most result }
+    {
+        skim_to_next(&mut self.senders, table, receiver, most)
+    }
+}
+
+/// Returns some sender from which a request waits for a receiver, of which it may have `most` from each. Drops the requests that
+/// nobody waits for from the fronts of the queues that it looks at, where the receiver may have one more. Returns `None` if no
+/// request waits then.
+///
+/// # Errors
+///
+/// - `ExceedsMaxBorrows` if requests wait alone where the receiver has so many.
+#[inline(always)]
+fn skim_to_next<B: Body, H: Drop>(
+    senders: &mut Vec<OwnedSender<B, RequestDetails, H>>,
+    table: &Table<HandleEntry>,
+    receiver: usize,
+    most: usize,
+) -> Result<Option<usize>, ReceiveError>
+    requires { Reaches (map sender_part senders.old.items) receiver 0 }
+    ensures skimmed { IsSkimmedTo table.now receiver most (map sender_part senders.old.items) (map sender_part senders.new.items) result }
+    ensures next { IsNextSender (map sender_part senders.new.items) receiver 0 most result }
+{
+    let mut is_at_limit = false;
+    for sender in 0..senders.len() {
+        if senders[sender].messages.borrowed(receiver, 0) < most {
+            if skim_sender(&mut senders[sender], table, receiver) {
+                return Ok(Some(sender));
+            }
+        } else if senders[sender].messages.has_entries(receiver, 0) {
+            is_at_limit = true;
+        }
+    }
+    if is_at_limit {
+        return Err(ReceiveError::ExceedsMaxBorrows);
+    }
+    Ok(None)
+}
+
+/// Drops the requests that nobody waits for from the front of a queue. Returns whether a request remains.
+#[inline(always)]
+fn skim_sender<B: Body, H: Drop>(
+    sender: &mut OwnedSender<B, RequestDetails, H>,
+    table: &Table<HandleEntry>,
+    receiver: usize,
+) -> bool
+    requires receiver { receiver < length sender.old.messages.queues }
+    requires channel { 0 < length (slice_index_or sender.old.messages.queues receiver []) }
+    ensures skimmed { (n : ℕ) × SkimsSender table.now receiver n (sender_part sender.old) (sender_part sender.new) }
+    ensures front { IsFrontAlive table.now receiver (sender_part sender.new) }
+    ensures remaining { IsTrue result ↔ (0 < length (queue_at sender.new.messages receiver 0)) }
+{
+    while let Some(slot) = sender.messages.first(receiver, 0) {
+        if is_waited(sender, table, slot) {
+            return true;
+        }
+        sender.messages.drop_first(receiver, 0);
+    }
+    false
+}
+
+/// Whether the pending response of the request in a slot lives. It looks at the one place where that handle can stand.
+#[inline(always)]
+fn is_waited<B: Body, H: Drop>(
+    sender: &OwnedSender<B, RequestDetails, H>,
+    table: &Table<HandleEntry>,
+    slot: usize,
+) -> bool
+    requires { slot < length sender.now.messages.held }
+    ensures { result ≡ is_waited table.now (sender_part sender.now) slot }
+{
+    let row = sender.row;
+    let own = Place { row, index: slot };
+    match table.get_at(sender.messages.details(slot).number, own) {
+        Some(entry) => entry.stage.is_pending(),
+        None => false,
+    }
+}

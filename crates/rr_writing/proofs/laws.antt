@@ -1,0 +1,5 @@
+pub mod Hint
+pub mod Initialise
+pub mod Push
+pub mod Restaged
+pub mod Written
