@@ -1,4 +1,4 @@
-//! Each public call once with ample memory, and what no clause says.
+//! What of the small crates is refused, grows or overflows, what nothing above them calls, and what no clause says.
 //!
 //! A function makes the calls and returns what they returned; its test compares that once, since each assertion is an exit
 //! that has to be proved.
