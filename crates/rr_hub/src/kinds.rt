@@ -3,13 +3,14 @@ ghost use Rattle.std.specs.Prelude.{◌≡◌, None, Some, if◌then◌else◌};
 ghost use Rattle.rr_protocol.specs.declared.kind.Kind.TheVariants as kind;
 ghost use Rattle.rr_protocol.specs.Queries.{kind_at};
 ghost use Rattle.rr_protocol.specs.State.{is_client_value, is_server_value};
+ghost use Rattle.rr_store.specs.Kinds.{stage_kind};
 ghost use Rattle.rr_store.specs.Opened.{opened};
 ghost use Rattle.rr_store.specs.Reaching.{IsCore};
 ghost use Rattle.rr_store.specs.Views.{state_of};
 
 use rr_protocol::{BackpressureFn, Kind};
 use rr_slots::Body;
-use rr_store::Store;
+use rr_store::{Stage, Store};
 use rr_table::Place;
 
 /// Returns what a number names: a client or a server whose value lives, or a handle. Returns `None` if it names nothing.
@@ -25,13 +26,13 @@ pub fn kind_of<QB: Body, QH: Default + Drop, PB: Body, PH: Default + Drop, K: Ba
     ensures { result ≡ kind_at (state_of (opened store.now)) number }
 {
     if store.table.is_at(number, place) {
-        return Some(store.table.at(number, place).stage.kind());
+        return Some(stage_kind(store.table.at(number, place).stage));
     }
     if let Some(kind) = port_kind_of(store, number) {
         return Some(kind);
     }
     match store.table.find(number) {
-        Some(place) => Some(store.table.at(number, place).stage.kind()),
+        Some(place) => Some(stage_kind(store.table.at(number, place).stage)),
         None => None,
     }
 }
@@ -54,4 +55,20 @@ pub fn port_kind_of<QB: Body, QH: Default + Drop, PB: Body, PH: Default + Drop, 
         return Some(Kind::Server);
     }
     None
+}
+
+/// Returns the kind of a handle.
+#[inline(always)]
+fn stage_kind(stage: Stage) -> Kind
+    ensures { result ≡ stage_kind stage }
+{
+    match stage {
+        Stage::RequestMutUninit => Kind::RequestMutUninit,
+        Stage::RequestMut => Kind::RequestMut,
+        Stage::PendingResponse(_, _) => Kind::PendingResponse,
+        Stage::ActiveRequest(_, _) => Kind::ActiveRequest,
+        Stage::ResponseMutUninit => Kind::ResponseMutUninit,
+        Stage::ResponseMut => Kind::ResponseMut,
+        Stage::Response => Kind::Response,
+    }
 }

@@ -3,7 +3,7 @@ ghost use Rattle.std.specs.Prelude.{◌≡◌, true, IsSomeAnd};
 ghost use Rattle.rr_protocol.specs.Releases.{after_release};
 ghost use Rattle.rr_protocol.specs.State.{handle_at};
 ghost use Rattle.rr_store.specs.Opened.{opened};
-ghost use Rattle.rr_store.specs.Releasing.{IsHandleGone, is_active_request};
+ghost use Rattle.rr_store.specs.Releasing.{IsHandleGone, is_active_request, server_of_stage};
 ghost use Rattle.rr_store.specs.Reaching.{IsCore};
 ghost use Rattle.rr_store.specs.Sound.{HasPort, IsSoundStore, empty_hand};
 ghost use Rattle.rr_store.specs.Views.{sender_of, state_of};
@@ -12,7 +12,7 @@ ghost use Rattle.rr_table.specs.TableView.{IsAt};
 use crate::leaving::server::leave_server_of_sender_if_unused;
 use rr_protocol::BackpressureFn;
 use rr_slots::Body;
-use rr_store::Store;
+use rr_store::{Stage, Store};
 use rr_table::Place;
 
 /// Releases the active request that stands in this place: its slot is given back, its server has one less from its client,
@@ -51,7 +51,7 @@ fn end_active<QB: Body, QH: Default + Drop, PB: Body, PH: Default + Drop, K: Bac
     ensures gone { IsHandleGone (state_of (opened store.old)) number (sender_of result (opened store.new).server_senders).owner (state_of (opened store.new)) }
 {
     let entry = store.table.take_at(number, place);
-    let index = store.servers.index_of(entry.stage.server());
+    let index = store.servers.index_of(server(entry.stage));
     let receiver = store.servers.receiver_of_port(index);
     let receivers = store.limits.max_servers;
     store
@@ -61,4 +61,15 @@ fn end_active<QB: Body, QH: Default + Drop, PB: Body, PH: Default + Drop, K: Bac
         .clients
         .end_borrow(entry.sender, receiver, 0, entry.slot);
     store.servers.sender_of_port(index)
+}
+
+/// Returns the server that received an active request. 0 in other stages.
+#[inline(always)]
+fn server(stage: Stage) -> u64
+    ensures { result ≡ server_of_stage stage }
+{
+    match stage {
+        Stage::ActiveRequest(server, _) => server,
+        _ => 0,
+    }
 }

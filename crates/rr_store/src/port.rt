@@ -69,8 +69,20 @@ pub struct LeftPort {
     pub sender: usize,
 }
 
-/// A connected port: its number, its index as a receiver of the other side, the sender from which it sends, and whether its
-/// value lives.
+/// What a side asks of a connected port.
+#[derive(Clone, Copy, Debug)]
+pub struct PortDetails {
+    /// The port's number.
+    pub id: u64,
+    /// Its index among the receivers of the other side.
+    pub receiver: usize,
+    /// The sender from which it sends.
+    pub sender: usize,
+    /// Whether its value lives.
+    pub has_value: bool,
+}
+
+/// A connected port, of either side.
 pub trait ConnectedPort: Drop {
     ghost use Rattle.std.specs.Prelude.{ℕ, Bool};
 
@@ -89,25 +101,31 @@ pub trait ConnectedPort: Drop {
     /// The port once its value is gone.
     ghost valueless: { Self → Self };
 
-    /// The number.
-    fn id(&self) -> u64
-        ensures { result ≡ id self.now };
-
-    /// The index among the receivers of the other side.
-    fn receiver(&self) -> usize
-        ensures { result ≡ receiver self.now };
-
-    /// The sender from which it sends.
-    fn sender(&self) -> usize
-        ensures { result ≡ sender self.now };
-
-    /// Whether its value lives.
-    fn has_value(&self) -> bool
-        ensures { result ≡ has_value self.now };
+    /// Returns what a side asks of the port.
+    fn details(&self) -> PortDetails
+        ensures id { result.id ≡ id self.now }
+        ensures receiver { result.receiver ≡ receiver self.now }
+        ensures sender { result.sender ≡ sender self.now }
+        ensures has_value { result.has_value ≡ has_value self.now };
 
     /// Notes that its value is gone.
     fn end_value(&mut self)
         ensures { self.new ≡ valueless self.old };
+}
+
+impl<K: Drop> Port<K> {
+    /// Returns what a side asks of the port.
+    #[inline(always)]
+    fn details(&self) -> PortDetails
+        ensures { result ≡ record { id = self.now.id; receiver = self.now.receiver; sender = self.now.sender; has_value = self.now.has_value } }
+    {
+        PortDetails {
+            id: self.id,
+            receiver: self.receiver,
+            sender: self.sender,
+            has_value: self.has_value,
+        }
+    }
 }
 
 impl<K: Drop> ConnectedPort for ClientPort<K> {
@@ -121,20 +139,9 @@ impl<K: Drop> ConnectedPort for ClientPort<K> {
 
     ghost valueless = { λ c. record c { port = record c.port { has_value = false } } };
 
-    fn id(&self) -> u64 {
-        self.port.id
-    }
-
-    fn receiver(&self) -> usize {
-        self.port.receiver
-    }
-
-    fn sender(&self) -> usize {
-        self.port.sender
-    }
-
-    fn has_value(&self) -> bool {
-        self.port.has_value
+    #[inline(always)]
+    fn details(&self) -> PortDetails {
+        self.port.details()
     }
 
     fn end_value(&mut self) {
@@ -153,20 +160,9 @@ impl<K: Drop> ConnectedPort for ServerPort<K> {
 
     ghost valueless = { λ s. record s { port = record s.port { has_value = false } } };
 
-    fn id(&self) -> u64 {
-        self.port.id
-    }
-
-    fn receiver(&self) -> usize {
-        self.port.receiver
-    }
-
-    fn sender(&self) -> usize {
-        self.port.sender
-    }
-
-    fn has_value(&self) -> bool {
-        self.port.has_value
+    #[inline(always)]
+    fn details(&self) -> PortDetails {
+        self.port.details()
     }
 
     fn end_value(&mut self) {
@@ -183,7 +179,7 @@ pub fn index_of<P: ConnectedPort>(ports: &[P], id: u64) -> Option<usize>
 {
     let middle = ports.len() / 2;
     if middle < ports.len() {
-        if ports[middle].id() == id {
+        if ports[middle].details().id == id {
             return Some(middle);
         }
     }
@@ -199,7 +195,7 @@ pub fn index_of_present<P: ConnectedPort>(ports: &[P], id: u64) -> usize
     ensures { position (λ p. P.id p == id) ports.now ≡ Some result }
 {
     let middle = ports.len() / 2;
-    if ports[middle].id() == id {
+    if ports[middle].details().id == id {
         return middle;
     }
     match index_by_halving(ports, id) {
@@ -217,7 +213,7 @@ fn index_by_halving<P: ConnectedPort>(ports: &[P], id: u64) -> Option<usize>
     let mut high = ports.len();
     while low < high {
         let middle = low + (high - low) / 2;
-        let found = ports[middle].id();
+        let found = ports[middle].details().id;
         if found == id {
             return Some(middle);
         }

@@ -3,6 +3,7 @@ ghost use Rattle.std.specs.Prelude.{◌≡◌, Some};
 ghost use Rattle.rr_protocol.specs.Messages.{with_hint};
 ghost use Rattle.rr_protocol.specs.Queries.{kind_at};
 ghost use Rattle.rr_protocol.specs.State.{with_changed};
+ghost use Rattle.rr_store.specs.Hints.{hinted};
 ghost use Rattle.rr_store.specs.Opened.{opened};
 ghost use Rattle.rr_store.specs.Reaching.{IsCore};
 ghost use Rattle.rr_store.specs.Views.{state_of};
@@ -10,7 +11,7 @@ ghost use Rattle.rr_table.specs.TableView.{IsAt};
 
 use rr_protocol::{BackpressureFn, Kind};
 use rr_slots::Body;
-use rr_store::{HandleEntry, Store};
+use rr_store::{HandleEntry, Stage, Store};
 use rr_table::Place;
 
 /// Sets the hint of the pending response that stands in this place.
@@ -30,9 +31,20 @@ pub fn set_disconnect_hint_at<
 {
     let entry = store.table.at(number, place);
     let hinted = HandleEntry {
-        stage: entry.stage.hinted(),
+        stage: hinted(entry.stage),
         sender: entry.sender,
         slot: entry.slot,
     };
     store.table.set_at(number, place, hinted);
+}
+
+/// Returns the stage once the hint of a pending response is set. Other stages stay.
+#[inline(always)]
+fn hinted(stage: Stage) -> Stage
+    ensures { result ≡ hinted stage }
+{
+    match stage {
+        Stage::PendingResponse(_, connections) => Stage::PendingResponse(true, connections),
+        stage => stage,
+    }
 }

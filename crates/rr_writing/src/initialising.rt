@@ -6,12 +6,12 @@ ghost use Rattle.rr_protocol.specs.Writing.{after_init};
 ghost use Rattle.rr_store.specs.Opened.{opened};
 ghost use Rattle.rr_store.specs.Reaching.{IsCore};
 ghost use Rattle.rr_store.specs.Views.{state_of};
-ghost use Rattle.rr_store.specs.Writing.{is_ready};
+ghost use Rattle.rr_store.specs.Writing.{initialised, is_ready};
 ghost use Rattle.rr_table.specs.TableView.{IsAt};
 
 use rr_protocol::{BackpressureFn, Kind};
 use rr_slots::Body;
-use rr_store::{HandleEntry, Store};
+use rr_store::{HandleEntry, Stage, Store};
 use rr_table::Place;
 
 /// Makes the message that is being written in this place, and complete, one that can be sent.
@@ -32,9 +32,21 @@ pub fn assume_init_at<
 {
     let entry = store.table.at(number, place);
     let ready = HandleEntry {
-        stage: entry.stage.initialised(),
+        stage: initialised(entry.stage),
         sender: entry.sender,
         slot: entry.slot,
     };
     store.table.set_at(number, place, ready);
+}
+
+/// Returns the stage of a message that is being written, once it can be sent.
+#[inline(always)]
+fn initialised(stage: Stage) -> Stage
+    requires { (stage ≡ Stage.RequestMutUninit) ⊎ (stage ≡ Stage.ResponseMutUninit) }
+    ensures { result ≡ initialised stage }
+{
+    match stage {
+        Stage::RequestMutUninit => Stage::RequestMut,
+        _ => Stage::ResponseMut,
+    }
 }

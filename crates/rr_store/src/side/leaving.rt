@@ -30,7 +30,13 @@ impl<B: Body, N: Copy, H: Drop, P: Drop> Side<B, N, H, P> {
         requires { AreThere self.now.senders self.now.left }
         ensures { result ≡ idle_left self.now.senders self.now.left }
     {
-        idle_left(self.senders.as_slice(), self.left.as_slice())
+        for (index, port) in self.left.iter().enumerate() {
+            let messages = &self.senders[port.sender].messages;
+            if messages.free_slots() == messages.slots() {
+                return Some(index);
+            }
+        }
+        None
     }
 
     /// Takes the port at an index out of the connected ones, and notes that it left.
@@ -50,7 +56,12 @@ impl<B: Body, N: Copy, H: Drop, P: Drop> Side<B, N, H, P> {
         requires { (l : ℕ) → l < length self.now.senders → receiver < length (sender_of l self.now.senders).messages.borrowed }
         ensures { result ≡ is_borrowing self.now.senders receiver }
     {
-        is_borrowing(self.senders.as_slice(), receiver)
+        for sender in &self.senders {
+            if sender.messages.has_borrowed(receiver) {
+                return true;
+            }
+        }
+        false
     }
 
     /// Drops what is queued for a receiver, one step a channel and an entry.
@@ -60,7 +71,12 @@ impl<B: Body, N: Copy, H: Drop, P: Drop> Side<B, N, H, P> {
         ensures rest { self.new ≡ record self.old { senders = self.new.senders } }
         ensures drained { SendersDrained (λ l r. r == receiver) self.old.senders self.new.senders }
     {
-        clear_from_each(&mut self.senders, receiver);
+        let senders = &mut self.senders;
+        for sender in 0..senders.len() {
+            if has_queued(senders.as_slice(), sender, receiver) {
+                clear_for(senders, sender, receiver);
+            }
+        }
     }
 
     /// Drops what is queued, for each of these receivers, of the oldest ports that left: of as many as there is no room for as one
@@ -75,13 +91,12 @@ impl<B: Body, N: Copy, H: Drop, P: Drop> Side<B, N, H, P> {
         ensures rest { self.new ≡ record self.old { senders = self.new.senders } }
         ensures drained { SendersDrained (λ l r. list_any (λ p. R.receiver p == r) receivers.now && is_of (outdated self.old.senders self.old.left room leaving r) l) self.old.senders self.new.senders }
     {
-        expire_at_each(
-            &mut self.senders,
-            receivers,
-            self.left.as_slice(),
-            leaving,
-            room,
-        );
+        let senders = &mut self.senders;
+        let left = self.left.as_slice();
+        for port in receivers {
+            let receiver = port.details().receiver;
+            expire(senders, left, leaving, receiver, room);
+        }
     }
 }
 
@@ -93,7 +108,7 @@ impl<B: Body, N: Copy, H: Drop, P: ConnectedPort> Side<B, N, H, P> {
         ensures { IsSomeAnd (slice_get self.old.ports index) (λ p. self.new ≡ record self.old { ports = slice_set self.old.ports index (P.valueless p); senders = with_sender_at self.old.senders (P.sender p) valueless }) }
     {
         let port = &mut self.ports[index];
-        let sender = port.sender();
+        let sender = port.details().sender;
         port.end_value();
         self.senders[sender].has_value = false;
     }
@@ -124,21 +139,6 @@ fn clear_for<B: Body, N: Copy, H: Drop>(
     ensures { SendersDrained (λ l r. l == sender && r == receiver) (map sender_part senders.old.items) (map sender_part senders.new.items) }
 {
     senders[sender].messages.clear_receiver(receiver);
-}
-
-/// Drops what waits for a receiver in each sender, one step a channel and an entry.
-fn clear_from_each<B: Body, N: Copy, H: Drop>(
-    senders: &mut Vec<OwnedSender<B, N, H>>,
-    receiver: usize,
-)
-    requires { HaveQueues (map sender_part senders.old.items) receiver }
-    ensures { SendersDrained (λ l r. r == receiver) (map sender_part senders.old.items) (map sender_part senders.new.items) }
-{
-    for sender in 0..senders.len() {
-        if has_queued(senders.as_slice(), sender, receiver) {
-            clear_for(senders, sender, receiver);
-        }
-    }
 }
 
 /// Returns how many of the ports that left have an entry for a receiver.
@@ -203,67 +203,4 @@ fn expire<B: Body, N: Copy, H: Drop>(
             clear_for(senders, leaving.sender, receiver);
         }
     }
-}
-
-/// Drops, for each of these ports, what waits for it of the oldest ports that left: of as many as there is no room for as one more
-/// leaves.
-fn expire_at_each<P: ConnectedPort, B: Body, N: Copy, H: Drop>(
-    senders: &mut Vec<OwnedSender<B, N, H>>,
-    ports: &[P],
-    left: &[LeftPort],
-    leaving: LeftPort,
-    room: usize,
-)
-    requires queues { (i : ℕ) (p : P) → slice_get ports.now i ≡ Some p → HaveQueues (map sender_part senders.old.items) (P.receiver p) }
-    requires ports { AreApart P.receiver ports.now }
-    requires left { AreThere (map sender_part senders.old.items) left.now }
-    requires leaving { leaving.sender < length (map sender_part senders.old.items) }
-    requires apart { AreApart (λ l. l.sender) left.now }
-    ensures { SendersDrained (λ l r. list_any (λ p. P.receiver p == r) ports.now && is_of (outdated (map sender_part senders.old.items) left.now room leaving r) l) (map sender_part senders.old.items) (map sender_part senders.new.items) }
-{
-    for port in ports {
-        expire(senders, left, leaving, port.receiver(), room);
-    }
-}
-
-/// Returns whether a receiver has a message from one of the senders. Looks at most once at each sender and channel.
-fn is_borrowing<B: Body, N: Copy, H: Drop>(
-    senders: &[OwnedSender<B, N, H>],
-    receiver: usize,
-) -> bool
-    requires { (i : ℕ) (l : OwnedSender B N H B.Item) → slice_get senders.now i ≡ Some l → receiver < length l.messages.borrowed }
-    ensures { result ≡ is_borrowing (map sender_part senders.now) receiver }
-{
-    for sender in senders {
-        if sender.messages.has_borrowed(receiver) {
-            return true;
-        }
-    }
-    false
-}
-
-/// Returns whether nothing uses a sender: no handle and no entry holds one of its slots.
-#[inline(always)]
-fn is_idle<B: Body, N: Copy, H: Drop>(senders: &[OwnedSender<B, N, H>], sender: usize) -> bool
-    requires { sender < length senders.now }
-    ensures { result ≡ is_idle (sender_of sender (map sender_part senders.now)) }
-{
-    let messages = &senders[sender].messages;
-    messages.free_slots() == messages.slots()
-}
-
-/// Returns which of the ports that left is the first whose sender nothing uses. Looks at each at most once.
-fn idle_left<B: Body, N: Copy, H: Drop>(
-    senders: &[OwnedSender<B, N, H>],
-    left: &[LeftPort],
-) -> Option<usize>
-    requires { AreThere (map sender_part senders.now) left.now }
-    ensures { result ≡ idle_left (map sender_part senders.now) left.now }
-{
-    for (index, port) in left.iter().enumerate() {
-        if is_idle(senders, port.sender) {
-            return Some(index);
-        }
-    }
-    None
 }

@@ -83,7 +83,7 @@ impl<B: Body, N: Copy, H: Drop, P: ConnectedPort> Side<B, N, H, P> {
         requires { index < length self.now.ports }
         ensures { IsSomeAnd (slice_get self.now.ports index) (λ p. result ≡ P.sender p) }
     {
-        self.ports[index].sender()
+        self.ports[index].details().sender
     }
 
     /// Returns which receiver of the other side the port at an index is.
@@ -92,7 +92,7 @@ impl<B: Body, N: Copy, H: Drop, P: ConnectedPort> Side<B, N, H, P> {
         requires { index < length self.now.ports }
         ensures { IsSomeAnd (slice_get self.now.ports index) (λ p. result ≡ P.receiver p) }
     {
-        self.ports[index].receiver()
+        self.ports[index].details().receiver
     }
 
     /// Returns the number and the sender of the port at an index, as they are noted when it leaves.
@@ -101,10 +101,10 @@ impl<B: Body, N: Copy, H: Drop, P: ConnectedPort> Side<B, N, H, P> {
         requires { index < length self.now.ports }
         ensures { IsSomeAnd (slice_get self.now.ports index) (λ p. result ≡ record { number = P.id p; sender = P.sender p }) }
     {
-        let port = &self.ports[index];
+        let port = self.ports[index].details();
         LeftPort {
-            number: port.id(),
-            sender: port.sender(),
+            number: port.id,
+            sender: port.sender,
         }
     }
 
@@ -115,7 +115,7 @@ impl<B: Body, N: Copy, H: Drop, P: ConnectedPort> Side<B, N, H, P> {
         ensures { result ≡ list_any (λ p. P.id p == number && P.has_value p) self.now.ports }
     {
         match index_of(self.ports.as_slice(), number) {
-            Some(index) => self.ports[index].has_value(),
+            Some(index) => self.ports[index].details().has_value,
             None => false,
         }
     }
@@ -126,7 +126,12 @@ impl<B: Body, N: Copy, H: Drop, P: ConnectedPort> Side<B, N, H, P> {
         ensures inside { result < receivers }
         ensures vacant { (i : ℕ) (p : P) → slice_get self.now.ports i ≡ Some p → P.receiver p ≢ result }
     {
-        free_receiver(self.ports.as_slice(), receivers)
+        for receiver in 0..receivers {
+            if !is_taken(self.ports.as_slice(), receiver) {
+                return receiver;
+            }
+        }
+        unreachable!()
     }
 
     /// Adds a port, the sender from which it sends, and a row of the table for its messages. Returns `AllocError` if memory was
@@ -218,10 +223,11 @@ fn insert_port<P: ConnectedPort, B: Body, N: Copy, H: Drop>(
     ports.reserve(1)?;
     senders.reserve(1)?;
     let row = table.add_row(alloc, row_len, NO_HANDLE)?;
+    let details = port.details();
     senders.push_reserved(OwnedSender {
-        owner: port.id(),
+        owner: details.id,
         row,
-        receiver: port.receiver(),
+        receiver: details.receiver,
         has_value: true,
         loans: 0,
         pendings: 0,
@@ -252,13 +258,13 @@ fn insert_port_again<P: ConnectedPort, B: Body, N: Copy, H: Drop>(
     ensures unchanged { OnErr result (table.new ≡ table.old) }
 {
     ports.reserve(1)?;
-    let sender = port.sender();
-    let row = senders[sender].row;
+    let details = port.details();
+    let row = senders[details.sender].row;
     table.renew_row(alloc, row, row_len, NO_HANDLE)?;
-    senders[sender] = OwnedSender {
-        owner: port.id(),
+    senders[details.sender] = OwnedSender {
+        owner: details.id,
         row,
-        receiver: port.receiver(),
+        receiver: details.receiver,
         has_value: true,
         loans: 0,
         pendings: 0,
@@ -269,23 +275,9 @@ fn insert_port_again<P: ConnectedPort, B: Body, N: Copy, H: Drop>(
     Ok(())
 }
 
-/// Returns a receiver that no port is.
-fn free_receiver<P: ConnectedPort>(ports: &[P], receivers: usize) -> usize
-    requires { length ports.now < receivers }
-    ensures inside { result < receivers }
-    ensures vacant { (i : ℕ) (p : P) → slice_get ports.now i ≡ Some p → P.receiver p ≢ result }
-{
-    for receiver in 0..receivers {
-        if !is_taken(ports, receiver) {
-            return receiver;
-        }
-    }
-    unreachable!()
-}
-
 /// Returns whether a port is this receiver.
 fn is_taken<P: ConnectedPort>(ports: &[P], receiver: usize) -> bool
     ensures { result ≡ list_any (λ p. P.receiver p == receiver) ports.now }
 {
-    ports.iter().any(|port| port.receiver() == receiver)
+    ports.iter().any(|port| port.details().receiver == receiver)
 }

@@ -11,8 +11,8 @@ ghost use Rattle.rr_store.specs.Views.{sender_of};
 ghost use Rattle.rr_store.specs.Waiting.{has_entry};
 ghost use Rattle.rr_store.specs.Clearing.{channel_cleared};
 
+use crate::ServerPort;
 use crate::side::Side;
-use crate::{OwnedSender, ServerPort};
 use rr_protocol::ReceiveError;
 use rr_slots::Body;
 
@@ -23,7 +23,12 @@ impl<B: Body, N: Copy, H: Drop, P: Drop> Side<B, N, H, P> {
         requires { Reaches self.now.senders receiver channel }
         ensures { result ≡ has_entry receiver channel self.now.senders }
     {
-        is_waiting(self.senders.as_slice(), receiver, channel)
+        for sender in &self.senders {
+            if sender.messages.has_entries(receiver, channel) {
+                return true;
+            }
+        }
+        false
     }
 
     /// Returns from which sender a receiver takes next on a channel, of which it may have `most` from each. Returns `None` if no
@@ -42,7 +47,20 @@ impl<B: Body, N: Copy, H: Drop, P: Drop> Side<B, N, H, P> {
         requires { Reaches self.now.senders receiver channel }
         ensures { IsNextSender self.now.senders receiver channel most result }
     {
-        next_sender(&self.senders, receiver, channel, most)
+        let mut is_at_limit = false;
+        let senders = &self.senders;
+        for sender in 0..senders.len() {
+            if senders[sender].messages.has_entries(receiver, channel) {
+                if senders[sender].messages.borrowed(receiver, channel) < most {
+                    return Ok(Some(sender));
+                }
+                is_at_limit = true;
+            }
+        }
+        if is_at_limit {
+            return Err(ReceiveError::ExceedsMaxBorrows);
+        }
+        Ok(None)
     }
 
     /// Takes the oldest entry out of a queue, and returns its slot.
@@ -62,7 +80,10 @@ impl<B: Body, N: Copy, H: Drop, P: Drop> Side<B, N, H, P> {
         requires { Reaches self.old.senders receiver channel }
         ensures { self.new ≡ with_channel_emptied self.old receiver channel }
     {
-        clear_channel(&mut self.senders, receiver, channel);
+        let senders = &mut self.senders;
+        for sender in 0..senders.len() {
+            senders[sender].messages.clear_queue(receiver, channel);
+        }
     }
 
     /// Puts a slot into the queue to each server, but for queues that are full and may not overflow, and notes that each of the
@@ -112,66 +133,5 @@ impl<B: Body, N: Copy, H: Drop, P: Drop> Side<B, N, H, P> {
             }
             None => self.senders[sender].messages.give_back(slot),
         }
-    }
-}
-
-/// Returns whether a message waits from one of the senders for a receiver on a channel. Looks at most once at each sender.
-#[inline(always)]
-fn is_waiting<B: Body, N: Copy, H: Drop>(
-    senders: &[OwnedSender<B, N, H>],
-    receiver: usize,
-    channel: usize,
-) -> bool
-    requires { (i : ℕ) (l : OwnedSender B N H B.Item) → slice_get senders.now i ≡ Some l → (receiver < length l.messages.queues) × (channel < length (slice_index_or l.messages.queues receiver [])) }
-    ensures { result ≡ has_entry receiver channel (map sender_part senders.now) }
-{
-    for sender in senders {
-        if sender.messages.has_entries(receiver, channel) {
-            return true;
-        }
-    }
-    false
-}
-
-/// Some sender from which a message waits for a receiver on a channel, of which it may have `most` from each.
-///
-/// `None` if no message waits, `ExceedsMaxBorrows` if messages wait alone where the receiver has so many.
-#[inline(always)]
-fn next_sender<B: Body, N: Copy, H: Drop>(
-    senders: &Vec<OwnedSender<B, N, H>>,
-    receiver: usize,
-    channel: usize,
-    most: usize,
-) -> Result<Option<usize>, ReceiveError>
-    requires { Reaches (map sender_part senders.now.items) receiver channel }
-    ensures { IsNextSender (map sender_part senders.now.items) receiver channel most result }
-{
-    let mut is_at_limit = false;
-    for sender in 0..senders.len() {
-        if senders[sender].messages.has_entries(receiver, channel) {
-            if senders[sender].messages.borrowed(receiver, channel) < most {
-                return Ok(Some(sender));
-            }
-            is_at_limit = true;
-        }
-    }
-    if is_at_limit {
-        return Err(ReceiveError::ExceedsMaxBorrows);
-    }
-    Ok(None)
-}
-
-/// Drops what waits in the senders for a receiver on a channel.
-#[inline(always)]
-fn clear_channel<B: Body, N: Copy, H: Drop>(
-    senders: &mut Vec<OwnedSender<B, N, H>>,
-    receiver: usize,
-    channel: usize,
-)
-    requires { Reaches (map sender_part senders.old.items) receiver channel }
-    ensures { map sender_part senders.new.items ≡ map (channel_cleared receiver channel) (map sender_part senders.old.items) }
-{
-    for sender in 0..senders.len() {
-        senders[sender].messages.clear_queue(receiver, channel);
     }
 }

@@ -31,42 +31,22 @@ impl<B: Body, H: Drop, P: Drop> Side<B, RequestDetails, H, P> {
         ensures skimmed { IsSkimmedTo table.now receiver most self.old.senders self.new.senders result }
         ensures next { IsNextSender self.new.senders receiver 0 most result }
     {
-        skim_to_next(&mut self.senders, table, receiver, most)
-    }
-}
-
-/// Returns some sender from which a request waits for a receiver, of which it may have `most` from each. Drops the requests that
-/// nobody waits for from the fronts of the queues that it looks at, where the receiver may have one more. Returns `None` if no
-/// request waits then.
-///
-/// # Errors
-///
-/// - `ExceedsMaxBorrows` if requests wait alone where the receiver has so many.
-#[inline(always)]
-fn skim_to_next<B: Body, H: Drop>(
-    senders: &mut Vec<OwnedSender<B, RequestDetails, H>>,
-    table: &Table<HandleEntry>,
-    receiver: usize,
-    most: usize,
-) -> Result<Option<usize>, ReceiveError>
-    requires { Reaches (map sender_part senders.old.items) receiver 0 }
-    ensures skimmed { IsSkimmedTo table.now receiver most (map sender_part senders.old.items) (map sender_part senders.new.items) result }
-    ensures next { IsNextSender (map sender_part senders.new.items) receiver 0 most result }
-{
-    let mut is_at_limit = false;
-    for sender in 0..senders.len() {
-        if senders[sender].messages.borrowed(receiver, 0) < most {
-            if skim_sender(&mut senders[sender], table, receiver) {
-                return Ok(Some(sender));
+        let mut is_at_limit = false;
+        let senders = &mut self.senders;
+        for sender in 0..senders.len() {
+            if senders[sender].messages.borrowed(receiver, 0) < most {
+                if skim_sender(&mut senders[sender], table, receiver) {
+                    return Ok(Some(sender));
+                }
+            } else if senders[sender].messages.has_entries(receiver, 0) {
+                is_at_limit = true;
             }
-        } else if senders[sender].messages.has_entries(receiver, 0) {
-            is_at_limit = true;
         }
+        if is_at_limit {
+            return Err(ReceiveError::ExceedsMaxBorrows);
+        }
+        Ok(None)
     }
-    if is_at_limit {
-        return Err(ReceiveError::ExceedsMaxBorrows);
-    }
-    Ok(None)
 }
 
 /// Drops the requests that nobody waits for from the front of a queue. Returns whether a request remains.

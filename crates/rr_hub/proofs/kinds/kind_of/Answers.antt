@@ -9,7 +9,7 @@ at-requires g c = c.is_at.ensures.there c.if-is_at.true
 
 pub returns-then-is_at : goal.returns-then-is_at
 returns-then-is_at g c =
-    handle_then (opened c.args.store.now) c.requires c.args.number c.args.place _ c.at.ensures _ c.kind.ensures
+    handle_then (opened c.args.store.now) c.requires c.args.number c.args.place _ c.at.ensures _ c.stage_kind.ensures
 
 pub returns-in-Some : goal.returns-in-Some
 returns-in-Some g c =
@@ -22,7 +22,7 @@ at-requires-in-Some-find g c =
 pub returns-in-Some-find : goal.returns-in-Some-find
 returns-in-Some-find g c =
     handle_then (opened c.args.store.now) c.requires c.args.number c.in-Some-find.place _ c.at-in-Some-find.ensures _
-    c.kind-in-Some-find.ensures
+    c.stage_kind-in-Some-find.ensures
 
 pub returns-in-None : goal.returns-in-None
 returns-in-None g c =

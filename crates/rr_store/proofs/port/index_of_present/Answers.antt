@@ -10,8 +10,8 @@ some_there : {X : Type 0} (p : X → Bool) (xs : List X) → IsSome (position p 
 some_there p [] h = absurd (false≢true h)
 some_there p (x ∷ xs) h = omega arith
 
-pub returns-then-id : goal.returns-then-id
-returns-then-id g c =
+pub returns-then-details-id : goal.returns-then-details-id
+returns-then-details-id g c =
     between_found g.P.ConnectedPort.id c.args.ports.now c.args.id c.requires.rising _ c.index-ports-middle.result
     (omega (arith, some_there _ c.args.ports.now c.requires.present))
-    c.index-ports-middle.is (sym c.id.ensures ∙ c.if-id.true)
+    c.index-ports-middle.is (sym c.details.ensures.id ∙ c.if-details-id.true)

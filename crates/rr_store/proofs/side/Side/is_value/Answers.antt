@@ -14,7 +14,7 @@ returns-in-Some g c =
     let ports = c.self.inside.ports.items in
     let found = ap (position (λ p. g.P.ConnectedPort.id p == c.args.number)) (sym c.as_slice.ensures.value)
     ∙ sym c.index_of.ensures ∙ c.in-Some.is in
-    rw (← c.self.view_is) (c.has_value.ensures
+    rw (← c.self.view_is) (c.details.ensures.has_value
     ∙ sym (any_alone g.P.ConnectedPort.id g.P.ConnectedPort.has_value ports c.args.number (rw (← c.self.view_is) at c.requires)
     c.in-Some.index _ found c.index.ensures))
 

@@ -14,9 +14,9 @@ read : (g : _) (c : After-index g)
     → (sender_of (g.P.ConnectedPort.sender c.args.port) (map sender_part c.args.senders.now.items)).row ≡ c.index.result.now.row
 read g c =
     let items = c.args.senders.now.items in
-    ap (λ n. (sender_of n (map sender_part items)).row) (sym c.sender-sender.ensures)
-    ∙ ap (λ (l : Sender _ _ _). l.row) (sender_is items c.sender-sender.result c.index.result.now
-    (omega (arith, c.requires.sender, c.sender-sender.ensures)) c.index.ensures)
+    ap (λ n. (sender_of n (map sender_part items)).row) (sym c.details-details.ensures.sender)
+    ∙ ap (λ (l : Sender _ _ _). l.row) (sender_is items c.details-details.result.sender c.index.result.now
+    (omega (arith, c.requires.sender, c.details-details.ensures.sender)) c.index.ensures)
 
 pub returns-clause-senders : goal.returns-clause-senders
 returns-clause-senders g c =
@@ -33,12 +33,12 @@ returns-clause-senders g c =
       may_answer = c.args.may_answer.items;
       messages = c.args.messages;
     } in
-    map-set_one sender_part items c.sender-sender.result _
-    ∙ ap (λ n. slice_set (map sender_part items) n (new c.id.result c.index.result.now.row c.receiver.result)) c.sender-sender.ensures
-    ∙ ap (λ n. slice_set (map sender_part items) sender (new n c.index.result.now.row c.receiver.result)) c.id.ensures
-    ∙ ap (λ n. slice_set (map sender_part items) sender (new (g.P.ConnectedPort.id c.args.port) n c.receiver.result)) (sym e)
+    map-set_one sender_part items c.details-details.result.sender _
+    ∙ ap (λ n. slice_set (map sender_part items) n (new c.details-details.result.id c.index.result.now.row c.details-details.result.receiver)) c.details-details.ensures.sender
+    ∙ ap (λ n. slice_set (map sender_part items) sender (new n c.index.result.now.row c.details-details.result.receiver)) c.details-details.ensures.id
+    ∙ ap (λ n. slice_set (map sender_part items) sender (new (g.P.ConnectedPort.id c.args.port) n c.details-details.result.receiver)) (sym e)
     ∙ ap (λ n. slice_set (map sender_part items) sender (new (g.P.ConnectedPort.id c.args.port)
-    (sender_of sender (map sender_part items)).row n)) c.receiver.ensures
+    (sender_of sender (map sender_part items)).row n)) c.details-details.ensures.receiver
 
 pub returns-clause-renewed : goal.returns-clause-renewed
 returns-clause-renewed g c =

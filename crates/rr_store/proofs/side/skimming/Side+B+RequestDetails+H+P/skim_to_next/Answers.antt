@@ -11,10 +11,10 @@ use Rattle.rr_store.proofs.base.lookups.Asking.{sender_is, senders_many}
 use Rattle.rr_store.proofs.base.lists.Replaced.{map-set_one}
 use Rattle.rr_store.proofs.receiving.NextSender.{looked_at_none, empty_of, some_of}
 use Rattle.rr_store.proofs.receiving.request.Skims.{passed_full, passed_skimmed, passed_waiting, skimmed_next, skimmed_none, skimmed_to}
-use Rattle.rr_store.proofs.side.skimming.skim_to_next.Goals as goal
-use Rattle.rr_store.proofs.side.skimming.skim_to_next.Goals.{In-loop-sender, After-index, After-index_mut, After-index-else-borrowed-most}
-use Rattle.rr_store.proofs.side.skimming.skim_to_next.Goals.{Then-skim_sender, then-borrowed-most+else-skim_sender}
-use Rattle.rr_store.proofs.side.skimming.skim_to_next.Goals.{else-borrowed-most+then-has_entries, else-borrowed-most+else-has_entries}
+use Rattle.rr_store.proofs.side.skimming.Side+B+RequestDetails+H+P.skim_to_next.Goals as goal
+use Rattle.rr_store.proofs.side.skimming.Side+B+RequestDetails+H+P.skim_to_next.Goals.{In-loop-sender, After-index, After-index_mut, After-index-else-borrowed-most}
+use Rattle.rr_store.proofs.side.skimming.Side+B+RequestDetails+H+P.skim_to_next.Goals.{Then-skim_sender, then-borrowed-most+else-skim_sender}
+use Rattle.rr_store.proofs.side.skimming.Side+B+RequestDetails+H+P.skim_to_next.Goals.{else-borrowed-most+then-has_entries, else-borrowed-most+else-has_entries}
 
 -- the sender is there
 within : (g : _) (c : In-loop-sender g) → c.loop-sender.sender < length (map sender_part c.loop-sender.senders.items)
@@ -23,15 +23,15 @@ within g c =
       arith,
       c.loop-sender-test.true,
       c.len-sender-end.ensures,
-      c.args.senders.now.ok.0,
-      length-map c.args.senders.now.items sender_part,
+      c.self.inside.senders.ok.0,
+      length-map c.self.inside.senders.items sender_part,
       c.loop-sender.invariant.0.many,
     )
 
 pub loop-sender-init : goal.loop-sender-init
 loop-sender-init g c =
-    let old = map sender_part c.args.senders.now.items in (
-      skimmed_none c.args.table.now c.args.receiver c.args.most old c.requires,
+    let old = map sender_part c.self.inside.senders.items in (
+      skimmed_none c.args.table.now c.args.receiver c.args.most old (rw (← c.self.view_is) at c.requires),
       looked_at_none old c.args.receiver 0 c.args.most,
     )
 
@@ -78,10 +78,10 @@ skim_sender-requires-clause-channel g c =
 -- a sender with a request that is left is next, and the senders up to it were skimmed
 chosen : (g : _) (c : Then-skim_sender g)
     → let now = map sender_part (slice_set c.loop-sender.senders.items c.loop-sender.sender c.skim_sender.new.sender) in
-    IsSkimmedTo c.args.table.now c.args.receiver c.args.most (map sender_part c.args.senders.now.items) now (Ok (Some c.loop-sender.sender))
+    IsSkimmedTo c.args.table.now c.args.receiver c.args.most (map sender_part c.self.inside.senders.items) now (Ok (Some c.loop-sender.sender))
     × IsNextSender now c.args.receiver 0 c.args.most (Ok (Some c.loop-sender.sender))
 chosen g c =
-    let old = map sender_part c.args.senders.now.items in
+    let old = map sender_part c.self.inside.senders.items in
     let now = c.loop-sender.senders.items in
     let n = c.loop-sender.sender in
     let within = within g (goal.at.returns-then-skim_sender-clause-next g c).In-loop-sender in
@@ -105,7 +105,7 @@ chosen g c =
     )
 
 pub returns-then-skim_sender-clause-skimmed : goal.returns-then-skim_sender-clause-skimmed
-returns-then-skim_sender-clause-skimmed g c = (chosen g c).0
+returns-then-skim_sender-clause-skimmed g c = rw (← c.self.view_is) (chosen g c).0
 
 pub returns-then-skim_sender-clause-next : goal.returns-then-skim_sender-clause-next
 returns-then-skim_sender-clause-next g c = (chosen g c).1
@@ -132,7 +132,7 @@ has_entries-requires-clause-channel g c =
 
 pub loop-sender-preserved : goal.loop-sender-preserved
 loop-sender-preserved g c =
-    let old = map sender_part c.args.senders.now.items in
+    let old = map sender_part c.self.inside.senders.items in
     let now = c.loop-sender.senders.items in
     let n = c.loop-sender.sender in
     let within = within g (goal.at.loop-sender-preserved g c).In-loop-sender in

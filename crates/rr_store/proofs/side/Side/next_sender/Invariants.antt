@@ -1,7 +1,7 @@
 use Rattle.std.proofs.Common.{map}
 use Rattle.rr_store.specs.Ports.{sender_part}
 use Rattle.rr_store.specs.Receiving.{IsLookedThrough}
-use Rattle.rr_store.proofs.side.queues.next_sender.Given as goal
+use Rattle.rr_store.proofs.side.Side.next_sender.Given as goal
 
 -- the senders so far were looked through
 abbrev pub invariant-loop-sender : goal.invariant-loop-sender

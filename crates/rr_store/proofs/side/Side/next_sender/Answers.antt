@@ -5,41 +5,43 @@ use Rattle.rr_sender.specs.Senders.{queue_at, borrowed_at}
 use Rattle.std.specs.Prelude.{slice_index_or}
 use Rattle.std.proofs.lemmas.Bool.{false≢true}
 use Rattle.std.proofs.lemmas.List.{length-map}
-use Rattle.rr_store.specs.Receiving.{IsLookedThrough, queue_from, borrowed_from}
+use Rattle.rr_store.specs.Receiving.{IsLookedThrough, Reaches, queue_from, borrowed_from}
 use Rattle.rr_store.specs.Views.{sender_of}
 use Rattle.rr_store.proofs.base.lookups.Asking.{sender_is}
 use Rattle.rr_store.proofs.receiving.NextSender.{looked_at_none, looked_at_empty, looked_at_limit, empty_of, some_of}
-use Rattle.rr_store.proofs.side.queues.next_sender.Goals as goal
-use Rattle.rr_store.proofs.side.queues.next_sender.Goals.{After-index-then-has_entries, In-loop-sender}
-use Rattle.rr_store.proofs.side.queues.next_sender.Goals.{After-index, then-has_entries+else-borrowed-most, else-has_entries}
+use Rattle.rr_store.proofs.side.Side.next_sender.Goals as goal
+use Rattle.rr_store.proofs.side.Side.next_sender.Goals.{After-index-then-has_entries, In-loop-sender}
+use Rattle.rr_store.proofs.side.Side.next_sender.Goals.{After-index, then-has_entries+else-borrowed-most, else-has_entries}
 
 -- the sender is there
-within : (g : _) (c : In-loop-sender g) → c.loop-sender.sender < length c.args.senders.now.items
-within g c = omega (arith, c.loop-sender-test.true, c.len-sender-end.ensures, c.args.senders.now.ok.0)
+within : (g : _) (c : In-loop-sender g) → c.loop-sender.sender < length c.self.inside.senders.items
+within g c = omega (arith, c.loop-sender-test.true, c.len-sender-end.ensures, c.self.inside.senders.ok.0)
 
 -- and is the one that is read
-sender_was : (g : _) (c : After-index g) → c.loop-sender.sender < length c.args.senders.now.items
-    → sender_of c.loop-sender.sender (map sender_part c.args.senders.now.items) ≡ sender_part c.index.result.now
-sender_was g c there = sender_is c.args.senders.now.items c.loop-sender.sender c.index.result.now there c.index.ensures
+sender_was : (g : _) (c : After-index g) → c.loop-sender.sender < length c.self.inside.senders.items
+    → sender_of c.loop-sender.sender (map sender_part c.self.inside.senders.items) ≡ sender_part c.index.result.now
+sender_was g c there = sender_is c.self.inside.senders.items c.loop-sender.sender c.index.result.now there c.index.ensures
 
 -- also where it is read again
-sender_again : (g : _) (c : After-index-then-has_entries g) → c.loop-sender.sender < length c.args.senders.now.items
-    → sender_of c.loop-sender.sender (map sender_part c.args.senders.now.items) ≡ sender_part c.index-then-has_entries.result.now
-sender_again g c there = sender_is c.args.senders.now.items c.loop-sender.sender c.index-then-has_entries.result.now there
+sender_again : (g : _) (c : After-index-then-has_entries g) → c.loop-sender.sender < length c.self.inside.senders.items
+    → sender_of c.loop-sender.sender (map sender_part c.self.inside.senders.items) ≡ sender_part c.index-then-has_entries.result.now
+sender_again g c there = sender_is c.self.inside.senders.items c.loop-sender.sender c.index-then-has_entries.result.now there
     c.index-then-has_entries.ensures
 
 -- it has a queue to the receiver
 reach : (g : _) (c : In-loop-sender g)
-    → (c.args.receiver < length (sender_of c.loop-sender.sender (map sender_part c.args.senders.now.items)).messages.queues)
-    × (c.args.channel < length (slice_index_or (sender_of c.loop-sender.sender (map sender_part c.args.senders.now.items)).messages.queues
+    → (c.args.receiver < length (sender_of c.loop-sender.sender (map sender_part c.self.inside.senders.items)).messages.queues)
+    × (c.args.channel < length (slice_index_or (sender_of c.loop-sender.sender (map sender_part c.self.inside.senders.items)).messages.queues
     c.args.receiver []))
-reach g c = c.requires c.loop-sender.sender (omega (arith, within g c, length-map c.args.senders.now.items sender_part))
+reach g c =
+    let asked : Reaches (map sender_part c.self.inside.senders.items) c.args.receiver c.args.channel = rw (← c.self.view_is) at c.requires in
+    asked c.loop-sender.sender (omega (arith, within g c, length-map c.self.inside.senders.items sender_part))
 
 pub index-requires : goal.index-requires
-index-requires g c = omega (arith, within g c, c.args.senders.now.ok.0)
+index-requires g c = omega (arith, within g c, c.self.inside.senders.ok.0)
 
 pub loop-sender-init : goal.loop-sender-init
-loop-sender-init g c = looked_at_none (map sender_part c.args.senders.now.items) c.args.receiver c.args.channel c.args.most
+loop-sender-init g c = looked_at_none (map sender_part c.self.inside.senders.items) c.args.receiver c.args.channel c.args.most
 
 pub has_entries-requires-clause-receiver : goal.has_entries-requires-clause-receiver
 has_entries-requires-clause-receiver g c =
@@ -69,15 +71,16 @@ borrowed-requires-clause-channel g c =
 
 pub index-requires-then-has_entries : goal.index-requires-then-has_entries
 index-requires-then-has_entries g c =
-    omega (arith, within g (goal.at.index-requires-then-has_entries g c).In-loop-sender, c.args.senders.now.ok.0)
+    omega (arith, within g (goal.at.index-requires-then-has_entries g c).In-loop-sender, c.self.inside.senders.ok.0)
 
 pub returns-then-borrowed-most : goal.returns-then-borrowed-most
 returns-then-borrowed-most g c =
     let at = goal.at.returns-then-borrowed-most g c in
     let within = within g at.In-loop-sender in
     let is = sender_was g at.After-index within in
-    let again = sender_again g at.After-index-then-has_entries within in (
-      omega (arith, within, length-map c.args.senders.now.items sender_part),
+    let again = sender_again g at.After-index-then-has_entries within in
+    rw (← c.self.view_is) (
+      omega (arith, within, length-map c.self.inside.senders.items sender_part),
       subst (λ (l : Sender _ _ _). 0 < length (queue_at l.messages c.args.receiver c.args.channel)) (sym is)
           (c.has_entries.ensures.0 c.if-has_entries.true),
       omega (
@@ -90,7 +93,7 @@ returns-then-borrowed-most g c =
 
 pub loop-sender-preserved : goal.loop-sender-preserved
 loop-sender-preserved g c =
-    let senders = c.args.senders.now.items in
+    let senders = c.self.inside.senders.items in
     let at = goal.at.loop-sender-preserved g c in
     let within = within g at.In-loop-sender in
     let is = sender_was g at.After-index within in
@@ -125,15 +128,16 @@ loop-sender-preserved g c =
 
 pub returns-then-is_at_limit : goal.returns-then-is_at_limit
 returns-then-is_at_limit g c =
-    let senders = c.args.senders.now.items in
+    let senders = c.self.inside.senders.items in
     let all : length (map sender_part senders) ≤ c.loop-sender.sender = omega (
       arith,
       c.loop-sender-test.false,
       c.len-sender-end.ensures,
-      c.args.senders.now.ok.0,
+      c.self.inside.senders.ok.0,
       length-map senders sender_part,
     ) in
-    let b = c.loop-sender.invariant.at_limit c.if-is_at_limit.true in (
+    let b = c.loop-sender.invariant.at_limit c.if-is_at_limit.true in
+    rw (← c.self.view_is) (
       (λ l h room. c.loop-sender.invariant.passed l (omega (arith, h, all)) room),
       (
         b.0,
@@ -142,7 +146,7 @@ returns-then-is_at_limit g c =
           b.1,
           c.loop-sender.auto.sender-end,
           c.len-sender-end.ensures,
-          c.args.senders.now.ok.0,
+          c.self.inside.senders.ok.0,
           length-map senders sender_part,
         ),
         b.2,
@@ -152,12 +156,12 @@ returns-then-is_at_limit g c =
 
 pub returns : goal.returns
 returns g c l h =
-    let senders = c.args.senders.now.items in
+    let senders = c.self.inside.senders.items in
     let all : length (map sender_part senders) ≤ c.loop-sender.sender = omega (
       arith,
       c.loop-sender-test.false,
       c.len-sender-end.ensures,
-      c.args.senders.now.ok.0,
+      c.self.inside.senders.ok.0,
       length-map senders sender_part,
     ) in
-    c.loop-sender.invariant.clear c.if-is_at_limit.false l (omega (arith, h, all))
+    rw (← c.self.view_is) (c.loop-sender.invariant.clear c.if-is_at_limit.false l (omega (arith, (rw (← c.self.view_is) at h), all)))
