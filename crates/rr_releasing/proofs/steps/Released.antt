@@ -16,13 +16,17 @@ module _ {Q QH P PH K : Type 0} (p : Parts Q QH P PH K) (core : IsCore p) (n por
     (gone : IsHandleGone (state_of p) n port (state_of q)) (t : Parts Q QH P PH K)
     (left : state_of t ≡ without_unused_port (state_of q) port) where
   -- what contracts see
-  pub view_then : state_of t ≡ after_release (state_of p) n
+  view_then : state_of t ≡ after_release (state_of p) n
   view_then = left ∙ sym (release_from (state_of p) (state_of q) n port gone)
 
   -- what is true
-  pub core_then : IsSoundStore t empty_hand → IsCore t
+  core_then : IsSoundStore t empty_hand → IsCore t
   core_then sound = record {
     sound = sound;
     reached = subst (λ s. IsReached s) (sym view_then) (after_release_reached (state_of p) n core.reached);
     complete = subst (λ s. MessagesComplete s) (sym view_then) (after_release_complete (state_of p) n core.complete);
   }
+
+  -- both
+  pub released : IsSoundStore t empty_hand → IsCore t × (state_of t ≡ after_release (state_of p) n)
+  released sound = (core_then sound, view_then)

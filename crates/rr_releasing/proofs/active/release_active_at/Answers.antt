@@ -1,16 +1,10 @@
 use Rattle.rr_store.specs.Opened.{opened}
-use Rattle.rr_releasing.proofs.steps.Released.{core_then, view_then}
+use Rattle.rr_releasing.proofs.steps.Released.{released}
 use Rattle.rr_releasing.proofs.active.release_active_at.Goals as goal
 
-pub returns-clause-core : goal.returns-clause-core
-returns-clause-core g c =
-    core_then (opened c.args.store.now) c.requires.core c.args.number _ (opened c.end_active-sender.new.store)
-    c.end_active-sender.ensures.gone
-    (opened c.leave_server_of_sender_if_unused.new.store) c.leave_server_of_sender_if_unused.ensures.view
-    c.leave_server_of_sender_if_unused.ensures.sound
-
-pub returns-clause-view : goal.returns-clause-view
-returns-clause-view g c =
-    view_then (opened c.args.store.now) c.requires.core c.args.number _ (opened c.end_active-sender.new.store)
-    c.end_active-sender.ensures.gone
-    (opened c.leave_server_of_sender_if_unused.new.store) c.leave_server_of_sender_if_unused.ensures.view
+pub returns : goal.returns
+returns g c =
+    let both = released (opened c.args.store.now) c.requires.core c.args.number _ (opened c.end_active-sender.new.store)
+    c.end_active-sender.ensures.gone (opened c.leave_server_of_sender_if_unused.new.store) c.leave_server_of_sender_if_unused.ensures.view
+    c.leave_server_of_sender_if_unused.ensures.sound in
+    record { core = both.0; view = both.1 }

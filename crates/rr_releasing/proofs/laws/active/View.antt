@@ -17,7 +17,7 @@ use Rattle.rr_store.specs.Parts.{Parts, ServerPart, Sender}
 use Rattle.rr_store.specs.Views.{state_of, handle_in, handle_of, is_awaited, waiting_at, request_at, no_server, no_sender, sender_of, request_in_slot, requests_at}
 use Rattle.rr_store.specs.Sound.{IsSoundStore, empty_hand, is_of_request, is_pending, request_details, request_uses, server_place}
 use Rattle.rr_releasing.proofs.laws.active.Sound.{senders, after_active, inside}
-use Rattle.rr_store.proofs.base.senders.Connected.{server_is, server_placed}
+use Rattle.rr_store.proofs.base.senders.Connected.{server_is}
 use Rattle.rr_releasing.proofs.laws.active.Sound as active
 use Rattle.rr_store.proofs.base.lookups.Stands.{request_there}
 use Rattle.rr_releasing.proofs.laws.Marks.{marked_then}
