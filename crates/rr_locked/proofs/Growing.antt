@@ -6,7 +6,7 @@ use Rattle.rr_receipt_sums.specs.Sums.{worth}
 use Rattle.rr_receipt_sums.proofs.Digits.{worth-append}
 use Rattle.rr_locked.specs.declared.receipt.Receipt.{Receipt}
 use Rattle.rr_locked.specs.Machine.{HubState, HubCommand, HubReply, Entry, Step, LeadsTo}
-use Rattle.rr_run.specs.Least.{follow_strategy, IsZero}
+use Rattle.rr_runner.specs.Numbers.{IsZero, follow_strategy}
 use Rattle.rr_locked.specs.Receipts.{entry_number, history_numbers, receipt_numbers, joined}
 use Rattle.rr_locked.specs.Seats.{AllBelow, AllAbove, Rises, IsSeat}
 use Rattle.rr_locked.specs.Books.{IsKept}

@@ -1,15 +1,5 @@
-pub mod Steps
-pub mod Copies
-pub mod Defaults
-pub mod Received
 pub mod Running
 pub mod Continuing
-pub mod Memory
-pub mod Handles
-pub mod HandleSteps
-pub mod Knowing
-pub mod Added
-pub mod Spots
 pub mod Pools
 pub mod PoolSteps
 pub mod PoolShows

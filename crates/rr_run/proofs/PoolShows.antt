@@ -22,7 +22,8 @@ use Rattle.rr_laws.proofs.Tests.{positive}
 use Rattle.rr_laws.proofs.WholePools.{never_runs_dry}
 use Rattle.rr_run.specs.declared.least.filling.Filling.{Filling}
 use Rattle.rr_run.specs.Filled.{IsFilled, IsFilledUp, IsNoted, IsSameHub}
-use Rattle.rr_run.specs.Least.{follow_strategy, IsZero, reduced_client, WantsMemory, ShowsPool}
+use Rattle.rr_runner.specs.Numbers.{IsZero, follow_strategy}
+use Rattle.rr_run.specs.Least.{reduced_client, WantsMemory, ShowsPool}
 use Rattle.rr_run.proofs.Pools.{run_length}
 
 module _ {C R : Type 0} where

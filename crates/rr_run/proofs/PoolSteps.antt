@@ -30,7 +30,8 @@ use Rattle.rr_laws.proofs.filling.Steps.{copy_sent, pending_released, request_lo
 use Rattle.rr_run.specs.declared.least.filling.Filling.{Filling}
 use Rattle.rr_run.specs.declared.least.outcome.Outcome.{Outcome}
 use Rattle.rr_run.specs.Filled.{outcome_of, Does, HasAsked, HasGrown, HasQueued, IsFilled, IsNoted, IsSameHub, IsSpare, IsUnused}
-use Rattle.rr_run.specs.Least.{follow_strategy, IsZero, reduced_client}
+use Rattle.rr_runner.specs.Numbers.{IsZero, follow_strategy}
+use Rattle.rr_run.specs.Least.{reduced_client}
 
 -- the replies that outcomes stand for
 created_means : (n : ℕ) (reply : Reply ℕ ℕ) → Outcome.Created n ≡ outcome_of reply → reply ≡ Reply.Created n

@@ -19,7 +19,8 @@ use Rattle.rr_run.specs.declared.least.filling.Filling.{Filling}
 use Rattle.rr_run.specs.declared.least.outcome.Outcome.{Outcome}
 use Rattle.rr_run.specs.declared.least.stop.Stop.{Stop}
 use Rattle.rr_run.specs.Filled.{outcome_of, Does, IsLater, IsNoted, IsSameHub}
-use Rattle.rr_run.specs.Least.{follow_strategy, IsZero, reduced_client, creates_client, WantsMemory}
+use Rattle.rr_runner.specs.Numbers.{IsZero, follow_strategy}
+use Rattle.rr_run.specs.Least.{reduced_client, creates_client, WantsMemory}
 
 -- a reply for each command
 pub run_length : {K : Type 0} (commands : List (Command ℕ ℕ K)) (replies : List (Reply ℕ ℕ)) (old new : State ℕ ℕ ℕ ℕ K)

@@ -19,7 +19,8 @@ use Rattle.rr_laws.specs.Filling.{LivesElsewhere, IsHolding, IsServed, Waits}
 use Rattle.rr_laws.specs.Unreduced.{asked_in}
 use Rattle.rr_run.specs.declared.least.filling.Filling.{Filling}
 use Rattle.rr_run.specs.declared.least.outcome.Outcome.{Outcome}
-use Rattle.rr_run.specs.Least.{follow_strategy, IsZero, creates_client, CreatesOneClient, WantsMemory}
+use Rattle.rr_runner.specs.Numbers.{IsZero, follow_strategy}
+use Rattle.rr_run.specs.Least.{creates_client, CreatesOneClient, WantsMemory}
 
 -- what a reply tells
 abbrev pub outcome_of : Reply ℕ ℕ → Outcome

@@ -4,7 +4,6 @@ use Rattle.std.specs.List.{AllByRecursion}
 use Rattle.rr_slots.specs.declared.family.Family.TheVariants.{Typed}
 use Rattle.rr_protocol.specs.declared.limits.Limits.{Limits}
 use Rattle.rr_protocol.specs.declared.settings.AllocationStrategy.{AllocationStrategy}
-use Rattle.rr_protocol.specs.declared.settings.BackpressureAction.{BackpressureAction}
 use Rattle.rr_protocol.specs.declared.settings.BackpressureStrategy.{BackpressureStrategy}
 use Rattle.rr_protocol.specs.declared.settings.ClientSettings.{ClientSettings}
 use Rattle.rr_protocol.specs.Limits.{hub_refusal, worst_case_requests}
@@ -12,16 +11,9 @@ use Rattle.rr_protocol.specs.State.{State, empty_hub}
 use Rattle.rr_commands.specs.declared.command.Command.{Command}
 use Rattle.rr_commands.specs.declared.reply.Reply.{Reply}
 use Rattle.rr_commands.specs.Run.{Run}
+use Rattle.rr_runner.specs.Numbers.{IsZero, follow_strategy}
 use Rattle.rr_laws.specs.Filling.{only_client}
 use Rattle.rr_laws.specs.Unreduced.{asked_in, is_out_of_memory}
-
--- what a handler answers that leaves each full queue to the port's strategy
-abbrev pub follow_strategy : {K : Type 0} → K → ℕ → ℕ → BackpressureAction
-follow_strategy handler port receiver = BackpressureAction.FollowBackpressureStrategy
-
--- the default number
-abbrev pub IsZero : ℕ → Type 0
-IsZero n = n ≡ 0
 
 module _ {K : Type 0} where
   -- the client's settings: full queues are passed over, slots don't grow, no handler, and this answer of the override

@@ -6,9 +6,9 @@ ghost use Rattle.rr_commands.specs.Run.{RunsAppending};
 ghost use Rattle.rr_run.specs.Headline.{HoldsOn};
 
 use crate::error::OutOfMemory;
-use crate::runner::Runner;
 use rr_commands::{Command, Reply};
 use rr_protocol::BackpressureFn;
+use rr_runner::Runner;
 use rr_slots::Body;
 
 /// Carries out commands, one after another, and appends their replies. A refusal is a reply, and the next command follows.

@@ -12,12 +12,12 @@ ghost use Rattle.rr_run.specs.Least.{WantsMemory};
 use crate::least::outcome::{Outcome, outcome_of};
 use crate::least::stop::Stop;
 use crate::least::{LeastPoolError, PoolCommand, PoolReply};
-use crate::runner::Runner;
 use rr_commands::Command;
 use rr_protocol::{
     AllocationStrategy, BackpressureStrategy, ClientSettings, Limits, NoHandler, ServerSettings,
     UniqueNodeId,
 };
+use rr_runner::Runner;
 use std::alloc::Global;
 
 /// The number of the one client, which is the first port.

@@ -1,0 +1,10 @@
+pub mod Steps
+pub mod Copies
+pub mod Defaults
+pub mod Received
+pub mod Memory
+pub mod Handles
+pub mod HandleSteps
+pub mod Knowing
+pub mod Added
+pub mod Spots

@@ -1,0 +1,43 @@
+//! Questions of a runner, which change nothing.
+ghost use Rattle.std.specs.Prelude.{◌≡◌, Some};
+ghost use Rattle.rr_commands.specs.declared.command.Command.{Command};
+ghost use Rattle.rr_commands.specs.Refusals.{number_in};
+ghost use Rattle.rr_commands.specs.Step.{Step};
+ghost use Rattle.rr_runner.specs.Memory.{MayLackOrNeverDoes};
+ghost use Rattle.rr_runner.specs.Questions.{IsQuestion};
+
+use crate::runner::{ports, queries};
+use rr_commands::{Command, Reply};
+use rr_hub::{Core, HandleId};
+use rr_protocol::BackpressureFn;
+use rr_slots::Body;
+use std::alloc::Global;
+
+/// Answers a question of a port or of a handle; with `NoMemory` if no memory was found for a copy of several elements.
+pub(crate) fn answer<T: Copy + Default, B: Body<Item = T>, H: Copy + Default, K: BackpressureFn>(
+    core: &Core<B, H, B, H, K>,
+    alloc: Global,
+    id: &HandleId,
+    question: Command<T, H, K>,
+) -> Reply<T, H>
+    requires question { IsQuestion question }
+    requires id { number_in question ≡ Some id.now }
+    ensures step { Step K.action T.is_default H.is_default B.family core.now question result core.now }
+    ensures memory { result ≡ Reply.NoMemory → MayLackOrNeverDoes B.family core.now question }
+{
+    match question {
+        Command::IsDeliverable(_) => ports::is_deliverable(core, id),
+        Command::HasEntries(_) => ports::has_entries(core, id),
+        Command::IsConnected(_) => queries::is_connected(core, id),
+        Command::HasHint(_) => queries::has_hint(core, id),
+        Command::Servers(_) => queries::servers(core, id),
+        Command::Header(_) => queries::header(core, id),
+        Command::UserHeader(_) => queries::user_header(core, id),
+        Command::Payload(_) => queries::payload(core, alloc, id),
+        Command::Origin(_) => queries::origin(core, id),
+        Command::Strategy(_) => ports::strategy(core, id),
+        Command::MaxSliceLen(_) => ports::max_slice_len(core, id),
+        Command::UpdateConnections(_) => { ports::update_connections(core, id) }
+        _ => unreachable!(),
+    }
+}
