@@ -1,9 +1,5 @@
-pub mod Request
-pub mod Response
 pub mod Pending
 pub mod Active
-pub mod Number
 pub mod Naming
-pub mod Received
 pub mod Ports
 pub mod Named

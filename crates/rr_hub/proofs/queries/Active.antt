@@ -6,7 +6,6 @@ use Rattle.rr_table.specs.TableView.{table_entry, value_at, value_in}
 use Rattle.rr_table.specs.declared.place.Place.{Place}
 use Rattle.rr_protocol.specs.declared.kind.Kind.{Kind}
 use Rattle.rr_protocol.specs.Counts.{is_alive}
-use Rattle.rr_protocol.specs.Messages.{RequestMessage}
 use Rattle.rr_protocol.specs.Queries.{has_disconnect_hint, kind_at}
 use Rattle.rr_protocol.specs.State.{active_at}
 use Rattle.rr_store.specs.declared.details.RequestDetails.{RequestDetails}
@@ -17,40 +16,27 @@ use Rattle.rr_store.specs.Parts.{Parts}
 use Rattle.rr_store.specs.Reaching.{IsCore}
 use Rattle.rr_store.specs.Sound.{empty_hand, is_pending, own_place, request_details, request_uses}
 use Rattle.rr_store.specs.Views.{sender_of, state_of}
-use Rattle.rr_store.proofs.base.lookups.Placed.{value_there}
-use Rattle.rr_store.proofs.base.lookups.Shown.{request_spot}
 use Rattle.rr_store.proofs.querying.Alive.{alive_here, alive_not, hint_here, hint_not, used}
-use Rattle.rr_store.proofs.querying.Connected.{active_has_request, of_active, of_kind, of_received}
+use Rattle.rr_store.proofs.querying.Connected.{active_has_request, of_active}
+use Rattle.rr_hub.proofs.Looks.{active_asked, active_stage, here}
 
 module _ {Q QH P PH K : Type 0} (p : Parts Q QH P PH K) (core : IsCore p) (n : ℕ) (place : Place) (entry : HandleEntry)
     (at : fin_map.get p.table.entries n ≡ Some (table_entry place entry))
     (kind : kind_at (state_of p) n ≡ Some Kind.ActiveRequest) where
-  -- the handle is under its number
-  here : value_at p.table n ≡ Some entry
-  here = value_there p.table n place entry at
+  -- the handle is under its number, and an active request
+  there : value_at p.table n ≡ Some entry
+  there = here core refl refl (place, at)
 
-  -- it is an active request
   is : stage_kind entry.stage ≡ Kind.ActiveRequest
-  is = of_kind p (state_of p) n n refl refl Kind.ActiveRequest (λ e. cc) (λ e. cc) kind entry here
-
-  -- its sender and its slot are there
-  spot : (entry.sender < length p.client_senders) × (entry.slot < length (sender_of entry.sender p.client_senders).messages.held)
-  spot = request_spot p empty_hand core.sound.counted n entry here (active_has_request entry.stage is)
+  is = active_stage core refl refl (place, at) kind
 
   -- the sender that is asked for
   pub sender_asked : entry.sender < length p.client_senders
-  sender_asked = spot.0
+  sender_asked = (active_asked core refl refl (place, at) kind).sender
 
   -- and the slot
   pub slot_asked : entry.slot < length (sender_of entry.sender p.client_senders).messages.held
-  slot_asked = spot.1
-
-  -- the client in the details is the request's
-  pub origin_then : (details : RequestDetails) → details ≡ request_details p entry.sender entry.slot
-      → IsSomeAnd (active_at (state_of p) n) (λ active. details.client ≡ active.message.client)
-  origin_then details are =
-      of_received p (state_of p) n n refl refl entry here (λ (m : RequestMessage Q QH). details.client ≡ m.client) is
-      (ap (λ (d : RequestDetails). d.client) are)
+  slot_asked = (active_asked core refl refl (place, at) kind).slot
 
   -- what a boolean tells of the request
   abbrev Tells : (ℕ → Bool) → Bool → Type 0
@@ -62,12 +48,12 @@ module _ {Q QH P PH K : Type 0} (p : Parts Q QH P PH K) (core : IsCore p) (n : �
     -- what is told of the number in its details
     tells_of : (what : ℕ → Bool) (told : Bool) → told ≡ what details.number → Tells what told
     tells_of what told tells =
-        of_active p (state_of p) n n refl refl entry here (λ number. told ≡ what number) is
+        of_active p (state_of p) n n refl refl entry there (λ number. told ≡ what number) is
         (tells ∙ ap (λ (d : RequestDetails). what d.number) are)
 
     -- the request has a handle
     its : 0 < request_uses p entry.sender entry.slot
-    its = used p empty_hand core.sound n entry here (active_has_request entry.stage is)
+    its = used p empty_hand core.sound n entry there (active_has_request entry.stage is)
 
     -- and this number
     numbered : details.number ≡ (request_details p entry.sender entry.slot).number

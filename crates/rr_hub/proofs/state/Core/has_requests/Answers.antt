@@ -1,30 +1,20 @@
-use Rattle.std.proofs.Common.{◌≡◌}
+use Rattle.std.proofs.Common.{◌≡◌, refl}
 use Rattle.std.specs.Prelude.{◌==◌}
 use Rattle.rr_store.specs.Opened.{opened}
-use Rattle.rr_store.specs.declared.port.ServerPort.{ServerPort}
 use Rattle.rr_store.specs.Parts.{ServerPart}
 use Rattle.rr_store.specs.Ports.{server_part}
 use Rattle.rr_store.proofs.base.senders.Ports.{found_within}
-use Rattle.rr_store.proofs.base.lists.Seen.{kept_rising, kept_some, seen_at, seen_found}
+use Rattle.rr_store.proofs.base.lists.Seen.{seen_at, seen_found}
 use Rattle.rr_store.proofs.base.lookups.Apart.{no_handle}
-use Rattle.rr_receiving.proofs.steps.Request.{order_asked, server_asked}
 use Rattle.rr_receiving.proofs.steps.Waiting.{requests_asked, requests_then}
+use Rattle.rr_hub.proofs.queries.Ports.{server_asked}
 use Rattle.rr_hub.proofs.state.Core.has_requests.Goals as goal
 
-pub index_of-index-requires-clause-rising : goal.index_of-index-requires-clause-rising
-index_of-index-requires-clause-rising g c =
-    kept_rising server_part c.self.inside.parts.servers.ports (λ (x : ServerPart _). x.port.id) (order_asked (opened c.self.inside.parts)
-    c.self.invariant c.args.server (rw (← c.self.view_is) at c.requires))
-
-pub index_of-index-requires-clause-present : goal.index_of-index-requires-clause-present
-index_of-index-requires-clause-present g c =
-    kept_some server_part c.self.inside.parts.servers.ports (λ (x : ServerPart _). x.port.id == c.args.server) (server_asked (opened
-    c.self.inside.parts) c.self.invariant c.args.server (rw (← c.self.view_is) at c.requires))
+pub index_of-index-requires : goal.index_of-index-requires
+index_of-index-requires g c = server_asked c.self.invariant c.self.view_is c.args.server c.self.inside.parts.servers.ports refl c.requires
 
 pub receiver_of_port-receiver-requires : goal.receiver_of_port-receiver-requires
-receiver_of_port-receiver-requires g c =
-    found_within (λ (x : ServerPort _). x.port.id == c.args.server) c.self.inside.parts.servers.ports c.index_of-index.result
-    c.index_of-index.ensures
+receiver_of_port-receiver-requires g c = found_within _ _ _ c.index_of-index.ensures
 
 pub is_waiting-requires : goal.is_waiting-requires
 is_waiting-requires g c =

@@ -1,24 +1,13 @@
-use Rattle.rr_store.specs.Opened.{opened}
-use Rattle.rr_hub.proofs.Lending.{stands}
+use Rattle.std.proofs.Common.{ap}
+use Rattle.rr_store.specs.declared.details.ResponseDetails.{ResponseDetails}
 use Rattle.rr_store.specs.Views.{no_response}
-use Rattle.rr_hub.proofs.queries.Received.{sender_asked, slot_asked, origin_then}
+use Rattle.rr_hub.proofs.Looks.{came_asked, came_then}
 use Rattle.rr_hub.proofs.state.Core.response_origin.Goals as goal
 
-pub details-requires-clause-sender : goal.details-requires-clause-sender
-details-requires-clause-sender g c =
-    sender_asked (opened c.self.inside.parts) c.self.invariant _ _ _ (stands (opened c.self.inside.parts) _ _ c.number.ensures
-    c.look_up-entry.result c.look_up-entry.ensures)
-    (rw (← c.self.view_is) at c.requires)
-
-pub details-requires-clause-slot : goal.details-requires-clause-slot
-details-requires-clause-slot g c =
-    slot_asked (opened c.self.inside.parts) c.self.invariant _ _ _ (stands (opened c.self.inside.parts) _ _ c.number.ensures
-    c.look_up-entry.result c.look_up-entry.ensures)
-    (rw (← c.self.view_is) at c.requires)
+pub details-requires : goal.details-requires
+details-requires g c = came_asked c.self.invariant c.self.view_is c.number.ensures c.look_up-entry.ensures c.requires
 
 pub returns : goal.returns
 returns g c =
-    rw (← c.self.view_is) (origin_then (opened c.self.inside.parts) c.self.invariant _ _ _ (stands (opened c.self.inside.parts) _ _
-    c.number.ensures c.look_up-entry.result c.look_up-entry.ensures)
-    (rw (← c.self.view_is) at c.requires) _
-    (c.details.ensures no_response))
+    came_then c.self.invariant c.self.view_is c.number.ensures c.look_up-entry.ensures c.requires _
+    (ap (λ (d : ResponseDetails). d.server) (c.details.ensures no_response))

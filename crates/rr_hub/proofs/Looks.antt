@@ -1,0 +1,186 @@
+-- A handle that a call of the core looked up: where its message is, and what of it contracts see.
+use Rattle.std.proofs.Common.{◌≡◌, ◌<◌, ℕ, true, List, Some, length, sym, ap, ◌∙◌, subst}
+use Rattle.std.specs.Prelude.{◌⊎◌, IsSome, IsSomeAnd, option_and_then}
+use Rattle.std.specs.FinMap as fin_map
+use Rattle.rr_slots.specs.Pools.{Written}
+use Rattle.rr_table.specs.TableView.{table_entry, value_at}
+use Rattle.rr_table.specs.declared.place.Place.{Place}
+use Rattle.rr_sender.specs.Senders.{content_at}
+use Rattle.rr_protocol.specs.declared.kind.Kind.{Kind}
+use Rattle.rr_protocol.specs.declared.request_header.RequestHeader.{RequestHeader}
+use Rattle.rr_protocol.specs.declared.response_header.ResponseHeader.{ResponseHeader}
+use Rattle.rr_protocol.specs.Messages.{RequestMessage, ResponseMessage, request_in, response_in}
+use Rattle.rr_protocol.specs.Queries.{kind_at, request_header, response_header}
+use Rattle.rr_protocol.specs.State.{State, active_at, handle_at}
+use Rattle.rr_store.specs.declared.details.RequestDetails.{RequestDetails}
+use Rattle.rr_store.specs.declared.details.ResponseDetails.{ResponseDetails}
+use Rattle.rr_store.specs.declared.handle_entry.HandleEntry.{HandleEntry}
+use Rattle.rr_store.specs.Kinds.{stage_kind}
+use Rattle.rr_store.specs.Parts.{Parts, Sender}
+use Rattle.rr_store.specs.Reaching.{IsCore}
+use Rattle.rr_store.specs.Sound.{empty_hand, is_of_request, is_of_response, is_request_loan, is_response_loan, request_details, response_details}
+use Rattle.rr_store.specs.Views.{request_at, response_at, sender_of, state_of}
+use Rattle.rr_store.proofs.base.lookups.Placed.{value_there}
+use Rattle.rr_store.proofs.base.lookups.Shown.{is_request, is_response, of_request, of_response, request_spot, response_spot}
+use Rattle.rr_writing.proofs.steps.Request as request
+use Rattle.rr_writing.proofs.steps.Response as response
+use Rattle.rr_hub.proofs.Lending.{stands}
+use Rattle.rr_store.proofs.querying.Connected.{active_has_request, is_active, of_kind, of_received, pending_has_request, received_has_response}
+
+-- a sender, and a slot of it, are there
+abbrev pub HasSlot : {B N H : Type 0} → HandleEntry → List (Sender B N H) → Type 0
+HasSlot entry senders = record {
+  sender : entry.sender < length senders;
+  slot : entry.slot < length (sender_of entry.sender senders).messages.held;
+}
+
+-- the header that these details, this asked length and this node give
+abbrev pub request_header_from : RequestDetails → ℕ → ℕ → RequestHeader
+request_header_from details asked_len node = record {
+  client_id = record { 0 = details.client };
+  request_id = details.request_id;
+  number_of_elements = asked_len;
+  node_id = record { 0 = node };
+}
+
+-- and that of a response
+abbrev pub response_header_from : ResponseDetails → ℕ → ℕ → ResponseHeader
+response_header_from details asked_len node = record {
+  server_id = record { 0 = details.server };
+  request_id = details.request_id;
+  number_of_elements = asked_len;
+  node_id = record { 0 = node };
+}
+
+module _ {Q QH P PH K : Type 0} {p : Parts Q QH P PH K} {s : State Q QH P PH K} {n m : ℕ} {entry : HandleEntry} (core : IsCore p)
+    (view : state_of p ≡ s) (same : n ≡ m)
+    (looked : (place : Place) × (fin_map.get p.table.entries n ≡ Some (table_entry place entry))) where
+  -- the handle is under its number
+  pub here : value_at p.table n ≡ Some entry
+  here = value_there p.table n looked.0 entry looked.1
+
+  -- and under that of its id
+  pub under : fin_map.get p.table.entries m ≡ Some (table_entry looked.0 entry)
+  under = stands p n m same entry looked
+
+  -- where the request of a handle of one is
+  pub request_slot : is_of_request entry.stage ≡ true → HasSlot entry p.client_senders
+  request_slot is = let spot = request_spot p empty_hand core.sound.counted n entry here is in record { sender = spot.0; slot = spot.1 }
+
+  -- and a response
+  pub response_slot : is_of_response entry.stage ≡ true → HasSlot entry p.server_senders
+  response_slot is = let spot = response_spot p empty_hand core.sound.counted n entry here is in record { sender = spot.0; slot = spot.1 }
+
+  module _ (has : IsSome (option_and_then request_in (handle_at s m))) where
+    -- where the request is
+    pub request_asked : HasSlot entry p.client_senders
+    request_asked = request_slot (is_request p s n m view same entry here has)
+
+    -- what is true of the request in the slot is true of the one that contracts see
+    pub request_then : (R : RequestMessage Q QH → Type 0) → R (request_at p entry.sender entry.slot)
+        → IsSomeAnd (option_and_then request_in (handle_at s m)) R
+    request_then R told = of_request p s n m view same entry here R (is_request p s n m view same entry here has) told
+
+    -- what its header tells
+    pub request_header_then : (details : RequestDetails) → details ≡ request_details p entry.sender entry.slot
+        → (body : Written Q) → body ≡ content_at (sender_of entry.sender p.client_senders).messages entry.slot
+        → (asked_len : ℕ) → asked_len ≡ body.asked_len
+        → IsSomeAnd (option_and_then request_in (handle_at s m)) (λ m. request_header_from details asked_len p.node_id ≡ request_header s m)
+    request_header_then details are body read asked_len asks =
+        request_then (λ (m : RequestMessage Q QH). request_header_from details asked_len p.node_id ≡ request_header s m)
+        (λ k. request_header_from (are k) ((asks ∙ ap (λ (w : Written Q). w.asked_len) read) k) (view k).node_id)
+
+  -- a request that is being written is on loan, and so is one that can be sent
+  pub request_loan : (kind_at s m ≡ Some Kind.RequestMutUninit) ⊎ (kind_at s m ≡ Some Kind.RequestMut)
+      → is_request_loan entry.stage ≡ true
+  request_loan kind =
+      request.loan_either p m looked.0 entry under
+      (subst (λ t. (kind_at t m ≡ Some Kind.RequestMutUninit) ⊎ (kind_at t m ≡ Some Kind.RequestMut)) (sym view) kind)
+
+  -- where it is
+  pub loaned_request : (kind_at s m ≡ Some Kind.RequestMutUninit) ⊎ (kind_at s m ≡ Some Kind.RequestMut)
+      → HasSlot entry p.client_senders
+  loaned_request kind = record {
+    sender = request.sender_asked p m looked.0 entry under core (request_loan kind);
+    slot = request.slot_asked p m looked.0 entry under core (request_loan kind);
+  }
+
+  module _ (has : IsSome (option_and_then response_in (handle_at s m))) where
+    -- where the response is
+    pub response_asked : HasSlot entry p.server_senders
+    response_asked = response_slot (is_response p s n m view same entry here has)
+
+    -- what is true of the response in the slot is true of the one that contracts see
+    pub response_then : (R : ResponseMessage P PH → Type 0) → R (response_at p entry.sender entry.slot)
+        → IsSomeAnd (option_and_then response_in (handle_at s m)) R
+    response_then R told = of_response p s n m view same entry here R (is_response p s n m view same entry here has) told
+
+    -- what its header tells
+    pub response_header_then : (details : ResponseDetails) → details ≡ response_details p entry.sender entry.slot
+        → (body : Written P) → body ≡ content_at (sender_of entry.sender p.server_senders).messages entry.slot
+        → (asked_len : ℕ) → asked_len ≡ body.asked_len
+        → IsSomeAnd (option_and_then response_in (handle_at s m)) (λ m. response_header_from details asked_len p.node_id ≡ response_header s m)
+    response_header_then details are body read asked_len asks =
+        response_then (λ (m : ResponseMessage P PH). response_header_from details asked_len p.node_id ≡ response_header s m)
+        (λ k. response_header_from (are k) ((asks ∙ ap (λ (w : Written P). w.asked_len) read) k) (view k).node_id)
+
+  -- a response that is being written is on loan, and so is one that can be sent
+  pub response_loan : (kind_at s m ≡ Some Kind.ResponseMutUninit) ⊎ (kind_at s m ≡ Some Kind.ResponseMut)
+      → is_response_loan entry.stage ≡ true
+  response_loan kind =
+      response.loan_either p m looked.0 entry under
+      (subst (λ t. (kind_at t m ≡ Some Kind.ResponseMutUninit) ⊎ (kind_at t m ≡ Some Kind.ResponseMut)) (sym view) kind)
+
+  -- where it is
+  pub loaned_response : (kind_at s m ≡ Some Kind.ResponseMutUninit) ⊎ (kind_at s m ≡ Some Kind.ResponseMut)
+      → HasSlot entry p.server_senders
+  loaned_response kind = record {
+    sender = response.sender_asked p m looked.0 entry under core (response_loan kind);
+    slot = response.slot_asked p m looked.0 entry under core (response_loan kind);
+  }
+
+  module _ (kind : kind_at s m ≡ Some Kind.ActiveRequest) where
+    -- the stage of an active request
+    pub active_stage : stage_kind entry.stage ≡ Kind.ActiveRequest
+    active_stage = of_kind p s n m view same Kind.ActiveRequest (λ e. cc) (λ e. cc) kind entry here
+
+    -- where its request is
+    pub active_asked : HasSlot entry p.client_senders
+    active_asked = request_slot (active_has_request entry.stage active_stage)
+
+    -- what is true of the request in the slot is true of the one that was received
+    pub active_then : (R : RequestMessage Q QH → Type 0) → R (request_at p entry.sender entry.slot)
+        → IsSomeAnd (active_at s m) (λ active. R active.message)
+    active_then R told = of_received p s n m view same entry here R active_stage told
+
+  module _ (kind : kind_at s m ≡ Some Kind.PendingResponse) where
+    -- the stage of a pending response
+    pub pending_stage : stage_kind entry.stage ≡ Kind.PendingResponse
+    pending_stage = of_kind p s n m view same Kind.PendingResponse (λ e. cc) (λ e. cc) kind entry here
+
+    -- where its request is
+    pub pending_asked : HasSlot entry p.client_senders
+    pending_asked = request_slot (pending_has_request entry.stage pending_stage)
+
+  -- the same of a handle that is known to be an active request
+  pub received_asked : IsSome (active_at s m) → HasSlot entry p.client_senders
+  received_asked has = request_slot (active_has_request entry.stage (is_active p s n m view same entry here has))
+
+  -- and what is true of its request
+  pub received_then : IsSome (active_at s m) → (R : RequestMessage Q QH → Type 0) → R (request_at p entry.sender entry.slot)
+      → IsSomeAnd (active_at s m) (λ active. R active.message)
+  received_then has R told = of_received p s n m view same entry here R (is_active p s n m view same entry here has) told
+
+  module _ (kind : kind_at s m ≡ Some Kind.Response) where
+    -- a response that a client received is one
+    came_is : is_of_response entry.stage ≡ true
+    came_is = received_has_response entry.stage (of_kind p s n m view same Kind.Response (λ e. cc) (λ e. cc) kind entry here)
+
+    -- where it is
+    pub came_asked : HasSlot entry p.server_senders
+    came_asked = response_slot came_is
+
+    -- what is true of the one in the slot is true of the one that contracts see
+    pub came_then : (R : ResponseMessage P PH → Type 0) → R (response_at p entry.sender entry.slot)
+        → IsSomeAnd (option_and_then response_in (handle_at s m)) R
+    came_then R told = of_response p s n m view same entry here R came_is told
