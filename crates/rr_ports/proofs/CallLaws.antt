@@ -1,5 +1,5 @@
 -- What numbers name after loans, sends and receives.
-use Rattle.std.proofs.Common.{◌≡◌, ℕ, ◌+◌, ◌-◌, ◌^◌, ◌≤◌, true, false, cond, List, [], ◌∷◌, map, Option, Some, None, refl, sym, ap, ◌∙◌, subst, arith, Result, Ok, Err}
+use Rattle.std.proofs.Common.{◌≡◌, ◌≢◌, ℕ, ◌+◌, ◌-◌, ◌^◌, ◌≤◌, true, false, cond, List, [], ◌∷◌, map, Option, Some, None, refl, sym, ap, ◌∙◌, subst, arith, Result, Ok, Err}
 use Rattle.std.specs.Prelude.{IsSomeAnd, option_and_then, ◌&&◌, ◌||◌, ◌==◌, IfOk, IfSome}
 use Rattle.std.specs.List.{list_any}
 use Rattle.std.specs.FinMap as fin_map
@@ -19,8 +19,9 @@ use Rattle.rr_protocol.specs.Loans.{LoansRequest, LoansResponse, with_loan_count
 use Rattle.rr_protocol.specs.Sends.{SendsRequest, SendsResponse, with_response_put}
 use Rattle.rr_protocol.specs.Receives.{ReceivesRequest, ReceivesResponse, TakesRequest, Skims}
 use Rattle.rr_protocol.specs.Releases.{after_release}
+use Rattle.rr_laws.specs.Unreduced.{ClientHasPool, ServerHasPool}
 use Rattle.rr_laws.proofs.Opening.{some_and, open_request_mut, open_response_mut, open_active}
-use Rattle.rr_ports.specs.Kinds.{Names, KeepsKinds, KeepsKindsBut, RequestAsksFor, ResponseAsksFor}
+use Rattle.rr_ports.specs.Kinds.{Names, NamesNothing, KeepsKinds, KeepsKindsBut, RequestAsksFor, ResponseAsksFor}
 use Rattle.rr_ports.proofs.NameLaws.{SamePorts, handle_no_port, free_no_port, keeps_but, keeps_new, keeps_each, keeps_same, other_kind, own_kind}
 use Rattle.rr_ports.proofs.ReleaseLaws.{SameNames, names_then, names_equal, names_ports, names_each, released_keeps, released_numbers}
 
@@ -101,6 +102,49 @@ module _ {Q QH P PH K : Type 0} where
         (subst (λ o. IsSomeAnd (option_and_then request_in o) (λ m. len ≡ m.content.asked_len)) (sym there) refl)
     loan_asks (Err e) loans = tt
 
+    -- what the call of a port tells of the loan, of one element and of many
+    module _ (result : Result ℕ LoanError) (told : record {
+      loans : LoansRequest IsDefault old n len result new;
+      unnamed : IfOk result (λ k. kind_at old k ≡ None);
+      unreduced : ClientHasPool old.limits old n len → result ≢ Err LoanError.OutOfMemory;
+    }) where
+      pub request_loaned : record {
+        loans : LoansRequest IsDefault old n len result new;
+        unreduced : ClientHasPool old.limits old n len → result ≢ Err LoanError.OutOfMemory;
+        fresh : IfOk result (λ k. NamesNothing old k);
+        kind : IfOk result (λ k. Names new k Kind.RequestMutUninit);
+        kinds : KeepsKinds old new;
+        numbers : numbers_left old ≤ numbers_left new + 1;
+      }
+      unfolding NamesNothing
+      request_loaned = record {
+        loans = told.loans;
+        unreduced = told.unreduced;
+        fresh = told.unnamed;
+        kind = loan_names result told.loans told.unnamed;
+        kinds = loan_keeps result told.loans told.unnamed;
+        numbers = loan_numbers result told.loans;
+      }
+
+      pub request_slice_loaned : record {
+        loans : LoansRequest IsDefault old n len result new;
+        unreduced : ClientHasPool old.limits old n len → result ≢ Err LoanError.OutOfMemory;
+        fresh : IfOk result (λ k. NamesNothing old k);
+        kind : IfOk result (λ k. Names new k Kind.RequestMutUninit);
+        asked : IfOk result (λ k. RequestAsksFor new k len);
+        kinds : KeepsKinds old new;
+        numbers : numbers_left old ≤ numbers_left new + 1;
+      }
+      request_slice_loaned = let one = request_loaned in record {
+        loans = one.loans;
+        unreduced = one.unreduced;
+        fresh = one.fresh;
+        kind = one.kind;
+        asked = loan_asks result told.loans;
+        kinds = one.kinds;
+        numbers = one.numbers;
+      }
+
   -- loans of responses
   module _ (IsDefault : PH → Type 0) (old new : State Q QH P PH K) (n len : ℕ) where
     pub response_loan_refused : (e : LoanError) → LoansResponse IsDefault old n len (Err e) new → new ≡ old
@@ -138,6 +182,49 @@ module _ {Q QH P PH K : Type 0} where
         subst (λ i. IsSomeAnd (option_and_then response_in (handle_at new i)) (λ m. len ≡ m.content.asked_len)) (sym l.1)
         (subst (λ o. IsSomeAnd (option_and_then response_in o) (λ m. len ≡ m.content.asked_len)) (sym there) refl)
     response_loan_asks (Err e) loans = tt
+
+    -- what the call of a port tells of the loan, of one element and of many
+    module _ (result : Result ℕ LoanError) (told : record {
+      loans : LoansResponse IsDefault old n len result new;
+      unnamed : IfOk result (λ k. kind_at old k ≡ None);
+      unreduced : ServerHasPool old.limits old n len → result ≢ Err LoanError.OutOfMemory;
+    }) where
+      pub response_loaned : record {
+        loans : LoansResponse IsDefault old n len result new;
+        unreduced : ServerHasPool old.limits old n len → result ≢ Err LoanError.OutOfMemory;
+        fresh : IfOk result (λ k. NamesNothing old k);
+        kind : IfOk result (λ k. Names new k Kind.ResponseMutUninit);
+        kinds : KeepsKinds old new;
+        numbers : numbers_left old ≤ numbers_left new + 1;
+      }
+      unfolding NamesNothing
+      response_loaned = record {
+        loans = told.loans;
+        unreduced = told.unreduced;
+        fresh = told.unnamed;
+        kind = response_loan_names result told.loans told.unnamed;
+        kinds = response_loan_keeps result told.loans told.unnamed;
+        numbers = response_loan_numbers result told.loans;
+      }
+
+      pub response_slice_loaned : record {
+        loans : LoansResponse IsDefault old n len result new;
+        unreduced : ServerHasPool old.limits old n len → result ≢ Err LoanError.OutOfMemory;
+        fresh : IfOk result (λ k. NamesNothing old k);
+        kind : IfOk result (λ k. Names new k Kind.ResponseMutUninit);
+        asked : IfOk result (λ k. ResponseAsksFor new k len);
+        kinds : KeepsKinds old new;
+        numbers : numbers_left old ≤ numbers_left new + 1;
+      }
+      response_slice_loaned = let one = response_loaned in record {
+        loans = one.loans;
+        unreduced = one.unreduced;
+        fresh = one.fresh;
+        kind = one.kind;
+        asked = response_loan_asks result told.loans;
+        kinds = one.kinds;
+        numbers = one.numbers;
+      }
 
 -- sends
 module _ {Q QH P PH K : Type 0} (action : K → ℕ → ℕ → BackpressureAction) (old new : State Q QH P PH K) (n : ℕ) where
@@ -247,6 +334,27 @@ module _ {Q QH P PH K : Type 0} where
     received_numbers (Ok None) receives = none_fewer old new (none_names receives).next
     received_numbers (Err e) receives = none_fewer old new (refused_names e receives).next
 
+    -- what the call of a server tells of it
+    pub request_received : (result : Result (Option ℕ) ReceiveError) → record {
+      receives : ReceivesRequest old server result new;
+      unnamed : IfOk result (λ o. IfSome o (λ k. kind_at old k ≡ None));
+    }
+        → record {
+          receives : ReceivesRequest old server result new;
+          fresh : IfOk result (λ o. IfSome o (λ k. NamesNothing old k));
+          kind : IfOk result (λ o. IfSome o (λ k. Names new k Kind.ActiveRequest));
+          kinds : KeepsKinds old new;
+          numbers : numbers_left old ≤ numbers_left new + 1;
+        }
+    unfolding NamesNothing
+    request_received result told = record {
+      receives = told.receives;
+      fresh = told.unnamed;
+      kind = received_names result told.receives told.unnamed;
+      kinds = received_keeps result told.receives told.unnamed;
+      numbers = received_numbers result told.receives;
+    }
+
   -- receives of responses
   module _ (old new : State Q QH P PH K) (n : ℕ) where
     no_response : ReceivesResponse old n (Ok None) new → new ≡ old
@@ -291,3 +399,24 @@ module _ {Q QH P PH K : Type 0} where
     came_numbers (Ok (Some k)) receives = ap (λ i. 2 ^ 62 - i) (came_next k receives)
     came_numbers (Ok None) receives = ap numbers_left (no_response receives)
     came_numbers (Err e) receives = ap numbers_left (response_refused e receives)
+
+    -- what the call of a pending response tells of it
+    pub response_received : (result : Result (Option ℕ) ReceiveError) → record {
+      receives : ReceivesResponse old n result new;
+      unnamed : IfOk result (λ o. IfSome o (λ k. kind_at old k ≡ None));
+    }
+        → record {
+          receives : ReceivesResponse old n result new;
+          fresh : IfOk result (λ o. IfSome o (λ k. NamesNothing old k));
+          kind : IfOk result (λ o. IfSome o (λ k. Names new k Kind.Response));
+          kinds : KeepsKinds old new;
+          numbers : numbers_left new ≡ numbers_left old;
+        }
+    unfolding NamesNothing
+    response_received result told = record {
+      receives = told.receives;
+      fresh = told.unnamed;
+      kind = came_names result told.receives told.unnamed;
+      kinds = came_keeps result told.receives told.unnamed;
+      numbers = came_numbers result told.receives;
+    }

@@ -1,14 +1,15 @@
 -- What a complete message of one element says.
-use Rattle.std.proofs.Common.{◌≡◌, ◌≢◌, ℕ, Bool, true, false, [], ◌∷◌, length, Some, None, Option, refl, sym, ap, ◌∙◌, subst}
+use Rattle.std.proofs.Common.{◌≡◌, ℕ, Bool, true, false, [], ◌∷◌, length, Some, None, Option, refl, sym, ap, ◌∙◌, subst}
 use Rattle.std.specs.Prelude.{◌==◌, option_and_then, IsSome, IsSomeAnd}
+use Rattle.std.proofs.lemmas.Bool.{false≢true}
 use Rattle.rr_slots.specs.Elements.{option_elements}
 use Rattle.rr_protocol.specs.declared.kind.Kind.{Kind}
 use Rattle.rr_protocol.specs.Messages.{Content, RequestMessage, ResponseMessage, Handle, RequestMutUninit, RequestMut, PendingResponse, ActiveRequest, ResponseMutUninit, ResponseMut, Response, request_in, response_in}
 use Rattle.rr_protocol.specs.State.{State, handle_at}
-use Rattle.rr_protocol.specs.Queries.{kind_of, kind_at}
+use Rattle.rr_protocol.specs.Queries.{kind_of}
 use Rattle.rr_protocol.specs.Writing.{is_complete}
 use Rattle.rr_laws.specs.Complete.{HasComplete}
-use Rattle.rr_laws.proofs.Opening.{some_and, with_both}
+use Rattle.rr_ports.specs.Kinds.{Names}
 use Rattle.rr_ports.proofs.Asking.{there}
 
 -- whether a handle of this kind has a whole request, or a whole response
@@ -35,8 +36,19 @@ module _ {T H : Type 0} (c : Content T H) (o : Option T) (asked : 1 ≡ c.asked_
           absurd (let g : false ≡ true = f in cc)
       go (Some v) e = refl
 
-  one_value : (v : T) → o ≡ Some v → c.elements ≡ v ∷ []
-  one_value v e = sym elements ∙ ap option_elements e
+-- the body of a message, as a call reads it
+module _ {M T H : Type 0} (content : M → Content T H) where
+  -- one element was written
+  one_in : (m : Option M) (o : Option T) → IsSomeAnd m (λ m. 1 ≡ (content m).asked_len)
+      → IsSomeAnd m (λ m. option_elements o ≡ (content m).elements) → IsSomeAnd m (λ m. is_complete (content m) ≡ true) → IsSome o
+  one_in None o asked elements complete = absurd asked
+  one_in (Some m) o asked elements complete = one_written (content m) o asked elements complete
+
+  -- and this one
+  value_in : (m : Option M) (o : Option T) (v : T) → o ≡ Some v → IsSomeAnd m (λ m. option_elements o ≡ (content m).elements)
+      → IsSomeAnd m (λ m. (content m).elements ≡ v ∷ [])
+  value_in None o v e elements = elements
+  value_in (Some m) o v e elements = sym elements ∙ ap option_elements e
 
 module _ {Q QH P PH : Type 0} where
   request_whole : (h : Handle Q QH P PH) → is_whole_request (kind_of h) ≡ true → HasComplete h → IsSomeAnd (request_in h) (λ m. is_complete m.content ≡ true)
@@ -57,46 +69,72 @@ module _ {Q QH P PH : Type 0} where
   response_whole (ResponseMut m) e whole = whole
   response_whole (Response m) e whole = whole
 
-module _ {Q QH P PH K : Type 0} (s : State Q QH P PH K) (n : ℕ) (k : Kind) (client : Kind.Client ≢ k) (server : Kind.Server ≢ k)
-    (is : kind_at s n ≡ Some k) (whole : IsSomeAnd (handle_at s n) HasComplete) where
-  -- a request that is no loan any more, or can be sent
-  module _ (sent : is_whole_request k ≡ true) where
-    pub request_complete : IsSomeAnd (option_and_then request_in (handle_at s n)) (λ m. is_complete m.content ≡ true)
-    request_complete =
-        let t = there s n k client server is in
-        subst (λ o. IsSomeAnd (option_and_then request_in o) (λ m. is_complete m.content ≡ true)) (sym t.1)
-        (request_whole t.0 (ap is_whole_request t.2 ∙ sent) (subst (λ o. IsSomeAnd o HasComplete) t.1 whole))
+module _ {Q QH P PH K : Type 0} where
+  -- what a call of the core tells of the body of a request of one element, and of a response
+  abbrev pub ReadsRequest : State Q QH P PH K → ℕ → Option Q → Type 0
+  ReadsRequest s n o = record {
+    asked : IsSomeAnd (option_and_then request_in (handle_at s n)) (λ m. 1 ≡ m.content.asked_len);
+    elements : IsSomeAnd (option_and_then request_in (handle_at s n)) (λ m. option_elements o ≡ m.content.elements);
+    complete : IsSomeAnd (handle_at s n) HasComplete;
+  }
 
-    module _ (o : Option Q) (asked : IsSomeAnd (option_and_then request_in (handle_at s n)) (λ m. 1 ≡ m.content.asked_len))
-        (elements : IsSomeAnd (option_and_then request_in (handle_at s n)) (λ m. option_elements o ≡ m.content.elements)) where
+  abbrev pub ReadsResponse : State Q QH P PH K → ℕ → Option P → Type 0
+  ReadsResponse s n o = record {
+    asked : IsSomeAnd (option_and_then response_in (handle_at s n)) (λ m. 1 ≡ m.content.asked_len);
+    elements : IsSomeAnd (option_and_then response_in (handle_at s n)) (λ m. option_elements o ≡ m.content.elements);
+    complete : IsSomeAnd (handle_at s n) HasComplete;
+  }
+
+-- the core that a call reads, and the hub and the handle that contracts see
+module _ {Q QH P PH K : Type 0} {s t : State Q QH P PH K} {n m : ℕ} (view : s ≡ t) (same : n ≡ m) (k : Kind) (names : Names t m k) where
+  read : handle_at s n ≡ handle_at t m
+  read = ap (λ x. handle_at x n) view ∙ ap (handle_at t) same
+
+  -- a message that is no loan any more, or can be sent, is complete
+  complete_in : {M T H : Type 0} (message_in : Handle Q QH P PH → Option M) (content : M → Content T H) (is_whole : Kind → Bool)
+      → is_whole Kind.Client ≡ false → is_whole Kind.Server ≡ false
+      → ((h : Handle Q QH P PH) → is_whole (kind_of h) ≡ true → HasComplete h
+      → IsSomeAnd (message_in h) (λ x. is_complete (content x) ≡ true))
+      → is_whole k ≡ true → IsSomeAnd (handle_at s n) HasComplete
+      → IsSomeAnd (option_and_then message_in (handle_at t m)) (λ x. is_complete (content x) ≡ true)
+  unfolding Names
+  complete_in message_in content is_whole client server by sent whole =
+      let h = there t m k (λ e. false≢true (sym client ∙ ap is_whole e ∙ sent)) (λ e. false≢true (sym server ∙ ap is_whole e ∙ sent)) names in
+      subst (λ o. IsSomeAnd (option_and_then message_in o) (λ x. is_complete (content x) ≡ true)) (sym h.1)
+      (by h.0 (ap is_whole h.2 ∙ sent) (subst (λ o. IsSomeAnd o HasComplete) (read ∙ h.1) whole))
+
+  -- so is a request
+  module _ (sent : is_whole_request k ≡ true) where
+    pub request_complete : IsSomeAnd (handle_at s n) HasComplete
+        → IsSomeAnd (option_and_then request_in (handle_at t m)) (λ x. is_complete x.content ≡ true)
+    request_complete = complete_in request_in (λ (x : RequestMessage Q QH). x.content) is_whole_request refl refl request_whole sent
+
+    -- of one element, which was written
+    module _ (o : Option Q) (body : ReadsRequest s n o) where
       pub request_written : IsSome o
       request_written =
-          let m = some_and (option_and_then request_in (handle_at s n)) (λ m. IsSome o) (with_both (option_and_then request_in (handle_at s n)) _ _ (λ m. IsSome o)
-          (λ (m : RequestMessage Q QH) all done. one_written m.content o all.0 all.1 done)
-          (with_both (option_and_then request_in (handle_at s n)) _ _ (λ m. (1 ≡ m.content.asked_len) × (option_elements o ≡ m.content.elements)) (λ m a e. (a, e)) asked elements)
-          request_complete) in m.2
+          one_in (λ (x : RequestMessage Q QH). x.content) (option_and_then request_in (handle_at s n)) o body.asked body.elements
+          (subst (λ h. IsSomeAnd (option_and_then request_in h) (λ x. is_complete x.content ≡ true)) (sym read) (request_complete body.complete))
 
-      pub request_value : (v : Q) → o ≡ Some v → IsSomeAnd (option_and_then request_in (handle_at s n)) (λ m. m.content.elements ≡ v ∷ [])
-      request_value v e = with_both (option_and_then request_in (handle_at s n)) _ _ (λ m. m.content.elements ≡ v ∷ [])
-          (λ (m : RequestMessage Q QH) all same. sym same ∙ ap option_elements e) asked elements
+      pub request_value : (v : Q) → o ≡ Some v → IsSomeAnd (option_and_then request_in (handle_at t m)) (λ x. x.content.elements ≡ v ∷ [])
+      request_value v e =
+          subst (λ h. IsSomeAnd (option_and_then request_in h) (λ x. x.content.elements ≡ v ∷ [])) read
+          (value_in (λ (x : RequestMessage Q QH). x.content) (option_and_then request_in (handle_at s n)) o v e body.elements)
 
-  -- a response that is no loan any more, or can be sent
+  -- and a response
   module _ (sent : is_whole_response k ≡ true) where
-    pub response_complete : IsSomeAnd (option_and_then response_in (handle_at s n)) (λ m. is_complete m.content ≡ true)
-    response_complete =
-        let t = there s n k client server is in
-        subst (λ o. IsSomeAnd (option_and_then response_in o) (λ m. is_complete m.content ≡ true)) (sym t.1)
-        (response_whole t.0 (ap is_whole_response t.2 ∙ sent) (subst (λ o. IsSomeAnd o HasComplete) t.1 whole))
+    pub response_complete : IsSomeAnd (handle_at s n) HasComplete
+        → IsSomeAnd (option_and_then response_in (handle_at t m)) (λ x. is_complete x.content ≡ true)
+    response_complete = complete_in response_in (λ (x : ResponseMessage P PH). x.content) is_whole_response refl refl response_whole sent
 
-    module _ (o : Option P) (asked : IsSomeAnd (option_and_then response_in (handle_at s n)) (λ m. 1 ≡ m.content.asked_len))
-        (elements : IsSomeAnd (option_and_then response_in (handle_at s n)) (λ m. option_elements o ≡ m.content.elements)) where
+    -- of one element, which was written
+    module _ (o : Option P) (body : ReadsResponse s n o) where
       pub response_written : IsSome o
       response_written =
-          let m = some_and (option_and_then response_in (handle_at s n)) (λ m. IsSome o) (with_both (option_and_then response_in (handle_at s n)) _ _ (λ m. IsSome o)
-          (λ (m : ResponseMessage P PH) all done. one_written m.content o all.0 all.1 done)
-          (with_both (option_and_then response_in (handle_at s n)) _ _ (λ m. (1 ≡ m.content.asked_len) × (option_elements o ≡ m.content.elements)) (λ m a e. (a, e)) asked elements)
-          response_complete) in m.2
+          one_in (λ (x : ResponseMessage P PH). x.content) (option_and_then response_in (handle_at s n)) o body.asked body.elements
+          (subst (λ h. IsSomeAnd (option_and_then response_in h) (λ x. is_complete x.content ≡ true)) (sym read) (response_complete body.complete))
 
-      pub response_value : (v : P) → o ≡ Some v → IsSomeAnd (option_and_then response_in (handle_at s n)) (λ m. m.content.elements ≡ v ∷ [])
-      response_value v e = with_both (option_and_then response_in (handle_at s n)) _ _ (λ m. m.content.elements ≡ v ∷ [])
-          (λ (m : ResponseMessage P PH) all same. sym same ∙ ap option_elements e) asked elements
+      pub response_value : (v : P) → o ≡ Some v → IsSomeAnd (option_and_then response_in (handle_at t m)) (λ x. x.content.elements ≡ v ∷ [])
+      response_value v e =
+          subst (λ h. IsSomeAnd (option_and_then response_in h) (λ x. x.content.elements ≡ v ∷ [])) read
+          (value_in (λ (x : ResponseMessage P PH). x.content) (option_and_then response_in (handle_at s n)) o v e body.elements)

@@ -231,3 +231,17 @@ module _ {Q QH P PH K : Type 0} where
 
     pub released_numbers : numbers_left new ≡ numbers_left old
     released_numbers = ap (λ k. 2 ^ 62 - k) released_next
+
+-- what the call of a handle or a port tells of its release
+pub release_tells : {Q QH P PH K : Type 0} {core hub new : State Q QH P PH K} {id n : ℕ} → core ≡ hub → id ≡ n → new ≡ after_release core id
+    → record {
+      released : new ≡ after_release hub n;
+      kinds : KeepsKindsBut n hub new;
+      numbers : numbers_left new ≡ numbers_left hub;
+    }
+release_tells {core} {hub} {new} {id} {n} view same released =
+    let is : new ≡ after_release hub n = released ∙ ap (λ s. after_release s id) view ∙ ap (after_release hub) same in record {
+      released = is;
+      kinds = released_keeps hub new n is;
+      numbers = released_numbers hub new n is;
+    }

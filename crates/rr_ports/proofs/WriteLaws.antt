@@ -1,11 +1,11 @@
 -- What numbers name after writes.
 use Rattle.std.proofs.Common.{◌≡◌, ◌≢◌, ℕ, Bool, not, false, cond, Option, Some, None, option_map, refl, sym, ap, ◌∙◌}
-use Rattle.std.specs.Prelude.{IsSomeAnd}
+use Rattle.std.specs.Prelude.{IsSomeAnd, option_and_then}
 use Rattle.rr_protocol.specs.declared.kind.Kind.{Kind}
-use Rattle.rr_protocol.specs.Messages.{Handle, RequestMutUninit, RequestMut, PendingResponse, ActiveRequest, ResponseMutUninit, ResponseMut, Response, with_hint, Content}
-use Rattle.rr_protocol.specs.State.{State, numbers_left, with_changed}
+use Rattle.rr_protocol.specs.Messages.{Handle, RequestMutUninit, RequestMut, PendingResponse, ActiveRequest, ResponseMutUninit, ResponseMut, Response, RequestMessage, ResponseMessage, with_hint, Content, request_in, response_in}
+use Rattle.rr_protocol.specs.State.{State, handle_at, numbers_left, with_changed}
 use Rattle.rr_protocol.specs.Queries.{kind_of, kind_at}
-use Rattle.rr_protocol.specs.Writing.{with_request_content, with_response_content, after_init}
+use Rattle.rr_protocol.specs.Writing.{is_complete, with_element, with_request_content, with_response_content, after_init}
 use Rattle.rr_ports.specs.Kinds.{Names, KeepsKinds, KeepsKindsBut}
 use Rattle.rr_ports.proofs.NameLaws.{handle_no_port, some_handle, keeps_but, keeps_each, changed_own, changed_other, changed_keeps}
 
@@ -62,6 +62,26 @@ module _ {M S : Type 0} (is_whole : M → Bool) (told : Bool) (new pushed old : 
   open_pushed (Some m) unfilled happened = happened.1 ∙ ap (λ b. cond b pushed old) (happened.0 ∙ ap not unfilled)
 
 module _ {Q QH P PH K : Type 0} where
+  -- a call takes a message as complete, which is of another kind then
+  abbrev pub TellsInited : State Q QH P PH K → State Q QH P PH K → ℕ → Kind → Type 0
+  TellsInited old new n j = record {
+    same : n ≡ n;
+    initialised : new ≡ with_changed old n after_init;
+    kind : Names new n j;
+    kinds : KeepsKindsBut n old new;
+    numbers : numbers_left new ≡ numbers_left old;
+  }
+
+  -- and changes it before
+  abbrev pub TellsWritten : State Q QH P PH K → State Q QH P PH K → ℕ → (Handle Q QH P PH → Handle Q QH P PH) → Kind → Type 0
+  TellsWritten old new n change j = record {
+    same : n ≡ n;
+    written : new ≡ with_changed (with_changed old n change) n after_init;
+    kind : Names new n j;
+    kinds : KeepsKindsBut n old new;
+    numbers : numbers_left new ≡ numbers_left old;
+  }
+
   -- a handle under a number becomes another
   becomes : (s : State Q QH P PH K) (n : ℕ) (f : Handle Q QH P PH → Handle Q QH P PH) (k j : Kind) → Kind.Client ≢ k → Kind.Server ≢ k
       → kind_at s n ≡ Some k → ((h : Handle Q QH P PH) → kind_of h ≡ k → kind_of (f h) ≡ j) → kind_at (with_changed s n f) n ≡ Some j
@@ -76,51 +96,101 @@ module _ {Q QH P PH K : Type 0} where
     pub changed_numbers : (f : Handle Q QH P PH → Handle Q QH P PH) → new ≡ with_changed old n f → numbers_left new ≡ numbers_left old
     changed_numbers f e = ap numbers_left e
 
+    -- a change of a handle that stays of its kind
+    module _ (change : Handle Q QH P PH → Handle Q QH P PH) (same : (h : Handle Q QH P PH) → kind_of (change h) ≡ kind_of h) where
+      change_keeps : new ≡ with_changed old n change → KeepsKinds old new
+      change_keeps e = keeps_each old new (λ i. ap (λ t. kind_at t i) e ∙ changed_keeps old n change same i)
+
     -- a change of content
     pub request_content_keeps : (change : Content Q QH → Content Q QH) → new ≡ with_changed old n (with_request_content change) → KeepsKinds old new
-    request_content_keeps change e =
-        keeps_each old new (λ i. ap (λ t. kind_at t i) e ∙ changed_keeps old n (with_request_content change) (request_content_kind change) i)
+    request_content_keeps change = change_keeps (with_request_content change) (request_content_kind change)
 
     pub response_content_keeps : (change : Content P PH → Content P PH) → new ≡ with_changed old n (with_response_content change) → KeepsKinds old new
-    response_content_keeps change e =
-        keeps_each old new (λ i. ap (λ t. kind_at t i) e ∙ changed_keeps old n (with_response_content change) (response_content_kind change) i)
+    response_content_keeps change = change_keeps (with_response_content change) (response_content_kind change)
 
     -- a hint that is set
     pub hint_keeps : new ≡ with_changed old n with_hint → KeepsKinds old new
-    hint_keeps e = keeps_each old new (λ i. ap (λ t. kind_at t i) e ∙ changed_keeps old n with_hint hint_kind i)
+    hint_keeps = change_keeps with_hint hint_kind
 
-    -- a message that is taken as complete
-    pub init_keeps_but : new ≡ with_changed old n after_init → KeepsKindsBut n old new
-    init_keeps_but e = keeps_but n old new (λ i other. ap (λ t. kind_at t i) e ∙ changed_other old n after_init i other)
+    -- what a call tells that appends an element to a request that is not complete
+    pub request_pushed : (element : Q) (told : Bool)
+        → IsSomeAnd (option_and_then request_in (handle_at old n)) (λ m. is_complete m.content ≡ false)
+        → IsSomeAnd (option_and_then request_in (handle_at old n)) (λ m. (told ≡ not (is_complete m.content))
+        × (new ≡ cond told (with_changed old n (with_request_content (with_element element))) old))
+        → record {
+          pushed : new ≡ with_changed old n (with_request_content (with_element element));
+          kinds : KeepsKinds old new;
+          numbers : numbers_left new ≡ numbers_left old;
+        }
+    request_pushed element told unfilled happened =
+        let is = open_pushed (λ (m : RequestMessage Q QH). is_complete m.content) told new _ old _ unfilled happened in record {
+          pushed = is;
+          kinds = request_content_keeps (with_element element) is;
+          numbers = ap numbers_left is;
+        }
 
-    pub request_init_names : kind_at old n ≡ Some Kind.RequestMutUninit → new ≡ with_changed old n after_init → Names new n Kind.RequestMut
-    unfolding Names
-    request_init_names is e = ap (λ t. kind_at t n) e
-        ∙ becomes old n after_init Kind.RequestMutUninit Kind.RequestMut (λ e. cc) (λ e. cc) is request_init_kind
+    -- and to a response
+    pub response_pushed : (element : P) (told : Bool)
+        → IsSomeAnd (option_and_then response_in (handle_at old n)) (λ m. is_complete m.content ≡ false)
+        → IsSomeAnd (option_and_then response_in (handle_at old n)) (λ m. (told ≡ not (is_complete m.content))
+        × (new ≡ cond told (with_changed old n (with_response_content (with_element element))) old))
+        → record {
+          pushed : new ≡ with_changed old n (with_response_content (with_element element));
+          kinds : KeepsKinds old new;
+          numbers : numbers_left new ≡ numbers_left old;
+        }
+    response_pushed element told unfilled happened =
+        let is = open_pushed (λ (m : ResponseMessage P PH). is_complete m.content) told new _ old _ unfilled happened in record {
+          pushed = is;
+          kinds = response_content_keeps (with_element element) is;
+          numbers = ap numbers_left is;
+        }
 
-    pub response_init_names : kind_at old n ≡ Some Kind.ResponseMutUninit → new ≡ with_changed old n after_init → Names new n Kind.ResponseMut
-    unfolding Names
-    response_init_names is e = ap (λ t. kind_at t n) e
-        ∙ becomes old n after_init Kind.ResponseMutUninit Kind.ResponseMut (λ e. cc) (λ e. cc) is response_init_kind
+    -- a message of a kind is taken as complete
+    module _ (k j : Kind) (client : Kind.Client ≢ k) (server : Kind.Server ≢ k)
+        (inits : (h : Handle Q QH P PH) → kind_of h ≡ k → kind_of (after_init h) ≡ j) where
+      inited : new ≡ with_changed old n after_init → Names old n k → TellsInited old new n j
+      unfolding Names
+      inited e is = record {
+        same = refl;
+        initialised = e;
+        kind = ap (λ t. kind_at t n) e ∙ becomes old n after_init k j client server is inits;
+        kinds = keeps_but n old new (λ i other. ap (λ t. kind_at t i) e ∙ changed_other old n after_init i other);
+        numbers = ap numbers_left e;
+      }
 
-  -- a message that is written whole
-  module _ (old new : State Q QH P PH K) (n : ℕ) where
-    module _ (change : Content Q QH → Content Q QH) (e : new ≡ with_changed (with_changed old n (with_request_content change)) n after_init) where
-      pub request_written_but : KeepsKindsBut n old new
-      request_written_but = keeps_but n old new (λ i other. ap (λ t. kind_at t i) e
-          ∙ changed_other (with_changed old n (with_request_content change)) n after_init i other
-          ∙ changed_keeps old n (with_request_content change) (request_content_kind change) i)
+      -- and was written before
+      written : (change : Handle Q QH P PH → Handle Q QH P PH) → ((h : Handle Q QH P PH) → kind_of (change h) ≡ kind_of h)
+          → new ≡ with_changed (with_changed old n change) n after_init → Names old n k → TellsWritten old new n change j
+      unfolding Names
+      written change alike e is = record {
+        same = refl;
+        written = e;
+        kind = ap (λ t. kind_at t n) e
+            ∙ becomes (with_changed old n change) n after_init k j client server (changed_keeps old n change alike n ∙ is) inits;
+        kinds = keeps_but n old new (λ i other. ap (λ t. kind_at t i) e ∙ changed_other (with_changed old n change) n after_init i other
+            ∙ changed_keeps old n change alike i);
+        numbers = ap numbers_left e;
+      }
 
-      pub request_written_names : kind_at old n ≡ Some Kind.RequestMutUninit → Names new n Kind.RequestMut
-      request_written_names is = request_init_names (with_changed old n (with_request_content change)) new n
-          (changed_keeps old n (with_request_content change) (request_content_kind change) n ∙ is) e
+    -- what a call tells that takes a request as complete, or writes it whole
+    pub request_inited : new ≡ with_changed old n after_init → Names old n Kind.RequestMutUninit → TellsInited old new n Kind.RequestMut
+    request_inited = inited Kind.RequestMutUninit Kind.RequestMut (λ e. cc) (λ e. cc) request_init_kind
 
-    module _ (change : Content P PH → Content P PH) (e : new ≡ with_changed (with_changed old n (with_response_content change)) n after_init) where
-      pub response_written_but : KeepsKindsBut n old new
-      response_written_but = keeps_but n old new (λ i other. ap (λ t. kind_at t i) e
-          ∙ changed_other (with_changed old n (with_response_content change)) n after_init i other
-          ∙ changed_keeps old n (with_response_content change) (response_content_kind change) i)
+    pub request_whole : (change : Content Q QH → Content Q QH)
+        → new ≡ with_changed (with_changed old n (with_request_content change)) n after_init → Names old n Kind.RequestMutUninit
+        → TellsWritten old new n (with_request_content change) Kind.RequestMut
+    request_whole change =
+        written Kind.RequestMutUninit Kind.RequestMut (λ e. cc) (λ e. cc) request_init_kind
+        (with_request_content change) (request_content_kind change)
 
-      pub response_written_names : kind_at old n ≡ Some Kind.ResponseMutUninit → Names new n Kind.ResponseMut
-      response_written_names is = response_init_names (with_changed old n (with_response_content change)) new n
-          (changed_keeps old n (with_response_content change) (response_content_kind change) n ∙ is) e
+    -- and a response
+    pub response_inited : new ≡ with_changed old n after_init → Names old n Kind.ResponseMutUninit → TellsInited old new n Kind.ResponseMut
+    response_inited = inited Kind.ResponseMutUninit Kind.ResponseMut (λ e. cc) (λ e. cc) response_init_kind
+
+    pub response_whole : (change : Content P PH → Content P PH)
+        → new ≡ with_changed (with_changed old n (with_response_content change)) n after_init → Names old n Kind.ResponseMutUninit
+        → TellsWritten old new n (with_response_content change) Kind.ResponseMut
+    response_whole change =
+        written Kind.ResponseMutUninit Kind.ResponseMut (λ e. cc) (λ e. cc) response_init_kind
+        (with_response_content change) (response_content_kind change)

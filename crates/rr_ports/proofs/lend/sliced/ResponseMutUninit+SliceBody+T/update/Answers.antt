@@ -1,17 +1,6 @@
-use Rattle.std.proofs.Common.{refl, of_calls}
-use Rattle.rr_ports.specs.Lends.{with_response_changed}
-use Rattle.rr_ports.proofs.LendLaws.{response_keeps}
+use Rattle.std.proofs.Common.{of_calls}
+use Rattle.rr_ports.proofs.LendLaws.{response_updated}
 use Rattle.rr_ports.proofs.lend.sliced.ResponseMutUninit+SliceBody+T.update.Goals as goal
 
-pub returns-clause-updated : goal.returns-clause-updated
-unfolding with_response_changed
-returns-clause-updated g c = record {
-  before = c.payload_mut.result.now;
-  after = c.f.new.arg2;
-  was = c.payload_mut.ensures.value;
-  changed = search of_calls;
-  written = refl;
-}
-
-pub returns-clause-kinds : goal.returns-clause-kinds
-returns-clause-kinds g c = response_keeps _ _ _
+pub returns : goal.returns
+returns g c = response_updated _ _ c.payload_mut.result.now c.f.new.arg2 _ _ _ c.payload_mut.ensures.value (search of_calls)

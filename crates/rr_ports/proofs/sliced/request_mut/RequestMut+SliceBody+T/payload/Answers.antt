@@ -1,11 +1,6 @@
 use Rattle.std.proofs.Common.{refl}
-use Rattle.rr_protocol.specs.declared.kind.Kind.{Kind}
-use Rattle.rr_ports.specs.Kinds.{Names}
 use Rattle.rr_ports.proofs.Payloads.{request_complete}
 use Rattle.rr_ports.proofs.sliced.request_mut.RequestMut+SliceBody+T.payload.Goals as goal
 
 pub returns-clause-complete : goal.returns-clause-complete
-unfolding Names
-returns-clause-complete g c =
-    rw (← c.hub.view_is, ← c.self.view_is) (request_complete c.hub.inside.core c.self.inside.id Kind.RequestMut (λ e. cc) (λ e. cc)
-    (rw (← c.hub.view_is, ← c.self.view_is) at c.requires) c.request_body.ensures.complete refl)
+returns-clause-complete g c = request_complete c.hub.view_is c.self.view_is _ c.requires refl c.request_body.ensures.complete

@@ -1,14 +1,8 @@
 use Rattle.rr_protocol.specs.Writing.{filled}
-use Rattle.rr_ports.specs.Kinds.{Names}
-use Rattle.rr_ports.proofs.WriteLaws.{request_written_names, request_written_but}
+use Rattle.rr_ports.proofs.WriteLaws.{request_whole}
 use Rattle.rr_ports.proofs.sliced.request_mut_uninit.RequestMutUninit+SliceBody+T.fill.Goals as goal
 
-pub returns-clause-kind : goal.returns-clause-kind
-unfolding Names
-returns-clause-kind g c =
-    request_written_names c.hub.inside.core c.fill_request.new.self c.self.inside.id (filled c.args.element) c.fill_request.ensures
-    (rw (← c.hub.view_is, ← c.self.view_is) at c.requires)
-
-pub returns-clause-kinds : goal.returns-clause-kinds
-returns-clause-kinds g c =
-    rw (← c.hub.view_is, ← c.self.view_is) (request_written_but c.hub.inside.core c.fill_request.new.self c.self.inside.id (filled c.args.element) c.fill_request.ensures)
+pub returns : goal.returns
+returns g c =
+    rw (← c.hub.view_is, ← c.self.view_is) (request_whole c.hub.inside.core c.fill_request.new.self c.self.inside.id
+    (filled c.args.element) c.fill_request.ensures (rw (← c.hub.view_is, ← c.self.view_is) at c.requires))

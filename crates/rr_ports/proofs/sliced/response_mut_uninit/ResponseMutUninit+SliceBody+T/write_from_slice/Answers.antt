@@ -1,19 +1,17 @@
-use Rattle.std.proofs.Common.{length, sym, ap, ◌∙◌, refl, inr, subst}
-use Rattle.rr_protocol.specs.declared.kind.Kind.{Kind}
+use Rattle.std.proofs.Common.{length, sym, ap, ◌∙◌, refl, inr}
 use Rattle.rr_protocol.specs.State.{with_changed}
 use Rattle.rr_protocol.specs.Writing.{with_elements, with_response_content}
 use Rattle.rr_hub.specs.CoreLends.{refilled}
 use Rattle.rr_ports.specs.Kinds.{Names}
-use Rattle.rr_ports.specs.Loaning.{with_complete_response}
 use Rattle.rr_ports.proofs.Fillings.{response_being_written, completed_response_at, copied_response}
-use Rattle.rr_ports.proofs.WriteLaws.{response_written_names, response_written_but}
+use Rattle.rr_ports.proofs.WriteLaws.{response_whole}
 use Rattle.rr_ports.proofs.sliced.response_mut_uninit.ResponseMutUninit+SliceBody+T.write_from_slice.Goals as goal
 
 pub response_slice_mut-requires : goal.response_slice_mut-requires
 unfolding Names
 response_slice_mut-requires g c =
-    inr (response_written_names c.args.hub.now c.hub.inside.core c.self.inside.id (with_elements c.complete_response.ensures.0)
-    (c.hub.view_is ∙ c.complete_response.ensures.2) (rw (← c.self.view_is) at c.requires.kind))
+    inr (response_whole c.args.hub.now c.hub.inside.core c.self.inside.id (with_elements c.complete_response.ensures.0)
+    (c.hub.view_is ∙ c.complete_response.ensures.2) (rw (← c.self.view_is) at c.requires.kind)).kind
 
 pub copy_from_slice-requires : goal.copy_from_slice-requires
 unfolding Names
@@ -22,21 +20,12 @@ copy_from_slice-requires g c =
     let there = completed_response_at c.args.hub.now c.self.inside.id m.0 m.1 c.complete_response.ensures.0 c.hub.inside.core (c.hub.view_is ∙ c.complete_response.ensures.2) in
     ap length (sym (rw there at c.response_slice_mut.ensures.value)) ∙ c.complete_response.ensures.1
 
-pub returns-clause-written : goal.returns-clause-written
+pub returns : goal.returns
 unfolding Names
-returns-clause-written g c =
+returns g c =
     let m = response_being_written c.args.hub.now c.self.inside.id (rw (← c.self.view_is) at c.requires.kind) in
-    ap (λ items. with_changed c.hub.inside.core c.self.inside.id (with_response_content (refilled items))) c.copy_from_slice.ensures.after
+    rw (← c.self.view_is) (response_whole c.args.hub.now _ c.self.inside.id (with_elements c.args.elements.now)
+    (ap (λ items. with_changed c.hub.inside.core c.self.inside.id (with_response_content (refilled items))) c.copy_from_slice.ensures.after
     ∙ copied_response c.args.hub.now c.self.inside.id m.0 m.1 c.complete_response.ensures.0 c.args.elements.now c.hub.inside.core _
-    (c.hub.view_is ∙ c.complete_response.ensures.2) c.complete_response.ensures.1 refl
-    ∙ ap (λ n. with_complete_response c.args.hub.now n c.args.elements.now) c.self.view_is
-
-pub returns-clause-kind : goal.returns-clause-kind
-unfolding Names
-returns-clause-kind g c =
-    subst (λ n. Names (with_changed c.hub.inside.core c.self.inside.id (with_response_content (refilled c.copy_from_slice.new.self))) n Kind.ResponseMut) (sym c.self.view_is)
-    (response_written_names c.args.hub.now _ c.args.self (with_elements c.args.elements.now) (returns-clause-written g c) c.requires.kind)
-
-pub returns-clause-kinds : goal.returns-clause-kinds
-returns-clause-kinds g c =
-    response_written_but c.args.hub.now _ c.args.self (with_elements c.args.elements.now) (returns-clause-written g c)
+    (c.hub.view_is ∙ c.complete_response.ensures.2) c.complete_response.ensures.1 refl)
+    (rw (← c.self.view_is) at c.requires.kind))

@@ -1,19 +1,9 @@
 use Rattle.std.proofs.Common.{refl}
-use Rattle.rr_protocol.specs.declared.kind.Kind.{Kind}
-use Rattle.rr_ports.specs.Kinds.{Names}
 use Rattle.rr_ports.proofs.Payloads.{request_written, request_value}
 use Rattle.rr_ports.proofs.typed.active_request.ActiveRequest+Option+T.payload.Goals as goal
 
 pub payload_of-requires : goal.payload_of-requires
-unfolding Names
-payload_of-requires g c =
-    request_written c.hub.inside.core c.self.inside.id Kind.ActiveRequest (λ e. cc) (λ e. cc) (rw (← c.hub.view_is, ← c.self.view_is) at c.requires)
-    c.request_body.ensures.complete refl c.request_body.result.now c.request_body.ensures.asked c.request_body.ensures.elements
+payload_of-requires g c = request_written c.hub.view_is c.self.view_is _ c.requires refl _ c.request_body.ensures
 
 pub returns : goal.returns
-unfolding Names
-returns g c =
-    rw (← c.hub.view_is, ← c.self.view_is) (
-    request_value c.hub.inside.core c.self.inside.id Kind.ActiveRequest (λ e. cc) (λ e. cc) (rw (← c.hub.view_is, ← c.self.view_is) at c.requires)
-    c.request_body.ensures.complete refl c.request_body.result.now c.request_body.ensures.asked c.request_body.ensures.elements
-    c.payload_of.result.now c.payload_of.ensures)
+returns g c = request_value c.hub.view_is c.self.view_is _ c.requires refl _ c.request_body.ensures _ c.payload_of.ensures

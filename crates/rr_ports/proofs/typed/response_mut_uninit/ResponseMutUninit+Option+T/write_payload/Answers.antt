@@ -1,15 +1,9 @@
 use Rattle.std.proofs.Common.{[], ◌∷◌}
 use Rattle.rr_protocol.specs.Writing.{with_elements}
-use Rattle.rr_ports.specs.Kinds.{Names}
-use Rattle.rr_ports.proofs.WriteLaws.{response_written_names, response_written_but}
+use Rattle.rr_ports.proofs.WriteLaws.{response_whole}
 use Rattle.rr_ports.proofs.typed.response_mut_uninit.ResponseMutUninit+Option+T.write_payload.Goals as goal
 
-pub returns-clause-kind : goal.returns-clause-kind
-unfolding Names
-returns-clause-kind g c =
-    response_written_names c.hub.inside.core c.write_response.new.self c.self.inside.id (with_elements (c.args.value ∷ [])) c.write_response.ensures
-    (rw (← c.hub.view_is, ← c.self.view_is) at c.requires)
-
-pub returns-clause-kinds : goal.returns-clause-kinds
-returns-clause-kinds g c =
-    rw (← c.hub.view_is, ← c.self.view_is) (response_written_but c.hub.inside.core c.write_response.new.self c.self.inside.id (with_elements (c.args.value ∷ [])) c.write_response.ensures)
+pub returns : goal.returns
+returns g c =
+    rw (← c.hub.view_is, ← c.self.view_is) (response_whole c.hub.inside.core c.write_response.new.self c.self.inside.id
+    (with_elements (c.args.value ∷ [])) c.write_response.ensures (rw (← c.hub.view_is, ← c.self.view_is) at c.requires))
