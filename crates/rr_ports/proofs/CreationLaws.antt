@@ -81,47 +81,35 @@ module _ {Q QH P PH K : Type 0} (old new : State Q QH P PH K) where
         ∙ ap (λ b. cond b (Some Kind.Server) (handle_kind new old.next))
         (server_value old.next ∙ ap (λ b. is_server_value old old.next || b) (own_number old.next) ∙ or_true (is_server_value old old.next))
 
-  -- whatever creation returned
-  module _ (settings : ClientSettings K) (result : Result ℕ ClientCreateError) where
-    pub created_client_names : CreatesClient old settings result new → IfOk result (λ k. kind_at old k ≡ None) → IfOk result (λ k. Names new k Kind.Client)
-    created_client_names = go result
-      where
-        go : (r : Result ℕ ClientCreateError) → CreatesClient old settings r new → IfOk r (λ k. kind_at old k ≡ None) → IfOk r (λ k. Names new k Kind.Client)
-        go (Ok k) creates free = client_names settings k creates free
-        go (Err e) creates free = tt
+  -- what a creation tells of what numbers name
+  abbrev pub TellsCreated : {E : Type 0} → Result ℕ E → Kind → Type 0
+  TellsCreated result kind = record {
+    kind : IfOk result (λ k. Names new k kind);
+    kinds : KeepsKinds old new;
+    numbers : numbers_left old ≤ numbers_left new + 1;
+  }
 
-    pub created_client_keeps : CreatesClient old settings result new → IfOk result (λ k. kind_at old k ≡ None) → KeepsKinds old new
-    created_client_keeps = go result
-      where
-        go : (r : Result ℕ ClientCreateError) → CreatesClient old settings r new → IfOk r (λ k. kind_at old k ≡ None) → KeepsKinds old new
-        go (Ok k) creates free = client_keeps settings k creates free
-        go (Err e) creates free = keeps_same old new creates.1
+  -- whatever it returned
+  module _ {E : Type 0} (kind : Kind) (Creates : Result ℕ E → Type 0)
+      (gives : (k : ℕ) → Creates (Ok k) → kind_at old k ≡ None → Names new k kind × KeepsKinds old new)
+      (next : (k : ℕ) → Creates (Ok k) → new.next ≡ old.next + 1) (refused : (e : E) → Creates (Err e) → new ≡ old) where
+    created : (result : Result ℕ E) → Creates result → IfOk result (λ k. kind_at old k ≡ None) → TellsCreated result kind
+    created (Ok k) creates free =
+        let names = gives k creates free in
+        let e = next k creates in record { kind = names.0; kinds = names.1; numbers = omega arith }
+    created (Err error) creates free =
+        let same = refused error creates in
+        let e : new.next ≡ old.next = ap (λ t. t.next) same in record { kind = tt; kinds = keeps_same old new same; numbers = omega arith }
 
-    pub created_client_numbers : CreatesClient old settings result new → numbers_left old ≤ numbers_left new + 1
-    created_client_numbers = go result
-      where
-        go : (r : Result ℕ ClientCreateError) → CreatesClient old settings r new → numbers_left old ≤ numbers_left new + 1
-        go (Ok k) creates = let e : new.next ≡ old.next + 1 = ap (λ t. t.next) creates.2 in omega arith
-        go (Err e) creates = let e : new.next ≡ old.next = ap (λ t. t.next) creates.1 in omega arith
+  -- of a client, and of a server
+  pub created_client : (settings : ClientSettings K) (result : Result ℕ ClientCreateError) → CreatesClient old settings result new
+      → IfOk result (λ k. kind_at old k ≡ None) → TellsCreated result Kind.Client
+  created_client settings =
+      created Kind.Client (λ r. CreatesClient old settings r new) (λ k creates free. (client_names settings k creates free, client_keeps settings k creates free))
+      (λ k creates. ap (λ t. t.next) creates.2) (λ e creates. creates.1)
 
-  module _ (settings : ServerSettings K) (result : Result ℕ ServerCreateError) where
-    pub created_server_names : CreatesServer old settings result new → IfOk result (λ k. kind_at old k ≡ None) → IfOk result (λ k. Names new k Kind.Server)
-    created_server_names = go result
-      where
-        go : (r : Result ℕ ServerCreateError) → CreatesServer old settings r new → IfOk r (λ k. kind_at old k ≡ None) → IfOk r (λ k. Names new k Kind.Server)
-        go (Ok k) creates free = server_names settings k creates free
-        go (Err e) creates free = tt
-
-    pub created_server_keeps : CreatesServer old settings result new → IfOk result (λ k. kind_at old k ≡ None) → KeepsKinds old new
-    created_server_keeps = go result
-      where
-        go : (r : Result ℕ ServerCreateError) → CreatesServer old settings r new → IfOk r (λ k. kind_at old k ≡ None) → KeepsKinds old new
-        go (Ok k) creates free = server_keeps settings k creates free
-        go (Err e) creates free = keeps_same old new creates.1
-
-    pub created_server_numbers : CreatesServer old settings result new → numbers_left old ≤ numbers_left new + 1
-    created_server_numbers = go result
-      where
-        go : (r : Result ℕ ServerCreateError) → CreatesServer old settings r new → numbers_left old ≤ numbers_left new + 1
-        go (Ok k) creates = let e : new.next ≡ old.next + 1 = ap (λ t. t.next) creates.2 in omega arith
-        go (Err e) creates = let e : new.next ≡ old.next = ap (λ t. t.next) creates.1 in omega arith
+  pub created_server : (settings : ServerSettings K) (result : Result ℕ ServerCreateError) → CreatesServer old settings result new
+      → IfOk result (λ k. kind_at old k ≡ None) → TellsCreated result Kind.Server
+  created_server settings =
+      created Kind.Server (λ r. CreatesServer old settings r new) (λ k creates free. (server_names settings k creates free, server_keeps settings k creates free))
+      (λ k creates. ap (λ t. t.next) creates.2) (λ e creates. creates.1)

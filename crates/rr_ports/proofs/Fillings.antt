@@ -7,8 +7,8 @@ use Rattle.std.proofs.Math.Seq.{take-length, drop-length}
 use Rattle.std.proofs.lemmas.List.{append-nil}
 use Rattle.std.proofs.lemmas.List.Elements.{All-nil, All-cons}
 use Rattle.rr_protocol.specs.declared.kind.Kind.{Kind}
-use Rattle.rr_protocol.specs.Messages.{RequestMessage, ResponseMessage, Handle, RequestMutUninit, RequestMut, PendingResponse, ActiveRequest, ResponseMutUninit, ResponseMut, Response, request_in, response_in}
-use Rattle.rr_protocol.specs.Queries.{kind_of, kind_at}
+use Rattle.rr_protocol.specs.Messages.{RequestMessage, ResponseMessage, Handle, RequestMutUninit, RequestMut, ResponseMutUninit, ResponseMut, request_in, response_in}
+use Rattle.rr_protocol.specs.Queries.{kind_at}
 use Rattle.rr_protocol.specs.State.{State, handle_at, with_changed}
 use Rattle.rr_protocol.specs.Writing.{is_complete, with_element, with_element_at, with_elements, filled, with_request_content, with_response_content, after_init}
 use Rattle.rr_hub.specs.CoreLends.{refilled}
@@ -16,6 +16,7 @@ use Rattle.rr_ports.specs.Filling.{ReturnsInOrder, FillsRequest, FillsResponse, 
 use Rattle.rr_ports.specs.Kinds.{RequestAsksFor, ResponseAsksFor}
 use Rattle.rr_ports.specs.Loaning.{AreDefaults, with_complete_request, with_complete_response}
 use Rattle.rr_ports.proofs.Asking.{there}
+use Rattle.rr_ports.proofs.NameLaws.{opened_request, opened_response}
 use Rattle.rr_ports.proofs.FillLaws.{with_handle, handle_is, changed_is, changed_again, Filling, filling_at, filling_put, filling_whole}
 
 module _ {Q QH P PH : Type 0} where
@@ -25,24 +26,6 @@ module _ {Q QH P PH : Type 0} where
 
   abbrev pub held_response : ResponseMessage P PH → List P → Handle Q QH P PH
   held_response m xs = ResponseMutUninit (record m { content = with_elements xs m.content })
-
-  opened_request : (h : Handle Q QH P PH) → kind_of h ≡ Kind.RequestMutUninit → (m : RequestMessage Q QH) × (h ≡ RequestMutUninit m)
-  opened_request (RequestMutUninit m) e = (m, refl)
-  opened_request (RequestMut m) e = absurd (let f : Kind.RequestMut ≡ Kind.RequestMutUninit = e in cc)
-  opened_request (PendingResponse p) e = absurd (let f : Kind.PendingResponse ≡ Kind.RequestMutUninit = e in cc)
-  opened_request (ActiveRequest a) e = absurd (let f : Kind.ActiveRequest ≡ Kind.RequestMutUninit = e in cc)
-  opened_request (ResponseMutUninit m) e = absurd (let f : Kind.ResponseMutUninit ≡ Kind.RequestMutUninit = e in cc)
-  opened_request (ResponseMut m) e = absurd (let f : Kind.ResponseMut ≡ Kind.RequestMutUninit = e in cc)
-  opened_request (Response m) e = absurd (let f : Kind.Response ≡ Kind.RequestMutUninit = e in cc)
-
-  opened_response : (h : Handle Q QH P PH) → kind_of h ≡ Kind.ResponseMutUninit → (m : ResponseMessage P PH) × (h ≡ ResponseMutUninit m)
-  opened_response (RequestMutUninit m) e = absurd (let f : Kind.RequestMutUninit ≡ Kind.ResponseMutUninit = e in cc)
-  opened_response (RequestMut m) e = absurd (let f : Kind.RequestMut ≡ Kind.ResponseMutUninit = e in cc)
-  opened_response (PendingResponse p) e = absurd (let f : Kind.PendingResponse ≡ Kind.ResponseMutUninit = e in cc)
-  opened_response (ActiveRequest a) e = absurd (let f : Kind.ActiveRequest ≡ Kind.ResponseMutUninit = e in cc)
-  opened_response (ResponseMutUninit m) e = (m, refl)
-  opened_response (ResponseMut m) e = absurd (let f : Kind.ResponseMut ≡ Kind.ResponseMutUninit = e in cc)
-  opened_response (Response m) e = absurd (let f : Kind.Response ≡ Kind.ResponseMutUninit = e in cc)
 
 module _ {Q QH P PH K : Type 0} (s : State Q QH P PH K) (n : ℕ) where
   -- the message that is being written under a number

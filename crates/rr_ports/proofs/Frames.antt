@@ -4,7 +4,7 @@ use Rattle.std.proofs.lemmas.Bool.{eq-eqb}
 use Rattle.rr_protocol.specs.declared.kind.Kind.{Kind}
 use Rattle.rr_protocol.specs.Queries.{kind_at}
 use Rattle.rr_protocol.specs.State.{State}
-use Rattle.rr_ports.proofs.LendLaws.{kept_by_request, next_by_request, kept_by_response, next_by_response}
+use Rattle.rr_ports.proofs.LendLaws.{lends}
 use Rattle.rr_ports.proofs.NameLaws.{keeps_same}
 use Rattle.rr_ports.specs.Kinds.{Names, NamesNothing, KeepsKinds, KeepsKindsBut, kind_number, is_kind}
 
@@ -64,30 +64,7 @@ pub kept_across : {Q QH P PH K : Type 0} (old first mid new : State Q QH P PH K)
 kept_across old first mid new n none one two three = kept_through old mid new n none (kept_both old first mid one two) three
 
 -- what callers rest on
-pub ruleset kinds = (
-  kept,
-  kept_apart,
-  kept_older,
-  kept_newer,
-  kept_by_request,
-  next_by_request,
-  kept_by_response,
-  next_by_response,
-)
+pub ruleset kinds = (kept, kept_apart, kept_older, kept_newer, lends)
 
 -- what callers rest on that promise to keep kinds themselves
-pub ruleset frames = (
-  kept,
-  kept_apart,
-  kept_older,
-  kept_newer,
-  kept_by_request,
-  next_by_request,
-  kept_by_response,
-  next_by_response,
-  kept_through,
-  kept_both,
-  kept_but_both,
-  kept_across,
-  keeps_same,
-)
+pub ruleset frames = (kinds, kept_through, kept_both, kept_but_both, kept_across, keeps_same)

@@ -6,10 +6,44 @@ use Rattle.std.specs.FinMap.{get}
 use Rattle.std.proofs.lemmas.Bool.{cases_eq}
 use Rattle.rr_map_laws.proofs.MapLaws.{get-insert_same, get-insert_other}
 use Rattle.rr_protocol.specs.declared.kind.Kind.{Kind}
-use Rattle.rr_protocol.specs.Messages.{Handle}
+use Rattle.rr_protocol.specs.Messages.{Active, Handle, Pending, RequestMessage, ResponseMessage, RequestMutUninit, RequestMut, PendingResponse, ActiveRequest, ResponseMutUninit, ResponseMut, Response}
 use Rattle.rr_protocol.specs.State.{State, handle_at, is_client_value, is_server_value, with_changed}
 use Rattle.rr_protocol.specs.Queries.{kind_of, kind_at}
 use Rattle.rr_ports.specs.Kinds.{KeepsKinds, KeepsKindsBut}
+
+module _ {Q QH P PH : Type 0} where
+  -- what is true of the handles of each kind is true of all
+  pub each_handle : (R : Handle Q QH P PH → Type 0) → ((m : RequestMessage Q QH) → R (RequestMutUninit m))
+      → ((m : RequestMessage Q QH) → R (RequestMut m)) → ((p : Pending Q QH) → R (PendingResponse p))
+      → ((a : Active Q QH) → R (ActiveRequest a)) → ((m : ResponseMessage P PH) → R (ResponseMutUninit m))
+      → ((m : ResponseMessage P PH) → R (ResponseMut m)) → ((m : ResponseMessage P PH) → R (Response m)) → (h : Handle Q QH P PH) → R h
+  each_handle R a b c d e f g (RequestMutUninit m) = a m
+  each_handle R a b c d e f g (RequestMut m) = b m
+  each_handle R a b c d e f g (PendingResponse p) = c p
+  each_handle R a b c d e f g (ActiveRequest r) = d r
+  each_handle R a b c d e f g (ResponseMutUninit m) = e m
+  each_handle R a b c d e f g (ResponseMut m) = f m
+  each_handle R a b c d e f g (Response m) = g m
+
+  -- a request that is being written is one
+  pub opened_request : (h : Handle Q QH P PH) → kind_of h ≡ Kind.RequestMutUninit → (m : RequestMessage Q QH) × (h ≡ RequestMutUninit m)
+  opened_request (RequestMutUninit m) e = (m, refl)
+  opened_request (RequestMut m) e = absurd (let f : Kind.RequestMut ≡ Kind.RequestMutUninit = e in cc)
+  opened_request (PendingResponse p) e = absurd (let f : Kind.PendingResponse ≡ Kind.RequestMutUninit = e in cc)
+  opened_request (ActiveRequest a) e = absurd (let f : Kind.ActiveRequest ≡ Kind.RequestMutUninit = e in cc)
+  opened_request (ResponseMutUninit m) e = absurd (let f : Kind.ResponseMutUninit ≡ Kind.RequestMutUninit = e in cc)
+  opened_request (ResponseMut m) e = absurd (let f : Kind.ResponseMut ≡ Kind.RequestMutUninit = e in cc)
+  opened_request (Response m) e = absurd (let f : Kind.Response ≡ Kind.RequestMutUninit = e in cc)
+
+  -- a response that is being written is one
+  pub opened_response : (h : Handle Q QH P PH) → kind_of h ≡ Kind.ResponseMutUninit → (m : ResponseMessage P PH) × (h ≡ ResponseMutUninit m)
+  opened_response (RequestMutUninit m) e = absurd (let f : Kind.RequestMutUninit ≡ Kind.ResponseMutUninit = e in cc)
+  opened_response (RequestMut m) e = absurd (let f : Kind.RequestMut ≡ Kind.ResponseMutUninit = e in cc)
+  opened_response (PendingResponse p) e = absurd (let f : Kind.PendingResponse ≡ Kind.ResponseMutUninit = e in cc)
+  opened_response (ActiveRequest a) e = absurd (let f : Kind.ActiveRequest ≡ Kind.ResponseMutUninit = e in cc)
+  opened_response (ResponseMutUninit m) e = (m, refl)
+  opened_response (ResponseMut m) e = absurd (let f : Kind.ResponseMut ≡ Kind.ResponseMutUninit = e in cc)
+  opened_response (Response m) e = absurd (let f : Kind.Response ≡ Kind.ResponseMutUninit = e in cc)
 
 module _ {Q QH P PH K : Type 0} where
   -- the kind of the handle under a number

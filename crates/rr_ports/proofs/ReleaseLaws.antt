@@ -15,17 +15,13 @@ use Rattle.rr_protocol.specs.Queries.{kind_of, kind_at}
 use Rattle.rr_protocol.specs.Counts.{is_in_use}
 use Rattle.rr_protocol.specs.Releases.{after_release, after_handle_gone, without_unused_port, without_port_value, without_value, after_client_left, after_server_left, without_server, with_expired_client, with_expired_server, map_handles, has_requests_from, has_responses_from}
 use Rattle.rr_ports.specs.Kinds.{KeepsKindsBut}
-use Rattle.rr_ports.proofs.NameLaws.{SamePorts, same_at, same_kind, keeps_but, changed_keeps}
+use Rattle.rr_ports.proofs.NameLaws.{SamePorts, each_handle, same_at, same_kind, keeps_but, changed_keeps}
 
 module _ {Q QH P PH : Type 0} where
+  -- a handle stays of its kind as a server leaves it
   without_server_kind : (server : ℕ) (h : Handle Q QH P PH) → kind_of (without_server server h) ≡ kind_of h
-  without_server_kind server (RequestMutUninit m) = refl
-  without_server_kind server (RequestMut m) = refl
-  without_server_kind server (PendingResponse p) = refl
-  without_server_kind server (ActiveRequest a) = refl
-  without_server_kind server (ResponseMutUninit m) = refl
-  without_server_kind server (ResponseMut m) = refl
-  without_server_kind server (Response m) = refl
+  without_server_kind server =
+      each_handle (λ h. kind_of (without_server server h) ≡ kind_of h) (λ m. refl) (λ m. refl) (λ p. refl) (λ a. refl) (λ m. refl) (λ m. refl) (λ m. refl)
 
   mapped_kind : (server : ℕ) (o : Option (Handle Q QH P PH)) → option_map kind_of (option_map (without_server server) o) ≡ option_map kind_of o
   mapped_kind server None = refl
@@ -147,23 +143,26 @@ module _ {Q QH P PH K : Type 0} where
   gone_keeps s (ResponseMut m) = each_itself s
   gone_keeps s (Response m) = each_itself s
 
-  expired_clients : (client : ℕ) (servers : List ℕ) (s : State Q QH P PH K) → SameNames s (fold (with_expired_client client) s servers)
-  expired_clients client [] s = names_itself s
-  expired_clients client (server ∷ servers) s =
-      names_then s (with_expired_client client s server) _
-      (names_either (has_requests_from s server client) s _ s (record { clients = refl; servers = refl; handles = refl; next = refl }) (names_itself s))
-      (expired_clients client servers (with_expired_client client s server))
+  -- connections expire, one after another
+  expired : (step : State Q QH P PH K → ℕ → State Q QH P PH K) → ((s : State Q QH P PH K) (port : ℕ) → SameNames s (step s port))
+      → (ports : List ℕ) (s : State Q QH P PH K) → SameNames s (fold step s ports)
+  expired step same [] s = names_itself s
+  expired step same (port ∷ ports) s = names_then s (step s port) _ (same s port) (expired step same ports (step s port))
 
-  expired_servers : (server : ℕ) (clients : List ℕ) (s : State Q QH P PH K) → SameNames s (fold (with_expired_server server) s clients)
-  expired_servers server [] s = names_itself s
-  expired_servers server (client ∷ clients) s =
-      names_then s (with_expired_server server s client) _
-      (names_either (has_responses_from s client server) s _ s (record { clients = refl; servers = refl; handles = refl; next = refl }) (names_itself s))
-      (expired_servers server clients (with_expired_server server s client))
+  -- the one of a client or of a server that left
+  client_expired : (client : ℕ) (s : State Q QH P PH K) (server : ℕ) → SameNames s (with_expired_client client s server)
+  client_expired client s server =
+      names_either (has_requests_from s server client) s _ s (record { clients = refl; servers = refl; handles = refl; next = refl })
+      (names_itself s)
+
+  server_expired : (server : ℕ) (s : State Q QH P PH K) (client : ℕ) → SameNames s (with_expired_server server s client)
+  server_expired server s client =
+      names_either (has_responses_from s client server) s _ s (record { clients = refl; servers = refl; handles = refl; next = refl })
+      (names_itself s)
 
   client_left_keeps : (s : State Q QH P PH K) (port : ℕ) → is_client_value s port ≡ false → KeepsEach s (after_client_left s port)
   client_left_keeps s port none =
-      let l = expired_clients port (map (λ (c : Server K). c.id) s.servers) s in
+      let l = expired (with_expired_client port) (client_expired port) (map (λ (c : Server K). c.id) s.servers) s in
       record {
         kinds = λ n. same_kind s (after_client_left s port) (record {
           clients = λ i. ap (λ cs. list_any (λ (c : Client K). c.id == i && c.has_value) (filter (λ (c : Client K). not (c.id == port)) cs)) l.clients
@@ -175,7 +174,7 @@ module _ {Q QH P PH K : Type 0} where
 
   server_left_keeps : (s : State Q QH P PH K) (port : ℕ) → is_server_value s port ≡ false → KeepsEach s (after_server_left s port)
   server_left_keeps s port none =
-      let l = expired_servers port (map (λ (c : Client K). c.id) s.clients) s in
+      let l = expired (with_expired_server port) (server_expired port) (map (λ (c : Client K). c.id) s.clients) s in
       record {
         kinds = λ n. same_kind s (after_server_left s port) (record {
           clients = λ i. ap (list_any (λ (c : Client K). c.id == i && c.has_value)) l.clients;

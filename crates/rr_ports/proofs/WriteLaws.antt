@@ -2,58 +2,32 @@
 use Rattle.std.proofs.Common.{◌≡◌, ◌≢◌, ℕ, Bool, not, false, cond, Option, Some, None, option_map, refl, sym, ap, ◌∙◌}
 use Rattle.std.specs.Prelude.{IsSomeAnd, option_and_then}
 use Rattle.rr_protocol.specs.declared.kind.Kind.{Kind}
-use Rattle.rr_protocol.specs.Messages.{Handle, RequestMutUninit, RequestMut, PendingResponse, ActiveRequest, ResponseMutUninit, ResponseMut, Response, RequestMessage, ResponseMessage, with_hint, Content, request_in, response_in}
+use Rattle.rr_protocol.specs.Messages.{Handle, RequestMessage, ResponseMessage, with_hint, Content, request_in, response_in}
 use Rattle.rr_protocol.specs.State.{State, handle_at, numbers_left, with_changed}
 use Rattle.rr_protocol.specs.Queries.{kind_of, kind_at}
 use Rattle.rr_protocol.specs.Writing.{is_complete, with_element, with_request_content, with_response_content, after_init}
 use Rattle.rr_ports.specs.Kinds.{Names, KeepsKinds, KeepsKindsBut}
-use Rattle.rr_ports.proofs.NameLaws.{handle_no_port, some_handle, keeps_but, keeps_each, changed_own, changed_other, changed_keeps}
+use Rattle.rr_ports.proofs.NameLaws.{each_handle, opened_request, opened_response, handle_no_port, some_handle, keeps_but, keeps_each, changed_own, changed_other, changed_keeps}
 
 module _ {Q QH P PH : Type 0} where
+  -- changes of content and hints leave each handle of its kind
   request_content_kind : (change : Content Q QH → Content Q QH) (h : Handle Q QH P PH) → kind_of (with_request_content change h) ≡ kind_of h
-  request_content_kind change (RequestMutUninit m) = refl
-  request_content_kind change (RequestMut m) = refl
-  request_content_kind change (PendingResponse p) = refl
-  request_content_kind change (ActiveRequest a) = refl
-  request_content_kind change (ResponseMutUninit m) = refl
-  request_content_kind change (ResponseMut m) = refl
-  request_content_kind change (Response m) = refl
+  request_content_kind change =
+      each_handle (λ h. kind_of (with_request_content change h) ≡ kind_of h) (λ m. refl) (λ m. refl) (λ p. refl) (λ a. refl) (λ m. refl) (λ m. refl) (λ m. refl)
 
   response_content_kind : (change : Content P PH → Content P PH) (h : Handle Q QH P PH) → kind_of (with_response_content change h) ≡ kind_of h
-  response_content_kind change (RequestMutUninit m) = refl
-  response_content_kind change (RequestMut m) = refl
-  response_content_kind change (PendingResponse p) = refl
-  response_content_kind change (ActiveRequest a) = refl
-  response_content_kind change (ResponseMutUninit m) = refl
-  response_content_kind change (ResponseMut m) = refl
-  response_content_kind change (Response m) = refl
+  response_content_kind change =
+      each_handle (λ h. kind_of (with_response_content change h) ≡ kind_of h) (λ m. refl) (λ m. refl) (λ p. refl) (λ a. refl) (λ m. refl) (λ m. refl) (λ m. refl)
 
   hint_kind : (h : Handle Q QH P PH) → kind_of (with_hint h) ≡ kind_of h
-  hint_kind (RequestMutUninit m) = refl
-  hint_kind (RequestMut m) = refl
-  hint_kind (PendingResponse p) = refl
-  hint_kind (ActiveRequest a) = refl
-  hint_kind (ResponseMutUninit m) = refl
-  hint_kind (ResponseMut m) = refl
-  hint_kind (Response m) = refl
+  hint_kind = each_handle (λ h. kind_of (with_hint h) ≡ kind_of h) (λ m. refl) (λ m. refl) (λ p. refl) (λ a. refl) (λ m. refl) (λ m. refl) (λ m. refl)
 
+  -- what was being written can be sent once it is taken as complete
   request_init_kind : (h : Handle Q QH P PH) → kind_of h ≡ Kind.RequestMutUninit → kind_of (after_init h) ≡ Kind.RequestMut
-  request_init_kind (RequestMutUninit m) e = refl
-  request_init_kind (RequestMut m) e = absurd (let f : Kind.RequestMut ≡ Kind.RequestMutUninit = e in cc)
-  request_init_kind (PendingResponse p) e = absurd (let f : Kind.PendingResponse ≡ Kind.RequestMutUninit = e in cc)
-  request_init_kind (ActiveRequest a) e = absurd (let f : Kind.ActiveRequest ≡ Kind.RequestMutUninit = e in cc)
-  request_init_kind (ResponseMutUninit m) e = absurd (let f : Kind.ResponseMutUninit ≡ Kind.RequestMutUninit = e in cc)
-  request_init_kind (ResponseMut m) e = absurd (let f : Kind.ResponseMut ≡ Kind.RequestMutUninit = e in cc)
-  request_init_kind (Response m) e = absurd (let f : Kind.Response ≡ Kind.RequestMutUninit = e in cc)
+  request_init_kind h e = ap (λ (x : Handle Q QH P PH). kind_of (after_init x)) (opened_request h e).1
 
   response_init_kind : (h : Handle Q QH P PH) → kind_of h ≡ Kind.ResponseMutUninit → kind_of (after_init h) ≡ Kind.ResponseMut
-  response_init_kind (RequestMutUninit m) e = absurd (let f : Kind.RequestMutUninit ≡ Kind.ResponseMutUninit = e in cc)
-  response_init_kind (RequestMut m) e = absurd (let f : Kind.RequestMut ≡ Kind.ResponseMutUninit = e in cc)
-  response_init_kind (PendingResponse p) e = absurd (let f : Kind.PendingResponse ≡ Kind.ResponseMutUninit = e in cc)
-  response_init_kind (ActiveRequest a) e = absurd (let f : Kind.ActiveRequest ≡ Kind.ResponseMutUninit = e in cc)
-  response_init_kind (ResponseMutUninit m) e = refl
-  response_init_kind (ResponseMut m) e = absurd (let f : Kind.ResponseMut ≡ Kind.ResponseMutUninit = e in cc)
-  response_init_kind (Response m) e = absurd (let f : Kind.Response ≡ Kind.ResponseMutUninit = e in cc)
+  response_init_kind h e = ap (λ (x : Handle Q QH P PH). kind_of (after_init x)) (opened_response h e).1
 
 -- a message that is not complete takes an element
 module _ {M S : Type 0} (is_whole : M → Bool) (told : Bool) (new pushed old : S) where

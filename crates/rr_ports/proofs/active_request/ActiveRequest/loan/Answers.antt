@@ -10,5 +10,4 @@ returns-clause-loans g c =
     (c.default.result ∷ []) c.write_payload.result c.write_payload.ensures.same c.in_ok-response.ensures.loans (c.default.result, c.default.ensures, refl) c.write_payload.ensures.written
 
 pub returns-clause-kinds : goal.returns-clause-kinds
-returns-clause-kinds g c =
-    kept_through c.args.hub.now c.loan_uninit.new.hub c.write_payload.new.hub c.in_ok-response.response c.in_ok-response.ensures.fresh c.in_ok-response.ensures.kinds c.write_payload.ensures.kinds
+returns-clause-kinds g c = kept_through _ _ _ _ c.in_ok-response.ensures.fresh c.in_ok-response.ensures.kinds c.write_payload.ensures.kinds

@@ -14,5 +14,4 @@ returns-clause-loans g c =
     (AreDefaults g.T.Default.is_default c.args.len) c.args.len w.elements c.write_from_fn.result c.write_from_fn.ensures.same c.in_ok-response.ensures.loans are w.written
 
 pub returns-clause-kinds : goal.returns-clause-kinds
-returns-clause-kinds g c =
-    kept_through c.args.hub.now c.loan_slice_uninit.new.hub c.write_from_fn.new.hub c.in_ok-response.response c.in_ok-response.ensures.fresh c.in_ok-response.ensures.kinds c.write_from_fn.ensures.kinds
+returns-clause-kinds g c = kept_through _ _ _ _ c.in_ok-response.ensures.fresh c.in_ok-response.ensures.kinds c.write_from_fn.ensures.kinds
