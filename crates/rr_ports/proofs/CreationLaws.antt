@@ -41,6 +41,14 @@ other_number a b other = go (a == b) refl
 own_number : (a : ℕ) → (a == a && true) ≡ true
 own_number a = ap (λ b. b && true) (eq-eqb a a refl)
 
+-- which numbers are of values that live, before and after one with the next number came
+module _ (next k : ℕ) (given : k ≡ next) (was now : ℕ → Bool) (added : (n : ℕ) → now n ≡ (was n || (next == n && true))) where
+  others_still : (n : ℕ) → n ≢ k → now n ≡ was n
+  others_still n other = added n ∙ ap (λ b. was n || b) (other_number next n (λ e. other (e ∙ sym given))) ∙ or_false (was n)
+
+  itself_now : now next ≡ true
+  itself_now = added next ∙ ap (λ b. was next || b) (own_number next) ∙ or_true (was next)
+
 module _ {Q QH P PH K : Type 0} (old new : State Q QH P PH K) where
   module _ (settings : ClientSettings K) (k : ℕ) (creates : CreatesClient old settings (Ok k) new) (free : kind_at old k ≡ None) where
     client_value : (n : ℕ) → is_client_value new n ≡ (is_client_value old n || (old.next == n && true))
@@ -50,7 +58,7 @@ module _ {Q QH P PH K : Type 0} (old new : State Q QH P PH K) where
     client_keeps =
         keeps_new k old new free (λ n other.
         same_at old new n
-        (client_value n ∙ ap (λ b. is_client_value old n || b) (other_number old.next n (λ e. other (e ∙ sym creates.1))) ∙ or_false (is_client_value old n))
+        (others_still old.next k creates.1 (is_client_value old) (is_client_value new) client_value n other)
         (ap (λ t. is_server_value t n) creates.2) (ap (λ t. handle_kind t n) creates.2))
 
     client_names : Names new k Kind.Client
@@ -58,7 +66,7 @@ module _ {Q QH P PH K : Type 0} (old new : State Q QH P PH K) where
     client_names =
         ap (kind_at new) creates.1
         ∙ ap (λ b. cond b (Some Kind.Client) (cond (is_server_value new old.next) (Some Kind.Server) (handle_kind new old.next)))
-        (client_value old.next ∙ ap (λ b. is_client_value old old.next || b) (own_number old.next) ∙ or_true (is_client_value old old.next))
+        (itself_now old.next k creates.1 (is_client_value old) (is_client_value new) client_value)
 
   module _ (settings : ServerSettings K) (k : ℕ) (creates : CreatesServer old settings (Ok k) new) (free : kind_at old k ≡ None) where
     server_value : (n : ℕ) → is_server_value new n ≡ (is_server_value old n || (old.next == n && true))
@@ -69,7 +77,7 @@ module _ {Q QH P PH K : Type 0} (old new : State Q QH P PH K) where
         keeps_new k old new free (λ n other.
         same_at old new n
         (ap (λ t. is_client_value t n) creates.2)
-        (server_value n ∙ ap (λ b. is_server_value old n || b) (other_number old.next n (λ e. other (e ∙ sym creates.1))) ∙ or_false (is_server_value old n))
+        (others_still old.next k creates.1 (is_server_value old) (is_server_value new) server_value n other)
         (ap (λ t. handle_kind t n) creates.2))
 
     server_names : Names new k Kind.Server
@@ -79,7 +87,7 @@ module _ {Q QH P PH K : Type 0} (old new : State Q QH P PH K) where
         ∙ ap (λ b. cond b (Some Kind.Client) (cond (is_server_value new old.next) (Some Kind.Server) (handle_kind new old.next)))
         (ap (λ t. is_client_value t old.next) creates.2 ∙ ap (is_client_value old) (sym creates.1) ∙ (free_no_port old k free).client)
         ∙ ap (λ b. cond b (Some Kind.Server) (handle_kind new old.next))
-        (server_value old.next ∙ ap (λ b. is_server_value old old.next || b) (own_number old.next) ∙ or_true (is_server_value old old.next))
+        (itself_now old.next k creates.1 (is_server_value old) (is_server_value new) server_value)
 
   -- what a creation tells of what numbers name
   abbrev pub TellsCreated : {E : Type 0} → Result ℕ E → Kind → Type 0

@@ -1,21 +1,21 @@
 -- What numbers name after writes.
 use Rattle.std.proofs.Common.{◌≡◌, ◌≢◌, ℕ, Bool, not, false, cond, Option, Some, None, option_map, refl, sym, ap, ◌∙◌}
-use Rattle.std.specs.Prelude.{IsSomeAnd, option_and_then}
+use Rattle.std.specs.Prelude.{IsSomeAnd}
 use Rattle.rr_protocol.specs.declared.kind.Kind.{Kind}
-use Rattle.rr_protocol.specs.Messages.{Handle, RequestMessage, ResponseMessage, with_hint, Content, request_in, response_in}
-use Rattle.rr_protocol.specs.State.{State, handle_at, numbers_left, with_changed}
+use Rattle.rr_protocol.specs.Messages.{Handle, with_hint, Content}
+use Rattle.rr_protocol.specs.State.{State, numbers_left, with_changed}
 use Rattle.rr_protocol.specs.Queries.{kind_of, kind_at}
-use Rattle.rr_protocol.specs.Writing.{is_complete, with_element, with_request_content, with_response_content, after_init}
+use Rattle.rr_protocol.specs.Writing.{with_request_content, with_response_content, after_init}
 use Rattle.rr_ports.specs.Kinds.{Names, KeepsKinds, KeepsKindsBut}
 use Rattle.rr_ports.proofs.NameLaws.{each_handle, opened_request, opened_response, handle_no_port, some_handle, keeps_but, keeps_each, changed_own, changed_other, changed_keeps}
 
 module _ {Q QH P PH : Type 0} where
   -- changes of content and hints leave each handle of its kind
-  request_content_kind : (change : Content Q QH → Content Q QH) (h : Handle Q QH P PH) → kind_of (with_request_content change h) ≡ kind_of h
+  pub request_content_kind : (change : Content Q QH → Content Q QH) (h : Handle Q QH P PH) → kind_of (with_request_content change h) ≡ kind_of h
   request_content_kind change =
       each_handle (λ h. kind_of (with_request_content change h) ≡ kind_of h) (λ m. refl) (λ m. refl) (λ p. refl) (λ a. refl) (λ m. refl) (λ m. refl) (λ m. refl)
 
-  response_content_kind : (change : Content P PH → Content P PH) (h : Handle Q QH P PH) → kind_of (with_response_content change h) ≡ kind_of h
+  pub response_content_kind : (change : Content P PH → Content P PH) (h : Handle Q QH P PH) → kind_of (with_response_content change h) ≡ kind_of h
   response_content_kind change =
       each_handle (λ h. kind_of (with_response_content change h) ≡ kind_of h) (λ m. refl) (λ m. refl) (λ p. refl) (λ a. refl) (λ m. refl) (λ m. refl) (λ m. refl)
 
@@ -86,37 +86,18 @@ module _ {Q QH P PH K : Type 0} where
     pub hint_keeps : new ≡ with_changed old n with_hint → KeepsKinds old new
     hint_keeps = change_keeps with_hint hint_kind
 
-    -- what a call tells that appends an element to a request that is not complete
-    pub request_pushed : (element : Q) (told : Bool)
-        → IsSomeAnd (option_and_then request_in (handle_at old n)) (λ m. is_complete m.content ≡ false)
-        → IsSomeAnd (option_and_then request_in (handle_at old n)) (λ m. (told ≡ not (is_complete m.content))
-        × (new ≡ cond told (with_changed old n (with_request_content (with_element element))) old))
-        → record {
-          pushed : new ≡ with_changed old n (with_request_content (with_element element));
+    -- what a call tells that changes a message unless it is complete, where it is not
+    pub pushed : (change : Handle Q QH P PH → Handle Q QH P PH) → ((h : Handle Q QH P PH) → kind_of (change h) ≡ kind_of h)
+        → {M : Type 0} → (is_whole : M → Bool) (o : Option M) (told : Bool) → IsSomeAnd o (λ m. is_whole m ≡ false)
+        → IsSomeAnd o (λ m. (told ≡ not (is_whole m)) × (new ≡ cond told (with_changed old n change) old)) → record {
+          pushed : new ≡ with_changed old n change;
           kinds : KeepsKinds old new;
           numbers : numbers_left new ≡ numbers_left old;
         }
-    request_pushed element told unfilled happened =
-        let is = open_pushed (λ (m : RequestMessage Q QH). is_complete m.content) told new _ old _ unfilled happened in record {
+    pushed change alike is_whole o told unfilled happened =
+        let is = open_pushed is_whole told new (with_changed old n change) old o unfilled happened in record {
           pushed = is;
-          kinds = request_content_keeps (with_element element) is;
-          numbers = ap numbers_left is;
-        }
-
-    -- and to a response
-    pub response_pushed : (element : P) (told : Bool)
-        → IsSomeAnd (option_and_then response_in (handle_at old n)) (λ m. is_complete m.content ≡ false)
-        → IsSomeAnd (option_and_then response_in (handle_at old n)) (λ m. (told ≡ not (is_complete m.content))
-        × (new ≡ cond told (with_changed old n (with_response_content (with_element element))) old))
-        → record {
-          pushed : new ≡ with_changed old n (with_response_content (with_element element));
-          kinds : KeepsKinds old new;
-          numbers : numbers_left new ≡ numbers_left old;
-        }
-    response_pushed element told unfilled happened =
-        let is = open_pushed (λ (m : ResponseMessage P PH). is_complete m.content) told new _ old _ unfilled happened in record {
-          pushed = is;
-          kinds = response_content_keeps (with_element element) is;
+          kinds = change_keeps change alike is;
           numbers = ap numbers_left is;
         }
 
