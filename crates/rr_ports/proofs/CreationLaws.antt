@@ -50,16 +50,21 @@ module _ (next k : ℕ) (given : k ≡ next) (was now : ℕ → Bool) (added : (
   itself_now = added next ∙ ap (λ b. was next || b) (own_number next) ∙ or_true (was next)
 
 module _ {Q QH P PH K : Type 0} (old new : State Q QH P PH K) where
+  -- every number keeps its kind where no other number's value comes or goes, and no handle
+  ports_keep : (k : ℕ) → kind_at old k ≡ None → ((n : ℕ) → n ≢ k → is_client_value new n ≡ is_client_value old n)
+      → ((n : ℕ) → n ≢ k → is_server_value new n ≡ is_server_value old n) → ((n : ℕ) → handle_kind new n ≡ handle_kind old n)
+      → KeepsKinds old new
+  ports_keep k free clients servers handles =
+      keeps_new k old new free (λ n other. same_at old new n (clients n other) (servers n other) (handles n))
+
   module _ (settings : ClientSettings K) (k : ℕ) (creates : CreatesClient old settings (Ok k) new) (free : kind_at old k ≡ None) where
     client_value : (n : ℕ) → is_client_value new n ≡ (is_client_value old n || (old.next == n && true))
     client_value n = ap (λ t. is_client_value t n) creates.2 ∙ any_append (λ (c : Client K). c.id == n && c.has_value) old.clients _
 
     client_keeps : KeepsKinds old new
     client_keeps =
-        keeps_new k old new free (λ n other.
-        same_at old new n
-        (others_still old.next k creates.1 (is_client_value old) (is_client_value new) client_value n other)
-        (ap (λ t. is_server_value t n) creates.2) (ap (λ t. handle_kind t n) creates.2))
+        ports_keep k free (others_still old.next k creates.1 (is_client_value old) (is_client_value new) client_value)
+        (λ n other. ap (λ t. is_server_value t n) creates.2) (λ n. ap (λ t. handle_kind t n) creates.2)
 
     client_names : Names new k Kind.Client
     unfolding Names
@@ -74,11 +79,8 @@ module _ {Q QH P PH K : Type 0} (old new : State Q QH P PH K) where
 
     server_keeps : KeepsKinds old new
     server_keeps =
-        keeps_new k old new free (λ n other.
-        same_at old new n
-        (ap (λ t. is_client_value t n) creates.2)
-        (others_still old.next k creates.1 (is_server_value old) (is_server_value new) server_value n other)
-        (ap (λ t. handle_kind t n) creates.2))
+        ports_keep k free (λ n other. ap (λ t. is_client_value t n) creates.2)
+        (others_still old.next k creates.1 (is_server_value old) (is_server_value new) server_value) (λ n. ap (λ t. handle_kind t n) creates.2)
 
     server_names : Names new k Kind.Server
     unfolding Names

@@ -23,11 +23,27 @@ module _ {Q QH P PH : Type 0} where
   hint_kind = each_handle (λ h. kind_of (with_hint h) ≡ kind_of h) (λ m. refl) (λ m. refl) (λ p. refl) (λ a. refl) (λ m. refl) (λ m. refl) (λ m. refl)
 
   -- what was being written can be sent once it is taken as complete
-  request_init_kind : (h : Handle Q QH P PH) → kind_of h ≡ Kind.RequestMutUninit → kind_of (after_init h) ≡ Kind.RequestMut
+  pub request_init_kind : (h : Handle Q QH P PH) → kind_of h ≡ Kind.RequestMutUninit → kind_of (after_init h) ≡ Kind.RequestMut
   request_init_kind h e = ap (λ (x : Handle Q QH P PH). kind_of (after_init x)) (opened_request h e).1
 
-  response_init_kind : (h : Handle Q QH P PH) → kind_of h ≡ Kind.ResponseMutUninit → kind_of (after_init h) ≡ Kind.ResponseMut
+  pub response_init_kind : (h : Handle Q QH P PH) → kind_of h ≡ Kind.ResponseMutUninit → kind_of (after_init h) ≡ Kind.ResponseMut
   response_init_kind h e = ap (λ (x : Handle Q QH P PH). kind_of (after_init x)) (opened_response h e).1
+
+-- of which kind a message is while it is being written, which no port is, and of which once it can be sent
+pub record Inits (Q QH P PH : Type 0) : Type 0 where
+  pub before : Kind
+  pub after : Kind
+  pub client : Kind.Client ≢ before
+  pub server : Kind.Server ≢ before
+  pub becomes : (h : Handle Q QH P PH) → kind_of h ≡ before → kind_of (after_init h) ≡ after
+
+module _ {Q QH P PH : Type 0} where
+  -- a request, and a response
+  abbrev pub requests : Inits Q QH P PH
+  requests = record { before = Kind.RequestMutUninit; after = Kind.RequestMut; client = λ e. cc; server = λ e. cc; becomes = request_init_kind }
+
+  abbrev pub responses : Inits Q QH P PH
+  responses = record { before = Kind.ResponseMutUninit; after = Kind.ResponseMut; client = λ e. cc; server = λ e. cc; becomes = response_init_kind }
 
 -- a message that is not complete takes an element
 module _ {M S : Type 0} (is_whole : M → Bool) (told : Bool) (new pushed old : S) where
@@ -56,14 +72,14 @@ module _ {Q QH P PH K : Type 0} where
     numbers : numbers_left new ≡ numbers_left old;
   }
 
-  -- a handle under a number becomes another
-  becomes : (s : State Q QH P PH K) (n : ℕ) (f : Handle Q QH P PH → Handle Q QH P PH) (k j : Kind) → Kind.Client ≢ k → Kind.Server ≢ k
-      → kind_at s n ≡ Some k → ((h : Handle Q QH P PH) → kind_of h ≡ k → kind_of (f h) ≡ j) → kind_at (with_changed s n f) n ≡ Some j
-  becomes s n f k j client server is same =
-      let port = handle_no_port s n k client server is in
-      let h = some_handle s n k port.1 in
-      changed_own s n f h.0 h.1 port.0
-      ∙ ap Some (same h.0 (let e : Some (kind_of h.0) ≡ Some k = sym (ap (option_map kind_of) h.1) ∙ port.1 in cc))
+  -- a handle under a number becomes one that can be sent
+  becomes : (s : State Q QH P PH K) (n : ℕ) (kinds : Inits Q QH P PH) → kind_at s n ≡ Some kinds.before
+      → kind_at (with_changed s n after_init) n ≡ Some kinds.after
+  becomes s n kinds is =
+      let port = handle_no_port s n kinds.before kinds.client kinds.server is in
+      let h = some_handle s n kinds.before port.1 in
+      changed_own s n after_init h.0 h.1 port.0
+      ∙ ap Some (kinds.becomes h.0 (let e : Some (kind_of h.0) ≡ Some kinds.before = sym (ap (option_map kind_of) h.1) ∙ port.1 in cc))
 
   module _ (old new : State Q QH P PH K) (n : ℕ) where
     -- no number is given
@@ -102,50 +118,27 @@ module _ {Q QH P PH K : Type 0} where
         }
 
     -- a message of a kind is taken as complete
-    module _ (k j : Kind) (client : Kind.Client ≢ k) (server : Kind.Server ≢ k)
-        (inits : (h : Handle Q QH P PH) → kind_of h ≡ k → kind_of (after_init h) ≡ j) where
-      inited : new ≡ with_changed old n after_init → Names old n k → TellsInited old new n j
+    module _ (kinds : Inits Q QH P PH) where
+      pub inited : new ≡ with_changed old n after_init → Names old n kinds.before → TellsInited old new n kinds.after
       unfolding Names
       inited e is = record {
         same = refl;
         initialised = e;
-        kind = ap (λ t. kind_at t n) e ∙ becomes old n after_init k j client server is inits;
+        kind = ap (λ t. kind_at t n) e ∙ becomes old n kinds is;
         kinds = keeps_but n old new (λ i other. ap (λ t. kind_at t i) e ∙ changed_other old n after_init i other);
         numbers = ap numbers_left e;
       }
 
       -- and was written before
-      written : (change : Handle Q QH P PH → Handle Q QH P PH) → ((h : Handle Q QH P PH) → kind_of (change h) ≡ kind_of h)
-          → new ≡ with_changed (with_changed old n change) n after_init → Names old n k → TellsWritten old new n change j
+      pub written : (change : Handle Q QH P PH → Handle Q QH P PH) → ((h : Handle Q QH P PH) → kind_of (change h) ≡ kind_of h)
+          → new ≡ with_changed (with_changed old n change) n after_init → Names old n kinds.before → TellsWritten old new n change kinds.after
       unfolding Names
       written change alike e is = record {
         same = refl;
         written = e;
         kind = ap (λ t. kind_at t n) e
-            ∙ becomes (with_changed old n change) n after_init k j client server (changed_keeps old n change alike n ∙ is) inits;
+            ∙ becomes (with_changed old n change) n kinds (changed_keeps old n change alike n ∙ is);
         kinds = keeps_but n old new (λ i other. ap (λ t. kind_at t i) e ∙ changed_other (with_changed old n change) n after_init i other
             ∙ changed_keeps old n change alike i);
         numbers = ap numbers_left e;
       }
-
-    -- what a call tells that takes a request as complete, or writes it whole
-    pub request_inited : new ≡ with_changed old n after_init → Names old n Kind.RequestMutUninit → TellsInited old new n Kind.RequestMut
-    request_inited = inited Kind.RequestMutUninit Kind.RequestMut (λ e. cc) (λ e. cc) request_init_kind
-
-    pub request_whole : (change : Content Q QH → Content Q QH)
-        → new ≡ with_changed (with_changed old n (with_request_content change)) n after_init → Names old n Kind.RequestMutUninit
-        → TellsWritten old new n (with_request_content change) Kind.RequestMut
-    request_whole change =
-        written Kind.RequestMutUninit Kind.RequestMut (λ e. cc) (λ e. cc) request_init_kind
-        (with_request_content change) (request_content_kind change)
-
-    -- and a response
-    pub response_inited : new ≡ with_changed old n after_init → Names old n Kind.ResponseMutUninit → TellsInited old new n Kind.ResponseMut
-    response_inited = inited Kind.ResponseMutUninit Kind.ResponseMut (λ e. cc) (λ e. cc) response_init_kind
-
-    pub response_whole : (change : Content P PH → Content P PH)
-        → new ≡ with_changed (with_changed old n (with_response_content change)) n after_init → Names old n Kind.ResponseMutUninit
-        → TellsWritten old new n (with_response_content change) Kind.ResponseMut
-    response_whole change =
-        written Kind.ResponseMutUninit Kind.ResponseMut (λ e. cc) (λ e. cc) response_init_kind
-        (with_response_content change) (response_content_kind change)

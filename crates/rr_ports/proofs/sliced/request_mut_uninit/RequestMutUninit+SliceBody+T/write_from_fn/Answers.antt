@@ -6,7 +6,7 @@ use Rattle.rr_protocol.specs.Messages.{request_in}
 use Rattle.rr_ports.specs.Kinds.{Names, RequestAsksFor}
 use Rattle.rr_ports.proofs.FillLaws.{fill_start, filling_kind}
 use Rattle.rr_ports.proofs.Fillings.{held_request, request_being_written, request_put, request_ready, fills_request}
-use Rattle.rr_ports.proofs.WriteLaws.{request_whole}
+use Rattle.rr_ports.proofs.WriteLaws.{request_content_kind, requests, written}
 use Rattle.rr_ports.proofs.sliced.request_mut_uninit.RequestMutUninit+SliceBody+T.write_from_fn.Goals as goal
 
 pub loop-index-init : goal.loop-index-init
@@ -70,9 +70,11 @@ pub returns-clause-kind : goal.returns-clause-kind
 returns-clause-kind g c =
     let f = returns-clause-written g c in
     rw c.self.view_is
-    (request_whole c.args.hub.now c.assume_init.new.self c.args.self (with_elements f.elements) f.written c.requires.kind).kind
+    (written c.args.hub.now c.assume_init.new.self c.args.self requests _
+    (request_content_kind (with_elements f.elements)) f.written c.requires.kind).kind
 
 pub returns-clause-kinds : goal.returns-clause-kinds
 returns-clause-kinds g c =
     let f = returns-clause-written g c in
-    (request_whole c.args.hub.now c.assume_init.new.self c.args.self (with_elements f.elements) f.written c.requires.kind).kinds
+    (written c.args.hub.now c.assume_init.new.self c.args.self requests _
+    (request_content_kind (with_elements f.elements)) f.written c.requires.kind).kinds

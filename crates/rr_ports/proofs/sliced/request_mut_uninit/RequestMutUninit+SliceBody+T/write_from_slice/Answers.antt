@@ -4,13 +4,14 @@ use Rattle.rr_protocol.specs.Writing.{with_elements, with_request_content}
 use Rattle.rr_hub.specs.CoreLends.{refilled}
 use Rattle.rr_ports.specs.Kinds.{Names}
 use Rattle.rr_ports.proofs.Fillings.{request_being_written, completed_request_at, copied_request}
-use Rattle.rr_ports.proofs.WriteLaws.{request_whole}
+use Rattle.rr_ports.proofs.WriteLaws.{request_content_kind, requests, written}
 use Rattle.rr_ports.proofs.sliced.request_mut_uninit.RequestMutUninit+SliceBody+T.write_from_slice.Goals as goal
 
 pub request_slice_mut-requires : goal.request_slice_mut-requires
 unfolding Names
 request_slice_mut-requires g c =
-    inr (request_whole c.args.hub.now c.hub.inside.core c.self.inside.id (with_elements c.complete_request.ensures.0)
+    inr (written c.args.hub.now c.hub.inside.core c.self.inside.id requests _
+    (request_content_kind (with_elements c.complete_request.ensures.0))
     (c.hub.view_is ∙ c.complete_request.ensures.2) (rw (← c.self.view_is) at c.requires.kind)).kind
 
 pub copy_from_slice-requires : goal.copy_from_slice-requires
@@ -24,7 +25,8 @@ pub returns : goal.returns
 unfolding Names
 returns g c =
     let m = request_being_written c.args.hub.now c.self.inside.id (rw (← c.self.view_is) at c.requires.kind) in
-    rw (← c.self.view_is) (request_whole c.args.hub.now _ c.self.inside.id (with_elements c.args.elements.now)
+    rw (← c.self.view_is) (written c.args.hub.now _ c.self.inside.id requests _
+    (request_content_kind (with_elements c.args.elements.now))
     (ap (λ items. with_changed c.hub.inside.core c.self.inside.id (with_request_content (refilled items))) c.copy_from_slice.ensures.after
     ∙ copied_request c.args.hub.now c.self.inside.id m.0 m.1 c.complete_request.ensures.0 c.args.elements.now c.hub.inside.core _
     (c.hub.view_is ∙ c.complete_request.ensures.2) c.complete_request.ensures.1 refl)

@@ -6,7 +6,7 @@ use Rattle.rr_protocol.specs.Messages.{response_in}
 use Rattle.rr_ports.specs.Kinds.{Names, ResponseAsksFor}
 use Rattle.rr_ports.proofs.FillLaws.{fill_start, filling_kind}
 use Rattle.rr_ports.proofs.Fillings.{held_response, response_being_written, response_put, response_ready, fills_response}
-use Rattle.rr_ports.proofs.WriteLaws.{response_whole}
+use Rattle.rr_ports.proofs.WriteLaws.{response_content_kind, responses, written}
 use Rattle.rr_ports.proofs.sliced.response_mut_uninit.ResponseMutUninit+SliceBody+T.write_from_fn.Goals as goal
 
 pub loop-index-init : goal.loop-index-init
@@ -70,9 +70,11 @@ pub returns-clause-kind : goal.returns-clause-kind
 returns-clause-kind g c =
     let f = returns-clause-written g c in
     rw c.self.view_is
-    (response_whole c.args.hub.now c.assume_init.new.self c.args.self (with_elements f.elements) f.written c.requires.kind).kind
+    (written c.args.hub.now c.assume_init.new.self c.args.self responses _
+    (response_content_kind (with_elements f.elements)) f.written c.requires.kind).kind
 
 pub returns-clause-kinds : goal.returns-clause-kinds
 returns-clause-kinds g c =
     let f = returns-clause-written g c in
-    (response_whole c.args.hub.now c.assume_init.new.self c.args.self (with_elements f.elements) f.written c.requires.kind).kinds
+    (written c.args.hub.now c.assume_init.new.self c.args.self responses _
+    (response_content_kind (with_elements f.elements)) f.written c.requires.kind).kinds
