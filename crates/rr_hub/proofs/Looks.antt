@@ -6,12 +6,15 @@ use Rattle.rr_slots.specs.Pools.{Written}
 use Rattle.rr_table.specs.TableView.{table_entry, value_at}
 use Rattle.rr_table.specs.declared.place.Place.{Place}
 use Rattle.rr_sender.specs.Senders.{content_at}
+use Rattle.rr_sender.specs.Senders as sender
 use Rattle.rr_protocol.specs.declared.kind.Kind.{Kind}
 use Rattle.rr_protocol.specs.declared.request_header.RequestHeader.{RequestHeader}
 use Rattle.rr_protocol.specs.declared.response_header.ResponseHeader.{ResponseHeader}
 use Rattle.rr_protocol.specs.Messages.{RequestMessage, ResponseMessage, request_in, response_in}
 use Rattle.rr_protocol.specs.Queries.{kind_at, request_header, response_header}
-use Rattle.rr_protocol.specs.State.{State, active_at, handle_at}
+use Rattle.rr_protocol.specs.State.{State, active_at, handle_at, with_changed}
+use Rattle.rr_protocol.specs.Writing.{with_request_content, with_response_content, with_user_header}
+use Rattle.rr_store.specs.Changes.{with_requests, with_responses}
 use Rattle.rr_store.specs.declared.details.RequestDetails.{RequestDetails}
 use Rattle.rr_store.specs.declared.details.ResponseDetails.{ResponseDetails}
 use Rattle.rr_store.specs.declared.handle_entry.HandleEntry.{HandleEntry}
@@ -105,6 +108,16 @@ module _ {Q QH P PH K : Type 0} {p : Parts Q QH P PH K} {s : State Q QH P PH K} 
     slot = request.slot_asked p m looked.0 entry under core (request_loan kind);
   }
 
+  -- its user header becomes another
+  pub request_header_written : (kind_at s m ≡ Some Kind.RequestMutUninit) ⊎ (kind_at s m ≡ Some Kind.RequestMut) → (header : QH) (q : Parts Q QH P PH K)
+      → q ≡ with_requests p entry.sender (λ messages. sender.with_user_header messages entry.slot header)
+      → IsCore q × (state_of q ≡ with_changed s m (with_request_content (with_user_header header)))
+  request_header_written kind header q written = (
+    request.header_core p m looked.0 entry under core (request_loan kind) header q written,
+    request.header_view p m looked.0 entry under core (request_loan kind) header q written
+        ∙ ap (λ t. with_changed t m (with_request_content (with_user_header header))) view,
+  )
+
   module _ (has : IsSome (option_and_then response_in (handle_at s m))) where
     -- where the response is
     pub response_asked : HasSlot entry p.server_senders
@@ -139,6 +152,16 @@ module _ {Q QH P PH K : Type 0} {p : Parts Q QH P PH K} {s : State Q QH P PH K} 
     slot = response.slot_asked p m looked.0 entry under core (response_loan kind);
   }
 
+  -- its user header becomes another
+  pub response_header_written : (kind_at s m ≡ Some Kind.ResponseMutUninit) ⊎ (kind_at s m ≡ Some Kind.ResponseMut) → (header : PH) (q : Parts Q QH P PH K)
+      → q ≡ with_responses p entry.sender (λ messages. sender.with_user_header messages entry.slot header)
+      → IsCore q × (state_of q ≡ with_changed s m (with_response_content (with_user_header header)))
+  response_header_written kind header q written = (
+    response.header_core p m looked.0 entry under core (response_loan kind) header q written,
+    response.header_view p m looked.0 entry under core (response_loan kind) header q written
+        ∙ ap (λ t. with_changed t m (with_response_content (with_user_header header))) view,
+  )
+
   module _ (kind : kind_at s m ≡ Some Kind.ActiveRequest) where
     -- the stage of an active request
     pub active_stage : stage_kind entry.stage ≡ Kind.ActiveRequest
@@ -148,10 +171,12 @@ module _ {Q QH P PH K : Type 0} {p : Parts Q QH P PH K} {s : State Q QH P PH K} 
     pub active_asked : HasSlot entry p.client_senders
     active_asked = request_slot (active_has_request entry.stage active_stage)
 
-    -- what is true of the request in the slot is true of the one that was received
-    pub active_then : (R : RequestMessage Q QH → Type 0) → R (request_at p entry.sender entry.slot)
-        → IsSomeAnd (active_at s m) (λ active. R active.message)
-    active_then R told = of_received p s n m view same entry here R active_stage told
+    -- the client in its details is that of the request that was received
+    pub active_client : (details : RequestDetails) → details ≡ request_details p entry.sender entry.slot
+        → IsSomeAnd (active_at s m) (λ active. details.client ≡ active.message.client)
+    active_client details are =
+        of_received p s n m view same entry here (λ (m : RequestMessage Q QH). details.client ≡ m.client) active_stage
+        (ap (λ (d : RequestDetails). d.client) are)
 
   module _ (kind : kind_at s m ≡ Some Kind.PendingResponse) where
     -- the stage of a pending response
@@ -166,10 +191,12 @@ module _ {Q QH P PH K : Type 0} {p : Parts Q QH P PH K} {s : State Q QH P PH K} 
   pub received_asked : IsSome (active_at s m) → HasSlot entry p.client_senders
   received_asked has = request_slot (active_has_request entry.stage (is_active p s n m view same entry here has))
 
-  -- and what is true of its request
-  pub received_then : IsSome (active_at s m) → (R : RequestMessage Q QH → Type 0) → R (request_at p entry.sender entry.slot)
-      → IsSomeAnd (active_at s m) (λ active. R active.message)
-  received_then has R told = of_received p s n m view same entry here R (is_active p s n m view same entry here has) told
+  -- and the number in its details is the request's
+  pub received_number : IsSome (active_at s m) → (details : RequestDetails) → details ≡ request_details p entry.sender entry.slot
+      → IsSomeAnd (active_at s m) (λ active. details.number ≡ active.message.number)
+  received_number has details are =
+      of_received p s n m view same entry here (λ (m : RequestMessage Q QH). details.number ≡ m.number)
+      (is_active p s n m view same entry here has) (ap (λ (d : RequestDetails). d.number) are)
 
   module _ (kind : kind_at s m ≡ Some Kind.Response) where
     -- a response that a client received is one
@@ -180,7 +207,9 @@ module _ {Q QH P PH K : Type 0} {p : Parts Q QH P PH K} {s : State Q QH P PH K} 
     pub came_asked : HasSlot entry p.server_senders
     came_asked = response_slot came_is
 
-    -- what is true of the one in the slot is true of the one that contracts see
-    pub came_then : (R : ResponseMessage P PH → Type 0) → R (response_at p entry.sender entry.slot)
-        → IsSomeAnd (option_and_then response_in (handle_at s m)) R
-    came_then R told = of_response p s n m view same entry here R came_is told
+    -- the server in its details is that of the response
+    pub came_server : (details : ResponseDetails) → details ≡ response_details p entry.sender entry.slot
+        → IsSomeAnd (option_and_then response_in (handle_at s m)) (λ m. details.server ≡ m.server)
+    came_server details are =
+        of_response p s n m view same entry here (λ (m : ResponseMessage P PH). details.server ≡ m.server) came_is
+        (ap (λ (d : ResponseDetails). d.server) are)

@@ -1,7 +1,5 @@
-use Rattle.std.proofs.Common.{◌≡◌, ap}
-use Rattle.rr_store.specs.declared.details.RequestDetails.{RequestDetails}
 use Rattle.rr_store.specs.Views.{no_request}
-use Rattle.rr_hub.proofs.Looks.{received_asked, received_then}
+use Rattle.rr_hub.proofs.Looks.{received_asked, received_number}
 use Rattle.rr_hub.proofs.state.Core.request_number.Goals as goal
 
 pub details-requires : goal.details-requires
@@ -9,5 +7,4 @@ details-requires g c = received_asked c.self.invariant c.self.view_is c.number.e
 
 pub returns : goal.returns
 returns g c =
-    received_then c.self.invariant c.self.view_is c.number.ensures c.look_up-entry.ensures c.requires (λ m. c.details.result.number ≡ m.number)
-    (ap (λ (d : RequestDetails). d.number) (c.details.ensures no_request))
+    received_number c.self.invariant c.self.view_is c.number.ensures c.look_up-entry.ensures c.requires _ (c.details.ensures no_request)

@@ -1,7 +1,5 @@
-use Rattle.std.proofs.Common.{◌≡◌, ap}
-use Rattle.rr_store.specs.declared.details.RequestDetails.{RequestDetails}
 use Rattle.rr_store.specs.Views.{no_request}
-use Rattle.rr_hub.proofs.Looks.{active_asked, active_then}
+use Rattle.rr_hub.proofs.Looks.{active_asked, active_client}
 use Rattle.rr_hub.proofs.state.Core.request_origin.Goals as goal
 
 pub details-requires : goal.details-requires
@@ -9,5 +7,4 @@ details-requires g c = active_asked c.self.invariant c.self.view_is c.number.ens
 
 pub returns : goal.returns
 returns g c =
-    active_then c.self.invariant c.self.view_is c.number.ensures c.look_up-entry.ensures c.requires (λ m. c.details.result.client ≡ m.client)
-    (ap (λ (d : RequestDetails). d.client) (c.details.ensures no_request))
+    active_client c.self.invariant c.self.view_is c.number.ensures c.look_up-entry.ensures c.requires _ (c.details.ensures no_request)

@@ -1,7 +1,6 @@
 use Rattle.std.proofs.Common.{ap}
 use Rattle.rr_store.specs.Opened.{opened}
-use Rattle.rr_writing.proofs.steps.Request.{header_core, header_view}
-use Rattle.rr_hub.proofs.Looks.{loaned_request, request_loan, under}
+use Rattle.rr_hub.proofs.Looks.{loaned_request, request_header_written}
 use Rattle.rr_hub.proofs.state.Core.write_request_user_header.Goals as goal
 
 pub write_user_header-requires : goal.write_user_header-requires
@@ -9,12 +8,10 @@ write_user_header-requires g c = loaned_request c.self.invariant c.self.view_is 
 
 pub invariant_of-self : goal.invariant_of-self
 invariant_of-self g c =
-    header_core _ _ _ _ (under c.self.invariant c.self.view_is c.number.ensures c.look_up-entry.ensures)
-    c.self.invariant (request_loan c.self.invariant c.self.view_is c.number.ensures c.look_up-entry.ensures c.requires)
-    c.args.header _ (ap (λ s. opened (record c.self.inside.parts { clients = s })) c.write_user_header.ensures)
+    (request_header_written c.self.invariant c.self.view_is c.number.ensures c.look_up-entry.ensures c.requires c.args.header _
+    (ap (λ s. opened (record c.self.inside.parts { clients = s })) c.write_user_header.ensures)).0
 
 pub returns : goal.returns
 returns g c =
-    rw (← c.self.view_is) (header_view _ _ _ _ (under c.self.invariant c.self.view_is c.number.ensures c.look_up-entry.ensures)
-    c.self.invariant (request_loan c.self.invariant c.self.view_is c.number.ensures c.look_up-entry.ensures c.requires)
-    c.args.header _ (ap (λ s. opened (record c.self.inside.parts { clients = s })) c.write_user_header.ensures))
+    (request_header_written c.self.invariant c.self.view_is c.number.ensures c.look_up-entry.ensures c.requires c.args.header _
+    (ap (λ s. opened (record c.self.inside.parts { clients = s })) c.write_user_header.ensures)).1
