@@ -21,14 +21,16 @@ use Rattle.rr_store.specs.declared.handle_entry.HandleEntry.{HandleEntry}
 use Rattle.rr_store.specs.Kinds.{stage_kind}
 use Rattle.rr_store.specs.Parts.{Parts, Sender}
 use Rattle.rr_store.specs.Reaching.{IsCore}
-use Rattle.rr_store.specs.Sound.{empty_hand, is_of_request, is_of_response, is_request_loan, is_response_loan, request_details, response_details}
+use Rattle.rr_store.specs.Sound.{empty_hand, is_of_request, is_of_response, is_request_loan, is_response_loan}
+use Rattle.rr_store.specs.Sound.{request_details, response_details}
 use Rattle.rr_store.specs.Views.{request_at, response_at, sender_of, state_of}
 use Rattle.rr_store.proofs.base.lookups.Placed.{value_there}
 use Rattle.rr_store.proofs.base.lookups.Shown.{is_request, is_response, of_request, of_response, request_spot, response_spot}
 use Rattle.rr_writing.proofs.steps.Request as request
 use Rattle.rr_writing.proofs.steps.Response as response
 use Rattle.rr_hub.proofs.Lending.{stands}
-use Rattle.rr_store.proofs.querying.Connected.{active_has_request, is_active, of_kind, of_received, pending_has_request, received_has_response}
+use Rattle.rr_store.proofs.querying.Connected.{active_has_request, pending_has_request, received_has_response}
+use Rattle.rr_store.proofs.querying.Connected.{is_active, of_kind, of_received}
 
 -- a sender, and a slot of it, are there
 abbrev pub HasSlot : {B N H : Type 0} → HandleEntry → List (Sender B N H) → Type 0
@@ -67,17 +69,19 @@ module _ {Q QH P PH K : Type 0} {p : Parts Q QH P PH K} {s : State Q QH P PH K} 
   under = stands p n m same entry looked
 
   -- where the request of a handle of one is
-  pub request_slot : is_of_request entry.stage ≡ true → HasSlot entry p.client_senders
-  request_slot is = let spot = request_spot p empty_hand core.sound.counted n entry here is in record { sender = spot.0; slot = spot.1 }
+  pub slot_of_request : is_of_request entry.stage ≡ true → HasSlot entry p.client_senders
+  slot_of_request is =
+      let spot = request_spot p empty_hand core.sound.counted n entry here is in record { sender = spot.0; slot = spot.1 }
 
   -- and a response
-  pub response_slot : is_of_response entry.stage ≡ true → HasSlot entry p.server_senders
-  response_slot is = let spot = response_spot p empty_hand core.sound.counted n entry here is in record { sender = spot.0; slot = spot.1 }
+  pub slot_of_response : is_of_response entry.stage ≡ true → HasSlot entry p.server_senders
+  slot_of_response is =
+      let spot = response_spot p empty_hand core.sound.counted n entry here is in record { sender = spot.0; slot = spot.1 }
 
   module _ (has : IsSome (option_and_then request_in (handle_at s m))) where
     -- where the request is
-    pub request_asked : HasSlot entry p.client_senders
-    request_asked = request_slot (is_request p s n m view same entry here has)
+    pub request_slot : HasSlot entry p.client_senders
+    request_slot = slot_of_request (is_request p s n m view same entry here has)
 
     -- what is true of the request in the slot is true of the one that contracts see
     pub request_then : (R : RequestMessage Q QH → Type 0) → R (request_at p entry.sender entry.slot)
@@ -88,7 +92,8 @@ module _ {Q QH P PH K : Type 0} {p : Parts Q QH P PH K} {s : State Q QH P PH K} 
     pub request_header_then : (details : RequestDetails) → details ≡ request_details p entry.sender entry.slot
         → (body : Written Q) → body ≡ content_at (sender_of entry.sender p.client_senders).messages entry.slot
         → (asked_len : ℕ) → asked_len ≡ body.asked_len
-        → IsSomeAnd (option_and_then request_in (handle_at s m)) (λ m. request_header_from details asked_len p.node_id ≡ request_header s m)
+        → IsSomeAnd (option_and_then request_in (handle_at s m))
+        (λ m. request_header_from details asked_len p.node_id ≡ request_header s m)
     request_header_then details are body read asked_len asks =
         request_then (λ (m : RequestMessage Q QH). request_header_from details asked_len p.node_id ≡ request_header s m)
         (λ k. request_header_from (are k) ((asks ∙ ap (λ (w : Written Q). w.asked_len) read) k) (view k).node_id)
@@ -109,8 +114,8 @@ module _ {Q QH P PH K : Type 0} {p : Parts Q QH P PH K} {s : State Q QH P PH K} 
   }
 
   -- its user header becomes another
-  pub request_header_written : (kind_at s m ≡ Some Kind.RequestMutUninit) ⊎ (kind_at s m ≡ Some Kind.RequestMut) → (header : QH) (q : Parts Q QH P PH K)
-      → q ≡ with_requests p entry.sender (λ messages. sender.with_user_header messages entry.slot header)
+  pub request_header_written : (kind_at s m ≡ Some Kind.RequestMutUninit) ⊎ (kind_at s m ≡ Some Kind.RequestMut) → (header : QH)
+      → (q : Parts Q QH P PH K) → q ≡ with_requests p entry.sender (λ messages. sender.with_user_header messages entry.slot header)
       → IsCore q × (state_of q ≡ with_changed s m (with_request_content (with_user_header header)))
   request_header_written kind header q written = (
     request.header_core p m looked.0 entry under core (request_loan kind) header q written,
@@ -120,8 +125,8 @@ module _ {Q QH P PH K : Type 0} {p : Parts Q QH P PH K} {s : State Q QH P PH K} 
 
   module _ (has : IsSome (option_and_then response_in (handle_at s m))) where
     -- where the response is
-    pub response_asked : HasSlot entry p.server_senders
-    response_asked = response_slot (is_response p s n m view same entry here has)
+    pub response_slot : HasSlot entry p.server_senders
+    response_slot = slot_of_response (is_response p s n m view same entry here has)
 
     -- what is true of the response in the slot is true of the one that contracts see
     pub response_then : (R : ResponseMessage P PH → Type 0) → R (response_at p entry.sender entry.slot)
@@ -132,7 +137,8 @@ module _ {Q QH P PH K : Type 0} {p : Parts Q QH P PH K} {s : State Q QH P PH K} 
     pub response_header_then : (details : ResponseDetails) → details ≡ response_details p entry.sender entry.slot
         → (body : Written P) → body ≡ content_at (sender_of entry.sender p.server_senders).messages entry.slot
         → (asked_len : ℕ) → asked_len ≡ body.asked_len
-        → IsSomeAnd (option_and_then response_in (handle_at s m)) (λ m. response_header_from details asked_len p.node_id ≡ response_header s m)
+        → IsSomeAnd (option_and_then response_in (handle_at s m))
+        (λ m. response_header_from details asked_len p.node_id ≡ response_header s m)
     response_header_then details are body read asked_len asks =
         response_then (λ (m : ResponseMessage P PH). response_header_from details asked_len p.node_id ≡ response_header s m)
         (λ k. response_header_from (are k) ((asks ∙ ap (λ (w : Written P). w.asked_len) read) k) (view k).node_id)
@@ -153,8 +159,8 @@ module _ {Q QH P PH K : Type 0} {p : Parts Q QH P PH K} {s : State Q QH P PH K} 
   }
 
   -- its user header becomes another
-  pub response_header_written : (kind_at s m ≡ Some Kind.ResponseMutUninit) ⊎ (kind_at s m ≡ Some Kind.ResponseMut) → (header : PH) (q : Parts Q QH P PH K)
-      → q ≡ with_responses p entry.sender (λ messages. sender.with_user_header messages entry.slot header)
+  pub response_header_written : (kind_at s m ≡ Some Kind.ResponseMutUninit) ⊎ (kind_at s m ≡ Some Kind.ResponseMut) → (header : PH)
+      → (q : Parts Q QH P PH K) → q ≡ with_responses p entry.sender (λ messages. sender.with_user_header messages entry.slot header)
       → IsCore q × (state_of q ≡ with_changed s m (with_response_content (with_user_header header)))
   response_header_written kind header q written = (
     response.header_core p m looked.0 entry under core (response_loan kind) header q written,
@@ -169,7 +175,7 @@ module _ {Q QH P PH K : Type 0} {p : Parts Q QH P PH K} {s : State Q QH P PH K} 
 
     -- where its request is
     pub active_asked : HasSlot entry p.client_senders
-    active_asked = request_slot (active_has_request entry.stage active_stage)
+    active_asked = slot_of_request (active_has_request entry.stage active_stage)
 
     -- the client in its details is that of the request that was received
     pub active_client : (details : RequestDetails) → details ≡ request_details p entry.sender entry.slot
@@ -185,11 +191,11 @@ module _ {Q QH P PH K : Type 0} {p : Parts Q QH P PH K} {s : State Q QH P PH K} 
 
     -- where its request is
     pub pending_asked : HasSlot entry p.client_senders
-    pending_asked = request_slot (pending_has_request entry.stage pending_stage)
+    pending_asked = slot_of_request (pending_has_request entry.stage pending_stage)
 
   -- the same of a handle that is known to be an active request
   pub received_asked : IsSome (active_at s m) → HasSlot entry p.client_senders
-  received_asked has = request_slot (active_has_request entry.stage (is_active p s n m view same entry here has))
+  received_asked has = slot_of_request (active_has_request entry.stage (is_active p s n m view same entry here has))
 
   -- and the number in its details is the request's
   pub received_number : IsSome (active_at s m) → (details : RequestDetails) → details ≡ request_details p entry.sender entry.slot
@@ -205,7 +211,7 @@ module _ {Q QH P PH K : Type 0} {p : Parts Q QH P PH K} {s : State Q QH P PH K} 
 
     -- where it is
     pub came_asked : HasSlot entry p.server_senders
-    came_asked = response_slot came_is
+    came_asked = slot_of_response came_is
 
     -- the server in its details is that of the response
     pub came_server : (details : ResponseDetails) → details ≡ response_details p entry.sender entry.slot

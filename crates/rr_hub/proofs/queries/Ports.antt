@@ -24,7 +24,8 @@ abbrev pub HasNumbered : {A : Type 0} → (A → ℕ) → List A → ℕ → Typ
 HasNumbered id ports n = record { rising : IsRising id ports; present : IsSome (position (λ a. id a == n) ports) }
 
 -- ports that are kept, which parts they are, how contracts see those, and their numbers
-module _ {A X Y : Type 0} (part : A → X) (seen : X → Y) (id : Y → ℕ) (ports : List A) (parts : List X) (are : map part ports ≡ parts) (n : ℕ)
+module _ {A X Y : Type 0} (part : A → X) (seen : X → Y) (id : Y → ℕ) (ports : List A) (parts : List X)
+    (are : map part ports ≡ parts) (n : ℕ)
   where
     -- one is there where contracts see one
     numbered : IsRising (λ x. id (seen x)) parts → (find (λ y. id y == n) (map seen parts) ≡ None → ⊥)

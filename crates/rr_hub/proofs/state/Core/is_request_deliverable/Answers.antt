@@ -12,5 +12,6 @@ takes_request-requires g c =
 
 pub returns : goal.returns
 returns g c =
-    rw (← c.self.view_is) (told_then _ c.self.invariant _ _ _ (under c.self.invariant c.self.view_is c.number.ensures c.look_up-entry.ensures)
-    (rw (← c.self.view_is) at c.requires) _ c.takes_request.ensures)
+    rw (← c.self.view_is) (told_then _ c.self.invariant _ _ _
+    (under c.self.invariant c.self.view_is c.number.ensures c.look_up-entry.ensures) (rw (← c.self.view_is) at c.requires) _
+    c.takes_request.ensures)

@@ -21,5 +21,6 @@ takes_response-requires g c =
 
 pub returns : goal.returns
 returns g c =
-    rw (← c.self.view_is) (told_then _ c.self.invariant _ _ _ (under c.self.invariant c.self.view_is c.number.ensures c.look_up-entry.ensures)
-    (rw (← c.self.view_is) at c.requires) _ (c.details-details.ensures no_response) _ c.reached_receiver-reach.ensures _ c.takes_response.ensures)
+    rw (← c.self.view_is) (told_then _ c.self.invariant _ _ _
+    (under c.self.invariant c.self.view_is c.number.ensures c.look_up-entry.ensures) (rw (← c.self.view_is) at c.requires) _
+    (c.details-details.ensures no_response) _ c.reached_receiver-reach.ensures _ c.takes_response.ensures)

@@ -1,12 +1,20 @@
 use Rattle.rr_store.specs.Views.{no_request}
-use Rattle.rr_hub.proofs.Looks.{request_asked, request_header_then}
+use Rattle.rr_hub.proofs.Looks.{request_slot, request_header_then}
 use Rattle.rr_hub.proofs.state.Core.request_header.Goals as goal
 
-pub details-details-requires : goal.details-details-requires
-details-details-requires g c = request_asked c.self.invariant c.self.view_is c.number.ensures c.look_up-entry.ensures c.requires
+pub details-details-requires-clause-sender : goal.details-details-requires-clause-sender
+details-details-requires-clause-sender g c =
+    (request_slot c.self.invariant c.self.view_is c.number.ensures c.look_up-entry.ensures c.requires).sender
 
-pub body-requires : goal.body-requires
-body-requires g c = request_asked c.self.invariant c.self.view_is c.number.ensures c.look_up-entry.ensures c.requires
+pub details-details-requires-clause-slot : goal.details-details-requires-clause-slot
+details-details-requires-clause-slot g c =
+    (request_slot c.self.invariant c.self.view_is c.number.ensures c.look_up-entry.ensures c.requires).slot
+
+pub body-requires-clause-sender : goal.body-requires-clause-sender
+body-requires-clause-sender g c = (request_slot c.self.invariant c.self.view_is c.number.ensures c.look_up-entry.ensures c.requires).sender
+
+pub body-requires-clause-slot : goal.body-requires-clause-slot
+body-requires-clause-slot g c = (request_slot c.self.invariant c.self.view_is c.number.ensures c.look_up-entry.ensures c.requires).slot
 
 pub returns : goal.returns
 returns g c =

@@ -30,6 +30,7 @@ returns g c =
       ),
       record {
         lends = tt;
-        value = header_lent _ _ _ _ at c.self.invariant loan _ c.messages_mut-messages.ensures.value c.user_header_mut.result.now c.user_header_mut.ensures.value;
+        value = header_lent _ _ _ _ at c.self.invariant loan _ c.messages_mut-messages.ensures.value
+            c.user_header_mut.result.now c.user_header_mut.ensures.value;
       },
     )

@@ -1,10 +1,13 @@
 use Rattle.std.proofs.Common.{ap}
 use Rattle.rr_slots.specs.Pools.{Written}
-use Rattle.rr_hub.proofs.Looks.{response_asked, response_then}
+use Rattle.rr_hub.proofs.Looks.{response_slot, response_then}
 use Rattle.rr_hub.proofs.state.Core.response_body.Goals as goal
 
-pub body-requires : goal.body-requires
-body-requires g c = response_asked c.self.invariant c.self.view_is c.number.ensures c.look_up-entry.ensures c.requires
+pub body-requires-clause-sender : goal.body-requires-clause-sender
+body-requires-clause-sender g c = (response_slot c.self.invariant c.self.view_is c.number.ensures c.look_up-entry.ensures c.requires).sender
+
+pub body-requires-clause-slot : goal.body-requires-clause-slot
+body-requires-clause-slot g c = (response_slot c.self.invariant c.self.view_is c.number.ensures c.look_up-entry.ensures c.requires).slot
 
 pub returns-clause-asked : goal.returns-clause-asked
 returns-clause-asked g c =
