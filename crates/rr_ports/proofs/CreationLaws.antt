@@ -73,6 +73,10 @@ module _ {Q QH P PH K : Type 0} (old new : State Q QH P PH K) where
         ∙ ap (λ b. cond b (Some Kind.Client) (cond (is_server_value new old.next) (Some Kind.Server) (handle_kind new old.next)))
         (itself_now old.next k creates.1 (is_client_value old) (is_client_value new) client_value)
 
+    -- both
+    client_comes : Names new k Kind.Client × KeepsKinds old new
+    client_comes = (client_names, client_keeps)
+
   module _ (settings : ServerSettings K) (k : ℕ) (creates : CreatesServer old settings (Ok k) new) (free : kind_at old k ≡ None) where
     server_value : (n : ℕ) → is_server_value new n ≡ (is_server_value old n || (old.next == n && true))
     server_value n = ap (λ t. is_server_value t n) creates.2 ∙ any_append (λ (c : Server K). c.id == n && c.has_value) old.servers _
@@ -80,7 +84,8 @@ module _ {Q QH P PH K : Type 0} (old new : State Q QH P PH K) where
     server_keeps : KeepsKinds old new
     server_keeps =
         ports_keep k free (λ n other. ap (λ t. is_client_value t n) creates.2)
-        (others_still old.next k creates.1 (is_server_value old) (is_server_value new) server_value) (λ n. ap (λ t. handle_kind t n) creates.2)
+        (others_still old.next k creates.1 (is_server_value old) (is_server_value new) server_value)
+        (λ n. ap (λ t. handle_kind t n) creates.2)
 
     server_names : Names new k Kind.Server
     unfolding Names
@@ -90,6 +95,10 @@ module _ {Q QH P PH K : Type 0} (old new : State Q QH P PH K) where
         (ap (λ t. is_client_value t old.next) creates.2 ∙ ap (is_client_value old) (sym creates.1) ∙ (free_no_port old k free).client)
         ∙ ap (λ b. cond b (Some Kind.Server) (handle_kind new old.next))
         (itself_now old.next k creates.1 (is_server_value old) (is_server_value new) server_value)
+
+    -- both
+    server_comes : Names new k Kind.Server × KeepsKinds old new
+    server_comes = (server_names, server_keeps)
 
   -- what a creation tells of what numbers name
   abbrev pub TellsCreated : {E : Type 0} → Result ℕ E → Kind → Type 0
@@ -115,11 +124,11 @@ module _ {Q QH P PH K : Type 0} (old new : State Q QH P PH K) where
   pub created_client : (settings : ClientSettings K) (result : Result ℕ ClientCreateError) → CreatesClient old settings result new
       → IfOk result (λ k. kind_at old k ≡ None) → TellsCreated result Kind.Client
   created_client settings =
-      created Kind.Client (λ r. CreatesClient old settings r new) (λ k creates free. (client_names settings k creates free, client_keeps settings k creates free))
-      (λ k creates. ap (λ t. t.next) creates.2) (λ e creates. creates.1)
+      created Kind.Client (λ r. CreatesClient old settings r new) (client_comes settings) (λ k creates. ap (λ t. t.next) creates.2)
+      (λ e creates. creates.1)
 
   pub created_server : (settings : ServerSettings K) (result : Result ℕ ServerCreateError) → CreatesServer old settings result new
       → IfOk result (λ k. kind_at old k ≡ None) → TellsCreated result Kind.Server
   created_server settings =
-      created Kind.Server (λ r. CreatesServer old settings r new) (λ k creates free. (server_names settings k creates free, server_keeps settings k creates free))
-      (λ k creates. ap (λ t. t.next) creates.2) (λ e creates. creates.1)
+      created Kind.Server (λ r. CreatesServer old settings r new) (server_comes settings) (λ k creates. ap (λ t. t.next) creates.2)
+      (λ e creates. creates.1)

@@ -99,7 +99,8 @@ module _ {Q QH P PH K : Type 0} {s t : State Q QH P PH K} {n m : ℕ} (view : s 
       → IsSomeAnd (option_and_then message_in (handle_at t m)) (λ x. is_complete (content x) ≡ true)
   unfolding Names
   complete_in message_in content is_whole client server by sent whole =
-      let h = there t m k (λ e. false≢true (sym client ∙ ap is_whole e ∙ sent)) (λ e. false≢true (sym server ∙ ap is_whole e ∙ sent)) names in
+      let h = there t m k (λ e. false≢true (sym client ∙ ap is_whole e ∙ sent))
+      (λ e. false≢true (sym server ∙ ap is_whole e ∙ sent)) names in
       subst (λ o. IsSomeAnd (option_and_then message_in o) (λ x. is_complete (content x) ≡ true)) (sym h.1)
       (by h.0 (ap is_whole h.2 ∙ sent) (subst (λ o. IsSomeAnd o HasComplete) (read ∙ h.1) whole))
 
@@ -114,7 +115,8 @@ module _ {Q QH P PH K : Type 0} {s t : State Q QH P PH K} {n m : ℕ} (view : s 
       pub request_written : IsSome o
       request_written =
           one_in (λ (x : RequestMessage Q QH). x.content) (option_and_then request_in (handle_at s n)) o body.asked body.elements
-          (subst (λ h. IsSomeAnd (option_and_then request_in h) (λ x. is_complete x.content ≡ true)) (sym read) (request_complete body.complete))
+          (subst (λ h. IsSomeAnd (option_and_then request_in h) (λ x. is_complete x.content ≡ true)) (sym read)
+          (request_complete body.complete))
 
       pub request_value : (v : Q) → o ≡ Some v → IsSomeAnd (option_and_then request_in (handle_at t m)) (λ x. x.content.elements ≡ v ∷ [])
       request_value v e =
@@ -132,7 +134,8 @@ module _ {Q QH P PH K : Type 0} {s t : State Q QH P PH K} {n m : ℕ} (view : s 
       pub response_written : IsSome o
       response_written =
           one_in (λ (x : ResponseMessage P PH). x.content) (option_and_then response_in (handle_at s n)) o body.asked body.elements
-          (subst (λ h. IsSomeAnd (option_and_then response_in h) (λ x. is_complete x.content ≡ true)) (sym read) (response_complete body.complete))
+          (subst (λ h. IsSomeAnd (option_and_then response_in h) (λ x. is_complete x.content ≡ true)) (sym read)
+          (response_complete body.complete))
 
       pub response_value : (v : P) → o ≡ Some v → IsSomeAnd (option_and_then response_in (handle_at t m)) (λ x. x.content.elements ≡ v ∷ [])
       response_value v e =

@@ -21,7 +21,8 @@ module _ {Q QH P PH : Type 0} where
   -- a handle stays of its kind as a server leaves it
   without_server_kind : (server : ℕ) (h : Handle Q QH P PH) → kind_of (without_server server h) ≡ kind_of h
   without_server_kind server =
-      each_handle (λ h. kind_of (without_server server h) ≡ kind_of h) (λ m. refl) (λ m. refl) (λ p. refl) (λ a. refl) (λ m. refl) (λ m. refl) (λ m. refl)
+      each_handle (λ h. kind_of (without_server server h) ≡ kind_of h)
+      (λ m. refl) (λ m. refl) (λ p. refl) (λ a. refl) (λ m. refl) (λ m. refl) (λ m. refl)
 
   mapped_kind : (server : ℕ) (o : Option (Handle Q QH P PH)) → option_map kind_of (option_map (without_server server) o) ≡ option_map kind_of o
   mapped_kind server None = refl

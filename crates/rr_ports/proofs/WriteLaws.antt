@@ -7,20 +7,27 @@ use Rattle.rr_protocol.specs.State.{State, numbers_left, with_changed}
 use Rattle.rr_protocol.specs.Queries.{kind_of, kind_at}
 use Rattle.rr_protocol.specs.Writing.{with_request_content, with_response_content, after_init}
 use Rattle.rr_ports.specs.Kinds.{Names, KeepsKinds, KeepsKindsBut}
-use Rattle.rr_ports.proofs.NameLaws.{each_handle, opened_request, opened_response, handle_no_port, some_handle, keeps_but, keeps_each, changed_own, changed_other, changed_keeps}
+use Rattle.rr_ports.proofs.NameLaws.{each_handle, opened_request, opened_response}
+use Rattle.rr_ports.proofs.NameLaws.{handle_no_port, some_handle, keeps_but, keeps_each, changed_own, changed_other, changed_keeps}
 
 module _ {Q QH P PH : Type 0} where
   -- changes of content and hints leave each handle of its kind
-  pub request_content_kind : (change : Content Q QH → Content Q QH) (h : Handle Q QH P PH) → kind_of (with_request_content change h) ≡ kind_of h
+  pub request_content_kind : (change : Content Q QH → Content Q QH) (h : Handle Q QH P PH)
+      → kind_of (with_request_content change h) ≡ kind_of h
   request_content_kind change =
-      each_handle (λ h. kind_of (with_request_content change h) ≡ kind_of h) (λ m. refl) (λ m. refl) (λ p. refl) (λ a. refl) (λ m. refl) (λ m. refl) (λ m. refl)
+      each_handle (λ h. kind_of (with_request_content change h) ≡ kind_of h)
+      (λ m. refl) (λ m. refl) (λ p. refl) (λ a. refl) (λ m. refl) (λ m. refl) (λ m. refl)
 
-  pub response_content_kind : (change : Content P PH → Content P PH) (h : Handle Q QH P PH) → kind_of (with_response_content change h) ≡ kind_of h
+  pub response_content_kind : (change : Content P PH → Content P PH) (h : Handle Q QH P PH)
+      → kind_of (with_response_content change h) ≡ kind_of h
   response_content_kind change =
-      each_handle (λ h. kind_of (with_response_content change h) ≡ kind_of h) (λ m. refl) (λ m. refl) (λ p. refl) (λ a. refl) (λ m. refl) (λ m. refl) (λ m. refl)
+      each_handle (λ h. kind_of (with_response_content change h) ≡ kind_of h)
+      (λ m. refl) (λ m. refl) (λ p. refl) (λ a. refl) (λ m. refl) (λ m. refl) (λ m. refl)
 
   hint_kind : (h : Handle Q QH P PH) → kind_of (with_hint h) ≡ kind_of h
-  hint_kind = each_handle (λ h. kind_of (with_hint h) ≡ kind_of h) (λ m. refl) (λ m. refl) (λ p. refl) (λ a. refl) (λ m. refl) (λ m. refl) (λ m. refl)
+  hint_kind =
+      each_handle (λ h. kind_of (with_hint h) ≡ kind_of h)
+      (λ m. refl) (λ m. refl) (λ p. refl) (λ a. refl) (λ m. refl) (λ m. refl) (λ m. refl)
 
   -- what was being written can be sent once it is taken as complete
   pub request_init_kind : (h : Handle Q QH P PH) → kind_of h ≡ Kind.RequestMutUninit → kind_of (after_init h) ≡ Kind.RequestMut
@@ -40,10 +47,12 @@ pub record Inits (Q QH P PH : Type 0) : Type 0 where
 module _ {Q QH P PH : Type 0} where
   -- a request, and a response
   abbrev pub requests : Inits Q QH P PH
-  requests = record { before = Kind.RequestMutUninit; after = Kind.RequestMut; client = λ e. cc; server = λ e. cc; becomes = request_init_kind }
+  requests =
+      record { before = Kind.RequestMutUninit; after = Kind.RequestMut; client = λ e. cc; server = λ e. cc; becomes = request_init_kind }
 
   abbrev pub responses : Inits Q QH P PH
-  responses = record { before = Kind.ResponseMutUninit; after = Kind.ResponseMut; client = λ e. cc; server = λ e. cc; becomes = response_init_kind }
+  responses =
+      record { before = Kind.ResponseMutUninit; after = Kind.ResponseMut; client = λ e. cc; server = λ e. cc; becomes = response_init_kind }
 
 -- a message that is not complete takes an element
 module _ {M S : Type 0} (is_whole : M → Bool) (told : Bool) (new pushed old : S) where
@@ -131,7 +140,8 @@ module _ {Q QH P PH K : Type 0} where
 
       -- and was written before
       pub written : (change : Handle Q QH P PH → Handle Q QH P PH) → ((h : Handle Q QH P PH) → kind_of (change h) ≡ kind_of h)
-          → new ≡ with_changed (with_changed old n change) n after_init → Names old n kinds.before → TellsWritten old new n change kinds.after
+          → new ≡ with_changed (with_changed old n change) n after_init → Names old n kinds.before
+          → TellsWritten old new n change kinds.after
       unfolding Names
       written change alike e is = record {
         same = refl;

@@ -8,12 +8,15 @@ returns-clause-fresh g c = rw (c.created.ensures, ← c.hub.view_is) c.create_cl
 
 pub returns-clause-kind : goal.returns-clause-kind
 returns-clause-kind g c =
-    rw c.created.ensures (created_client c.hub.inside.core c.create_client.new.self _ _ c.create_client.ensures.creates c.create_client.ensures.unnamed).kind
+    rw c.created.ensures (created_client c.hub.inside.core c.create_client.new.self _ _
+    c.create_client.ensures.creates c.create_client.ensures.unnamed).kind
 
 pub returns-clause-kinds : goal.returns-clause-kinds
 returns-clause-kinds g c =
-    rw (← c.hub.view_is) (created_client c.hub.inside.core c.create_client.new.self _ _ c.create_client.ensures.creates c.create_client.ensures.unnamed).kinds
+    rw (← c.hub.view_is) (created_client c.hub.inside.core c.create_client.new.self _ _
+    c.create_client.ensures.creates c.create_client.ensures.unnamed).kinds
 
 pub returns-clause-numbers : goal.returns-clause-numbers
 returns-clause-numbers g c =
-    rw (← c.hub.view_is) (created_client c.hub.inside.core c.create_client.new.self _ _ c.create_client.ensures.creates c.create_client.ensures.unnamed).numbers
+    rw (← c.hub.view_is) (created_client c.hub.inside.core c.create_client.new.self _ _
+    c.create_client.ensures.creates c.create_client.ensures.unnamed).numbers

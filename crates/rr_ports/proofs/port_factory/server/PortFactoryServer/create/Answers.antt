@@ -8,12 +8,15 @@ returns-clause-fresh g c = rw (c.created.ensures, ← c.hub.view_is) c.create_se
 
 pub returns-clause-kind : goal.returns-clause-kind
 returns-clause-kind g c =
-    rw c.created.ensures (created_server c.hub.inside.core c.create_server.new.self _ _ c.create_server.ensures.creates c.create_server.ensures.unnamed).kind
+    rw c.created.ensures (created_server c.hub.inside.core c.create_server.new.self _ _
+    c.create_server.ensures.creates c.create_server.ensures.unnamed).kind
 
 pub returns-clause-kinds : goal.returns-clause-kinds
 returns-clause-kinds g c =
-    rw (← c.hub.view_is) (created_server c.hub.inside.core c.create_server.new.self _ _ c.create_server.ensures.creates c.create_server.ensures.unnamed).kinds
+    rw (← c.hub.view_is) (created_server c.hub.inside.core c.create_server.new.self _ _
+    c.create_server.ensures.creates c.create_server.ensures.unnamed).kinds
 
 pub returns-clause-numbers : goal.returns-clause-numbers
 returns-clause-numbers g c =
-    rw (← c.hub.view_is) (created_server c.hub.inside.core c.create_server.new.self _ _ c.create_server.ensures.creates c.create_server.ensures.unnamed).numbers
+    rw (← c.hub.view_is) (created_server c.hub.inside.core c.create_server.new.self _ _
+    c.create_server.ensures.creates c.create_server.ensures.unnamed).numbers

@@ -6,4 +6,5 @@ use Rattle.rr_ports.proofs.typed.request_mut_uninit.RequestMutUninit+Option+T.wr
 pub returns : goal.returns
 returns g c =
     rw (← c.hub.view_is, ← c.self.view_is) (written c.hub.inside.core c.write_request.new.self c.self.inside.id requests _
-    (request_content_kind (with_elements (c.args.value ∷ []))) c.write_request.ensures (rw (← c.hub.view_is, ← c.self.view_is) at c.requires))
+    (request_content_kind (with_elements (c.args.value ∷ []))) c.write_request.ensures
+    (rw (← c.hub.view_is, ← c.self.view_is) at c.requires))

@@ -6,4 +6,5 @@ use Rattle.rr_ports.proofs.typed.response_mut_uninit.ResponseMutUninit+Option+T.
 pub returns : goal.returns
 returns g c =
     rw (← c.hub.view_is, ← c.self.view_is) (written c.hub.inside.core c.write_response.new.self c.self.inside.id responses _
-    (response_content_kind (with_elements (c.args.value ∷ []))) c.write_response.ensures (rw (← c.hub.view_is, ← c.self.view_is) at c.requires))
+    (response_content_kind (with_elements (c.args.value ∷ []))) c.write_response.ensures
+    (rw (← c.hub.view_is, ← c.self.view_is) at c.requires))
