@@ -1,12 +1,12 @@
 //! What a user of the ports sees: exchanges, loans, pools, slices, what builders set, and what is written in place.
 mod exchanges;
-mod factories;
 mod fixtures;
 mod handlers;
 mod lends;
 mod loans;
 mod pools;
 mod settings;
+mod slice_fixtures;
 mod slices;
 
 use rr_ports::Limits;

@@ -1,17 +1,15 @@
 //! Hubs with what a test needs, and the ends of them.
 #![tactic(auto, using(rr_ports::proofs::Frames::frames))]
 
-ghost use Rattle.std.specs.Prelude.{◌<◌, IfOk};
+ghost use Rattle.std.specs.Prelude.{◌≡◌, ◌<◌, None};
 ghost use Rattle.rr_protocol.specs.declared.kind.Kind.TheVariants as kind;
 ghost use Rattle.rr_protocol.specs.State.{numbers_left};
 ghost use Rattle.rr_ports.specs.Kinds.{Names, KeepsKinds};
 
-use super::LIMITS;
-use rr_ports::typed::{ActiveRequest, Client, Hub, PendingResponse, Server};
-use rr_ports::{ReceiveError, UniqueNodeId};
+use rr_ports::typed::{ActiveRequest, Client, Hub, PendingResponse, PortFactoryServer, Server};
+use rr_ports::{Limits, ReceiveError, UniqueNodeId};
 use std::alloc::Global;
 use std::process::Abort;
-use std::test::Fail;
 
 /// A service that answers numbers with numbers.
 pub type Service = Hub<u64, u64, u64, u64>;
@@ -23,24 +21,49 @@ pub struct Connected {
     pub server: Server<u64>,
 }
 
-/// Makes a hub with a client and a server of default settings, but for the server's loaned responses per request, if they are given.
-pub fn connect(rt: &impl Abort, alloc: Global, loans: Option<usize>) -> Result<Connected, Fail>
-    ensures client { IfOk result (λ c. Names c.hub c.client kind.Client) }
-    ensures server { IfOk result (λ c. Names c.hub c.server kind.Server) }
-    ensures numbers { IfOk result (λ c. 9 < numbers_left c.hub) }
+/// Returns a factory of servers of default settings, but for the loaned responses per request, if they are given.
+fn servers(hub: &Service, loans: Option<usize>) -> PortFactoryServer<u64>
+    ensures { result.preallocation ≡ None }
 {
-    let mut hub: Service = Hub::new(alloc, LIMITS, UniqueNodeId(7))?;
-    let client = hub.client_builder().create(&mut hub).expect(rt, "a client");
-    let factory = match loans {
+    match loans {
         Some(loans) => hub.server_builder().max_loaned_responses_per_request(loans),
         None => hub.server_builder(),
-    };
-    let server = factory.create(&mut hub).expect(rt, "a server");
-    Ok(Connected {
+    }
+}
+
+/// Makes a hub with a client and a server of default settings, but for the server's loaned responses per request, if they are given.
+pub fn connect(rt: &impl Abort, alloc: Global, limits: Limits, loans: Option<usize>) -> Connected
+    ensures client { Names result.hub result.client kind.Client }
+    ensures server { Names result.hub result.server kind.Server }
+    ensures numbers { 9 < numbers_left result.hub }
+{
+    let mut hub = Service::new(alloc, limits, UniqueNodeId(7)).expect(rt, "a hub");
+    let clients = hub.client_builder();
+    let client = clients.create(&mut hub).expect(rt, "a client");
+    let servers = servers(&hub, loans);
+    let server = servers.create(&mut hub).expect(rt, "a server");
+    Connected {
         hub,
         client,
         server,
-    })
+    }
+}
+
+impl Connected {
+    /// Releases the ports.
+    #[tactic(auto, using(rr_ports::proofs::Frames::kinds))]
+    pub fn end(self)
+        requires client { Names self.hub self.client kind.Client }
+        requires server { Names self.hub self.server kind.Server }
+    {
+        let Connected {
+            mut hub,
+            client,
+            server,
+        } = self;
+        client.release(&mut hub);
+        server.release(&mut hub);
+    }
 }
 
 /// A hub with a client and a server, and a request that was sent and received.

@@ -1,14 +1,19 @@
 //! Handlers of full queues, set through the factories of ports.
-#![tactic(auto, using(rr_ports::proofs::Frames::kinds))]
+#![tactic(auto, using(rr_ports::proofs::Frames::frames))]
+
+ghost use Rattle.std.specs.Prelude.{◌<◌, ◌≤◌, ◌+◌};
+ghost use Rattle.rr_protocol.specs.declared.kind.Kind.TheVariants as kind;
+ghost use Rattle.rr_protocol.specs.State.{numbers_left};
+ghost use Rattle.rr_ports.specs.Kinds.{Names, KeepsKinds};
 
 use super::LIMITS;
-use rr_ports::typed::Hub;
+use rr_ports::typed::{Client, Hub};
 use rr_ports::{
     BackpressureAction, BackpressureFn, BackpressureInfo, BackpressureStrategy, RequestSendError,
     SendError, UniqueNodeId,
 };
 use std::alloc::Global;
-use std::test::Fail;
+use std::process::Abort;
 
 /// Answers for one port, and leaves every other to the strategy.
 #[derive(Clone, Copy)]
@@ -32,49 +37,59 @@ impl BackpressureFn for At {
     }
 }
 
+/// A service whose ports ask a handler at full queues.
+type Service = Hub<u64, u64, u64, u64, At>;
+
+/// Sends a number, and waits for nothing. Returns how many queues took it.
+fn tell(hub: &mut Service, client: &Client<u64>, value: u64) -> Result<usize, RequestSendError>
+    requires client { Names hub.old client.now kind.Client }
+    requires number { 0 < numbers_left hub.old }
+    ensures kinds { KeepsKinds hub.old hub.new }
+    ensures numbers { numbers_left hub.old ≤ numbers_left hub.new + 1 }
+{
+    let pending = client.send_copy(hub, value)?;
+    let count = pending.number_of_server_connections(hub);
+    pending.release(hub);
+    Ok(count)
+}
+
+/// Sends three numbers. Returns how many queues took the third, or why it was refused.
+fn tell_three(hub: &mut Service, client: &Client<u64>) -> Result<usize, RequestSendError>
+    requires client { Names hub.old client.now kind.Client }
+    requires numbers { 2 < numbers_left hub.old }
+    ensures { KeepsKinds hub.old hub.new }
+{
+    let _first = tell(hub, client, 1);
+    let _second = tell(hub, client, 2);
+    tell(hub, client, 3)
+}
+
 /// Lets a client 0 with this strategy and handler send a third request to a server 1, whose queue two requests fill. Returns how many
 /// queues took it, or why it was refused.
+#[tactic(auto, using(rr_ports::proofs::Frames::kinds))]
 fn third_request(
+    rt: &impl Abort,
     alloc: Global,
     strategy: BackpressureStrategy,
     handler: At,
-) -> Result<Result<usize, RequestSendError>, Fail> {
-    let mut hub: Hub<u64, u64, u64, u64, At> = Hub::new(alloc, LIMITS, UniqueNodeId(7))?;
-    let factory = hub
+) -> Result<usize, RequestSendError> {
+    let mut hub = Service::new(alloc, LIMITS, UniqueNodeId(7)).expect(rt, "a hub");
+    let clients = hub
         .client_builder()
         .backpressure_strategy(strategy)
         .set_backpressure_handler(handler);
-    let Ok(client) = factory.create(&mut hub) else {
-        return Err(Fail::from("no client"));
-    };
-    let created = hub.server_builder().create(&mut hub);
-    if let Ok(first) = client.send_copy(&mut hub, 1) {
-        first.release(&mut hub);
-    }
-    if let Ok(second) = client.send_copy(&mut hub, 2) {
-        second.release(&mut hub);
-    }
-    let sent = match client.send_copy(&mut hub, 3) {
-        Ok(pending) => {
-            let count = pending.number_of_server_connections(&hub);
-            pending.release(&mut hub);
-            Ok(count)
-        }
-        Err(error) => Err(error),
-    };
+    let client = clients.create(&mut hub).expect(rt, "a client");
+    let servers = hub.server_builder();
+    let server = servers.create(&mut hub).expect(rt, "a server");
+    let third = tell_three(&mut hub, &client);
     client.release(&mut hub);
-    match created {
-        Ok(server) => {
-            server.release(&mut hub);
-            Ok(sent)
-        }
-        Err(_) => Err(Fail::from("no server")),
-    }
+    server.release(&mut hub);
+    third
 }
 
 /// A handler is asked before the strategy, and may leave it to the strategy.
 #[test]
-fn a_handler_is_asked_before_the_strategy(rt: HostRuntime) -> Result<(), Fail> {
+fn a_handler_is_asked_before_the_strategy(rt: HostRuntime) {
     let refused = Err(RequestSendError::SendError(SendError::UnableToDeliver));
     let waits = BackpressureStrategy::RetryUntilDelivered;
     let passes = BackpressureStrategy::DiscardData;
@@ -97,7 +112,6 @@ fn a_handler_is_asked_before_the_strategy(rt: HostRuntime) -> Result<(), Fail> {
         (waits, 2, BackpressureAction::DiscardData, refused),
     ] {
         let handler = At { receiver, action };
-        assert_eq!(rt; third_request(rt.alloc(), strategy, handler)?, sent);
+        assert_eq!(rt; third_request(&rt, rt.alloc(), strategy, handler), sent);
     }
-    Ok(())
 }

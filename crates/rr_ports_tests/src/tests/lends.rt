@@ -8,7 +8,7 @@ ghost use Rattle.rr_ports.specs.Kinds.{Names, KeepsKinds};
 
 use super::LIMITS;
 use super::fixtures::{Service, ask, connect};
-use rr_ports::typed::{ActiveRequest, Hub, PendingResponse};
+use rr_ports::typed::{ActiveRequest, PendingResponse};
 use rr_ports::{ReceiveError, SendError, UniqueNodeId};
 use std::test::Fail;
 use std::thread;
@@ -42,19 +42,18 @@ fn received(
 
 /// The user header that was written in place is the one that the client receives, with the default payload.
 #[test]
-fn a_header_that_is_written_in_place_is_received(rt: HostRuntime) -> Result<(), Fail> {
-    let mut exchange = ask(&rt, connect(&rt, rt.alloc(), None)?, 123);
+fn a_header_that_is_written_in_place_is_received(rt: HostRuntime) {
+    let mut exchange = ask(&rt, connect(&rt, rt.alloc(), LIMITS, None), 123);
     let sent = send_headed(&mut exchange.hub, &exchange.active);
     let got = received(&mut exchange.hub, &exchange.pending);
     exchange.end();
     assert_eq!(rt; (sent, got), (Ok(()), Ok(Some((0, 10)))));
-    Ok(())
 }
 
 /// A hub can be moved into a thread.
 #[test]
 fn a_hub_goes_to_another_thread(rt: HostRuntime) -> Result<(), Fail> {
-    let hub: Service = Hub::new(rt.alloc(), LIMITS, UniqueNodeId(7))?;
+    let hub = Service::new(rt.alloc(), LIMITS, UniqueNodeId(7))?;
     let left = match thread::spawn(&rt, move || hub.numbers_left()) {
         Ok(child) => child.join(&rt),
         Err(_) => 0,

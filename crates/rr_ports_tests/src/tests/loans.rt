@@ -6,10 +6,10 @@ ghost use Rattle.rr_protocol.specs.declared.kind.Kind.TheVariants as kind;
 ghost use Rattle.rr_protocol.specs.State.{numbers_left};
 ghost use Rattle.rr_ports.specs.Kinds.{Names, NamesNothing, KeepsKinds};
 
+use super::LIMITS;
 use super::fixtures::{Service, ask, connect, received};
 use rr_ports::typed::{ActiveRequest, ResponseMutUninit};
 use rr_ports::{LoanError, SendError};
-use std::test::Fail;
 
 /// Loans a response with a default payload, sets it and sends it.
 fn send_set(hub: &mut Service, active: &ActiveRequest<u64>, value: u64) -> Result<(), SendError>
@@ -24,13 +24,12 @@ fn send_set(hub: &mut Service, active: &ActiveRequest<u64>, value: u64) -> Resul
 
 /// A server sets the payload of a loaned response, and the client receives it.
 #[test]
-fn a_set_response_is_received(rt: HostRuntime) -> Result<(), Fail> {
-    let mut exchange = ask(&rt, connect(&rt, rt.alloc(), None)?, 123);
+fn a_set_response_is_received(rt: HostRuntime) {
+    let mut exchange = ask(&rt, connect(&rt, rt.alloc(), LIMITS, None), 123);
     let sent = send_set(&mut exchange.hub, &exchange.active, 789);
     let got = received(&mut exchange.hub, &exchange.pending);
     exchange.end();
     assert_eq!(rt; (sent, got), (Ok(()), Ok(Some(789))));
-    Ok(())
 }
 
 /// Loans a response and writes its payload through a `&mut`, which does not make it one that can be sent.
@@ -69,11 +68,10 @@ fn send_rewritten(
 
 /// The payload that was written last is the one that the client receives.
 #[test]
-fn a_rewritten_response_is_received(rt: HostRuntime) -> Result<(), Fail> {
-    let mut exchange = ask(&rt, connect(&rt, rt.alloc(), None)?, 123);
+fn a_rewritten_response_is_received(rt: HostRuntime) {
+    let mut exchange = ask(&rt, connect(&rt, rt.alloc(), LIMITS, None), 123);
     let sent = send_rewritten(&mut exchange.hub, &exchange.active, 1234, 456);
     let got = received(&mut exchange.hub, &exchange.pending);
     exchange.end();
     assert_eq!(rt; (sent, got), (Ok(()), Ok(Some(456))));
-    Ok(())
 }

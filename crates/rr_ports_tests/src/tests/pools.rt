@@ -8,8 +8,10 @@ ghost use Rattle.rr_ports.specs.Kinds.{Names, KeepsKinds};
 
 use super::LIMITS;
 use super::fixtures::{Connected, Service, ask, connect};
-use rr_ports::typed::{ActiveRequest, Hub};
-use rr_ports::{ClientCreateError, LoanError, ServerCreateError, UniqueNodeId};
+use rr_ports::typed::{ActiveRequest, Client};
+use rr_ports::{ClientCreateError, LoanError, RequestSendError, ServerCreateError, UniqueNodeId};
+use std::alloc::Global;
+use std::process::Abort;
 use std::test::Fail;
 
 /// Loans a response and releases it. Returns why it was refused, if it was.
@@ -48,39 +50,97 @@ fn refusals(
 
 /// A server grants one loan for each request, unless it is set to more; 0 counts as 1.
 #[test]
-fn loans_are_counted_per_request(rt: HostRuntime) -> Result<(), Fail> {
+fn loans_are_counted_per_request(rt: HostRuntime) {
     let exceeds = Some(LoanError::ExceedsMaxLoans);
     for (loans, second) in [(None, exceeds), (Some(0), exceeds), (Some(2), None)] {
-        let mut exchange = ask(&rt, connect(&rt, rt.alloc(), loans)?, 123);
+        let mut exchange = ask(&rt, connect(&rt, rt.alloc(), LIMITS, loans), 123);
         let refused = refusals(&mut exchange.hub, &exchange.active);
         exchange.end();
         assert_eq!(rt; refused, (None, second));
     }
-    Ok(())
+}
+
+/// Makes a hub with a client, and a server whose pool was overridden by 0.
+fn connect_overridden(rt: &impl Abort, alloc: Global) -> Connected
+    ensures client { Names result.hub result.client kind.Client }
+    ensures server { Names result.hub result.server kind.Server }
+    ensures numbers { 9 < numbers_left result.hub }
+{
+    let mut hub = Service::new(alloc, LIMITS, UniqueNodeId(7)).expect(rt, "a hub");
+    let clients = hub.client_builder();
+    let client = clients.create(&mut hub).expect(rt, "a client");
+    let servers = hub
+        .server_builder()
+        .max_loaned_responses_per_request(2)
+        .override_response_preallocation(|_: usize| 0);
+    let server = servers.create(&mut hub).expect(rt, "a server");
+    Connected {
+        hub,
+        client,
+        server,
+    }
 }
 
 /// A server whose pool was overridden by 0 has one slot.
 #[test]
-fn an_override_of_responses_is_at_least_one(rt: HostRuntime) -> Result<(), Fail> {
-    let mut hub: Service = Hub::new(rt.alloc(), LIMITS, UniqueNodeId(7))?;
-    let client = hub
-        .client_builder()
-        .create(&mut hub)
-        .expect(&rt, "a client");
-    let factory = hub
-        .server_builder()
-        .max_loaned_responses_per_request(2)
-        .override_response_preallocation(|_: usize| 0);
-    let server = factory.create(&mut hub).expect(&rt, "a server");
-    let connected = Connected {
-        hub,
-        client,
-        server,
-    };
-    let mut exchange = ask(&rt, connected, 123);
+fn an_override_of_responses_is_at_least_one(rt: HostRuntime) {
+    let mut exchange = ask(&rt, connect_overridden(&rt, rt.alloc()), 123);
     let refused = refusals(&mut exchange.hub, &exchange.active);
     exchange.end();
     assert_eq!(rt; refused, (None, Some(LoanError::OutOfMemory)));
+}
+
+/// Loans a request and releases it. Returns why it was refused, if it was.
+fn request_refusal(hub: &mut Service, client: &Client<u64>) -> Option<LoanError>
+    requires client { Names hub.old client.now kind.Client }
+    requires number { 0 < numbers_left hub.old }
+    ensures { KeepsKinds hub.old hub.new }
+{
+    match client.loan_uninit(hub) {
+        Ok(request) => {
+            request.release(hub);
+            None
+        }
+        Err(error) => Some(error),
+    }
+}
+
+/// Loans a request while another one is waited for. Returns why it was refused, if it was.
+fn second_refusal(
+    hub: &mut Service,
+    client: &Client<u64>,
+) -> Result<Option<LoanError>, RequestSendError>
+    requires client { Names hub.old client.now kind.Client }
+    requires numbers { 1 < numbers_left hub.old }
+    ensures { KeepsKinds hub.old hub.new }
+{
+    let pending = client.send_copy(hub, 1)?;
+    let refused = request_refusal(hub, client);
+    pending.release(hub);
+    Ok(refused)
+}
+
+/// Loans a request of a client whose pool was overridden by 0, while another one is waited for.
+fn overridden_refusal(
+    hub: &mut Service,
+) -> Result<Result<Option<LoanError>, RequestSendError>, ClientCreateError>
+    requires { 2 < numbers_left hub.old }
+{
+    let factory = hub
+        .client_builder()
+        .override_request_preallocation(|_: usize| 0);
+    let client = factory.create(hub)?;
+    let refused = second_refusal(hub, &client);
+    client.release(hub);
+    Ok(refused)
+}
+
+/// A client whose pool was overridden by 0 has one slot.
+#[test]
+fn an_override_of_requests_is_at_least_one(rt: HostRuntime) -> Result<(), Fail> {
+    let mut hub = Service::new(rt.alloc(), LIMITS, UniqueNodeId(7))?;
+    let refused = overridden_refusal(&mut hub);
+    assert_eq!(rt; refused, Ok(Ok(Some(LoanError::OutOfMemory))));
     Ok(())
 }
 
@@ -116,7 +176,7 @@ fn server_refusal(hub: &mut Service, slots: usize) -> Option<ServerCreateError> 
 /// would be found.
 #[test]
 fn an_override_is_at_most_the_worst_case(rt: HostRuntime) -> Result<(), Fail> {
-    let mut hub: Service = Hub::new(rt.alloc(), LIMITS, UniqueNodeId(7))?;
+    let mut hub = Service::new(rt.alloc(), LIMITS, UniqueNodeId(7))?;
     for slots in [11, 12, usize::MAX] {
         assert_eq!(rt; client_refusal(&mut hub, slots), None);
     }

@@ -1,31 +1,113 @@
 //! What ports are that builders made, and what they are without a word.
-#![tactic(auto, using(rr_ports::proofs::Frames::kinds))]
+#![tactic(auto, using(rr_ports::proofs::Frames::frames))]
+
+ghost use Rattle.std.specs.Prelude.{◌≡◌, ◌<◌, None};
+ghost use Rattle.rr_protocol.specs.declared.kind.Kind.TheVariants as kind;
+ghost use Rattle.rr_protocol.specs.State.{numbers_left};
+ghost use Rattle.rr_ports.specs.Kinds.{Names, KeepsKinds};
 
 use super::LIMITS;
-use rr_ports::sliced::Hub;
-use rr_ports::{AllocationStrategy, BackpressureStrategy, LoanError, NoHandler, UniqueNodeId};
+use super::slice_fixtures::Service;
+use rr_ports::sliced::{Client, PortFactoryClient, PortFactoryServer};
+use rr_ports::{
+    AllocationStrategy, BackpressureStrategy, ClientCreateError, LoanError, NoHandler,
+    ServerCreateError, UniqueNodeId,
+};
 use std::test::Fail;
+
+/// Loans a request of default elements, and releases it. Returns how many it has.
+fn loaned_len(hub: &mut Service, client: &Client<u64>, len: usize) -> Result<usize, LoanError>
+    requires client { Names hub.old client.now kind.Client }
+    requires number { 0 < numbers_left hub.old }
+    ensures { KeepsKinds hub.old hub.new }
+{
+    let request = client.loan_slice(hub, len)?;
+    let loaned = request.payload(hub).len();
+    request.release(hub);
+    Ok(loaned)
+}
+
+/// What a client does at a full queue, for how many elements its slots have room, and how many a loaned request has.
+type ClientSettings = (BackpressureStrategy, usize, Result<usize, LoanError>);
+
+/// Creates a client, loans a request of `len` elements, and releases both. Returns what the client is.
+fn client_settings(
+    hub: &mut Service,
+    factory: PortFactoryClient<u64>,
+    len: usize,
+) -> Result<ClientSettings, ClientCreateError>
+    requires pool { factory.preallocation ≡ None }
+    requires numbers { 1 < numbers_left hub.old }
+{
+    let client = factory.create(hub)?;
+    let strategy = client.backpressure_strategy(hub);
+    let room = client.initial_max_slice_len(hub);
+    let loaned = loaned_len(hub, &client, len);
+    client.release(hub);
+    Ok((strategy, room, loaned))
+}
 
 /// A client waits at full queues and its slots grow, if it is set to.
 #[test]
 fn a_client_is_as_its_builder_set_it(rt: HostRuntime) -> Result<(), Fail> {
-    let mut hub: Hub<u64, u64, u64, u64> = Hub::new(rt.alloc(), LIMITS, UniqueNodeId(7))?;
+    let mut hub = Service::new(rt.alloc(), LIMITS, UniqueNodeId(7))?;
     let factory = hub
         .client_builder()
         .backpressure_strategy(BackpressureStrategy::RetryUntilDelivered)
         .set_backpressure_handler(NoHandler)
         .initial_max_slice_len(2)
         .allocation_strategy(AllocationStrategy::BestFit);
-    let client = factory.create(&mut hub).expect(&rt, "a client");
-    let strategy = client.backpressure_strategy(&hub);
-    let len = client.initial_max_slice_len(&hub);
-    let request = client.loan_slice(&mut hub, 5).expect(&rt, "a loan");
-    let loaned = request.payload(&hub).len();
-    request.release(&mut hub);
-    client.release(&mut hub);
+    let settings = client_settings(&mut hub, factory, 5);
+    let waits = BackpressureStrategy::RetryUntilDelivered;
+    assert_eq!(rt; settings, Ok((waits, 2, Ok(5))));
+    Ok(())
+}
+
+/// A client passes full queues over and its slots have room for one element and don't grow, unless it is set otherwise.
+#[test]
+fn a_client_is_as_its_builder_found_it(rt: HostRuntime) -> Result<(), Fail> {
+    let mut hub = Service::new(rt.alloc(), LIMITS, UniqueNodeId(7))?;
+    let factory = hub.client_builder();
+    let settings = client_settings(&mut hub, factory, 2);
+    let passes = BackpressureStrategy::DiscardData;
     assert_eq!(rt;
-        (strategy, len, loaned),
-        (BackpressureStrategy::RetryUntilDelivered, 2, 5)
+        settings,
+        Ok((passes, 1, Err(LoanError::ExceedsMaxLoanSize)))
+    );
+    Ok(())
+}
+
+/// Creates a server and releases it. Returns what it does at a full queue, and for how many elements its slots have room.
+fn server_settings(
+    hub: &mut Service,
+    factory: PortFactoryServer<u64>,
+) -> Result<(BackpressureStrategy, usize), ServerCreateError>
+    requires pool { factory.preallocation ≡ None }
+{
+    let server = factory.create(hub)?;
+    let settings = (
+        server.backpressure_strategy(hub),
+        server.initial_max_slice_len(hub),
+    );
+    server.release(hub);
+    Ok(settings)
+}
+
+/// A server waits at full queues and has room for more elements, if it is set to.
+#[test]
+fn a_server_is_as_its_builder_set_it(rt: HostRuntime) -> Result<(), Fail> {
+    let mut hub = Service::new(rt.alloc(), LIMITS, UniqueNodeId(7))?;
+    let factory = hub
+        .server_builder()
+        .backpressure_strategy(BackpressureStrategy::RetryUntilDelivered)
+        .set_backpressure_handler(NoHandler)
+        .max_loaned_responses_per_request(2)
+        .initial_max_slice_len(3)
+        .allocation_strategy(AllocationStrategy::PowerOfTwo);
+    let settings = server_settings(&mut hub, factory);
+    assert_eq!(rt;
+        settings,
+        Ok((BackpressureStrategy::RetryUntilDelivered, 3))
     );
     Ok(())
 }
@@ -33,34 +115,9 @@ fn a_client_is_as_its_builder_set_it(rt: HostRuntime) -> Result<(), Fail> {
 /// A server passes full queues over and has room for one element, unless it is set otherwise.
 #[test]
 fn a_server_is_as_its_builder_found_it(rt: HostRuntime) -> Result<(), Fail> {
-    let mut hub: Hub<u64, u64, u64, u64> = Hub::new(rt.alloc(), LIMITS, UniqueNodeId(7))?;
-    let server = hub
-        .server_builder()
-        .create(&mut hub)
-        .expect(&rt, "a server");
-    let strategy = server.backpressure_strategy(&hub);
-    let len = server.initial_max_slice_len(&hub);
-    server.release(&mut hub);
-    assert_eq!(rt; (strategy, len), (BackpressureStrategy::DiscardData, 1));
-    Ok(())
-}
-
-/// The slots of a client do not grow, unless it is set otherwise.
-#[test]
-fn a_client_refuses_slices_that_are_too_long(rt: HostRuntime) -> Result<(), Fail> {
-    let mut hub: Hub<u64, u64, u64, u64> = Hub::new(rt.alloc(), LIMITS, UniqueNodeId(7))?;
-    let client = hub
-        .client_builder()
-        .create(&mut hub)
-        .expect(&rt, "a client");
-    let refused = match client.loan_slice(&mut hub, 2) {
-        Ok(request) => {
-            request.release(&mut hub);
-            None
-        }
-        Err(error) => Some(error),
-    };
-    client.release(&mut hub);
-    assert_eq!(rt; refused, Some(LoanError::ExceedsMaxLoanSize));
+    let mut hub = Service::new(rt.alloc(), LIMITS, UniqueNodeId(7))?;
+    let factory = hub.server_builder();
+    let settings = server_settings(&mut hub, factory);
+    assert_eq!(rt; settings, Ok((BackpressureStrategy::DiscardData, 1)));
     Ok(())
 }
