@@ -2,7 +2,7 @@
 mod exchanges;
 mod fixtures;
 mod handlers;
-mod lends;
+mod hubs;
 mod loans;
 mod pools;
 mod settings;

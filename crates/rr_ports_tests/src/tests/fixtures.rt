@@ -1,28 +1,58 @@
 //! Hubs with what a test needs, and the ends of them.
 #![tactic(auto, using(rr_ports::proofs::Frames::frames))]
 
-ghost use Rattle.std.specs.Prelude.{◌≡◌, ◌<◌, None};
+ghost use Rattle.std.specs.Prelude.{◌≡◌, ◌<◌, ◌≤◌, ◌+◌, None};
 ghost use Rattle.rr_protocol.specs.declared.kind.Kind.TheVariants as kind;
 ghost use Rattle.rr_protocol.specs.State.{numbers_left};
 ghost use Rattle.rr_ports.specs.Kinds.{Names, KeepsKinds};
 
-use rr_ports::typed::{ActiveRequest, Client, Hub, PendingResponse, PortFactoryServer, Server};
-use rr_ports::{Limits, ReceiveError, UniqueNodeId};
+use super::LIMITS;
+use super::handlers::At;
+use rr_ports::typed::{Client, Hub, PendingResponse, PortFactoryServer, Server};
+use rr_ports::{
+    BackpressureAction, BackpressureStrategy, Limits, ReceiveError, RequestSendError, UniqueNodeId,
+    UniqueServerId,
+};
 use std::alloc::Global;
 use std::process::Abort;
 
-/// A service that answers numbers with numbers.
-pub type Service = Hub<u64, u64, u64, u64>;
+/// A service that answers numbers with numbers, and asks a handler at full queues.
+pub type Service = Hub<u64, u64, u64, u64, At>;
 
-/// A hub with a client and a server.
+/// What a hub, a client and a server are made with.
+#[derive(Clone, Copy)]
+pub struct Setup {
+    pub limits: Limits,
+    /// What the client's sends do at full queues that the handler leaves to it.
+    pub strategy: BackpressureStrategy,
+    pub handler: At,
+    /// The slots that are asked for in both pools.
+    pub slots: usize,
+    /// The server's loaned responses per request, if they are set.
+    pub loans: Option<usize>,
+}
+
+/// The pools of the worst case, and else what builders set at first. The handler leaves all to the strategy.
+pub const SETUP: Setup = Setup {
+    limits: LIMITS,
+    strategy: BackpressureStrategy::DiscardData,
+    handler: At {
+        receiver: 0,
+        action: BackpressureAction::FollowBackpressureStrategy,
+    },
+    slots: usize::MAX,
+    loans: None,
+};
+
+/// A hub with a client 0 and a server 1.
 pub struct Connected {
     pub hub: Service,
     pub client: Client<u64>,
     pub server: Server<u64>,
 }
 
-/// Returns a factory of servers of default settings, but for the loaned responses per request, if they are given.
-fn servers(hub: &Service, loans: Option<usize>) -> PortFactoryServer<u64>
+/// Returns a factory of servers with the loaned responses per request, if they are set.
+fn servers(hub: &Service, loans: Option<usize>) -> PortFactoryServer<u64, At>
     ensures { result.preallocation ≡ None }
 {
     match loans {
@@ -31,16 +61,21 @@ fn servers(hub: &Service, loans: Option<usize>) -> PortFactoryServer<u64>
     }
 }
 
-/// Makes a hub with a client and a server of default settings, but for the server's loaned responses per request, if they are given.
-pub fn connect(rt: &impl Abort, alloc: Global, limits: Limits, loans: Option<usize>) -> Connected
+/// Makes a hub with a client and a server.
+pub fn connect(rt: &impl Abort, alloc: Global, setup: Setup) -> Connected
     ensures client { Names result.hub result.client kind.Client }
     ensures server { Names result.hub result.server kind.Server }
     ensures numbers { 9 < numbers_left result.hub }
 {
-    let mut hub = Service::new(alloc, limits, UniqueNodeId(7)).expect(rt, "a hub");
-    let clients = hub.client_builder();
+    let slots = setup.slots;
+    let mut hub = Service::new(alloc, setup.limits, UniqueNodeId(7)).expect(rt, "a hub");
+    let clients = hub
+        .client_builder()
+        .backpressure_strategy(setup.strategy)
+        .set_backpressure_handler(setup.handler)
+        .override_request_preallocation(move |_: usize| slots);
     let client = clients.create(&mut hub).expect(rt, "a client");
-    let servers = servers(&hub, loans);
+    let servers = servers(&hub, setup.loans).override_response_preallocation(move |_: usize| slots);
     let server = servers.create(&mut hub).expect(rt, "a server");
     Connected {
         hub,
@@ -66,80 +101,39 @@ impl Connected {
     }
 }
 
-/// A hub with a client and a server, and a request that was sent and received.
-pub struct Exchange {
-    pub hub: Service,
-    pub client: Client<u64>,
-    pub server: Server<u64>,
-    pub pending: PendingResponse<u64>,
-    pub active: ActiveRequest<u64>,
-}
-
-/// Sends a number as a request, and receives it.
-pub fn ask(rt: &impl Abort, connected: Connected, value: u64) -> Exchange
-    requires client { Names connected.hub connected.client kind.Client }
-    requires server { Names connected.hub connected.server kind.Server }
-    requires numbers { 9 < numbers_left connected.hub }
-    ensures client { Names result.hub result.client kind.Client }
-    ensures server { Names result.hub result.server kind.Server }
-    ensures pending { Names result.hub result.pending kind.PendingResponse }
-    ensures active { Names result.hub result.active kind.ActiveRequest }
-    ensures numbers { 7 < numbers_left result.hub }
+/// Sends a number, and waits for nothing. Returns how many queues took it.
+pub fn tell(hub: &mut Service, client: &Client<u64>, value: u64) -> Result<usize, RequestSendError>
+    requires client { Names hub.old client.now kind.Client }
+    requires number { 0 < numbers_left hub.old }
+    ensures kinds { KeepsKinds hub.old hub.new }
+    ensures numbers { numbers_left hub.old ≤ numbers_left hub.new + 1 }
 {
-    let Connected {
-        mut hub,
-        client,
-        server,
-    } = connected;
-    let pending = client.send_copy(&mut hub, value).expect(rt, "a send");
-    let active = server
-        .receive(&mut hub)
-        .expect(rt, "a receive")
-        .expect(rt, "a request");
-    Exchange {
-        hub,
-        client,
-        server,
-        pending,
-        active,
-    }
+    let pending = client.send_copy(hub, value)?;
+    let count = pending.number_of_server_connections(hub);
+    pending.release(hub);
+    Ok(count)
 }
 
-impl Exchange {
-    /// Releases the handles and the ports.
-    #[tactic(auto, using(rr_ports::proofs::Frames::kinds))]
-    pub fn end(self)
-        requires client { Names self.hub self.client kind.Client }
-        requires server { Names self.hub self.server kind.Server }
-        requires pending { Names self.hub self.pending kind.PendingResponse }
-        requires active { Names self.hub self.active kind.ActiveRequest }
-    {
-        let Exchange {
-            mut hub,
-            client,
-            server,
-            pending,
-            active,
-        } = self;
-        active.release(&mut hub);
-        pending.release(&mut hub);
-        client.release(&mut hub);
-        server.release(&mut hub);
-    }
-}
+/// The payload and the user header of a response, the server that sent it, and of how many elements it is.
+pub type Received = (u64, u64, UniqueServerId, u64);
 
-/// Receives a response and releases it. Returns the number that came.
+/// Receives a response and releases it. Returns what came.
 pub fn received(
     hub: &mut Service,
     pending: &PendingResponse<u64>,
-) -> Result<Option<u64>, ReceiveError>
+) -> Result<Option<Received>, ReceiveError>
     requires { Names hub.old pending.now kind.PendingResponse }
     ensures { KeepsKinds hub.old hub.new }
 {
     let Some(response) = pending.receive(hub)? else {
         return Ok(None);
     };
-    let value = *response.payload(hub);
+    let came = (
+        *response.payload(hub),
+        *response.user_header(hub),
+        response.origin(hub),
+        response.header(hub).number_of_elements(),
+    );
     response.release(hub);
-    Ok(Some(value))
+    Ok(Some(came))
 }

@@ -1,25 +1,23 @@
 //! Handlers of full queues, set through the factories of ports.
 #![tactic(auto, using(rr_ports::proofs::Frames::frames))]
 
-ghost use Rattle.std.specs.Prelude.{◌<◌, ◌≤◌, ◌+◌};
+ghost use Rattle.std.specs.Prelude.{◌<◌};
 ghost use Rattle.rr_protocol.specs.declared.kind.Kind.TheVariants as kind;
 ghost use Rattle.rr_protocol.specs.State.{numbers_left};
 ghost use Rattle.rr_ports.specs.Kinds.{Names, KeepsKinds};
 
-use super::LIMITS;
-use rr_ports::typed::{Client, Hub};
+use super::fixtures::{SETUP, Service, Setup, connect, tell};
+use rr_ports::typed::Client;
 use rr_ports::{
     BackpressureAction, BackpressureFn, BackpressureInfo, BackpressureStrategy, RequestSendError,
-    SendError, UniqueNodeId,
+    SendError,
 };
-use std::alloc::Global;
-use std::process::Abort;
 
 /// Answers for one port, and leaves every other to the strategy.
 #[derive(Clone, Copy)]
-struct At {
-    receiver: u64,
-    action: BackpressureAction,
+pub struct At {
+    pub receiver: u64,
+    pub action: BackpressureAction,
 }
 
 impl BackpressureFn for At {
@@ -37,22 +35,6 @@ impl BackpressureFn for At {
     }
 }
 
-/// A service whose ports ask a handler at full queues.
-type Service = Hub<u64, u64, u64, u64, At>;
-
-/// Sends a number, and waits for nothing. Returns how many queues took it.
-fn tell(hub: &mut Service, client: &Client<u64>, value: u64) -> Result<usize, RequestSendError>
-    requires client { Names hub.old client.now kind.Client }
-    requires number { 0 < numbers_left hub.old }
-    ensures kinds { KeepsKinds hub.old hub.new }
-    ensures numbers { numbers_left hub.old ≤ numbers_left hub.new + 1 }
-{
-    let pending = client.send_copy(hub, value)?;
-    let count = pending.number_of_server_connections(hub);
-    pending.release(hub);
-    Ok(count)
-}
-
 /// Sends three numbers. Returns how many queues took the third, or why it was refused.
 fn tell_three(hub: &mut Service, client: &Client<u64>) -> Result<usize, RequestSendError>
     requires client { Names hub.old client.now kind.Client }
@@ -64,30 +46,7 @@ fn tell_three(hub: &mut Service, client: &Client<u64>) -> Result<usize, RequestS
     tell(hub, client, 3)
 }
 
-/// Lets a client 0 with this strategy and handler send a third request to a server 1, whose queue two requests fill. Returns how many
-/// queues took it, or why it was refused.
-#[tactic(auto, using(rr_ports::proofs::Frames::kinds))]
-fn third_request(
-    rt: &impl Abort,
-    alloc: Global,
-    strategy: BackpressureStrategy,
-    handler: At,
-) -> Result<usize, RequestSendError> {
-    let mut hub = Service::new(alloc, LIMITS, UniqueNodeId(7)).expect(rt, "a hub");
-    let clients = hub
-        .client_builder()
-        .backpressure_strategy(strategy)
-        .set_backpressure_handler(handler);
-    let client = clients.create(&mut hub).expect(rt, "a client");
-    let servers = hub.server_builder();
-    let server = servers.create(&mut hub).expect(rt, "a server");
-    let third = tell_three(&mut hub, &client);
-    client.release(&mut hub);
-    server.release(&mut hub);
-    third
-}
-
-/// A handler is asked before the strategy, and may leave it to the strategy.
+/// A handler is asked before the strategy, and may leave it to the strategy: a third request finds the server's queue full.
 #[test]
 fn a_handler_is_asked_before_the_strategy(rt: HostRuntime) {
     let refused = Err(RequestSendError::SendError(SendError::UnableToDeliver));
@@ -111,7 +70,14 @@ fn a_handler_is_asked_before_the_strategy(rt: HostRuntime) {
         ),
         (waits, 2, BackpressureAction::DiscardData, refused),
     ] {
-        let handler = At { receiver, action };
-        assert_eq!(rt; third_request(&rt, rt.alloc(), strategy, handler), sent);
+        let setup = Setup {
+            strategy,
+            handler: At { receiver, action },
+            ..SETUP
+        };
+        let mut connected = connect(&rt, rt.alloc(), setup);
+        let third = tell_three(&mut connected.hub, &connected.client);
+        connected.end();
+        assert_eq!(rt; third, sent);
     }
 }

@@ -1,4 +1,4 @@
-//! Loaned responses, as iceoryx2's documents write them.
+//! Responses, as iceoryx2's documents write and send them.
 #![tactic(auto, using(rr_ports::proofs::Frames::frames))]
 
 ghost use Rattle.std.specs.Prelude.{◌<◌, IfOk};
@@ -6,10 +6,20 @@ ghost use Rattle.rr_protocol.specs.declared.kind.Kind.TheVariants as kind;
 ghost use Rattle.rr_protocol.specs.State.{numbers_left};
 ghost use Rattle.rr_ports.specs.Kinds.{Names, NamesNothing, KeepsKinds};
 
-use super::LIMITS;
-use super::fixtures::{Service, ask, connect, received};
-use rr_ports::typed::{ActiveRequest, ResponseMutUninit};
-use rr_ports::{LoanError, SendError};
+use super::fixtures::{SETUP, Service, connect, received};
+use rr_ports::typed::{ActiveRequest, ResponseMutUninit, Server};
+use rr_ports::{LoanError, ReceiveError, SendError};
+
+/// Loans a response, writes a value into it and sends it.
+fn send_written(hub: &mut Service, active: &ActiveRequest<u64>, value: u64) -> Result<(), SendError>
+    requires active { Names hub.old active.now kind.ActiveRequest }
+    requires number { 0 < numbers_left hub.old }
+    ensures { KeepsKinds hub.old hub.new }
+{
+    let response = active.loan_uninit(hub)?;
+    let response = response.write_payload(hub, value);
+    response.send(hub)
+}
 
 /// Loans a response with a default payload, sets it and sends it.
 fn send_set(hub: &mut Service, active: &ActiveRequest<u64>, value: u64) -> Result<(), SendError>
@@ -20,16 +30,6 @@ fn send_set(hub: &mut Service, active: &ActiveRequest<u64>, value: u64) -> Resul
     let response = active.loan(hub)?;
     response.update(hub, |payload: &mut u64| *payload = value);
     response.send(hub)
-}
-
-/// A server sets the payload of a loaned response, and the client receives it.
-#[test]
-fn a_set_response_is_received(rt: HostRuntime) {
-    let mut exchange = ask(&rt, connect(&rt, rt.alloc(), LIMITS, None), 123);
-    let sent = send_set(&mut exchange.hub, &exchange.active, 789);
-    let got = received(&mut exchange.hub, &exchange.pending);
-    exchange.end();
-    assert_eq!(rt; (sent, got), (Ok(()), Ok(Some(789))));
 }
 
 /// Loans a response and writes its payload through a `&mut`, which does not make it one that can be sent.
@@ -66,12 +66,81 @@ fn send_rewritten(
     response.send(hub)
 }
 
-/// The payload that was written last is the one that the client receives.
+/// Loans a response, writes its user header in place, and sends it.
+fn send_headed(hub: &mut Service, active: &ActiveRequest<u64>) -> Result<(), SendError>
+    requires active { Names hub.old active.now kind.ActiveRequest }
+    requires number { 0 < numbers_left hub.old }
+    ensures { KeepsKinds hub.old hub.new }
+{
+    let response = active.loan(hub)?;
+    response.update_user_header(hub, |header: &mut u64| *header = 10);
+    response.send(hub)
+}
+
+/// How a server writes a response.
+#[derive(Clone, Copy)]
+enum Way {
+    Copied,
+    Written,
+    Set,
+    Rewritten,
+    Headed,
+}
+
+/// Writes a response in some way and sends it.
+fn send(hub: &mut Service, active: &ActiveRequest<u64>, way: Way) -> Result<(), SendError>
+    requires active { Names hub.old active.now kind.ActiveRequest }
+    requires number { 0 < numbers_left hub.old }
+    ensures { KeepsKinds hub.old hub.new }
+{
+    match way {
+        Way::Copied => active.send_copy(hub, 12),
+        Way::Written => send_written(hub, active, 456),
+        Way::Set => send_set(hub, active, 789),
+        Way::Rewritten => send_rewritten(hub, active, 1234, 456),
+        Way::Headed => send_headed(hub, active),
+    }
+}
+
+/// Receives a request, sends a response that is written in some way, and releases the request.
+fn answer(
+    hub: &mut Service,
+    server: &Server<u64>,
+    way: Way,
+) -> Result<Option<Result<(), SendError>>, ReceiveError>
+    requires server { Names hub.old server.now kind.Server }
+    requires numbers { 1 < numbers_left hub.old }
+    ensures { KeepsKinds hub.old hub.new }
+{
+    let Some(active) = server.receive(hub)? else {
+        return Ok(None);
+    };
+    let sent = send(hub, &active, way);
+    active.release(hub);
+    Ok(Some(sent))
+}
+
+/// The payload and the user header that were written last are those that the client receives, however they were written. The response
+/// tells the server that sent it, and that it has one element.
 #[test]
-fn a_rewritten_response_is_received(rt: HostRuntime) {
-    let mut exchange = ask(&rt, connect(&rt, rt.alloc(), LIMITS, None), 123);
-    let sent = send_rewritten(&mut exchange.hub, &exchange.active, 1234, 456);
-    let got = received(&mut exchange.hub, &exchange.pending);
-    exchange.end();
-    assert_eq!(rt; (sent, got), (Ok(()), Ok(Some(456))));
+fn a_response_is_received_as_it_was_written(rt: HostRuntime) {
+    for (way, payload, user_header) in [
+        (Way::Copied, 12, 0),
+        (Way::Written, 456, 0),
+        (Way::Set, 789, 0),
+        (Way::Rewritten, 456, 0),
+        (Way::Headed, 0, 10),
+    ] {
+        let mut connected = connect(&rt, rt.alloc(), SETUP);
+        let came = (payload, user_header, connected.server.id(), 1);
+        let pending = connected
+            .client
+            .send_copy(&mut connected.hub, 123)
+            .expect(&rt, "a send");
+        let sent = answer(&mut connected.hub, &connected.server, way);
+        let got = received(&mut connected.hub, &pending);
+        pending.release(&mut connected.hub);
+        connected.end();
+        assert_eq!(rt; (sent, got), (Ok(Some(Ok(()))), Ok(Some(came))));
+    }
 }

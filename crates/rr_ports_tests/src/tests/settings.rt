@@ -1,25 +1,24 @@
 //! What ports are that builders made, and what they are without a word.
 #![tactic(auto, using(rr_ports::proofs::Frames::frames))]
 
-ghost use Rattle.std.specs.Prelude.{◌≡◌, ◌<◌, None};
+ghost use Rattle.std.specs.Prelude.{◌≡◌, ◌<◌, ◌≤◌, ◌+◌, None};
 ghost use Rattle.rr_protocol.specs.declared.kind.Kind.TheVariants as kind;
 ghost use Rattle.rr_protocol.specs.State.{numbers_left};
 ghost use Rattle.rr_ports.specs.Kinds.{Names, KeepsKinds};
 
-use super::LIMITS;
-use super::slice_fixtures::Service;
+use super::slice_fixtures::{Service, service};
 use rr_ports::sliced::{Client, PortFactoryClient, PortFactoryServer};
 use rr_ports::{
     AllocationStrategy, BackpressureStrategy, ClientCreateError, LoanError, NoHandler,
-    ServerCreateError, UniqueNodeId,
+    ServerCreateError,
 };
-use std::test::Fail;
 
 /// Loans a request of default elements, and releases it. Returns how many it has.
 fn loaned_len(hub: &mut Service, client: &Client<u64>, len: usize) -> Result<usize, LoanError>
     requires client { Names hub.old client.now kind.Client }
     requires number { 0 < numbers_left hub.old }
-    ensures { KeepsKinds hub.old hub.new }
+    ensures kinds { KeepsKinds hub.old hub.new }
+    ensures numbers { numbers_left hub.old ≤ numbers_left hub.new + 1 }
 {
     let request = client.loan_slice(hub, len)?;
     let loaned = request.payload(hub).len();
@@ -38,6 +37,7 @@ fn client_settings(
 ) -> Result<ClientSettings, ClientCreateError>
     requires pool { factory.preallocation ≡ None }
     requires numbers { 1 < numbers_left hub.old }
+    ensures { numbers_left hub.old ≤ numbers_left hub.new + 2 }
 {
     let client = factory.create(hub)?;
     let strategy = client.backpressure_strategy(hub);
@@ -47,34 +47,28 @@ fn client_settings(
     Ok((strategy, room, loaned))
 }
 
-/// A client waits at full queues and its slots grow, if it is set to.
+/// A client waits at full queues and its slots grow, if it is set to. Else it passes them over, and its slots have room for one
+/// element and don't grow.
 #[test]
-fn a_client_is_as_its_builder_set_it(rt: HostRuntime) -> Result<(), Fail> {
-    let mut hub = Service::new(rt.alloc(), LIMITS, UniqueNodeId(7))?;
+fn a_client_is_as_its_builder_set_it(rt: HostRuntime) {
+    let mut hub = service(&rt, rt.alloc());
     let factory = hub
         .client_builder()
         .backpressure_strategy(BackpressureStrategy::RetryUntilDelivered)
         .set_backpressure_handler(NoHandler)
         .initial_max_slice_len(2)
         .allocation_strategy(AllocationStrategy::BestFit);
-    let settings = client_settings(&mut hub, factory, 5);
-    let waits = BackpressureStrategy::RetryUntilDelivered;
-    assert_eq!(rt; settings, Ok((waits, 2, Ok(5))));
-    Ok(())
-}
-
-/// A client passes full queues over and its slots have room for one element and don't grow, unless it is set otherwise.
-#[test]
-fn a_client_is_as_its_builder_found_it(rt: HostRuntime) -> Result<(), Fail> {
-    let mut hub = Service::new(rt.alloc(), LIMITS, UniqueNodeId(7))?;
+    let set = client_settings(&mut hub, factory, 5);
     let factory = hub.client_builder();
-    let settings = client_settings(&mut hub, factory, 2);
+    let found = client_settings(&mut hub, factory, 2);
+    drop(hub);
+    let waits = BackpressureStrategy::RetryUntilDelivered;
     let passes = BackpressureStrategy::DiscardData;
+    let refused = Err(LoanError::ExceedsMaxLoanSize);
     assert_eq!(rt;
-        settings,
-        Ok((passes, 1, Err(LoanError::ExceedsMaxLoanSize)))
+        (set, found),
+        (Ok((waits, 2, Ok(5))), Ok((passes, 1, refused)))
     );
-    Ok(())
 }
 
 /// Creates a server and releases it. Returns what it does at a full queue, and for how many elements its slots have room.
@@ -93,10 +87,10 @@ fn server_settings(
     Ok(settings)
 }
 
-/// A server waits at full queues and has room for more elements, if it is set to.
+/// A server waits at full queues and has room for more elements, if it is set to. Else it passes them over, and has room for one.
 #[test]
-fn a_server_is_as_its_builder_set_it(rt: HostRuntime) -> Result<(), Fail> {
-    let mut hub = Service::new(rt.alloc(), LIMITS, UniqueNodeId(7))?;
+fn a_server_is_as_its_builder_set_it(rt: HostRuntime) {
+    let mut hub = service(&rt, rt.alloc());
     let factory = hub
         .server_builder()
         .backpressure_strategy(BackpressureStrategy::RetryUntilDelivered)
@@ -104,20 +98,11 @@ fn a_server_is_as_its_builder_set_it(rt: HostRuntime) -> Result<(), Fail> {
         .max_loaned_responses_per_request(2)
         .initial_max_slice_len(3)
         .allocation_strategy(AllocationStrategy::PowerOfTwo);
-    let settings = server_settings(&mut hub, factory);
-    assert_eq!(rt;
-        settings,
-        Ok((BackpressureStrategy::RetryUntilDelivered, 3))
-    );
-    Ok(())
-}
-
-/// A server passes full queues over and has room for one element, unless it is set otherwise.
-#[test]
-fn a_server_is_as_its_builder_found_it(rt: HostRuntime) -> Result<(), Fail> {
-    let mut hub = Service::new(rt.alloc(), LIMITS, UniqueNodeId(7))?;
+    let set = server_settings(&mut hub, factory);
     let factory = hub.server_builder();
-    let settings = server_settings(&mut hub, factory);
-    assert_eq!(rt; settings, Ok((BackpressureStrategy::DiscardData, 1)));
-    Ok(())
+    let found = server_settings(&mut hub, factory);
+    drop(hub);
+    let waits = BackpressureStrategy::RetryUntilDelivered;
+    let passes = BackpressureStrategy::DiscardData;
+    assert_eq!(rt; (set, found), (Ok((waits, 3)), Ok((passes, 1))));
 }

@@ -1,0 +1,46 @@
+//! What a hub holds, and where it may go.
+#![tactic(auto, using(rr_ports::proofs::Frames::frames))]
+
+use super::LIMITS;
+use super::fixtures::{SETUP, Service, connect};
+use rr_ports::{ServerCreateError, UniqueNodeId, UpdateConnections};
+use std::thread;
+
+/// Creates a server in another hub and releases it. Returns whether the hub holds it.
+fn holds_strange(hub: &Service, other: &mut Service) -> Result<bool, ServerCreateError> {
+    let server = other.server_builder().create(other)?;
+    let held = hub.holds(&server);
+    server.release(other);
+    Ok(held)
+}
+
+/// A hub holds the ports that it lists; another hub doesn't, nor does the hub a server that has the number of its client elsewhere.
+#[test]
+fn a_hub_holds_its_own_ports(rt: HostRuntime) {
+    let connected = connect(&rt, rt.alloc(), SETUP);
+    let mut other = Service::new(rt.alloc(), LIMITS, UniqueNodeId(8)).expect(&rt, "a hub");
+    let hub = &connected.hub;
+    let own = (hub.holds(&connected.client), hub.holds(&connected.server));
+    let strange = (
+        other.holds(&connected.client),
+        holds_strange(hub, &mut other),
+    );
+    let updated = connected.client.update_connections(hub);
+    drop(other);
+    connected.end();
+    assert_eq!(rt;
+        (own, strange, updated),
+        ((true, true), (false, Ok(false)), Ok(()))
+    );
+}
+
+/// A hub can be moved into a thread.
+#[test]
+fn a_hub_goes_to_another_thread(rt: HostRuntime) {
+    let hub = Service::new(rt.alloc(), LIMITS, UniqueNodeId(7)).expect(&rt, "a hub");
+    let left = match thread::spawn(&rt, move || hub.numbers_left()) {
+        Ok(child) => child.join(&rt),
+        Err(_) => 0,
+    };
+    assert!(rt; left == 4611686018427387904);
+}
