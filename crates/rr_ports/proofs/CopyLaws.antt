@@ -5,7 +5,7 @@ use Rattle.rr_protocol.specs.declared.error.SendError.{SendError}
 use Rattle.rr_protocol.specs.declared.settings.BackpressureAction.{BackpressureAction}
 use Rattle.rr_protocol.specs.Loans.{LoansRequest, LoansResponse}
 use Rattle.rr_protocol.specs.Sends.{SendsRequest, SendsResponse}
-use Rattle.rr_protocol.specs.State.{State, with_changed}
+use Rattle.rr_protocol.specs.State.{State}
 use Rattle.rr_ports.specs.Loaning.{with_complete_request, with_complete_response, LoansComplete, LoansResponseComplete, SendsCopy, SendsResponseCopy}
 use Rattle.rr_ports.specs.Sending.{SendsPending}
 

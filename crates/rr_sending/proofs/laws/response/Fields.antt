@@ -14,7 +14,7 @@ use Rattle.rr_store.specs.declared.handle_entry.HandleEntry.{HandleEntry}
 use Rattle.rr_store.specs.declared.handle_entry.Stage.{Stage}
 use Rattle.rr_store.specs.declared.handle_entry.Stage.TheVariants as stage
 use Rattle.rr_store.specs.declared.details.ResponseDetails.{ResponseDetails}
-use Rattle.rr_store.specs.Delivering.{HasQueue, delivered, is_blocked_in, is_refused_in, reached}
+use Rattle.rr_store.specs.Delivering.{HasQueue, is_blocked_in, is_refused_in, reached}
 use Rattle.rr_store.specs.Kinds.{stage_kind}
 use Rattle.rr_store.specs.Parts.{Parts, ServerPart}
 use Rattle.rr_store.specs.Releasing.{is_loaned_response}
