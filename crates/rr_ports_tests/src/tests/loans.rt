@@ -6,20 +6,9 @@ ghost use Rattle.rr_protocol.specs.declared.kind.Kind.TheVariants as kind;
 ghost use Rattle.rr_protocol.specs.State.{numbers_left};
 ghost use Rattle.rr_ports.specs.Kinds.{Names, NamesNothing, KeepsKinds};
 
-use super::fixtures::{SETUP, Service, connect, received};
-use rr_ports::typed::{ActiveRequest, ResponseMutUninit, Server};
-use rr_ports::{LoanError, ReceiveError, SendError};
-
-/// Loans a response, writes a value into it and sends it.
-fn send_written(hub: &mut Service, active: &ActiveRequest<u64>, value: u64) -> Result<(), SendError>
-    requires active { Names hub.old active.now kind.ActiveRequest }
-    requires number { 0 < numbers_left hub.old }
-    ensures { KeepsKinds hub.old hub.new }
-{
-    let response = active.loan_uninit(hub)?;
-    let response = response.write_payload(hub, value);
-    response.send(hub)
-}
+use super::fixtures::{Received, SETUP, Service, connect, received};
+use rr_ports::typed::{ActiveRequest, Client, PendingResponse, ResponseMutUninit, Server};
+use rr_ports::{LoanError, ReceiveError, RequestSendError, SendError};
 
 /// Loans a response with a default payload, sets it and sends it.
 fn send_set(hub: &mut Service, active: &ActiveRequest<u64>, value: u64) -> Result<(), SendError>
@@ -81,7 +70,6 @@ fn send_headed(hub: &mut Service, active: &ActiveRequest<u64>) -> Result<(), Sen
 #[derive(Clone, Copy)]
 enum Way {
     Copied,
-    Written,
     Set,
     Rewritten,
     Headed,
@@ -95,19 +83,17 @@ fn send(hub: &mut Service, active: &ActiveRequest<u64>, way: Way) -> Result<(), 
 {
     match way {
         Way::Copied => active.send_copy(hub, 12),
-        Way::Written => send_written(hub, active, 456),
         Way::Set => send_set(hub, active, 789),
         Way::Rewritten => send_rewritten(hub, active, 1234, 456),
         Way::Headed => send_headed(hub, active),
     }
 }
 
+/// Whether a request came and was answered.
+type Answered = Result<Option<Result<(), SendError>>, ReceiveError>;
+
 /// Receives a request, sends a response that is written in some way, and releases the request.
-fn answer(
-    hub: &mut Service,
-    server: &Server<u64>,
-    way: Way,
-) -> Result<Option<Result<(), SendError>>, ReceiveError>
+fn answer(hub: &mut Service, server: &Server<u64>, way: Way) -> Answered
     requires server { Names hub.old server.now kind.Server }
     requires numbers { 1 < numbers_left hub.old }
     ensures { KeepsKinds hub.old hub.new }
@@ -120,27 +106,63 @@ fn answer(
     Ok(Some(sent))
 }
 
+/// What a server answered, and what the client received.
+type Exchanged = (Answered, Result<Option<Received>, ReceiveError>);
+
+/// Answers a request in some way, and receives the response.
+fn conclude(
+    hub: &mut Service,
+    server: &Server<u64>,
+    pending: &PendingResponse<u64>,
+    way: Way,
+) -> Exchanged
+    requires server { Names hub.old server.now kind.Server }
+    requires pending { Names hub.old pending.now kind.PendingResponse }
+    requires numbers { 1 < numbers_left hub.old }
+    ensures { KeepsKinds hub.old hub.new }
+{
+    let answered = answer(hub, server, way);
+    let received = received(hub, pending);
+    (answered, received)
+}
+
+/// Sends a request, answers it in some way and receives the response.
+fn exchange(
+    hub: &mut Service,
+    client: &Client<u64>,
+    server: &Server<u64>,
+    way: Way,
+) -> Result<Exchanged, RequestSendError>
+    requires client { Names hub.old client.now kind.Client }
+    requires server { Names hub.old server.now kind.Server }
+    requires numbers { 2 < numbers_left hub.old }
+    ensures { KeepsKinds hub.old hub.new }
+{
+    let pending = client.send_copy(hub, 123)?;
+    let exchanged = conclude(hub, server, &pending, way);
+    pending.release(hub);
+    Ok(exchanged)
+}
+
 /// The payload and the user header that were written last are those that the client receives, however they were written. The response
 /// tells the server that sent it, and that it has one element.
 #[test]
 fn a_response_is_received_as_it_was_written(rt: HostRuntime) {
     for (way, payload, user_header) in [
         (Way::Copied, 12, 0),
-        (Way::Written, 456, 0),
         (Way::Set, 789, 0),
         (Way::Rewritten, 456, 0),
         (Way::Headed, 0, 10),
     ] {
         let mut connected = connect(&rt, rt.alloc(), SETUP);
         let came = (payload, user_header, connected.server.id(), 1);
-        let pending = connected
-            .client
-            .send_copy(&mut connected.hub, 123)
-            .expect(&rt, "a send");
-        let sent = answer(&mut connected.hub, &connected.server, way);
-        let got = received(&mut connected.hub, &pending);
-        pending.release(&mut connected.hub);
+        let exchanged = exchange(
+            &mut connected.hub,
+            &connected.client,
+            &connected.server,
+            way,
+        );
         connected.end();
-        assert_eq!(rt; (sent, got), (Ok(Some(Ok(()))), Ok(Some(came))));
+        assert_eq!(rt; exchanged, Ok((Ok(Some(Ok(()))), Ok(Some(came)))));
     }
 }

@@ -8,7 +8,7 @@ ghost use Rattle.rr_ports.specs.Kinds.{Names, KeepsKinds};
 
 use super::fixtures::{SETUP, Service, Setup, connect};
 use rr_ports::typed::{ActiveRequest, Client, Server};
-use rr_ports::{LoanError, ReceiveError};
+use rr_ports::{LoanError, ReceiveError, RequestSendError};
 
 /// Loans a request and releases it. Returns why it was refused, if it was.
 fn request_refusal(hub: &mut Service, client: &Client<u64>) -> Option<LoanError>
@@ -77,6 +77,41 @@ fn refusals_of(
     Ok(Some(refused))
 }
 
+/// Why a second request was refused, and why responses were.
+type Refusals = (
+    Option<LoanError>,
+    Result<Option<(Option<LoanError>, Option<LoanError>)>, ReceiveError>,
+);
+
+/// Loans a request and releases it, and so with responses to another one.
+fn both_refusals(hub: &mut Service, client: &Client<u64>, server: &Server<u64>) -> Refusals
+    requires client { Names hub.old client.now kind.Client }
+    requires server { Names hub.old server.now kind.Server }
+    requires numbers { 3 < numbers_left hub.old }
+    ensures { KeepsKinds hub.old hub.new }
+{
+    let request = request_refusal(hub, client);
+    let responses = refusals_of(hub, server);
+    (request, responses)
+}
+
+/// Sends a request, and while it is waited for loans another one and responses.
+fn refused(
+    hub: &mut Service,
+    client: &Client<u64>,
+    server: &Server<u64>,
+) -> Result<Refusals, RequestSendError>
+    requires client { Names hub.old client.now kind.Client }
+    requires server { Names hub.old server.now kind.Server }
+    requires numbers { 4 < numbers_left hub.old }
+    ensures { KeepsKinds hub.old hub.new }
+{
+    let pending = client.send_copy(hub, 123)?;
+    let refusals = both_refusals(hub, client, server);
+    pending.release(hub);
+    Ok(refusals)
+}
+
 /// A server grants one loan for each request, unless it is set to more; 0 counts as 1. A pool has one slot at least, and here each is
 /// held by a request and by a response; and at most the worst case, which is 11 requests and 34 responses: for more slots no memory
 /// would be found.
@@ -100,15 +135,9 @@ fn loans_are_counted_per_request_and_by_slots(rt: HostRuntime) {
             ..SETUP
         };
         let mut connected = connect(&rt, rt.alloc(), setup);
-        let pending = connected
-            .client
-            .send_copy(&mut connected.hub, 123)
-            .expect(&rt, "a send");
-        let refused = request_refusal(&mut connected.hub, &connected.client);
-        let responses = refusals_of(&mut connected.hub, &connected.server);
-        pending.release(&mut connected.hub);
+        let refused = refused(&mut connected.hub, &connected.client, &connected.server);
         connected.end();
-        let wanted = (request, Ok(Some((None, second))));
-        assert_eq!(rt; (refused, responses), wanted, "{slots} slots");
+        let wanted = Ok((request, Ok(Some((None, second)))));
+        assert_eq!(rt; refused, wanted, "{slots} slots");
     }
 }
