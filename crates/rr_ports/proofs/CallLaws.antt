@@ -1,4 +1,4 @@
--- What numbers name after loans, sends and receives.
+-- What numbers name after loans and receives.
 use Rattle.std.proofs.Common.{◌≡◌, ◌≢◌, ℕ, ◌+◌, ◌-◌, ◌^◌, ◌≤◌, true, false, cond, List, [], ◌∷◌, map, Option, Some, None, refl, sym, ap, ◌∙◌, subst, arith, Result, Ok, Err}
 use Rattle.std.specs.Prelude.{IsSomeAnd, option_and_then, ◌&&◌, ◌||◌, ◌==◌, IfOk, IfSome}
 use Rattle.std.specs.List.{list_any}
@@ -6,24 +6,19 @@ use Rattle.std.specs.FinMap as fin_map
 use Rattle.rr_map_laws.proofs.MapLaws.{get-insert_same}
 use Rattle.rr_protocol.specs.declared.kind.Kind.{Kind}
 use Rattle.rr_protocol.specs.declared.error.LoanError.{LoanError}
-use Rattle.rr_protocol.specs.declared.error.RequestSendError.{RequestSendError}
-use Rattle.rr_protocol.specs.declared.error.SendError.{SendError}
 use Rattle.rr_protocol.specs.declared.error.ReceiveError.{ReceiveError}
-use Rattle.rr_protocol.specs.declared.settings.BackpressureAction.{BackpressureAction}
 use Rattle.rr_protocol.specs.Keys.{RequestKey, request_key}
 use Rattle.rr_protocol.specs.Messages.{request_in, response_in, RequestMessage, Handle, ActiveRequest, Response}
 use Rattle.rr_protocol.specs.Ports.{Client}
 use Rattle.rr_protocol.specs.State.{State, handle_at, client_at, pending_at, is_client_value, is_server_value, numbers_left}
 use Rattle.rr_protocol.specs.Queries.{kind_of, kind_at}
 use Rattle.rr_protocol.specs.Loans.{LoansRequest, LoansResponse, with_loan_counted}
-use Rattle.rr_protocol.specs.Sends.{SendsRequest, SendsResponse, with_response_put}
 use Rattle.rr_protocol.specs.Receives.{ReceivesRequest, ReceivesResponse, TakesRequest, Skims}
-use Rattle.rr_protocol.specs.Releases.{after_release}
 use Rattle.rr_laws.specs.Unreduced.{ClientHasPool, ServerHasPool}
-use Rattle.rr_laws.proofs.Opening.{some_and, open_request_mut, open_response_mut, open_active}
-use Rattle.rr_ports.specs.Kinds.{Names, NamesNothing, KeepsKinds, KeepsKindsBut, RequestAsksFor, ResponseAsksFor}
-use Rattle.rr_ports.proofs.NameLaws.{SamePorts, handle_no_port, free_no_port, keeps_but, keeps_new, keeps_each, keeps_same, other_kind, own_kind}
-use Rattle.rr_ports.proofs.ReleaseLaws.{SameNames, names_then, names_equal, names_ports, names_each, released_keeps, released_numbers}
+use Rattle.rr_laws.proofs.Opening.{some_and, open_active}
+use Rattle.rr_ports.specs.Kinds.{Names, NamesNothing, KeepsKinds, RequestAsksFor, ResponseAsksFor}
+use Rattle.rr_ports.proofs.NameLaws.{SamePorts, free_no_port, keeps_new, keeps_each, keeps_same, other_kind, own_kind}
+use Rattle.rr_ports.proofs.ReleaseLaws.{SameNames, names_then, names_equal, names_ports, names_each}
 
 -- a client's value lives as before, once a loan was counted
 counted_one : {K : Type 0} (n k : ℕ) (c : Client K) → ((with_loan_counted k c).id == n && (with_loan_counted k c).has_value) ≡ (c.id == n && c.has_value)
@@ -225,48 +220,6 @@ module _ {Q QH P PH K : Type 0} where
         kinds = one.kinds;
         numbers = one.numbers;
       }
-
--- sends
-module _ {Q QH P PH K : Type 0} (action : K → ℕ → ℕ → BackpressureAction) (old new : State Q QH P PH K) (n : ℕ) where
-  module _ (connections : ℕ) (sent : SendsRequest action old n (Ok connections) new) where
-    sent_gains : Gains n Kind.PendingResponse old new
-    sent_gains =
-        let e = (open_request_mut old n _ sent).4.2 in
-        record {
-          handle = _;
-          handles = ap (λ t. t.handles) e;
-          is_kind = refl;
-          ports = record { clients = λ j. ap (λ t. is_client_value t j) e; servers = λ j. ap (λ t. is_server_value t j) e };
-        }
-
-    pub sent_names : kind_at old n ≡ Some Kind.RequestMut → Names new n Kind.PendingResponse
-    unfolding Names
-    sent_names is =
-        let g = sent_gains in
-        own_kind old new g.ports n g.handle g.handles (handle_no_port old n Kind.RequestMut (λ e. cc) (λ e. cc) is).0 ∙ ap Some g.is_kind
-
-    pub sent_but : KeepsKindsBut n old new
-    sent_but = let g = sent_gains in keeps_but n old new (other_kind old new g.ports n g.handle g.handles)
-
-    pub sent_next : new.next ≡ old.next
-    sent_next = ap (λ t. t.next) (open_request_mut old n _ sent).4.2
-
-  -- a request that was refused is released
-  pub unsent : (error : RequestSendError) → SendsRequest action old n (Err error) new → new ≡ after_release old n
-  unsent error sent = (open_request_mut old n _ sent).4.1
-
-  -- a response that was sent or refused is released
-  module _ {U : Type 0} where
-    answered_is : (result : Result U SendError) → SendsResponse action old n result new → (lists : _) × (new ≡ after_release (record old { responses = lists }) n)
-    answered_is (Ok u) sent = let o = open_response_mut old n _ sent in (with_response_put old o.1, o.4.1)
-    answered_is (Err e) sent = (old.responses, (open_response_mut old n _ sent).4.2)
-
-    pub answered_but : (result : Result U SendError) → SendsResponse action old n result new → KeepsKindsBut n old new
-    unfolding KeepsKindsBut
-    answered_but result sent = let a = answered_is result sent in released_keeps (record old { responses = a.0 }) new n a.1
-
-    pub answered_numbers : (result : Result U SendError) → SendsResponse action old n result new → numbers_left new ≡ numbers_left old
-    answered_numbers result sent = let a = answered_is result sent in released_numbers (record old { responses = a.0 }) new n a.1
 
 -- receives
 module _ {Q QH P PH K : Type 0} where

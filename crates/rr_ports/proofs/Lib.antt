@@ -4,6 +4,7 @@ pub mod Asking
 pub mod Payloads
 pub mod ReleaseLaws
 pub mod CallLaws
+pub mod SendLaws
 pub mod WriteLaws
 pub mod CreationLaws
 pub mod CopyLaws

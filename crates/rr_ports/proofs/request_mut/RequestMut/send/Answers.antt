@@ -1,6 +1,6 @@
 use Rattle.rr_ports.specs.Kinds.{Names}
 use Rattle.rr_ports.proofs.ReleaseLaws.{released_keeps, released_numbers}
-use Rattle.rr_ports.proofs.CallLaws.{unsent, sent_names, sent_but}
+use Rattle.rr_ports.proofs.SendLaws.{unsent, sent_names, sent_but}
 use Rattle.rr_ports.proofs.request_mut.RequestMut.send.Goals as goal
 
 pub returns-in_err-_connections-clause-kinds : goal.returns-in_err-_connections-clause-kinds

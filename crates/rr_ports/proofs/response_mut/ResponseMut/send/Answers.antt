@@ -1,4 +1,4 @@
-use Rattle.rr_ports.proofs.CallLaws.{answered_but, answered_numbers}
+use Rattle.rr_ports.proofs.SendLaws.{answered_but, answered_numbers}
 use Rattle.rr_ports.proofs.response_mut.ResponseMut.send.Goals as goal
 
 pub returns-clause-kinds : goal.returns-clause-kinds
