@@ -25,7 +25,7 @@ impl<QB: Body, QH: Default + Drop, PB: Body, PH: Default + Drop, K: Backpressure
         requires { IsSome (option_and_then request_in (handle_at self.now id.now)) }
         ensures { IsSomeAnd (option_and_then request_in (handle_at self.now id.now)) (λ m. result ≡ request_header self.now m) }
     {
-        let entry = self.parts.look_up(id.number(), id.place());
+        let entry = self.parts.look_up(id);
         let details = self.parts.clients.details(entry.sender, entry.slot);
         let asked_len = self
             .parts
@@ -46,7 +46,7 @@ impl<QB: Body, QH: Default + Drop, PB: Body, PH: Default + Drop, K: Backpressure
         requires { IsSome (option_and_then response_in (handle_at self.now id.now)) }
         ensures { IsSomeAnd (option_and_then response_in (handle_at self.now id.now)) (λ m. result ≡ response_header self.now m) }
     {
-        let entry = self.parts.look_up(id.number(), id.place());
+        let entry = self.parts.look_up(id);
         let details = self.parts.servers.details(entry.sender, entry.slot);
         let asked_len = self
             .parts
@@ -68,7 +68,7 @@ impl<QB: Body, QH: Default + Drop, PB: Body, PH: Default + Drop, K: Backpressure
         requires { IsSome (option_and_then request_in (handle_at self.now id.now)) }
         ensures { IsSomeAnd (option_and_then request_in (handle_at self.now id.now)) (λ m. result.now ≡ m.content.user_header) }
     {
-        let entry = self.parts.look_up(id.number(), id.place());
+        let entry = self.parts.look_up(id);
         self.parts.clients.user_header(entry.sender, entry.slot)
     }
 
@@ -79,7 +79,7 @@ impl<QB: Body, QH: Default + Drop, PB: Body, PH: Default + Drop, K: Backpressure
         requires { IsSome (option_and_then response_in (handle_at self.now id.now)) }
         ensures { IsSomeAnd (option_and_then response_in (handle_at self.now id.now)) (λ m. result.now ≡ m.content.user_header) }
     {
-        let entry = self.parts.look_up(id.number(), id.place());
+        let entry = self.parts.look_up(id);
         self.parts.servers.user_header(entry.sender, entry.slot)
     }
 
@@ -89,7 +89,7 @@ impl<QB: Body, QH: Default + Drop, PB: Body, PH: Default + Drop, K: Backpressure
         requires { kind_at self.now id.now ≡ Some Kind.ActiveRequest }
         ensures { IsSomeAnd (active_at self.now id.now) (λ active. result.0 ≡ active.message.client) }
     {
-        let entry = self.parts.look_up(id.number(), id.place());
+        let entry = self.parts.look_up(id);
         UniqueClientId(self.parts.clients.details(entry.sender, entry.slot).client)
     }
 
@@ -99,7 +99,7 @@ impl<QB: Body, QH: Default + Drop, PB: Body, PH: Default + Drop, K: Backpressure
         requires { kind_at self.now id.now ≡ Some Kind.Response }
         ensures { IsSomeAnd (option_and_then response_in (handle_at self.now id.now)) (λ m. result.0 ≡ m.server) }
     {
-        let entry = self.parts.look_up(id.number(), id.place());
+        let entry = self.parts.look_up(id);
         UniqueServerId(self.parts.servers.details(entry.sender, entry.slot).server)
     }
 }

@@ -23,7 +23,7 @@ impl<QB: Body, QH: Default + Drop, PB: Body, PH: Default + Drop, K: Backpressure
         requires { kind_at self.now id.now ≡ Some Kind.PendingResponse }
         ensures { IsSomeAnd (pending_at self.now id.now) (λ pending. result ≡ pending.connections) }
     {
-        connections(self.parts.look_up(id.number(), id.place()).stage)
+        connections(self.parts.look_up(id).stage)
     }
 
     /// Returns whether the pending response of an active request's request lives and has its hint set. Looks at the one place
@@ -33,7 +33,7 @@ impl<QB: Body, QH: Default + Drop, PB: Body, PH: Default + Drop, K: Backpressure
         requires { kind_at self.now id.now ≡ Some Kind.ActiveRequest }
         ensures { IsSomeAnd (active_at self.now id.now) (λ active. result ≡ has_disconnect_hint self.now active.message.number) }
     {
-        let entry = self.parts.look_up(id.number(), id.place());
+        let entry = self.parts.look_up(id);
         let details = self.parts.clients.details(entry.sender, entry.slot);
         let own = self.parts.clients.own_place(entry.sender, entry.slot);
         match self.parts.table.get_at(details.number, own) {

@@ -29,9 +29,10 @@ impl<QB: Body, QH: Default + Drop, PB: Body, PH: Default + Drop, K: Backpressure
         ensures* lends { sem 𝓛 (lends_request_element QB.row QH.row PB.row PH.row K.row QB.Item.row PB.Item.row QB.Body QH.Default PB.Body PH.Default K.BackpressureFn self.entry id.now index result) }
         ensures value { IsSomeAnd (option_and_then request_in (handle_at self.old id.now)) (λ m. slice_get m.content.elements index ≡ Some result.now) }
     {
-        let entry = self.parts.look_up(id.number(), id.place());
-        let messages = self.parts.clients.messages_mut(entry.sender);
-        messages.get_mut(entry.slot, index)
+        let entry = self.parts.look_up(id);
+        self.parts
+            .clients
+            .element_mut(entry.sender, entry.slot, index)
     }
 
     /// Lends the user header of a request that was not sent.
@@ -42,9 +43,8 @@ impl<QB: Body, QH: Default + Drop, PB: Body, PH: Default + Drop, K: Backpressure
         ensures* lends { sem 𝓛 (lends_request_user_header QB.row QH.row PB.row PH.row K.row QB.Item.row PB.Item.row QB.Body QH.Default PB.Body PH.Default K.BackpressureFn self.entry id.now result) }
         ensures value { IsSomeAnd (option_and_then request_in (handle_at self.old id.now)) (λ m. m.content.user_header ≡ result.now) }
     {
-        let entry = self.parts.look_up(id.number(), id.place());
-        let messages = self.parts.clients.messages_mut(entry.sender);
-        messages.user_header_mut(entry.slot)
+        let entry = self.parts.look_up(id);
+        self.parts.clients.user_header_mut(entry.sender, entry.slot)
     }
 
     /// Lends an element of a response that was not sent.
@@ -56,9 +56,10 @@ impl<QB: Body, QH: Default + Drop, PB: Body, PH: Default + Drop, K: Backpressure
         ensures* lends { sem 𝓛 (lends_response_element QB.row QH.row PB.row PH.row K.row QB.Item.row PB.Item.row QB.Body QH.Default PB.Body PH.Default K.BackpressureFn self.entry id.now index result) }
         ensures value { IsSomeAnd (option_and_then response_in (handle_at self.old id.now)) (λ m. slice_get m.content.elements index ≡ Some result.now) }
     {
-        let entry = self.parts.look_up(id.number(), id.place());
-        let messages = self.parts.servers.messages_mut(entry.sender);
-        messages.get_mut(entry.slot, index)
+        let entry = self.parts.look_up(id);
+        self.parts
+            .servers
+            .element_mut(entry.sender, entry.slot, index)
     }
 
     /// Lends the user header of a response that was not sent.
@@ -69,9 +70,8 @@ impl<QB: Body, QH: Default + Drop, PB: Body, PH: Default + Drop, K: Backpressure
         ensures* lends { sem 𝓛 (lends_response_user_header QB.row QH.row PB.row PH.row K.row QB.Item.row PB.Item.row QB.Body QH.Default PB.Body PH.Default K.BackpressureFn self.entry id.now result) }
         ensures value { IsSomeAnd (option_and_then response_in (handle_at self.old id.now)) (λ m. m.content.user_header ≡ result.now) }
     {
-        let entry = self.parts.look_up(id.number(), id.place());
-        let messages = self.parts.servers.messages_mut(entry.sender);
-        messages.user_header_mut(entry.slot)
+        let entry = self.parts.look_up(id);
+        self.parts.servers.user_header_mut(entry.sender, entry.slot)
     }
 }
 
@@ -92,9 +92,8 @@ impl<T: Drop, QH: Default + Drop, PB: Body, PH: Default + Drop, K: BackpressureF
         ensures* lends { sem 𝓛 (lends_request_option T.row QH.row PB.row PH.row K.row PB.Item.row QH.Default PB.Body PH.Default K.BackpressureFn self.entry id.now ⟦<Option<T> as Body>⟧ result) }
         ensures value { IsSomeAnd (option_and_then request_in (handle_at self.old id.now)) (λ m. m.content.elements ≡ option_elements result.now) }
     {
-        let entry = self.parts.look_up(id.number(), id.place());
-        let messages = self.parts.clients.messages_mut(entry.sender);
-        messages.option_mut(entry.slot)
+        let entry = self.parts.look_up(id);
+        self.parts.clients.option_mut(entry.sender, entry.slot)
     }
 }
 
@@ -115,9 +114,8 @@ impl<T: Drop, QH: Default + Drop, PB: Body, PH: Default + Drop, K: BackpressureF
         ensures* lends { sem 𝓛 (lends_request_slice T.row QH.row PB.row PH.row K.row PB.Item.row QH.Default PB.Body PH.Default K.BackpressureFn self.entry id.now ⟦<SliceBody<T> as Body>⟧ result) }
         ensures value { IsSomeAnd (option_and_then request_in (handle_at self.old id.now)) (λ m. m.content.elements ≡ result.now) }
     {
-        let entry = self.parts.look_up(id.number(), id.place());
-        let messages = self.parts.clients.messages_mut(entry.sender);
-        messages.slice_mut(entry.slot)
+        let entry = self.parts.look_up(id);
+        self.parts.clients.slice_mut(entry.sender, entry.slot)
     }
 }
 
@@ -138,9 +136,8 @@ impl<QB: Body, QH: Default + Drop, T: Drop, PH: Default + Drop, K: BackpressureF
         ensures* lends { sem 𝓛 (lends_response_option QB.row QH.row T.row PH.row K.row QB.Item.row QB.Body QH.Default PH.Default K.BackpressureFn self.entry id.now ⟦<Option<T> as Body>⟧ result) }
         ensures value { IsSomeAnd (option_and_then response_in (handle_at self.old id.now)) (λ m. m.content.elements ≡ option_elements result.now) }
     {
-        let entry = self.parts.look_up(id.number(), id.place());
-        let messages = self.parts.servers.messages_mut(entry.sender);
-        messages.option_mut(entry.slot)
+        let entry = self.parts.look_up(id);
+        self.parts.servers.option_mut(entry.sender, entry.slot)
     }
 }
 
@@ -161,8 +158,7 @@ impl<QB: Body, QH: Default + Drop, T: Drop, PH: Default + Drop, K: BackpressureF
         ensures* lends { sem 𝓛 (lends_response_slice QB.row QH.row T.row PH.row K.row QB.Item.row QB.Body QH.Default PH.Default K.BackpressureFn self.entry id.now ⟦<SliceBody<T> as Body>⟧ result) }
         ensures value { IsSomeAnd (option_and_then response_in (handle_at self.old id.now)) (λ m. m.content.elements ≡ result.now) }
     {
-        let entry = self.parts.look_up(id.number(), id.place());
-        let messages = self.parts.servers.messages_mut(entry.sender);
-        messages.slice_mut(entry.slot)
+        let entry = self.parts.look_up(id);
+        self.parts.servers.slice_mut(entry.sender, entry.slot)
     }
 }

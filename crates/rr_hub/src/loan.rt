@@ -66,7 +66,7 @@ impl<QB: Body, QH: Default + Drop, PB: Body, PH: Default + Drop, K: Backpressure
         if self.parts.is_place_of(active.number(), place) {
             loan_response_at(&mut self.parts, active.number(), place, len)
         } else {
-            let place = self.parts.place_of(active.number());
+            let place = self.parts.locate(active);
             loan_response_at(&mut self.parts, active.number(), place, len)
         }
     }

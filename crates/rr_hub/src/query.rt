@@ -50,7 +50,7 @@ impl<QB: Body, QH: Default + Drop, PB: Body, PH: Default + Drop, K: Backpressure
         // The payload of every handle but a `RequestMutUninit` is complete.
         ensures complete { IsSomeAnd (handle_at self.now id.now) HasComplete }
     {
-        let entry = self.parts.look_up(id.number(), id.place());
+        let entry = self.parts.look_up(id);
         self.parts.clients.body(entry.sender, entry.slot)
     }
 
@@ -65,7 +65,7 @@ impl<QB: Body, QH: Default + Drop, PB: Body, PH: Default + Drop, K: Backpressure
         // The payload of every handle but a `ResponseMutUninit` is complete.
         ensures complete { IsSomeAnd (handle_at self.now id.now) HasComplete }
     {
-        let entry = self.parts.look_up(id.number(), id.place());
+        let entry = self.parts.look_up(id);
         self.parts.servers.body(entry.sender, entry.slot)
     }
 
@@ -76,7 +76,7 @@ impl<QB: Body, QH: Default + Drop, PB: Body, PH: Default + Drop, K: Backpressure
         requires { kind_at self.now id.now ≡ Some Kind.PendingResponse }
         ensures { IsSomeAnd (pending_at self.now id.now) (λ pending. result ≡ nat_lt 0 (length pending.servers)) }
     {
-        let entry = self.parts.look_up(id.number(), id.place());
+        let entry = self.parts.look_up(id);
         is_answerable(&self.parts, entry.sender, entry.slot)
     }
 
@@ -87,7 +87,7 @@ impl<QB: Body, QH: Default + Drop, PB: Body, PH: Default + Drop, K: Backpressure
         requires { kind_at self.now id.now ≡ Some Kind.ActiveRequest }
         ensures { IsSomeAnd (active_at self.now id.now) (λ active. result ≡ is_alive self.now active.message.number) }
     {
-        let entry = self.parts.look_up(id.number(), id.place());
+        let entry = self.parts.look_up(id);
         let details = self.parts.clients.details(entry.sender, entry.slot);
         let own = self.parts.clients.own_place(entry.sender, entry.slot);
         match self.parts.table.get_at(details.number, own) {
@@ -103,7 +103,7 @@ impl<QB: Body, QH: Default + Drop, PB: Body, PH: Default + Drop, K: Backpressure
         requires { IsSome (active_at self.now id.now) }
         ensures { IsSomeAnd (active_at self.now id.now) (λ active. result ≡ active.message.number) }
     {
-        let entry = self.parts.look_up(id.number(), id.place());
+        let entry = self.parts.look_up(id);
         self.parts.clients.details(entry.sender, entry.slot).number
     }
 }

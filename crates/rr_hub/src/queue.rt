@@ -40,7 +40,7 @@ impl<QB: Body, QH: Default + Drop, PB: Body, PH: Default + Drop, K: Backpressure
         requires { kind_at self.now id.now ≡ Some Kind.PendingResponse }
         ensures { IsSomeAnd (pending_at self.now id.now) (λ pending. IsTrue result ↔ HasResponse self.now pending) }
     {
-        let entry = self.parts.look_up(id.number(), id.place());
+        let entry = self.parts.look_up(id);
         let receiver = self.parts.clients.receiver_of(entry.sender);
         self.parts.servers.is_waiting(receiver, entry.slot)
     }
@@ -52,7 +52,7 @@ impl<QB: Body, QH: Default + Drop, PB: Body, PH: Default + Drop, K: Backpressure
         requires { kind_at self.now id.now ≡ Some Kind.RequestMut }
         ensures { IsSomeAnd (request_at self.now id.now) (λ m. result ≡ is_request_deliverable self.now m) }
     {
-        let entry = self.parts.look_up(id.number(), id.place());
+        let entry = self.parts.look_up(id);
         takes_request(&self.parts, entry.sender)
     }
 
@@ -63,7 +63,7 @@ impl<QB: Body, QH: Default + Drop, PB: Body, PH: Default + Drop, K: Backpressure
         requires { kind_at self.now id.now ≡ Some Kind.ResponseMut }
         ensures { IsSomeAnd (response_at self.now id.now) (λ m. result ≡ is_response_deliverable self.now m) }
     {
-        let entry = self.parts.look_up(id.number(), id.place());
+        let entry = self.parts.look_up(id);
         let details = self.parts.servers.details(entry.sender, entry.slot);
         let reach = self
             .parts

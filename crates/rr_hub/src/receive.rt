@@ -35,7 +35,7 @@ impl<QB: Body, QH: Default + Drop, PB: Body, PH: Default + Drop, K: Backpressure
         if self.parts.is_place_of(id.number(), place) {
             receive_response_at(&mut self.parts, id.number(), place)
         } else {
-            let place = self.parts.place_of(id.number());
+            let place = self.parts.locate(id);
             receive_response_at(&mut self.parts, id.number(), place)
         }
     }

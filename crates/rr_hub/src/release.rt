@@ -56,13 +56,8 @@ impl<QB: Body, QH: Default + Drop, PB: Body, PH: Default + Drop, K: Backpressure
         requires { IsSome (handle_at self.old id.now) }
         ensures { self.new ≡ after_release self.old id.now }
     {
-        let place = id.place();
-        if self.parts.is_place_of(id.number(), place) {
-            release_at(&mut self.parts, id.number(), place);
-        } else {
-            let place = self.parts.place_of(id.number());
-            release_at(&mut self.parts, id.number(), place);
-        }
+        let place = self.parts.locate(id);
+        release_at(&mut self.parts, id.number(), place);
     }
 
     /// Releases a pending response, as `release` does, without a look at what it is. After the drop of iceoryx2's
@@ -76,7 +71,7 @@ impl<QB: Body, QH: Default + Drop, PB: Body, PH: Default + Drop, K: Backpressure
         if self.parts.is_place_of(id.number(), place) {
             release_pending_at(&mut self.parts, id.number(), place);
         } else {
-            let place = self.parts.place_of(id.number());
+            let place = self.parts.locate(id);
             release_pending_at(&mut self.parts, id.number(), place);
         }
     }
@@ -92,7 +87,7 @@ impl<QB: Body, QH: Default + Drop, PB: Body, PH: Default + Drop, K: Backpressure
         if self.parts.is_place_of(id.number(), place) {
             release_active_at(&mut self.parts, id.number(), place);
         } else {
-            let place = self.parts.place_of(id.number());
+            let place = self.parts.locate(id);
             release_active_at(&mut self.parts, id.number(), place);
         }
     }
@@ -108,7 +103,7 @@ impl<QB: Body, QH: Default + Drop, PB: Body, PH: Default + Drop, K: Backpressure
         if self.parts.is_place_of(id.number(), place) {
             release_received_at(&mut self.parts, id.number(), place);
         } else {
-            let place = self.parts.place_of(id.number());
+            let place = self.parts.locate(id);
             release_received_at(&mut self.parts, id.number(), place);
         }
     }
@@ -120,13 +115,8 @@ impl<QB: Body, QH: Default + Drop, PB: Body, PH: Default + Drop, K: Backpressure
         requires { (kind_at self.old id.now ≡ Some kind.RequestMutUninit) ⊎ (kind_at self.old id.now ≡ Some kind.RequestMut) }
         ensures { self.new ≡ after_release self.old id.now }
     {
-        let place = id.place();
-        if self.parts.is_place_of(id.number(), place) {
-            release_request_at(&mut self.parts, id.number(), place);
-        } else {
-            let place = self.parts.place_of(id.number());
-            release_request_at(&mut self.parts, id.number(), place);
-        }
+        let place = self.parts.locate(id);
+        release_request_at(&mut self.parts, id.number(), place);
     }
 
     /// Releases a response on loan, as `release` does, without a look at what it is. After the drops of iceoryx2's
@@ -136,12 +126,7 @@ impl<QB: Body, QH: Default + Drop, PB: Body, PH: Default + Drop, K: Backpressure
         requires { (kind_at self.old id.now ≡ Some kind.ResponseMutUninit) ⊎ (kind_at self.old id.now ≡ Some kind.ResponseMut) }
         ensures { self.new ≡ after_release self.old id.now }
     {
-        let place = id.place();
-        if self.parts.is_place_of(id.number(), place) {
-            release_response_loan_at(&mut self.parts, id.number(), place);
-        } else {
-            let place = self.parts.place_of(id.number());
-            release_response_loan_at(&mut self.parts, id.number(), place);
-        }
+        let place = self.parts.locate(id);
+        release_response_loan_at(&mut self.parts, id.number(), place);
     }
 }

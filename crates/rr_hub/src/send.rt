@@ -35,7 +35,7 @@ impl<QB: Body, QH: Default + Drop, PB: Body, PH: Default + Drop, K: Backpressure
         if self.parts.is_place_of(id.number(), place) {
             send_request_at(&mut self.parts, id.number(), place)
         } else {
-            let place = self.parts.place_of(id.number());
+            let place = self.parts.locate(id);
             send_request_at(&mut self.parts, id.number(), place)
         }
     }
@@ -58,17 +58,17 @@ impl<QB: Body, QH: Default + Drop, PB: Body, PH: Default + Drop, K: Backpressure
         if self.parts.is_place_of(id.number(), place) {
             send_response_at(&mut self.parts, id.number(), place)
         } else {
-            self.send_response_far(id.number())
+            self.send_response_far(id)
         }
     }
 
     /// Sends a response whose handle doesn't stand where its id says. Walks over the table.
     #[cold]
-    fn send_response_far(&mut self, number: u64) -> Result<(), SendError>
-        requires { kind_at self.old number ≡ Some kind.ResponseMut }
-        ensures { SendsResponse K.action self.old number result self.new }
+    fn send_response_far(&mut self, id: &HandleId) -> Result<(), SendError>
+        requires { kind_at self.old id.now ≡ Some kind.ResponseMut }
+        ensures { SendsResponse K.action self.old id.now result self.new }
     {
-        let place = self.parts.place_of(number);
-        send_response_at(&mut self.parts, number, place)
+        let place = self.parts.locate(id);
+        send_response_at(&mut self.parts, id.number(), place)
     }
 }

@@ -31,13 +31,8 @@ impl<QB: Body, QH: Default + Drop, PB: Body, PH: Default + Drop, K: Backpressure
         requires complete { IsSomeAnd (handle_at self.old id.now) (λ handle. is_ready handle ≡ true) }
         ensures { self.new ≡ with_changed self.old id.now after_init }
     {
-        let place = id.place();
-        if self.parts.is_place_of(id.number(), place) {
-            assume_init_at(&mut self.parts, id.number(), place);
-        } else {
-            let place = self.parts.place_of(id.number());
-            assume_init_at(&mut self.parts, id.number(), place);
-        }
+        let place = self.parts.locate(id);
+        assume_init_at(&mut self.parts, id.number(), place);
     }
 
     /// Sets the hint of a pending response that its client wants no more responses. Whether a hint was set before is not told.
@@ -48,12 +43,7 @@ impl<QB: Body, QH: Default + Drop, PB: Body, PH: Default + Drop, K: Backpressure
         requires { kind_at self.old id.now ≡ Some Kind.PendingResponse }
         ensures { self.new ≡ with_changed self.old id.now with_hint }
     {
-        let place = id.place();
-        if self.parts.is_place_of(id.number(), place) {
-            set_disconnect_hint_at(&mut self.parts, id.number(), place);
-        } else {
-            let place = self.parts.place_of(id.number());
-            set_disconnect_hint_at(&mut self.parts, id.number(), place);
-        }
+        let place = self.parts.locate(id);
+        set_disconnect_hint_at(&mut self.parts, id.number(), place);
     }
 }

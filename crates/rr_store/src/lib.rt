@@ -12,9 +12,6 @@ mod store;
 pub use details::{RequestDetails, ResponseDetails};
 pub use handle_entry::{HandleEntry, Stage};
 pub use handle_id::HandleId;
-pub use port::{
-    ClientPort, ConnectedPort, LeftPort, NO_SERVER, OwnedSender, Port, ServerPort, index_of,
-    index_of_present,
-};
+pub use port::{ClientPort, ConnectedPort, LeftPort, NO_SERVER, OwnedSender, Port, ServerPort};
 pub use side::Side;
 pub use store::{NUMBERS, Store};

@@ -113,21 +113,6 @@ pub trait ConnectedPort: Drop {
         ensures { self.new ≡ valueless self.old };
 }
 
-impl<K: Drop> Port<K> {
-    /// Returns what a side asks of the port.
-    #[inline(always)]
-    fn details(&self) -> PortDetails
-        ensures { result ≡ record { id = self.now.id; receiver = self.now.receiver; sender = self.now.sender; has_value = self.now.has_value } }
-    {
-        PortDetails {
-            id: self.id,
-            receiver: self.receiver,
-            sender: self.sender,
-            has_value: self.has_value,
-        }
-    }
-}
-
 impl<K: Drop> ConnectedPort for ClientPort<K> {
     ghost id = { λ c. c.port.id };
 
@@ -141,7 +126,12 @@ impl<K: Drop> ConnectedPort for ClientPort<K> {
 
     #[inline(always)]
     fn details(&self) -> PortDetails {
-        self.port.details()
+        PortDetails {
+            id: self.port.id,
+            receiver: self.port.receiver,
+            sender: self.port.sender,
+            has_value: self.port.has_value,
+        }
     }
 
     fn end_value(&mut self) {
@@ -162,7 +152,12 @@ impl<K: Drop> ConnectedPort for ServerPort<K> {
 
     #[inline(always)]
     fn details(&self) -> PortDetails {
-        self.port.details()
+        PortDetails {
+            id: self.port.id,
+            receiver: self.port.receiver,
+            sender: self.port.sender,
+            has_value: self.port.has_value,
+        }
     }
 
     fn end_value(&mut self) {
@@ -170,42 +165,8 @@ impl<K: Drop> ConnectedPort for ServerPort<K> {
     }
 }
 
-/// Returns where among the ports, whose numbers rise, the one with this number stands. Takes O(log ports): it looks at the
-/// one in the middle first, and then halves.
-#[inline(always)]
-pub fn index_of<P: ConnectedPort>(ports: &[P], id: u64) -> Option<usize>
-    requires { IsRising P.id ports.now }
-    ensures { result ≡ position (λ p. P.id p == id) ports.now }
-{
-    let middle = ports.len() / 2;
-    if middle < ports.len() {
-        if ports[middle].details().id == id {
-            return Some(middle);
-        }
-    }
-    index_by_halving(ports, id)
-}
-
-/// Returns where among the ports, whose numbers rise, the one with this number stands, which is one of them. Looks as `index_of`
-/// does.
-#[inline(always)]
-pub fn index_of_present<P: ConnectedPort>(ports: &[P], id: u64) -> usize
-    requires rising { IsRising P.id ports.now }
-    requires present { IsSome (position (λ p. P.id p == id) ports.now) }
-    ensures { position (λ p. P.id p == id) ports.now ≡ Some result }
-{
-    let middle = ports.len() / 2;
-    if ports[middle].details().id == id {
-        return middle;
-    }
-    match index_by_halving(ports, id) {
-        Some(index) => index,
-        None => unreachable!(),
-    }
-}
-
-/// Returns what `index_of` returns. Takes O(log ports).
-fn index_by_halving<P: ConnectedPort>(ports: &[P], id: u64) -> Option<usize>
+/// Returns where among the ports, whose numbers rise, the one with this number stands, in O(log ports).
+pub fn index_by_halving<P: ConnectedPort>(ports: &[P], id: u64) -> Option<usize>
     requires { IsRising P.id ports.now }
     ensures { result ≡ position (λ p. P.id p == id) ports.now }
 {

@@ -25,18 +25,18 @@ module _ {Q QH P PH K : Type 0} (p : Parts Q QH P PH K) (core : IsCore p) (n : �
     (kind : kind_at (state_of p) n ≡ Some Kind.ActiveRequest) where
   -- the handle is under its number, and an active request
   there : value_at p.table n ≡ Some entry
-  there = here core refl refl (place, at)
+  there = here core refl n (place, at)
 
   is : stage_kind entry.stage ≡ Kind.ActiveRequest
-  is = active_stage core refl refl (place, at) kind
+  is = active_stage core refl n (place, at) kind
 
   -- the sender that is asked for
   pub sender_asked : entry.sender < length p.client_senders
-  sender_asked = (active_asked core refl refl (place, at) kind).sender
+  sender_asked = (active_asked core refl n (place, at) kind).sender
 
   -- and the slot
   pub slot_asked : entry.slot < length (sender_of entry.sender p.client_senders).messages.held
-  slot_asked = (active_asked core refl refl (place, at) kind).slot
+  slot_asked = (active_asked core refl n (place, at) kind).slot
 
   -- what a boolean tells of the request
   abbrev Tells : (ℕ → Bool) → Bool → Type 0

@@ -26,14 +26,14 @@ HasMarks {K} entry p = record {
       → entry.slot * p.limits.max_servers + s.receiver < length (sender_of entry.sender p.client_senders).may_answer;
 }
 
-module _ {Q QH P PH K : Type 0} {p : Parts Q QH P PH K} {s : State Q QH P PH K} {n m : ℕ} {entry : HandleEntry} (core : IsCore p)
-    (view : state_of p ≡ s) (same : n ≡ m)
+module _ {Q QH P PH K : Type 0} {p : Parts Q QH P PH K} {s : State Q QH P PH K} {entry : HandleEntry} (core : IsCore p)
+    (view : state_of p ≡ s) (n : ℕ)
     (looked : (place : Place) × (fin_map.get p.table.entries n ≡ Some (table_entry place entry)))
-    (kind : kind_at s m ≡ Some Kind.PendingResponse) where
+    (kind : kind_at s n ≡ Some Kind.PendingResponse) where
   -- as many marks as the slots of the sender have receivers
   pub marks_asked : HasMarks entry p
   marks_asked =
-      let its = pending_asked core view same looked kind in
+      let its = pending_asked core view n looked kind in
       let marks = length (sender_of entry.sender p.client_senders).may_answer in
       let slots = length (sender_of entry.sender p.client_senders).messages.held in
       let many = core.sound.sized.marks entry.sender its.sender in record {
@@ -45,10 +45,10 @@ module _ {Q QH P PH K : Type 0} {p : Parts Q QH P PH K} {s : State Q QH P PH K} 
 
   -- what the marks tell
   pub told_then : (told : Bool) → told ≡ nat_lt 0 (length (waiting_at p entry.sender entry.slot))
-      → IsSomeAnd (pending_at s m) (λ pending. told ≡ nat_lt 0 (length pending.servers))
+      → IsSomeAnd (pending_at s n) (λ pending. told ≡ nat_lt 0 (length pending.servers))
   told_then told tells =
-      of_pending p s n m view same entry (here core view same looked) (λ servers. told ≡ nat_lt 0 (length servers))
-      (pending_stage core view same looked kind) tells
+      of_pending p s n n view refl entry (here core view n looked) (λ servers. told ≡ nat_lt 0 (length servers))
+      (pending_stage core view n looked kind) tells
 
 module _ {Q QH P PH K : Type 0} (p : Parts Q QH P PH K) (core : IsCore p) (n : ℕ) (place : Place) (entry : HandleEntry)
     (at : fin_map.get p.table.entries n ≡ Some (table_entry place entry))
@@ -57,5 +57,5 @@ module _ {Q QH P PH K : Type 0} (p : Parts Q QH P PH K) (core : IsCore p) (n : �
   pub connections_then : (told : ℕ) → told ≡ stage_connections entry.stage
       → IsSomeAnd (pending_at (state_of p) n) (λ pending. told ≡ pending.connections)
   connections_then told tells =
-      of_kept p (state_of p) n n refl refl entry (here core refl refl (place, at)) (λ (pending : kept Q QH). told ≡ pending.connections)
-      (pending_stage core refl refl (place, at) kind) tells
+      of_kept p (state_of p) n n refl refl entry (here core refl n (place, at)) (λ (pending : kept Q QH). told ≡ pending.connections)
+      (pending_stage core refl n (place, at) kind) tells

@@ -3,13 +3,13 @@ use Rattle.std.proofs.Common.{◌≡◌, ℕ, List, None, Some, find, map, refl,
 use Rattle.std.specs.Prelude.{◌==◌, IsSome, IsSomeAnd, slice_get}
 use Rattle.std.specs.List.{position}
 use Rattle.rr_protocol.specs.declared.kind.Kind.{Kind}
-use Rattle.rr_protocol.specs.Ports.{Client, Port, Server}
+use Rattle.rr_protocol.specs.Ports.{Port}
 use Rattle.rr_protocol.specs.Queries.{kind_at}
 use Rattle.rr_protocol.specs.State.{State, client_at, server_at}
 use Rattle.rr_store.specs.declared.port.ClientPort.{ClientPort}
 use Rattle.rr_store.specs.declared.port.ServerPort.{ServerPort}
 use Rattle.rr_store.specs.Order.{IsRising}
-use Rattle.rr_store.specs.Parts.{ClientPart, Parts, ServerPart}
+use Rattle.rr_store.specs.Parts.{Parts, ServerPart}
 use Rattle.rr_store.specs.Ports.{client_part, server_part}
 use Rattle.rr_store.specs.Reaching.{IsCore}
 use Rattle.rr_store.specs.Views.{client_of, server_of, state_of}

@@ -27,7 +27,7 @@ impl<QB: Body, QH: Default + Drop, PB: Body, PH: Default + Drop, K: Backpressure
         requires { kind_at self.old id.now ≡ Some Kind.RequestMutUninit }
         ensures { IsSomeAnd (option_and_then request_in (handle_at self.old id.now)) (λ m. (result ≡ not (is_complete m.content)) × (self.new ≡ (if result then with_changed self.old id.now (with_request_content (with_element item)) else self.old))) }
     {
-        let entry = self.parts.look_up(id.number(), id.place());
+        let entry = self.parts.look_up(id);
         self.parts.clients.push(entry.sender, entry.slot, item)
     }
 
@@ -45,7 +45,7 @@ impl<QB: Body, QH: Default + Drop, PB: Body, PH: Default + Drop, K: Backpressure
         if self.parts.is_place_of(id.number(), place) {
             write_request_at(&mut self.parts, id.number(), place, element);
         } else {
-            let place = self.parts.place_of(id.number());
+            let place = self.parts.locate(id);
             write_request_at(&mut self.parts, id.number(), place, element);
         }
     }
@@ -59,7 +59,7 @@ impl<QB: Body, QH: Default + Drop, PB: Body, PH: Default + Drop, K: Backpressure
         requires { (kind_at self.old id.now ≡ Some Kind.RequestMutUninit) ⊎ (kind_at self.old id.now ≡ Some Kind.RequestMut) }
         ensures { IsSomeAnd (option_and_then request_in (handle_at self.old id.now)) (λ m. (result ≡ nat_lt index (length m.content.elements)) × (self.new ≡ (if result then with_changed self.old id.now (with_request_content (with_element_at index element)) else self.old))) }
     {
-        let entry = self.parts.look_up(id.number(), id.place());
+        let entry = self.parts.look_up(id);
         self.parts
             .clients
             .write_element(entry.sender, entry.slot, index, element)
@@ -73,10 +73,8 @@ impl<QB: Body, QH: Default + Drop, PB: Body, PH: Default + Drop, K: Backpressure
         requires { (kind_at self.old id.now ≡ Some Kind.RequestMutUninit) ⊎ (kind_at self.old id.now ≡ Some Kind.RequestMut) }
         ensures { self.new ≡ with_changed self.old id.now (with_request_content (with_user_header header)) }
     {
-        let entry = self.parts.look_up(id.number(), id.place());
-        self.parts
-            .clients
-            .write_user_header(entry.sender, entry.slot, header);
+        let entry = self.parts.look_up(id);
+        *self.parts.clients.user_header_mut(entry.sender, entry.slot) = header;
     }
 }
 
@@ -97,12 +95,7 @@ impl<QB: FillBody, QH: Default + Drop, PB: Body, PH: Default + Drop, K: Backpres
         requires { kind_at self.old id.now ≡ Some Kind.RequestMutUninit }
         ensures { self.new ≡ with_changed (with_changed self.old id.now (with_request_content (filled element))) id.now after_init }
     {
-        let place = id.place();
-        if self.parts.is_place_of(id.number(), place) {
-            fill_request_at(&mut self.parts, id.number(), place, element);
-        } else {
-            let place = self.parts.place_of(id.number());
-            fill_request_at(&mut self.parts, id.number(), place, element);
-        }
+        let place = self.parts.locate(id);
+        fill_request_at(&mut self.parts, id.number(), place, element);
     }
 }

@@ -1,22 +1,65 @@
-//! What is lent for writing.
-ghost use Rattle.std.specs.Prelude.{◌≡◌, ◌<◌, length};
+//! What is lent for writing: the parts of the message in a slot.
+ghost use Rattle.std.specs.Prelude.{◌≡◌, ◌<◌, length, Some, slice_get};
 ghost use Rattle.std.specs.Borrow.{sem};
-ghost use Rattle.rr_store.specs.SideLends.{lends_messages};
+ghost use Rattle.rr_slots.specs.Elements.{option_elements};
+ghost use Rattle.rr_sender.specs.Senders.{content_at};
 ghost use Rattle.rr_store.specs.Views.{sender_of};
 
 use crate::side::Side;
-use rr_sender::Sender;
-use rr_slots::Body;
+use rr_slots::{Body, SliceBody};
 
 impl<B: Body, N: Copy, H: Drop, P: Drop> Side<B, N, H, P> {
-    /// Lends what a port's sender sends from.
+    ghost use Rattle.rr_store.specs.SideLends.{lends_element, lends_user_header};
+
+    /// Lends an element of the message in a slot.
     #[inline(always)]
-    pub fn messages_mut(&mut self, sender: usize) -> &mut Sender<B, N, H>
-        requires { sender < length self.old.senders }
-        ensures* lends { sem 𝓛 (lends_messages B.row N.row H.row P.row B.Item.row B.Body self.entry sender result) }
-        ensures value { result.now ≡ (sender_of sender self.old.senders).messages }
+    pub fn element_mut(&mut self, sender: usize, slot: usize, index: usize) -> &mut B::Item
+        requires sender { sender < length self.old.senders }
+        requires index { index < length (content_at (sender_of sender self.old.senders).messages slot).elements }
+        ensures* lends { sem 𝓛 (lends_element B.row N.row H.row P.row B.Item.row B.Body self.entry sender slot index result) }
+        ensures value { slice_get (content_at (sender_of sender self.old.senders).messages slot).elements index ≡ Some result.now }
     {
-        let owned = &mut self.senders[sender];
-        &mut owned.messages
+        self.senders[sender].messages.get_mut(slot, index)
+    }
+
+    /// Lends the user header of the message in a slot.
+    #[inline(always)]
+    pub fn user_header_mut(&mut self, sender: usize, slot: usize) -> &mut H
+        requires sender { sender < length self.old.senders }
+        requires slot { slot < length (sender_of sender self.old.senders).messages.held }
+        ensures* lends { sem 𝓛 (lends_user_header B.row N.row H.row P.row B.Item.row B.Body self.entry sender slot result) }
+        ensures value { slice_get (sender_of sender self.old.senders).messages.user_headers slot ≡ Some result.now }
+    {
+        self.senders[sender].messages.user_header_mut(slot)
+    }
+}
+
+impl<T: Drop, N: Copy, H: Drop, P: Drop> Side<Option<T>, N, H, P> {
+    ghost use Rattle.rr_store.specs.SideLends.{lends_option};
+
+    /// Lends what stands in a slot for a message of one element.
+    #[inline(always)]
+    pub fn option_mut(&mut self, sender: usize, slot: usize) -> &mut Option<T>
+        requires sender { sender < length self.old.senders }
+        requires slot { slot < length (sender_of sender self.old.senders).messages.held }
+        ensures* lends { sem 𝓛 (lends_option N.row H.row P.row T.row ⟦<Option<T> as Body>⟧ self.entry sender slot result) }
+        ensures value { (content_at (sender_of sender self.old.senders).messages slot).elements ≡ option_elements result.now }
+    {
+        self.senders[sender].messages.option_mut(slot)
+    }
+}
+
+impl<T: Drop, N: Copy, H: Drop, P: Drop> Side<SliceBody<T>, N, H, P> {
+    ghost use Rattle.rr_store.specs.SideLends.{lends_slice};
+
+    /// Lends the elements that were written so far of the message in a slot.
+    #[inline(always)]
+    pub fn slice_mut(&mut self, sender: usize, slot: usize) -> &mut [T]
+        requires sender { sender < length self.old.senders }
+        requires slot { slot < length (sender_of sender self.old.senders).messages.held }
+        ensures* lends { sem 𝓛 (lends_slice N.row H.row P.row T.row ⟦<SliceBody<T> as Body>⟧ self.entry sender slot result) }
+        ensures value { (content_at (sender_of sender self.old.senders).messages slot).elements ≡ result.now }
+    {
+        self.senders[sender].messages.slice_mut(slot)
     }
 }

@@ -7,8 +7,9 @@ ghost use Rattle.rr_store.specs.Order.{IsRising};
 ghost use Rattle.rr_store.specs.Views.{sender_of};
 ghost use Rattle.rr_store.specs.Ports.{sender_part};
 
+use crate::port::index_by_halving;
 use crate::side::Side;
-use crate::{ConnectedPort, HandleEntry, LeftPort, OwnedSender, Stage, index_of, index_of_present};
+use crate::{ConnectedPort, HandleEntry, LeftPort, OwnedSender, Stage};
 use rr_sender::Sender;
 use rr_slots::Body;
 use rr_table::Table;
@@ -56,14 +57,21 @@ impl<B: Body, N: Copy, H: Drop, P: Drop> Side<B, N, H, P> {
 }
 
 impl<B: Body, N: Copy, H: Drop, P: ConnectedPort> Side<B, N, H, P> {
-    /// Returns where among the ports the one with this number stands, in O(log ports).
+    /// Returns where among the ports the one with this number stands, in O(log ports). Looks at the one in the middle first.
     #[inline(always)]
     pub fn index_of(&self, number: u64) -> usize
         requires rising { IsRising P.id self.now.ports }
         requires present { IsSome (position (λ p. P.id p == number) self.now.ports) }
         ensures { position (λ p. P.id p == number) self.now.ports ≡ Some result }
     {
-        index_of_present(self.ports.as_slice(), number)
+        let middle = self.ports.len() / 2;
+        if self.ports[middle].details().id == number {
+            return middle;
+        }
+        match index_by_halving(self.ports.as_slice(), number) {
+            Some(index) => index,
+            None => unreachable!(),
+        }
     }
 
     /// Returns where the port that sends from a sender stands, in O(log ports).
@@ -114,7 +122,7 @@ impl<B: Body, N: Copy, H: Drop, P: ConnectedPort> Side<B, N, H, P> {
         requires { IsRising P.id self.now.ports }
         ensures { result ≡ list_any (λ p. P.id p == number && P.has_value p) self.now.ports }
     {
-        match index_of(self.ports.as_slice(), number) {
+        match index_by_halving(self.ports.as_slice(), number) {
             Some(index) => self.ports[index].details().has_value,
             None => false,
         }

@@ -84,16 +84,6 @@ impl<B: Body, N: Copy, H: Drop, P: Drop> Side<B, N, H, P> {
         self.senders[sender].messages.write(slot, element);
     }
 
-    /// Makes another user header the one of the message in a slot. The old one is dropped.
-    #[inline(always)]
-    pub fn write_user_header(&mut self, sender: usize, slot: usize, header: H)
-        requires sender { sender < length self.old.senders }
-        requires slot { slot < length (sender_of sender self.old.senders).messages.held }
-        ensures { self.new ≡ with_sent self.old sender (λ m. with_user_header m slot header) }
-    {
-        *self.senders[sender].messages.user_header_mut(slot) = header;
-    }
-
     /// Makes another element the one at an index of the message in a slot, if one stands there, and returns whether one did. The
     /// old one is dropped.
     #[inline(always)]

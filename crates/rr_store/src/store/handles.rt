@@ -13,7 +13,7 @@ ghost use Rattle.std.specs.FinMap as fin_map;
 ghost use Rattle.rr_table.specs.declared.place.Place as place;
 
 use crate::store::Store;
-use crate::{HandleEntry, ResponseDetails, Stage};
+use crate::{HandleEntry, HandleId, ResponseDetails, Stage};
 use rr_protocol::BackpressureFn;
 use rr_slots::Body;
 use rr_table::{Place, Table};
@@ -35,9 +35,23 @@ impl<QB: Body, QH: Default + Drop, PB: Body, PH: Default + Drop, K: Backpressure
         self.table.is_place_of(number, place)
     }
 
+    /// Returns where a handle stands. Looks where its id says first, and walks over the table if it stands elsewhere.
+    #[inline(always)]
+    pub fn locate(&self, id: &HandleId) -> Place
+        requires { IsSome (handle_at (state_of (opened self.now)) id.now) }
+        ensures { IsAt self.now.table id.now result }
+    {
+        let place = id.place();
+        if self.is_place_of(id.number(), place) {
+            place
+        } else {
+            self.place_of(id.number())
+        }
+    }
+
     /// Returns where a handle stands. Walks over the table.
     #[cold]
-    pub fn place_of(&self, number: u64) -> Place
+    fn place_of(&self, number: u64) -> Place
         requires { IsSome (handle_at (state_of (opened self.now)) number) }
         ensures { IsAt self.now.table number result }
     {
@@ -47,16 +61,17 @@ impl<QB: Body, QH: Default + Drop, PB: Body, PH: Default + Drop, K: Backpressure
         }
     }
 
-    /// Returns a handle, which stands somewhere. Looks in a place first, and walks over the table if it stands elsewhere.
+    /// Returns a handle. Looks where its id says first, and walks over the table if it stands elsewhere.
     #[inline(always)]
-    pub fn look_up(&self, number: u64, place: Place) -> HandleEntry
-        requires { IsSome (handle_at (state_of (opened self.now)) number) }
-        ensures { (at : Place) × (fin_map.get self.now.table.entries number ≡ Some (table_entry at result)) }
+    pub fn look_up(&self, id: &HandleId) -> HandleEntry
+        requires { IsSome (handle_at (state_of (opened self.now)) id.now) }
+        ensures { (at : Place) × (fin_map.get self.now.table.entries id.now ≡ Some (table_entry at result)) }
     {
-        if self.is_place_of(number, place) {
-            self.table.at(number, place)
+        let place = id.place();
+        if self.is_place_of(id.number(), place) {
+            self.table.at(id.number(), place)
         } else {
-            self.table.at(number, self.place_of(number))
+            self.table.at(id.number(), self.place_of(id.number()))
         }
     }
 

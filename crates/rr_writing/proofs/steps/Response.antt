@@ -18,7 +18,6 @@ use Rattle.rr_laws.specs.Complete.{HasComplete, MessagesComplete}
 use Rattle.rr_laws.proofs.CompleteCalls.{push_response_complete}
 use Rattle.rr_laws.proofs.CompleteMessages.{KeepsComplete, changed_complete, element_keeps, header_keeps, pushed_complete, response_content_complete}
 use Rattle.rr_laws.proofs.Changing.{push_reached, response_content_role}
-use Rattle.rr_store.specs.declared.details.ResponseDetails.{ResponseDetails}
 use Rattle.rr_store.specs.declared.handle_entry.HandleEntry.{HandleEntry}
 use Rattle.rr_store.specs.Changes.{with_responses}
 use Rattle.rr_store.specs.Parts.{Parts}
@@ -152,67 +151,49 @@ module _ {Q QH P PH K : Type 0} (p : Parts Q QH P PH K) (n : ℕ) (place : Place
             (λ h e c. response_content_complete (with_user_header header) (header_keeps header) h c) core.complete);
       }
 
-    -- what was lent of its sender has been written
-    module _ (messages : Messages P ResponseDetails PH) (is : messages ≡ (sender_of entry.sender p.server_senders).messages) where
-      -- the sender is there, and so is the slot
-      pub slot_lent : entry.slot < length messages.held
-      slot_lent = subst (λ m. entry.slot < length m.held) (sym is) slot_asked
+    -- what stands in the slot is what the response says
+    pub content_told : (R : Written P → Type 0) → R (content_at (sender_of entry.sender p.server_senders).messages entry.slot)
+        → IsSomeAnd (option_and_then response_in (handle_at (state_of p) n))
+        (λ m. R (record { asked_len = m.content.asked_len; elements = m.content.elements }))
+    content_told R told = of_response p (state_of p) n n refl refl entry here
+        (λ (m : ResponseMessage P PH). R (record { asked_len = m.content.asked_len; elements = m.content.elements }))
+        (response_loan_is_response entry.stage loan) told
 
-      -- what stands in the slot is what the response says
-      pub content_lent : (R : Written P → Type 0) → R (content_at messages entry.slot)
-          → IsSomeAnd (option_and_then response_in (handle_at (state_of p) n))
-          (λ m. R (record { asked_len = m.content.asked_len; elements = m.content.elements }))
-      content_lent R told = of_response p (state_of p) n n refl refl entry here
-          (λ (m : ResponseMessage P PH). R (record { asked_len = m.content.asked_len; elements = m.content.elements }))
-          (response_loan_is_response entry.stage loan)
-          (subst (λ m. R (content_at m entry.slot)) is told)
+    -- and the other way round
+    pub content_seen : (R : Written P → Type 0) → IsSomeAnd (option_and_then response_in (handle_at (state_of p) n))
+        (λ m. R (record { asked_len = m.content.asked_len; elements = m.content.elements }))
+        → R (content_at (sender_of entry.sender p.server_senders).messages entry.slot)
+    content_seen R told =
+        both (option_and_then response_in (handle_at (state_of p) n)) (response_at p entry.sender entry.slot)
+        (λ (m : ResponseMessage P PH). R (record { asked_len = m.content.asked_len; elements = m.content.elements }))
+        (of_response p (state_of p) n n refl refl entry here (λ (m : ResponseMessage P PH). m ≡ response_at p entry.sender entry.slot)
+        (response_loan_is_response entry.stage loan) refl) told
 
-      -- and the other way round
-      pub content_seen : (R : Written P → Type 0) → IsSomeAnd (option_and_then response_in (handle_at (state_of p) n))
-          (λ m. R (record { asked_len = m.content.asked_len; elements = m.content.elements })) → R (content_at messages entry.slot)
-      content_seen R told = subst (λ m. R (content_at m entry.slot)) (sym is)
-          (both (option_and_then response_in (handle_at (state_of p) n)) (response_at p entry.sender entry.slot)
-          (λ (m : ResponseMessage P PH). R (record { asked_len = m.content.asked_len; elements = m.content.elements }))
-          (of_response p (state_of p) n n refl refl entry here (λ (m : ResponseMessage P PH). m ≡ response_at p entry.sender entry.slot)
-          (response_loan_is_response entry.stage loan) refl) told)
+    -- its user header too
+    pub header_told : (header : PH) → slice_get (sender_of entry.sender p.server_senders).messages.user_headers entry.slot ≡ Some header
+        → IsSomeAnd (option_and_then response_in (handle_at (state_of p) n)) (λ m. m.content.user_header ≡ header)
+    header_told header at = of_response p (state_of p) n n refl refl entry here (λ (m : ResponseMessage P PH). m.content.user_header ≡ header)
+        (response_loan_is_response entry.stage loan)
+        (get_or_from_slice_get (sender_of entry.sender p.server_senders).messages.user_headers entry.slot header p.spare_response_header at)
 
-      -- its user header too
-      pub header_lent : (header : PH) → slice_get messages.user_headers entry.slot ≡ Some header
-          → IsSomeAnd (option_and_then response_in (handle_at (state_of p) n)) (λ m. m.content.user_header ≡ header)
-      header_lent header at = of_response p (state_of p) n n refl refl entry here (λ (m : ResponseMessage P PH). m.content.user_header ≡ header)
-          (response_loan_is_response entry.stage loan)
-          (get_or_from_slice_get (sender_of entry.sender p.server_senders).messages.user_headers entry.slot header p.spare_response_header
-          (ap (λ m. slice_get m.user_headers entry.slot) (sym is) ∙ at))
+    -- what stands in the slot has been written through a `&mut`
+    module _ (change : Written P → Written P) (seen : Content P PH → Content P PH)
+        (alike : (header : PH) (w : Written P) → says header (change w) ≡ seen (says header w)) where
+      -- contracts see it changed
+      pub lent_view : state_of (with_responses p entry.sender (λ m. with_changed_at m entry.slot change))
+          ≡ with_changed (state_of p) n (with_response_content seen)
+      lent_view = state_then true change seen alike _ refl
 
-      lent : (change : Written P → Written P) → with_responses p entry.sender (λ _. with_changed_at messages entry.slot change)
-          ≡ with_responses p entry.sender (λ m. with_changed_at m entry.slot change)
-      lent change = ap (λ x. with_responses p entry.sender (λ _. with_changed_at x entry.slot change)) is
+      lent_core_if : ((h : Handle Q QH P PH) → handle_at (state_of p) n ≡ Some h → HasComplete h → HasComplete (with_response_content seen h))
+          → IsCore (with_responses p entry.sender (λ m. with_changed_at m entry.slot change))
+      lent_core_if keeps = core_after true change seen alike _ refl
+          (pushed_complete (state_of p) n (with_response_content seen) true _ lent_view (λ h e c yes. keeps h e c) core.complete)
 
-      -- contracts see what stands in the slot changed, and what is true stays true
-      module _ (change : Written P → Written P) (seen : Content P PH → Content P PH)
-          (alike : (header : PH) (w : Written P) → says header (change w) ≡ seen (says header w)) where
-        pub lent_view : state_of (with_responses p entry.sender (λ _. with_changed_at messages entry.slot change))
-            ≡ with_changed (state_of p) n (with_response_content seen)
-        lent_view = state_then true change seen alike _ (lent change)
+      -- what is true stays true, where it stays complete
+      pub lent_core : KeepsComplete seen → IsCore (with_responses p entry.sender (λ m. with_changed_at m entry.slot change))
+      lent_core keeps = lent_core_if (λ h e c. response_content_complete seen keeps h c)
 
-        lent_core_if : ((h : Handle Q QH P PH) → handle_at (state_of p) n ≡ Some h → HasComplete h → HasComplete (with_response_content seen h))
-            → IsCore (with_responses p entry.sender (λ _. with_changed_at messages entry.slot change))
-        lent_core_if keeps = core_after true change seen alike _ (lent change)
-            (pushed_complete (state_of p) n (with_response_content seen) true _ lent_view (λ h e c yes. keeps h e c) core.complete)
-
-        -- where it stays complete
-        pub lent_core : KeepsComplete seen → IsCore (with_responses p entry.sender (λ _. with_changed_at messages entry.slot change))
-        lent_core keeps = lent_core_if (λ h e c. response_content_complete seen keeps h c)
-
-        -- and where it need not be complete
-        pub lent_core_uninit : kind_at (state_of p) n ≡ Some Kind.ResponseMutUninit
-            → IsCore (with_responses p entry.sender (λ _. with_changed_at messages entry.slot change))
-        lent_core_uninit kind = lent_core_if (λ h e c. subst (λ (x : Handle Q QH P PH). HasComplete (with_response_content seen x)) (uninit_shown kind h e) tt)
-
-      -- the same of its user header
-      pub header_lent_view : (header : PH) → state_of (with_responses p entry.sender (λ _. sender.with_user_header messages entry.slot header))
-          ≡ with_changed (state_of p) n (with_response_content (with_user_header header))
-      header_lent_view header = header_view header _ (ap (λ x. with_responses p entry.sender (λ _. sender.with_user_header x entry.slot header)) is)
-
-      pub header_lent_core : (header : PH) → IsCore (with_responses p entry.sender (λ _. sender.with_user_header messages entry.slot header))
-      header_lent_core header = header_core header _ (ap (λ x. with_responses p entry.sender (λ _. sender.with_user_header x entry.slot header)) is)
+      -- and where it need not be complete
+      pub lent_core_uninit : kind_at (state_of p) n ≡ Some Kind.ResponseMutUninit
+          → IsCore (with_responses p entry.sender (λ m. with_changed_at m entry.slot change))
+      lent_core_uninit kind = lent_core_if (λ h e c. subst (λ (x : Handle Q QH P PH). HasComplete (with_response_content seen x)) (uninit_shown kind h e) tt)

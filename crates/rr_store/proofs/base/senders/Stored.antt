@@ -1,13 +1,16 @@
 -- A sender that is stored, and the senders after its messages changed.
-use Rattle.std.proofs.Common.{◌≡◌, ◌<◌, ℕ, List, Some, length, map, get_or, sym, ap, ◌∙◌}
+use Rattle.std.proofs.Common.{◌≡◌, ◌<◌, ℕ, List, Some, length, map, get_or, refl, sym, ap, ◌∙◌}
 use Rattle.std.specs.Prelude.{slice_get, slice_index_or, slice_set}
 use Rattle.std.proofs.lemmas.List.{get_or-set_same, set-set}
 use Rattle.std.proofs.lemmas.Option.{get_or_from_slice_get}
 use Rattle.rr_sender.specs.Senders.{Messages}
 use Rattle.rr_store.specs.declared.port.OwnedSender.{OwnedSender}
+use Rattle.rr_store.specs.declared.side.Side.TheInside.{Inside}
 use Rattle.rr_store.specs.Loaning as part
 use Rattle.rr_store.specs.Parts.{Sender}
 use Rattle.rr_store.specs.Ports.{sender_part}
+use Rattle.rr_store.specs.SideInside.{side_of}
+use Rattle.rr_store.specs.Sides.{with_sent}
 use Rattle.rr_store.specs.Views.{no_sender, sender_of}
 use Rattle.rr_store.specs.Writing.{with_messages}
 use Rattle.rr_store.proofs.base.lists.Replaced.{map-set_one}
@@ -42,6 +45,15 @@ module _ {B N H T : Type 0} (items : List (OwnedSender B N H T)) (sender : ℕ) 
       ap (λ m. map sender_part (slice_set items sender (with_messages x m))) is
       ∙ map-set_one sender_part items sender (with_messages x (change x.messages))
       ∙ ap (λ y. slice_set (map sender_part items) sender (part.with_messages y (change y.messages))) (sym stored_is)
+
+-- a side after a part of the messages of a sender, which was lent, was written
+pub lent_set : {B N H P T : Type 0} (s : Inside B N H P T) (sender : ℕ) (x : OwnedSender B N H T)
+    (there : sender < length (map sender_part s.senders.items)) (read : x ≡ get_or s.senders.items sender x)
+    (change : Messages T N H → Messages T N H)
+    → record (side_of s) { senders = map sender_part (slice_set s.senders.items sender (with_messages x (change x.messages))) }
+    ≡ with_sent (side_of s) sender change
+lent_set s sender x there read change =
+    ap (λ ls. record (side_of s) { senders = ls }) (stored_set s.senders.items sender x there read (change x.messages) change refl)
 
 -- the senders after one of them, which was read, changed
 pub stored_changed : {B N H T : Type 0} (items : List (OwnedSender B N H T)) (sender : ℕ) (x : OwnedSender B N H T) → sender < length items

@@ -5,7 +5,7 @@ use Rattle.rr_hub.proofs.state.Core.is_response_deliverable.Goals as goal
 
 pub details-details-requires : goal.details-details-requires
 details-details-requires g c =
-    let at = under c.self.invariant c.self.view_is c.number.ensures c.look_up-entry.ensures in
+    let at = under c.self.invariant c.self.view_is c.args.id.now c.look_up-entry.ensures in
     let kind = rw (← c.self.view_is) at c.requires in record {
       sender = sender_asked _ c.self.invariant _ _ _ at kind;
       slot = slot_asked _ c.self.invariant _ _ _ at kind;
@@ -13,7 +13,7 @@ details-details-requires g c =
 
 pub takes_response-requires : goal.takes_response-requires
 takes_response-requires g c =
-    let at = under c.self.invariant c.self.view_is c.number.ensures c.look_up-entry.ensures in
+    let at = under c.self.invariant c.self.view_is c.args.id.now c.look_up-entry.ensures in
     let kind = rw (← c.self.view_is) at c.requires in record {
       sender = sender_asked _ c.self.invariant _ _ _ at kind;
       queue = queue_asked _ c.self.invariant _ _ _ at kind _ (c.details-details.ensures no_response) _ c.reached_receiver-reach.ensures;
@@ -22,5 +22,5 @@ takes_response-requires g c =
 pub returns : goal.returns
 returns g c =
     rw (← c.self.view_is) (told_then _ c.self.invariant _ _ _
-    (under c.self.invariant c.self.view_is c.number.ensures c.look_up-entry.ensures) (rw (← c.self.view_is) at c.requires) _
+    (under c.self.invariant c.self.view_is c.args.id.now c.look_up-entry.ensures) (rw (← c.self.view_is) at c.requires) _
     (c.details-details.ensures no_response) _ c.reached_receiver-reach.ensures _ c.takes_response.ensures)

@@ -22,7 +22,7 @@ returns-then-is_place_of-clause-unnamed g c =
 pub returns-else-is_place_of-clause-unreduced : goal.returns-else-is_place_of-clause-unreduced
 returns-else-is_place_of-clause-unreduced g c pool same =
     c.loan_response_at-else-is_place_of.ensures.unreduced
-    (rw c.number-else-is_place_of-2.ensures (subst (λ s. ServerHasPool s.limits s c.args.active.now c.args.len) (sym c.self.view_is)
+    (rw c.number-else-is_place_of.ensures (subst (λ s. ServerHasPool s.limits s c.args.active.now c.args.len) (sym c.self.view_is)
     pool)) same
 
 pub returns-else-is_place_of-clause-unnamed : goal.returns-else-is_place_of-clause-unnamed

@@ -3,8 +3,8 @@ use Rattle.rr_hub.proofs.Looks.{received_asked, received_number}
 use Rattle.rr_hub.proofs.state.Core.request_number.Goals as goal
 
 pub details-requires : goal.details-requires
-details-requires g c = received_asked c.self.invariant c.self.view_is c.number.ensures c.look_up-entry.ensures c.requires
+details-requires g c = received_asked c.self.invariant c.self.view_is c.args.id.now c.look_up-entry.ensures c.requires
 
 pub returns : goal.returns
 returns g c =
-    received_number c.self.invariant c.self.view_is c.number.ensures c.look_up-entry.ensures c.requires _ (c.details.ensures no_request)
+    received_number c.self.invariant c.self.view_is c.args.id.now c.look_up-entry.ensures c.requires _ (c.details.ensures no_request)

@@ -4,19 +4,19 @@ use Rattle.rr_hub.proofs.state.Core.response_header.Goals as goal
 
 pub details-details-requires-clause-sender : goal.details-details-requires-clause-sender
 details-details-requires-clause-sender g c =
-    (response_slot c.self.invariant c.self.view_is c.number.ensures c.look_up-entry.ensures c.requires).sender
+    (response_slot c.self.invariant c.self.view_is c.args.id.now c.look_up-entry.ensures c.requires).sender
 
 pub details-details-requires-clause-slot : goal.details-details-requires-clause-slot
 details-details-requires-clause-slot g c =
-    (response_slot c.self.invariant c.self.view_is c.number.ensures c.look_up-entry.ensures c.requires).slot
+    (response_slot c.self.invariant c.self.view_is c.args.id.now c.look_up-entry.ensures c.requires).slot
 
 pub body-requires-clause-sender : goal.body-requires-clause-sender
-body-requires-clause-sender g c = (response_slot c.self.invariant c.self.view_is c.number.ensures c.look_up-entry.ensures c.requires).sender
+body-requires-clause-sender g c = (response_slot c.self.invariant c.self.view_is c.args.id.now c.look_up-entry.ensures c.requires).sender
 
 pub body-requires-clause-slot : goal.body-requires-clause-slot
-body-requires-clause-slot g c = (response_slot c.self.invariant c.self.view_is c.number.ensures c.look_up-entry.ensures c.requires).slot
+body-requires-clause-slot g c = (response_slot c.self.invariant c.self.view_is c.args.id.now c.look_up-entry.ensures c.requires).slot
 
 pub returns : goal.returns
 returns g c =
-    response_header_then c.self.invariant c.self.view_is c.number.ensures c.look_up-entry.ensures c.requires _
+    response_header_then c.self.invariant c.self.view_is c.args.id.now c.look_up-entry.ensures c.requires _
     (c.details-details.ensures no_response) _ c.body.ensures _ c.asked_len-asked_len.ensures

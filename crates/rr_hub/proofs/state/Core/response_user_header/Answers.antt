@@ -2,7 +2,7 @@ use Rattle.rr_hub.proofs.Looks.{response_slot, response_then}
 use Rattle.rr_hub.proofs.state.Core.response_user_header.Goals as goal
 
 pub user_header-requires : goal.user_header-requires
-user_header-requires g c = response_slot c.self.invariant c.self.view_is c.number.ensures c.look_up-entry.ensures c.requires
+user_header-requires g c = response_slot c.self.invariant c.self.view_is c.args.id.now c.look_up-entry.ensures c.requires
 
 pub returns : goal.returns
-returns g c = response_then c.self.invariant c.self.view_is c.number.ensures c.look_up-entry.ensures c.requires _ c.user_header.ensures
+returns g c = response_then c.self.invariant c.self.view_is c.args.id.now c.look_up-entry.ensures c.requires _ c.user_header.ensures

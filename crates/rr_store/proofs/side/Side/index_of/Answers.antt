@@ -1,19 +1,18 @@
-use Rattle.std.proofs.Common.{sym, ap, ◌∙◌, subst}
-use Rattle.std.specs.Prelude.{◌==◌, IsSome}
+use Rattle.std.proofs.Common.{◌<◌, Bool, List, [], ◌∷◌, length, sym, ◌∙◌, arith}
+use Rattle.std.specs.Prelude.{IsSome}
 use Rattle.std.specs.List.{position}
-use Rattle.rr_store.specs.Order.{IsRising}
+use Rattle.std.proofs.lemmas.Bool.{false≢true}
+use Rattle.rr_store.proofs.base.lists.Bisected.{between_found}
 use Rattle.rr_store.proofs.side.Side.index_of.Goals as goal
 
-pub index_of_present-requires-clause-rising : goal.index_of_present-requires-clause-rising
-index_of_present-requires-clause-rising g c =
-    subst (IsRising g.P.ConnectedPort.id) (sym c.as_slice.ensures.value) (rw (← c.self.view_is) at c.requires.rising)
+-- a list in which something has a position isn't empty
+some_there : {X : Type 0} (p : X → Bool) (xs : List X) → IsSome (position p xs) → 0 < length xs
+some_there p [] h = absurd (false≢true h)
+some_there p (x ∷ xs) h = omega arith
 
-pub index_of_present-requires-clause-present : goal.index_of_present-requires-clause-present
-index_of_present-requires-clause-present g c =
-    subst (λ ports. IsSome (position (λ x. g.P.ConnectedPort.id x == c.args.number) ports)) (sym c.as_slice.ensures.value)
-    (rw (← c.self.view_is) at c.requires.present)
-
-pub returns : goal.returns
-returns g c =
-    rw (← c.self.view_is) (ap (position (λ x. g.P.ConnectedPort.id x == c.args.number)) (sym c.as_slice.ensures.value)
-    ∙ c.index_of_present.ensures)
+pub returns-then-details-number : goal.returns-then-details-number
+returns-then-details-number g c =
+    rw (← c.self.view_is) (between_found g.P.ConnectedPort.id c.self.inside.ports.items c.args.number
+    (rw (← c.self.view_is) at c.requires.rising) _ c.index.result.now
+    (omega (arith, c.len-middle.ensures, some_there _ c.self.inside.ports.items (rw (← c.self.view_is) at c.requires.present)))
+    c.index.ensures (sym c.details.ensures.id ∙ c.if-details-number.true))
