@@ -2,3 +2,5 @@ pub mod Making
 pub mod Client
 pub mod Server
 pub mod Rooms
+pub mod Refusals
+pub mod Added

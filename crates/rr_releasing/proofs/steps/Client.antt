@@ -41,6 +41,10 @@ module _ {Q QH P PH K : Type 0} (p : Parts Q QH P PH K) (sound : IsSoundStore p 
   pub left_there : AreThere p.client_senders p.left_clients
   left_there i l at = (sound.have_ports.left_clients.own i l at).0
 
+  -- there is room to note that a client leaves
+  pub room_left : (index : ℕ) → index < length p.clients → length p.left_clients < p.client_room
+  room_left index there = omega (arith, sound.have_ports.client_room)
+
   module _ (index : ℕ) (c : ClientPart K) (at_c : slice_get p.clients index ≡ Some c) where
     here : slice_get (map (λ (c : ClientPart K). c.connected) p.clients) index ≡ Some c.connected
     here = listed (λ (c : ClientPart K). c.connected) p.clients index c at_c

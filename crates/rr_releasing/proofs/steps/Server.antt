@@ -41,6 +41,10 @@ module _ {Q QH P PH K : Type 0} (p : Parts Q QH P PH K) (sound : IsSoundStore p 
   pub left_there : AreThere p.server_senders p.left_servers
   left_there i l at = (sound.have_ports.left_servers.own i l at).0
 
+  -- there is room to note that a server leaves
+  pub room_left : (index : ℕ) → index < length p.servers → length p.left_servers < p.server_room
+  room_left index there = omega (arith, sound.have_ports.server_room)
+
   module _ (index : ℕ) (s : ServerPart K) (at_s : slice_get p.servers index ≡ Some s) where
     here : slice_get (map (λ (s : ServerPart K). s.connected) p.servers) index ≡ Some s.connected
     here = listed (λ (s : ServerPart K). s.connected) p.servers index s at_s

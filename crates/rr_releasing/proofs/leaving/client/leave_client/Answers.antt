@@ -1,5 +1,6 @@
-use Rattle.std.proofs.Common.{map, refl, ap, sym, subst, ◌≡◌}
+use Rattle.std.proofs.Common.{map, refl, ap, sym, subst, ◌≡◌, ◌<◌, length}
 use Rattle.std.specs.Prelude.{IsSomeAnd, slice_get}
+use Rattle.std.proofs.lemmas.List.{length-map}
 use Rattle.rr_store.specs.Leaving.{leaving_client}
 use Rattle.rr_store.specs.Opened.{opened}
 use Rattle.rr_store.specs.Parts.{ClientPart, ServerPart}
@@ -7,7 +8,7 @@ use Rattle.rr_store.specs.Ports.{client_part, server_part}
 use Rattle.rr_releasing.proofs.laws.leaving.Viewed.{apart_seen, drained_seen, element_seen}
 use Rattle.rr_releasing.proofs.laws.leaving.Opened.{removed_client}
 use Rattle.rr_store.proofs.base.lists.Seen.{seen_at}
-use Rattle.rr_releasing.proofs.steps.Client.{left_there, queues_to_servers, servers_apart}
+use Rattle.rr_releasing.proofs.steps.Client.{left_there, queues_to_servers, room_left, servers_apart}
 use Rattle.rr_releasing.proofs.steps.ClientLeaves.{leaving_asked, queues_asked, sound_then, view_then}
 use Rattle.rr_releasing.proofs.leaving.client.leave_client.Goals as goal
 
@@ -29,6 +30,9 @@ expire-requires-clause-leaving g c = leaving_asked (opened c.args.store.now) c.r
     client_part c.args.store.now.clients.ports c.args.index (λ (x : ClientPart _). c.leaving-leaving.result ≡ leaving_client x)
     c.leaving-leaving.ensures)
 
+pub expire-requires-clause-apart : goal.expire-requires-clause-apart
+expire-requires-clause-apart g c = c.requires.sound.have_ports.left_clients.once
+
 pub clear_for-requires : goal.clear_for-requires
 clear_for-requires g c =
     queues_asked (opened c.args.store.now) c.requires.sound c.args.index c.requires.unused _ (seen_at client_part
@@ -39,6 +43,16 @@ clear_for-requires g c =
     (drained_seen server_part (λ (x : ServerPart _). x.receiver) c.connected.result.now c.args.store.now.servers.ports c.connected.ensures
     c.args.store.now.clients.senders c.expire.new.self.senders c.args.store.now.clients.left c.args.store.now.clients.left refl
     c.leaving-leaving.result c.room_for_expired_clients-room.result c.expire.ensures.drained)
+
+pub remove_port-requires-clause-index : goal.remove_port-requires-clause-index
+remove_port-requires-clause-index g c =
+    subst (λ s. c.args.index < length s.ports) (sym c.expire.ensures.rest)
+    (subst (λ n. c.args.index < n) (length-map c.args.store.now.clients.ports client_part) c.requires.index)
+
+pub remove_port-requires-clause-room : goal.remove_port-requires-clause-room
+remove_port-requires-clause-room g c =
+    subst (λ s. length s.left < s.room) (sym c.expire.ensures.rest)
+    (room_left (opened c.args.store.now) c.requires.sound c.args.index c.requires.index)
 
 pub returns-clause-sound : goal.returns-clause-sound
 returns-clause-sound g c =

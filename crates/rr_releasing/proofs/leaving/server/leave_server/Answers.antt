@@ -1,5 +1,6 @@
-use Rattle.std.proofs.Common.{map, refl, ap, sym, subst, ◌≡◌}
+use Rattle.std.proofs.Common.{map, refl, ap, sym, subst, ◌≡◌, ◌<◌, length}
 use Rattle.std.specs.Prelude.{IsSomeAnd, slice_get}
+use Rattle.std.proofs.lemmas.List.{length-map}
 use Rattle.rr_store.specs.Leaving.{leaving_server}
 use Rattle.rr_store.specs.Opened.{opened}
 use Rattle.rr_store.specs.Parts.{ClientPart, ServerPart}
@@ -7,7 +8,7 @@ use Rattle.rr_store.specs.Ports.{client_part, server_part}
 use Rattle.rr_releasing.proofs.laws.leaving.Viewed.{apart_seen, drained_seen, element_seen}
 use Rattle.rr_releasing.proofs.laws.leaving.Opened.{removed_server}
 use Rattle.rr_store.proofs.base.lists.Seen.{seen_at}
-use Rattle.rr_releasing.proofs.steps.Server.{left_there, queues_to_clients, clients_apart}
+use Rattle.rr_releasing.proofs.steps.Server.{clients_apart, left_there, queues_to_clients, room_left}
 use Rattle.rr_releasing.proofs.steps.ServerLeaves.{leaving_asked, queues_asked, sound_then, view_then}
 use Rattle.rr_releasing.proofs.leaving.server.leave_server.Goals as goal
 
@@ -29,6 +30,9 @@ expire-requires-clause-leaving g c = leaving_asked (opened c.args.store.now) c.r
     server_part c.args.store.now.servers.ports c.args.index (λ (x : ServerPart _). c.leaving-leaving.result ≡ leaving_server x)
     c.leaving-leaving.ensures)
 
+pub expire-requires-clause-apart : goal.expire-requires-clause-apart
+expire-requires-clause-apart g c = c.requires.sound.have_ports.left_servers.once
+
 pub clear_for-requires : goal.clear_for-requires
 clear_for-requires g c =
     queues_asked (opened c.args.store.now) c.requires.sound c.args.index c.requires.unused _ (seen_at server_part
@@ -39,6 +43,16 @@ clear_for-requires g c =
     (λ (x : ClientPart _). x.receiver) c.connected.result.now c.args.store.now.clients.ports c.connected.ensures
     c.args.store.now.servers.senders c.expire.new.self.senders c.args.store.now.servers.left c.args.store.now.servers.left refl
     c.leaving-leaving.result c.args.store.now.limits.client_expired_connection_buffer c.expire.ensures.drained)
+
+pub remove_port-requires-clause-index : goal.remove_port-requires-clause-index
+remove_port-requires-clause-index g c =
+    subst (λ s. c.args.index < length s.ports) (sym c.expire.ensures.rest)
+    (subst (λ n. c.args.index < n) (length-map c.args.store.now.servers.ports server_part) c.requires.index)
+
+pub remove_port-requires-clause-room : goal.remove_port-requires-clause-room
+remove_port-requires-clause-room g c =
+    subst (λ s. length s.left < s.room) (sym c.expire.ensures.rest)
+    (room_left (opened c.args.store.now) c.requires.sound c.args.index c.requires.index)
 
 pub returns-clause-sound : goal.returns-clause-sound
 returns-clause-sound g c =
