@@ -2,11 +2,12 @@
 ghost use Rattle.std.specs.Prelude.{◌≡◌, ◌≤◌, ◌+◌, None, IsTrue, IfOk, OnErr, OnOk, length, ◌<◌, ◌^◌, ◌*◌, Some, replicate, true};
 ghost use Rattle.rr_slots.specs.Families.{takes_len};
 ghost use Rattle.rr_protocol.specs.Creation.{CreatesClient, client_refusal, with_client};
+ghost use Rattle.rr_store.specs.Draining.{AreThere};
 ghost use Rattle.rr_store.specs.Creating.{senders_after, left_at, IsNew, idle_left};
 ghost use Rattle.rr_store.specs.Opened.{opened};
 ghost use Rattle.rr_store.specs.Reaching.{IsCore};
 ghost use Rattle.rr_store.specs.Views.{state_of, sender_of, no_request, no_server};
-ghost use Rattle.rr_protocol.specs.Limits.{worst_case_requests};
+ghost use Rattle.rr_protocol.specs.Limits.{hub_refusal, worst_case_requests};
 ghost use Rattle.rr_table.specs.TableView.{IsRenewed};
 ghost use Rattle.rr_store.specs.Asked.{CanTakeOver};
 ghost use Rattle.rr_store.specs.Changes.{with_client_again, with_new_client};
@@ -72,6 +73,9 @@ fn insert_client<QB: Body, QH: Default + Drop, PB: Body, PH: Default + Drop, K: 
     requires len { IsTrue (takes_len QB.family settings.initial_max_slice_len) }
     requires due { client_refusal (state_of (opened store.old)) ≡ None }
     requires room { length (opened store.old).clients + 1 + length (opened store.old).left_clients ≤ (opened store.old).client_room }
+    requires left { AreThere store.old.clients.senders store.old.clients.left }
+    requires next { store.old.next + 1 < 2 ^ 64 }
+    requires limits { hub_refusal store.old.limits ≡ None }
     ensures core { IsCore (opened store.new) }
     ensures number { IfOk result (λ number. number ≡ store.old.next) }
     ensures senders { OnOk result (length (opened store.new).client_senders ≡ senders_after (opened store.old).client_senders (opened store.old).left_clients) }

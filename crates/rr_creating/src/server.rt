@@ -3,6 +3,7 @@ ghost use Rattle.std.specs.Prelude.{◌≡◌, ◌≤◌, ◌+◌, None, IsTrue,
 ghost use Rattle.rr_slots.specs.Families.{takes_len};
 ghost use Rattle.rr_protocol.specs.Creation.{CreatesServer, server_refusal, with_server};
 ghost use Rattle.rr_protocol.specs.Limits.{hub_refusal, worst_case_requests, max_loaned_responses, worst_case_responses};
+ghost use Rattle.rr_store.specs.Draining.{AreThere};
 ghost use Rattle.rr_store.specs.Creating.{IsNew, senders_after, left_at};
 ghost use Rattle.rr_store.specs.Opened.{opened};
 ghost use Rattle.rr_store.specs.Reaching.{IsCore};
@@ -84,6 +85,7 @@ fn insert_server<QB: Body, QH: Default + Drop, PB: Body, PH: Default + Drop, K: 
     requires len { IsTrue (takes_len PB.family settings.initial_max_slice_len) }
     requires due { server_refusal (state_of (opened store.old)) settings ≡ None }
     requires room { length (opened store.old).servers + 1 + length (opened store.old).left_servers ≤ (opened store.old).server_room }
+    requires left { AreThere store.old.servers.senders store.old.servers.left }
     ensures core { IsCore (opened store.new) }
     ensures number { IfOk result (λ number. number ≡ store.old.next) }
     ensures senders { OnOk result (length (opened store.new).server_senders ≡ senders_after (opened store.old).server_senders (opened store.old).left_servers) }

@@ -72,7 +72,8 @@ fn request_loan_limit<
     PH: Default + Drop,
     K: BackpressureFn,
 >(store: &Store<QB, QH, PB, PH, K>, index: usize, len: usize) -> Option<LoanError>
-    requires { IsSomeAnd (slice_get (opened store.now).clients index) (λ c. c.sender < length (opened store.now).client_senders) }
+    requires index { index < length store.now.clients.ports }
+    requires sender { IsSomeAnd (slice_get store.now.clients.ports index) (λ c. c.port.sender < length store.now.clients.senders) }
     ensures { IsSomeAnd (slice_get (opened store.now).clients index) (λ c. result ≡ request_loan_limit (opened store.now) c len) }
 {
     let port = &store.clients.port(index).port;

@@ -92,7 +92,8 @@ fn response_loan_limit<
     PH: Default + Drop,
     K: BackpressureFn,
 >(store: &Store<QB, QH, PB, PH, K>, index: usize, len: usize, loans: usize) -> Option<LoanError>
-    requires { IsSomeAnd (slice_get (opened store.now).servers index) (λ s. s.sender < length (opened store.now).server_senders) }
+    requires index { index < length store.now.servers.ports }
+    requires sender { IsSomeAnd (slice_get store.now.servers.ports index) (λ s. s.port.sender < length store.now.servers.senders) }
     ensures { IsSomeAnd (slice_get (opened store.now).servers index) (λ s. result ≡ response_loan_limit (opened store.now) s len loans) }
 {
     let server = store.servers.port(index);

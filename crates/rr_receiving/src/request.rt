@@ -7,7 +7,8 @@ ghost use Rattle.rr_store.specs.Opened.{opened};
 ghost use Rattle.rr_store.specs.Reaching.{IsCore};
 ghost use Rattle.rr_store.specs.Views.{state_of};
 ghost use Rattle.rr_store.specs.Changes.{with_request_senders};
-ghost use Rattle.rr_store.specs.Receiving.{IsNextSender, Reaches};
+ghost use Rattle.rr_store.specs.Draining.{HaveQueues};
+ghost use Rattle.rr_store.specs.Receiving.{HaveChannels, IsNextSender};
 ghost use Rattle.rr_store.specs.Skimming.{IsSkimmedTo};
 ghost use Rattle.rr_protocol.specs.declared.kind.Kind.TheVariants as kind;
 
@@ -70,7 +71,8 @@ fn next_request_sender<
     PH: Default + Drop,
     K: BackpressureFn,
 >(store: &mut Store<QB, QH, PB, PH, K>, receiver: usize) -> Result<Option<usize>, ReceiveError>
-    requires { Reaches store.old.clients.senders receiver 0 }
+    requires receiver { HaveQueues store.old.clients.senders receiver }
+    requires channel { HaveChannels store.old.clients.senders receiver 0 }
     ensures rest { opened store.new ≡ with_request_senders (opened store.old) store.new.clients.senders }
     ensures kept { store.old.limits.enable_fire_and_forget_requests ≡ true → opened store.new ≡ opened store.old }
     ensures skimmed { store.old.limits.enable_fire_and_forget_requests ≡ false → IsSkimmedTo store.old.table receiver store.old.limits.max_active_requests_per_client store.old.clients.senders store.new.clients.senders result }

@@ -6,7 +6,7 @@ ghost use Rattle.std.specs.List.{list_any};
 ghost use Rattle.rr_store.specs.Changes.{is_closed_to};
 ghost use Rattle.rr_store.specs.Delivering.{HasQueue, is_blocked_in};
 ghost use Rattle.rr_store.specs.Parts.{ServerPart};
-ghost use Rattle.rr_store.specs.Sending.{HasQueues, is_blocked_at};
+ghost use Rattle.rr_store.specs.Sending.{is_blocked_at};
 
 use crate::full::{is_request_blocked, is_response_blocked};
 use rr_protocol::BackpressureFn;
@@ -54,7 +54,8 @@ fn is_any_blocked<B: Body, N: Copy, H: Drop, K: Drop>(
     servers: &[ServerPort<K>],
     overflow: bool,
 ) -> bool
-    requires { HasQueues messages.now servers.now }
+    requires inside { (i : ℕ) (s : ServerPort K) → slice_get servers.now i ≡ Some s → s.port.receiver < length messages.now.queues }
+    requires channels { (i : ℕ) (s : ServerPort K) → slice_get servers.now i ≡ Some s → 0 < length (slice_index_or messages.now.queues s.port.receiver []) }
     ensures { result ≡ list_any (λ s. is_blocked_at overflow messages.now s.port.receiver) servers.now }
 {
     for server in servers {

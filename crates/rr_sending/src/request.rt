@@ -1,5 +1,8 @@
 //! Sends of requests.
-ghost use Rattle.std.specs.Prelude.{◌≡◌, Some, ◌==◌, ◌+◌, ◌<◌, ℕ, [], IsSome, IsSomeAnd, count_by, length, slice_get, slice_index_or, not};
+ghost use Rattle.std.specs.Prelude.{◌≡◌, None, Some, ◌==◌, ◌&&◌, if◌then◌else◌, ◌+◌, ◌≤◌, ◌<◌, ℕ, [], IsSome, count_by, length, slice_get, slice_index_or, not};
+ghost use Rattle.rr_protocol.specs.Backpressure.{discards};
+ghost use Rattle.rr_protocol.specs.declared.error.RequestSendError.TheVariants as limit;
+ghost use Rattle.rr_protocol.specs.declared.error.SendError.TheVariants as send;
 ghost use Rattle.rr_protocol.specs.Queries.{kind_at};
 ghost use Rattle.rr_protocol.specs.Sends.{SendsRequest};
 ghost use Rattle.rr_store.specs.Opened.{opened};
@@ -7,11 +10,12 @@ ghost use Rattle.rr_store.specs.Reaching.{IsCore};
 ghost use Rattle.rr_store.specs.Views.{state_of, sender_of};
 ghost use Rattle.rr_table.specs.TableView.{IsAt};
 ghost use Rattle.std.specs.List.{position, list_any};
-ghost use Rattle.rr_store.specs.Changes.{is_open_to, request_send_limit};
+ghost use Rattle.rr_store.specs.Changes.{is_closed_to, is_open_to};
 ghost use Rattle.rr_store.specs.Order.{IsRising};
+ghost use Rattle.rr_store.specs.declared.port.ClientPort.{ClientPort};
 ghost use Rattle.rr_store.specs.Parts.{ServerPart};
-ghost use Rattle.rr_store.specs.Ports.{connected_of};
-ghost use Rattle.rr_store.specs.Sending.{HasQueues, is_blocked_at, is_refused_at};
+ghost use Rattle.rr_store.specs.Ports.{client_part, connected_of};
+ghost use Rattle.rr_store.specs.Sending.{is_blocked_at, is_refused_at};
 ghost use Rattle.rr_protocol.specs.declared.kind.Kind.TheVariants as kind;
 
 use crate::full::{discards, is_request_blocked};
@@ -95,12 +99,13 @@ fn request_send_limit<
     PH: Default + Drop,
     K: BackpressureFn,
 >(store: &Store<QB, QH, PB, PH, K>, sender: usize, connections: usize) -> Option<RequestSendError>
-    requires sender { sender < length (opened store.now).client_senders }
-    requires rising { IsRising (λ c. c.port.id) (opened store.now).clients }
-    requires found { IsSome (position (λ c. c.port.id == (sender_of sender (opened store.now).client_senders).owner) (opened store.now).clients) }
+    requires sender { sender < length store.now.clients.senders }
+    requires rising { IsRising (λ c. c.port.id) store.now.clients.ports }
+    requires present { IsSome (position (λ c. c.port.id == (sender_of sender store.now.clients.senders).owner) store.now.clients.ports) }
     requires queues { (i : ℕ) (s : ServerPart K) → slice_get (opened store.now).servers i ≡ Some s → (s.receiver < length (sender_of sender (opened store.now).client_senders).messages.queues) × (0 < length (slice_index_or (sender_of sender (opened store.now).client_senders).messages.queues s.receiver [])) }
     requires connections { connections ≡ count_by (is_open_to (opened store.now) sender) (opened store.now).servers }
-    ensures { IsSomeAnd (position (λ c. c.port.id == (sender_of sender (opened store.now).client_senders).owner) (opened store.now).clients) (λ i. IsSomeAnd (slice_get (opened store.now).clients i) (λ c. result ≡ request_send_limit (opened store.now) K.action c sender)) }
+    ensures many { store.now.limits.max_active_requests_per_client ≤ (sender_of sender store.now.clients.senders).pendings → result ≡ Some limit.ExceedsMaxActiveRequests }
+    ensures few { (i : ℕ) (c : ClientPort K) → position (λ c. c.port.id == (sender_of sender store.now.clients.senders).owner) store.now.clients.ports ≡ Some i → slice_get store.now.clients.ports i ≡ Some c → (sender_of sender store.now.clients.senders).pendings < store.now.limits.max_active_requests_per_client → result ≡ (if list_any (λ s. is_closed_to (opened store.now) sender s && not (discards K.action (client_part c).port s.port.id)) (opened store.now).servers then Some (limit.SendError send.UnableToDeliver) else None) }
 {
     if store.limits.max_active_requests_per_client <= store.clients.pendings(sender) {
         return Some(RequestSendError::ExceedsMaxActiveRequests);
@@ -126,7 +131,8 @@ fn is_refused<B: Body, N: Copy, H: Drop, K: BackpressureFn>(
     servers: &[ServerPort<K>],
     overflow: bool,
 ) -> bool
-    requires { HasQueues messages.now servers.now }
+    requires inside { (i : ℕ) (s : ServerPort K) → slice_get servers.now i ≡ Some s → s.port.receiver < length messages.now.queues }
+    requires channels { (i : ℕ) (s : ServerPort K) → slice_get servers.now i ≡ Some s → 0 < length (slice_index_or messages.now.queues s.port.receiver []) }
     ensures { result ≡ list_any (is_refused_at K.action (connected_of port.now).port overflow messages.now) servers.now }
 {
     for server in servers {
@@ -146,7 +152,8 @@ fn open_count<B: Body, N: Copy, H: Drop, K: Drop>(
     servers: &[ServerPort<K>],
     overflow: bool,
 ) -> usize
-    requires { HasQueues messages.now servers.now }
+    requires inside { (i : ℕ) (s : ServerPort K) → slice_get servers.now i ≡ Some s → s.port.receiver < length messages.now.queues }
+    requires channels { (i : ℕ) (s : ServerPort K) → slice_get servers.now i ≡ Some s → 0 < length (slice_index_or messages.now.queues s.port.receiver []) }
     ensures { result ≡ count_by (λ s. not (is_blocked_at overflow messages.now s.port.receiver)) servers.now }
 {
     let mut count = 0;

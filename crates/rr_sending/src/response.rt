@@ -1,5 +1,6 @@
 //! Sends of responses.
-ghost use Rattle.std.specs.Prelude.{◌≡◌, Some, ◌==◌, ◌+◌, ◌<◌, IsSome, IsSomeAnd, length, slice_get};
+ghost use Rattle.std.specs.Prelude.{◌≡◌, Some, ◌==◌, ◌&&◌, ◌+◌, ◌<◌, ℕ, IsSome, length, not, slice_get};
+ghost use Rattle.rr_protocol.specs.Backpressure.{discards};
 ghost use Rattle.rr_protocol.specs.Queries.{kind_at};
 ghost use Rattle.rr_protocol.specs.Sends.{SendsResponse};
 ghost use Rattle.rr_store.specs.Opened.{opened};
@@ -7,8 +8,10 @@ ghost use Rattle.rr_store.specs.Reaching.{IsCore};
 ghost use Rattle.rr_store.specs.Views.{state_of, sender_of};
 ghost use Rattle.rr_table.specs.TableView.{IsAt};
 ghost use Rattle.std.specs.List.{position};
-ghost use Rattle.rr_store.specs.Delivering.{HasQueue, is_refused_in};
+ghost use Rattle.rr_store.specs.Delivering.{HasQueue, is_blocked_in};
 ghost use Rattle.rr_store.specs.Order.{IsRising};
+ghost use Rattle.rr_store.specs.Ports.{connected_of};
+ghost use Rattle.rr_store.specs.declared.port.ServerPort.{ServerPort};
 ghost use Rattle.rr_protocol.specs.declared.kind.Kind.TheVariants as kind;
 
 use crate::full::{discards, is_response_blocked};
@@ -71,11 +74,11 @@ fn is_response_refused<
     details: ResponseDetails,
     reach: Option<usize>,
 ) -> bool
-    requires sender { sender < length (opened store.now).server_senders }
-    requires rising { IsRising (λ s. s.port.id) (opened store.now).servers }
-    requires found { IsSome (position (λ s. s.port.id == (sender_of sender (opened store.now).server_senders).owner) (opened store.now).servers) }
-    requires queue { HasQueue (sender_of sender (opened store.now).server_senders).messages details.channel reach }
-    ensures { IsSomeAnd (position (λ s. s.port.id == (sender_of sender (opened store.now).server_senders).owner) (opened store.now).servers) (λ i. IsSomeAnd (slice_get (opened store.now).servers i) (λ s. result ≡ is_refused_in K.action s.port (sender_of sender (opened store.now).server_senders).messages store.now.limits.enable_safe_overflow_for_responses details reach)) }
+    requires sender { sender < length store.now.servers.senders }
+    requires rising { IsRising (λ s. s.port.id) store.now.servers.ports }
+    requires present { IsSome (position (λ s. s.port.id == (sender_of sender store.now.servers.senders).owner) store.now.servers.ports) }
+    requires queue { HasQueue (sender_of sender store.now.servers.senders).messages details.channel reach }
+    ensures refused { (i : ℕ) (s : ServerPort K) → position (λ s. s.port.id == (sender_of sender store.now.servers.senders).owner) store.now.servers.ports ≡ Some i → slice_get store.now.servers.ports i ≡ Some s → result ≡ (is_blocked_in (sender_of sender store.now.servers.senders).messages store.now.limits.enable_safe_overflow_for_responses details.channel reach && not (discards K.action (connected_of s.port).port details.client)) }
 {
     let messages = store.servers.messages(sender);
     let overflow = store.limits.enable_safe_overflow_for_responses;

@@ -36,6 +36,11 @@ pub record Site (T N H : Type 0) : Type 0 where
 abbrev pub left_at : ℕ → List LeftPort → LeftPort
 left_at index left = slice_index_or left index (record { number = 0; sender = 0 })
 
+-- the sender of a new port, with this number, row and receiver, and these marks and messages
+abbrev pub new_sender : {T N H : Type 0} → ℕ → ℕ → ℕ → List ℕ → Messages T N H → Sender T N H
+new_sender owner row receiver may_answer messages =
+    record { owner = owner; row = row; receiver = receiver; has_value = true; loans = 0; pendings = 0; may_answer = may_answer; messages = messages }
+
 -- whether nothing uses a sender
 abbrev pub is_idle : {T N H : Type 0} → Sender T N H → Bool
 is_idle l = used_count l.messages == 0
@@ -95,16 +100,7 @@ module _ {Q QH P PH K : Type 0} (p : Parts Q QH P PH K) where
   -- the new sender of a client, with this row
   abbrev pub new_client_sender : ClientSettings K → ℕ → ℕ → Messages Q RequestDetails QH → Sender Q RequestDetails QH
   new_client_sender settings row receiver messages =
-      record {
-        owner = p.next;
-        row = row;
-        receiver = receiver;
-        has_value = true;
-        loans = 0;
-        pendings = 0;
-        may_answer = replicate ((client_port settings).pool_size * p.limits.max_servers) no_server;
-        messages = messages;
-      }
+      new_sender p.next row receiver (replicate ((client_port settings).pool_size * p.limits.max_servers) no_server) messages
 
   -- how many places the row of a client has
   abbrev pub client_row_len : ClientSettings K → ℕ
@@ -144,17 +140,7 @@ module _ {Q QH P PH K : Type 0} (p : Parts Q QH P PH K) where
 
   -- the new sender of a server, with this row
   abbrev pub new_server_sender : ℕ → ℕ → Messages P ResponseDetails PH → Sender P ResponseDetails PH
-  new_server_sender row receiver messages =
-      record {
-        owner = p.next;
-        row = row;
-        receiver = receiver;
-        has_value = true;
-        loans = 0;
-        pendings = 0;
-        may_answer = [];
-        messages = messages;
-      }
+  new_server_sender row receiver messages = new_sender p.next row receiver [] messages
 
   -- a server that is this receiver sends from a new sender in this site
   abbrev pub with_server_part : ServerSettings K → ℕ → Site P ResponseDetails PH → Parts Q QH P PH K

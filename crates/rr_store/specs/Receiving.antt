@@ -23,6 +23,10 @@ module _ {T N H : Type 0} where
   Reaches senders receiver channel =
       (sender : ℕ) → sender < length senders → (receiver < length (sender_of sender senders).messages.queues) × (channel < length (slice_index_or (sender_of sender senders).messages.queues receiver []))
 
+  -- each sender's queues to the receiver have one for the channel
+  abbrev pub HaveChannels : List (Sender T N H) → ℕ → ℕ → Type 0
+  HaveChannels senders receiver channel = (sender : ℕ) → sender < length senders → channel < length (slice_index_or (sender_of sender senders).messages.queues receiver [])
+
   -- some sender with an entry from which the receiver may have one more; or all queues are empty; or each with an entry has no room
   abbrev pub IsNextSender : List (Sender T N H) → ℕ → ℕ → ℕ → Result (Option ℕ) ReceiveError → Type 0
   IsNextSender senders receiver channel most (Ok (Some sender)) =

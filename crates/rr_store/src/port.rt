@@ -166,7 +166,7 @@ impl<K: Drop> ConnectedPort for ServerPort<K> {
 }
 
 /// Returns where among the ports, whose numbers rise, the one with this number stands, in O(log ports).
-pub fn index_by_halving<P: ConnectedPort>(ports: &[P], id: u64) -> Option<usize>
+pub(crate) fn index_by_halving<P: ConnectedPort>(ports: &[P], id: u64) -> Option<usize>
     requires { IsRising P.id ports.now }
     ensures { result ≡ position (λ p. P.id p == id) ports.now }
 {

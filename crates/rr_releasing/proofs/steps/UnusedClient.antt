@@ -80,6 +80,19 @@ module _ {Q QH P PH K : Type 0} (p : Parts Q QH P PH K) (sound : IsSoundStore p 
         subst (λ o. IsSomeAnd o (λ (c : ClientPart K). state_of t ≡ without_unused_port (state_of p) c.port.id)) it.at told
         ∙ ap (without_unused_port (state_of p)) (eqb-true _ _ it.passes)
 
+-- a client at an index
+module _ {Q QH P PH K : Type 0} (p : Parts Q QH P PH K) (sound : IsSoundStore p empty_hand) (index : ℕ) (c : ClientPart K)
+    (at : slice_get p.clients index ≡ Some c) where
+  here : slice_get (map (λ (c : ClientPart K). c.connected) p.clients) index ≡ Some c.connected
+  here = listed (λ (c : ClientPart K). c.connected) p.clients index c at
+
+  pub its_sender_asked : c.sender < length p.client_senders
+  its_sender_asked = (sound.client_ports.own index c.connected here).0
+
+  pub receivers_asked : (l : ℕ) → l < length p.server_senders → c.receiver < length (sender_of l p.server_senders).messages.borrowed
+  receivers_asked l there =
+      omega (arith, sound.client_ports.placed index c.connected here, (sound.sized.server_senders l there).borrowed)
+
 -- whether the client at an index leaves
 module _ {Q QH P PH K : Type 0} (p : Parts Q QH P PH K) (sound : IsSoundStore p empty_hand) (index : ℕ) (there : index < length p.clients) where
   it : (c : ClientPart K) × (slice_get p.clients index ≡ Some c)
@@ -92,32 +105,16 @@ module _ {Q QH P PH K : Type 0} (p : Parts Q QH P PH K) (sound : IsSoundStore p 
   of_it : (R : ClientPart K → Type 0) → R it.0 → IsSomeAnd (slice_get p.clients index) R
   of_it R told = subst (λ o. IsSomeAnd o R) (sym it.1) told
 
-  here : slice_get (map (λ (c : ClientPart K). c.connected) p.clients) index ≡ Some it.0.connected
-  here = listed (λ (c : ClientPart K). c.connected) p.clients index it.0 it.1
-
-  pub its_sender_asked : IsSomeAnd (slice_get p.clients index) (λ c. c.sender < length p.client_senders)
-  its_sender_asked = of_it (λ c. c.sender < length p.client_senders) (sound.client_ports.own index it.0.connected here).0
-
-  pub receivers_asked : IsSomeAnd (slice_get p.clients index) (λ c. (l : ℕ) → l < length p.server_senders
-      → c.receiver < length (sender_of l p.server_senders).messages.borrowed)
-  receivers_asked =
-      of_it (λ c. (l : ℕ) → l < length p.server_senders → c.receiver < length (sender_of l p.server_senders).messages.borrowed)
-      (λ l there. omega (
-        arith,
-        sound.client_ports.placed index it.0.connected here,
-        (sound.sized.server_senders l there).borrowed,
-      ))
-
-  module _ (used : Bool) (told : IsSomeAnd (slice_get p.clients index) (λ c. used ≡ is_client_used p c)) where
+  module _ (used : Bool) (told : (c : ClientPart K) → slice_get p.clients index ≡ Some c → used ≡ is_client_used p c) where
     in_use : is_in_use (state_of p) it.0.port.id ≡ used
-    in_use = client_in_use_is p sound index it.0 it.1 ∙ sym (told_of (λ c. used ≡ is_client_used p c) told)
+    in_use = client_in_use_is p sound index it.0 it.1 ∙ sym (told it.0 it.1)
 
     -- it is in use
     pub used_then : used ≡ true → IsSomeAnd (slice_get p.clients index) (λ c. state_of p ≡ without_unused_port (state_of p) c.port.id)
     used_then is = of_it (λ c. state_of p ≡ without_unused_port (state_of p) c.port.id) (stays (state_of p) it.0.port.id (in_use ∙ is))
 
     pub unused_asked : used ≡ false → IsSomeAnd (slice_get p.clients index) (λ c. is_client_used p c ≡ false)
-    unused_asked is = of_it (λ c. is_client_used p c ≡ false) (sym (told_of (λ c. used ≡ is_client_used p c) told) ∙ is)
+    unused_asked is = of_it (λ c. is_client_used p c ≡ false) (sym (told it.0 it.1) ∙ is)
 
     -- the client is connected
     connected : is_some (client_at (state_of p) it.0.port.id) ≡ true

@@ -80,6 +80,19 @@ module _ {Q QH P PH K : Type 0} (p : Parts Q QH P PH K) (sound : IsSoundStore p 
         subst (λ o. IsSomeAnd o (λ (s : ServerPart K). state_of t ≡ without_unused_port (state_of p) s.port.id)) it.at told
         ∙ ap (without_unused_port (state_of p)) (eqb-true _ _ it.passes)
 
+-- a server at an index
+module _ {Q QH P PH K : Type 0} (p : Parts Q QH P PH K) (sound : IsSoundStore p empty_hand) (index : ℕ) (s : ServerPart K)
+    (at : slice_get p.servers index ≡ Some s) where
+  here : slice_get (map (λ (s : ServerPart K). s.connected) p.servers) index ≡ Some s.connected
+  here = listed (λ (s : ServerPart K). s.connected) p.servers index s at
+
+  pub its_sender_asked : s.sender < length p.server_senders
+  its_sender_asked = (sound.server_ports.own index s.connected here).0
+
+  pub receivers_asked : (l : ℕ) → l < length p.client_senders → s.receiver < length (sender_of l p.client_senders).messages.borrowed
+  receivers_asked l there =
+      omega (arith, sound.server_ports.placed index s.connected here, (sound.sized.client_senders l there).borrowed)
+
 -- whether the server at an index leaves
 module _ {Q QH P PH K : Type 0} (p : Parts Q QH P PH K) (sound : IsSoundStore p empty_hand) (index : ℕ) (there : index < length p.servers) where
   it : (s : ServerPart K) × (slice_get p.servers index ≡ Some s)
@@ -92,32 +105,16 @@ module _ {Q QH P PH K : Type 0} (p : Parts Q QH P PH K) (sound : IsSoundStore p 
   of_it : (R : ServerPart K → Type 0) → R it.0 → IsSomeAnd (slice_get p.servers index) R
   of_it R told = subst (λ o. IsSomeAnd o R) (sym it.1) told
 
-  here : slice_get (map (λ (s : ServerPart K). s.connected) p.servers) index ≡ Some it.0.connected
-  here = listed (λ (s : ServerPart K). s.connected) p.servers index it.0 it.1
-
-  pub its_sender_asked : IsSomeAnd (slice_get p.servers index) (λ s. s.sender < length p.server_senders)
-  its_sender_asked = of_it (λ s. s.sender < length p.server_senders) (sound.server_ports.own index it.0.connected here).0
-
-  pub receivers_asked : IsSomeAnd (slice_get p.servers index) (λ s. (l : ℕ) → l < length p.client_senders
-      → s.receiver < length (sender_of l p.client_senders).messages.borrowed)
-  receivers_asked =
-      of_it (λ s. (l : ℕ) → l < length p.client_senders → s.receiver < length (sender_of l p.client_senders).messages.borrowed)
-      (λ l there. omega (
-        arith,
-        sound.server_ports.placed index it.0.connected here,
-        (sound.sized.client_senders l there).borrowed,
-      ))
-
-  module _ (used : Bool) (told : IsSomeAnd (slice_get p.servers index) (λ s. used ≡ is_server_used p s)) where
+  module _ (used : Bool) (told : (s : ServerPart K) → slice_get p.servers index ≡ Some s → used ≡ is_server_used p s) where
     in_use : is_in_use (state_of p) it.0.port.id ≡ used
-    in_use = server_in_use_is p sound index it.0 it.1 ∙ sym (told_of (λ s. used ≡ is_server_used p s) told)
+    in_use = server_in_use_is p sound index it.0 it.1 ∙ sym (told it.0 it.1)
 
     -- it is in use
     pub used_then : used ≡ true → IsSomeAnd (slice_get p.servers index) (λ s. state_of p ≡ without_unused_port (state_of p) s.port.id)
     used_then is = of_it (λ s. state_of p ≡ without_unused_port (state_of p) s.port.id) (stays (state_of p) it.0.port.id (in_use ∙ is))
 
     pub unused_asked : used ≡ false → IsSomeAnd (slice_get p.servers index) (λ s. is_server_used p s ≡ false)
-    unused_asked is = of_it (λ s. is_server_used p s ≡ false) (sym (told_of (λ s. used ≡ is_server_used p s) told) ∙ is)
+    unused_asked is = of_it (λ s. is_server_used p s ≡ false) (sym (told it.0 it.1) ∙ is)
 
     -- no client has its number
     no_client : is_some (client_at (state_of p) it.0.port.id) ≡ false

@@ -1,8 +1,10 @@
 //! Clients that leave.
-ghost use Rattle.std.specs.Prelude.{◌≡◌, ◌<◌, false, IsSomeAnd, length, slice_get, ℕ};
+ghost use Rattle.std.specs.Prelude.{◌≡◌, Some, ◌<◌, false, IsSomeAnd, length, slice_get, ℕ};
 ghost use Rattle.rr_protocol.specs.Releases.{after_client_left, without_unused_port, room_for_expired_clients};
 ghost use Rattle.rr_store.specs.Leaving.{is_client_used};
+ghost use Rattle.rr_store.specs.declared.port.ClientPort.{ClientPort};
 ghost use Rattle.rr_store.specs.Opened.{opened};
+ghost use Rattle.rr_store.specs.Ports.{client_part};
 ghost use Rattle.rr_store.specs.Sound.{HasPort, IsSoundStore, empty_hand};
 ghost use Rattle.rr_store.specs.Views.{sender_of, state_of};
 
@@ -95,9 +97,10 @@ fn is_client_used<QB: Body, QH: Default + Drop, PB: Body, PH: Default + Drop, K:
     store: &Store<QB, QH, PB, PH, K>,
     index: usize,
 ) -> bool
-    requires index { IsSomeAnd (slice_get (opened store.now).clients index) (λ c. c.sender < length (opened store.now).client_senders) }
-    requires receivers { IsSomeAnd (slice_get (opened store.now).clients index) (λ c. (l : ℕ) → l < length (opened store.now).server_senders → c.receiver < length (sender_of l (opened store.now).server_senders).messages.borrowed) }
-    ensures { IsSomeAnd (slice_get (opened store.now).clients index) (λ c. result ≡ is_client_used (opened store.now) c) }
+    requires inside { index < length store.now.clients.ports }
+    requires sender { (c : ClientPort K) → slice_get store.now.clients.ports index ≡ Some c → c.port.sender < length store.now.clients.senders }
+    requires receivers { (c : ClientPort K) → slice_get store.now.clients.ports index ≡ Some c → (l : ℕ) → l < length store.now.servers.senders → c.port.receiver < length (sender_of l store.now.servers.senders).messages.borrowed }
+    ensures used { (c : ClientPort K) → slice_get store.now.clients.ports index ≡ Some c → result ≡ is_client_used (opened store.now) (client_part c) }
 {
     let port = &store.clients.port(index).port;
     let sender = port.sender;

@@ -1,8 +1,10 @@
 //! Servers that leave.
-ghost use Rattle.std.specs.Prelude.{◌≡◌, ◌<◌, false, IsSomeAnd, length, slice_get, ℕ};
+ghost use Rattle.std.specs.Prelude.{◌≡◌, Some, ◌<◌, false, IsSomeAnd, length, slice_get, ℕ};
 ghost use Rattle.rr_protocol.specs.Releases.{after_server_left, without_unused_port};
 ghost use Rattle.rr_store.specs.Leaving.{is_server_used};
+ghost use Rattle.rr_store.specs.declared.port.ServerPort.{ServerPort};
 ghost use Rattle.rr_store.specs.Opened.{opened};
+ghost use Rattle.rr_store.specs.Ports.{server_part};
 ghost use Rattle.rr_store.specs.Sound.{HasPort, IsSoundStore, empty_hand};
 ghost use Rattle.rr_store.specs.Views.{sender_of, state_of};
 
@@ -94,9 +96,10 @@ fn is_server_used<QB: Body, QH: Default + Drop, PB: Body, PH: Default + Drop, K:
     store: &Store<QB, QH, PB, PH, K>,
     index: usize,
 ) -> bool
-    requires index { IsSomeAnd (slice_get (opened store.now).servers index) (λ s. s.sender < length (opened store.now).server_senders) }
-    requires receivers { IsSomeAnd (slice_get (opened store.now).servers index) (λ s. (l : ℕ) → l < length (opened store.now).client_senders → s.receiver < length (sender_of l (opened store.now).client_senders).messages.borrowed) }
-    ensures { IsSomeAnd (slice_get (opened store.now).servers index) (λ s. result ≡ is_server_used (opened store.now) s) }
+    requires inside { index < length store.now.servers.ports }
+    requires sender { (s : ServerPort K) → slice_get store.now.servers.ports index ≡ Some s → s.port.sender < length store.now.servers.senders }
+    requires receivers { (s : ServerPort K) → slice_get store.now.servers.ports index ≡ Some s → (l : ℕ) → l < length store.now.clients.senders → s.port.receiver < length (sender_of l store.now.clients.senders).messages.borrowed }
+    ensures used { (s : ServerPort K) → slice_get store.now.servers.ports index ≡ Some s → result ≡ is_server_used (opened store.now) (server_part s) }
 {
     let port = &store.servers.port(index).port;
     if port.has_value || store.servers.loans(port.sender) > 0 {

@@ -1,15 +1,16 @@
 -- The oldest ports that left lose their entries for a receiver, one after another.
-use Rattle.std.proofs.Common.{◌≡◌, ◌<◌, ◌+◌, ◌-◌, ◌||◌, ◌&&◌, ◌++◌, ℕ, Bool, true, false, cond, List, [], ◌∷◌, Some, append-nil, length, refl, sym, take, ap, ◌∙◌, arith}
+use Rattle.std.proofs.Common.{◌≡◌, ◌<◌, ◌≤◌, ◌+◌, ◌-◌, ◌||◌, ◌&&◌, ◌++◌, ℕ, Bool, true, false, cond, List, [], ◌∷◌, Some, append-nil, arith}
+use Rattle.std.proofs.Common.{length, get_or, refl, sym, take, subst, ap, ◌∙◌}
 use Rattle.std.specs.Prelude.{◌==◌, slice_get}
 use Rattle.std.proofs.lemmas.Bool.{ne_eqb}
 use Rattle.std.proofs.lemmas.List.{take-append-le, take_all}
 use Rattle.std.proofs.lemmas.List.Elements.{filter_more}
 use Rattle.std.proofs.lemmas.List.Filters.{length-filter_more}
 use Rattle.std.proofs.lemmas.List.Folds.{list_any-append}
-use Rattle.std.proofs.lemmas.Option.{get_or_from_slice_get, slice_get_within}
+use Rattle.std.proofs.lemmas.Option.{get_or_from_slice_get, slice_get-get_or, slice_get_within}
 use Rattle.rr_map_laws.proofs.ListFacts.{all_filter}
 use Rattle.rr_store.specs.declared.port.LeftPort.{LeftPort}
-use Rattle.rr_store.specs.Draining.{AreApart, SendersDrained}
+use Rattle.rr_store.specs.Draining.{AreApart, AreThere, HaveQueues, SendersDrained}
 use Rattle.rr_store.specs.Leaving.{has_queued, is_of, queued_left}
 use Rattle.rr_store.specs.Parts.{Sender}
 use Rattle.rr_store.specs.Views.{sender_of}
@@ -43,11 +44,43 @@ module _ {T N H : Type 0} (before : List (Sender T N H)) (left : List LeftPort) 
       ∙ ap (λ (y : LeftPort). length (queued i) + cond (has_queued (sender_of y.sender before) receiver) 1 0)
       (get_or_from_slice_get left i x x at)
 
+  -- one more is counted, or not
+  pub counted_more : (i n : ℕ) (x : LeftPort) → slice_get left i ≡ Some x → n ≡ length (queued i) → (b : Bool)
+      → has_queued (sender_of x.sender before) receiver ≡ b → cond b (n + 1) n ≡ length (queued (i + 1))
+  counted_more i n x at so b is = go b (count_more i x at ∙ ap (λ c. length (queued i) + cond c 1 0) is)
+    where
+      go : (b : Bool) → length (queued (i + 1)) ≡ length (queued i) + cond b 1 0 → cond b (n + 1) n ≡ length (queued (i + 1))
+      go true e = omega (arith, so, e)
+      go false e = omega (arith, so, e)
+
   module _ (excess : ℕ) where
     -- the ports so far are expired, and so many are left to be
     pub record IsExpiring (i remaining : ℕ) (now : List (Sender T N H)) : Type 0 where
       pub drained : SendersDrained (λ l r. r == receiver && is_of (take excess (queued i)) l) before now
       pub counted : remaining ≡ excess - length (queued i)
+
+    module _ (i remaining : ℕ) (now : List (Sender T N H)) (so : IsExpiring i remaining now) where
+      -- the sender of the next one is still there
+      pub next_there : (none : LeftPort) → i < length left → AreThere before left → (get_or left i none).sender < length now
+      next_there none h there = omega (arith, there i (get_or left i none) (slice_get-get_or left i none h), so.drained.many)
+
+      -- and has its queues
+      pub next_queues : (none : LeftPort) → i < length left → AreThere before left → HaveQueues before receiver
+          → receiver < length (sender_of (get_or left i none).sender now).messages.queues
+      next_queues none h there queues =
+          let x = get_or left i none in
+          omega (
+            arith,
+            queues x.sender (there i x (slice_get-get_or left i none h)),
+            (so.drained.each x.sender).messages.receivers,
+          )
+
+      -- all are expired
+      pub all_expired : length left ≤ i →
+          SendersDrained (λ l r. r == receiver && is_of (take excess (queued_left before left receiver)) l) before now
+      all_expired h =
+          subst (λ ps. SendersDrained (λ l r. r == receiver && is_of (take excess (queued_left before ps receiver)) l) before now)
+          (take_all i left h) so.drained
 
     module _ (i remaining : ℕ) (now : List (Sender T N H)) (so : IsExpiring i remaining now) (x : LeftPort)
         (at : slice_get left i ≡ Some x) where

@@ -104,7 +104,8 @@ impl<B: Body, N: Copy, H: Drop, P: ConnectedPort> Side<B, N, H, P> {
     /// Notes that the value of the port at an index is gone.
     #[cold]
     pub fn end_value(&mut self, index: usize)
-        requires { IsSomeAnd (slice_get self.old.ports index) (λ p. P.sender p < length self.old.senders) }
+        requires index { index < length self.old.ports }
+        requires sender { IsSomeAnd (slice_get self.old.ports index) (λ p. P.sender p < length self.old.senders) }
         ensures { IsSomeAnd (slice_get self.old.ports index) (λ p. self.new ≡ record self.old { ports = slice_set self.old.ports index (P.valueless p); senders = with_sender_at self.old.senders (P.sender p) valueless }) }
     {
         let port = &mut self.ports[index];

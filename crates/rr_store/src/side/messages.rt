@@ -76,7 +76,9 @@ impl<B: Body, N: Copy, H: Drop, P: Drop> Side<B, N, H, P> {
     /// Returns the place of the handle by which a receiver has the message in a slot.
     #[inline(always)]
     pub fn place_at_receiver(&self, sender: usize, receiver: usize, slot: usize) -> Place
-        requires { (sender < length self.now.senders) × (receiver + 1 < 2 ^ 64) × ((receiver + 1) * length (sender_of sender self.now.senders).messages.held + slot < 2 ^ 64) }
+        requires sender { sender < length self.now.senders }
+        requires receiver { receiver + 1 < 2 ^ 64 }
+        requires slot { (receiver + 1) * length (sender_of sender self.now.senders).messages.held + slot < 2 ^ 64 }
         ensures { result ≡ record { row = (sender_of sender self.now.senders).row; index = (receiver + 1) * length (sender_of sender self.now.senders).messages.held + slot } }
     {
         let owned = &self.senders[sender];

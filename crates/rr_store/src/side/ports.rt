@@ -1,11 +1,10 @@
 //! Ports by index and by number, their creation, and those that left.
-ghost use Rattle.std.specs.Prelude.{◌≡◌, ◌≢◌, ℕ, ◌<◌, ◌==◌, ◌&&◌, [], ◌∷◌, ◌++◌, true, IsSome, IsSomeAnd, OnErr, OnOk, Some, length, slice_get, slice_set, ◌+◌, None, map, if◌then◌else◌, is_ok};
+ghost use Rattle.std.specs.Prelude.{◌≡◌, ◌≢◌, ℕ, ◌<◌, ◌==◌, ◌&&◌, [], ◌∷◌, ◌++◌, true, IfOk, IsSome, IsSomeAnd, OnErr, OnOk, Some, length, slice_get, slice_set, vec_capacity, vec_len};
 ghost use Rattle.std.specs.List.{list_any, position, remove};
 ghost use Rattle.rr_table.specs.TableView.{IsRenewed, with_row};
-ghost use Rattle.rr_store.specs.Creating.{left_at};
+ghost use Rattle.rr_store.specs.Creating.{left_at, new_sender};
 ghost use Rattle.rr_store.specs.Order.{IsRising};
 ghost use Rattle.rr_store.specs.Views.{sender_of};
-ghost use Rattle.rr_store.specs.Ports.{sender_part};
 
 use crate::port::index_by_halving;
 use crate::side::Side;
@@ -153,21 +152,25 @@ impl<B: Body, N: Copy, H: Drop, P: ConnectedPort> Side<B, N, H, P> {
         may_answer: Vec<u64>,
         row_len: usize,
     ) -> Result<(), AllocError>
-        ensures ok { OnOk result (self.new ≡ record self.old { ports = self.old.ports ++ port ∷ []; senders = self.old.senders ++ record { owner = P.id port; row = length table.old.rows; receiver = P.receiver port; has_value = true; loans = 0; pendings = 0; may_answer = may_answer.items; messages = messages } ∷ [] }) }
+        ensures ok { OnOk result (self.new ≡ record self.old { ports = self.old.ports ++ port ∷ []; senders = self.old.senders ++ new_sender (P.id port) (length table.old.rows) (P.receiver port) may_answer.items messages ∷ [] }) }
         ensures table { OnOk result (table.new ≡ with_row table.old row_len) }
         ensures err { OnErr result (self.new ≡ self.old) }
         ensures unchanged { OnErr result (table.new ≡ table.old) }
     {
-        insert_port(
-            alloc,
-            &mut self.ports,
-            &mut self.senders,
-            table,
-            port,
-            messages,
+        let row = reserve_row(alloc, &mut self.ports, &mut self.senders, table, row_len)?;
+        let details = port.details();
+        self.senders.push_reserved(OwnedSender {
+            owner: details.id,
+            row,
+            receiver: details.receiver,
+            has_value: true,
+            loans: 0,
+            pendings: 0,
             may_answer,
-            row_len,
-        )
+            messages,
+        });
+        self.ports.push_reserved(port);
+        Ok(())
     }
 
     /// Adds a port that sends from the sender of the one that left as the one at an index: that sender becomes a new one, its row is
@@ -185,21 +188,25 @@ impl<B: Body, N: Copy, H: Drop, P: ConnectedPort> Side<B, N, H, P> {
         requires listed { index < length self.old.left }
         requires sender { P.sender port < length self.old.senders }
         requires row { (sender_of (P.sender port) self.old.senders).row < length table.old.rows }
-        ensures ok { OnOk result (self.new ≡ record self.old { ports = self.old.ports ++ port ∷ []; senders = slice_set self.old.senders (P.sender port) (record { owner = P.id port; row = (sender_of (P.sender port) self.old.senders).row; receiver = P.receiver port; has_value = true; loans = 0; pendings = 0; may_answer = may_answer.items; messages = messages }); left = remove self.old.left index }) }
+        ensures ok { OnOk result (self.new ≡ record self.old { ports = self.old.ports ++ port ∷ []; senders = slice_set self.old.senders (P.sender port) (new_sender (P.id port) (sender_of (P.sender port) self.old.senders).row (P.receiver port) may_answer.items messages); left = remove self.old.left index }) }
         ensures renewed { OnOk result (IsRenewed (sender_of (P.sender port) self.old.senders).row row_len table.old table.new) }
         ensures err { OnErr result (self.new ≡ self.old) }
         ensures unchanged { OnErr result (table.new ≡ table.old) }
     {
-        insert_port_again(
-            alloc,
-            &mut self.ports,
-            &mut self.senders,
-            table,
-            port,
-            messages,
+        let details = port.details();
+        let row = self.senders[details.sender].row;
+        renew_row(alloc, &mut self.ports, table, row, row_len)?;
+        self.senders[details.sender] = OwnedSender {
+            owner: details.id,
+            row,
+            receiver: details.receiver,
+            has_value: true,
+            loans: 0,
+            pendings: 0,
             may_answer,
-            row_len,
-        )?;
+            messages,
+        };
+        self.ports.push_reserved(port);
         self.left.remove(index);
         Ok(())
     }
@@ -212,75 +219,45 @@ const NO_HANDLE: HandleEntry = HandleEntry {
     slot: 0,
 };
 
-/// Adds a port, the sender from which it sends, and a row of the table for its messages. Returns `AllocError` if memory was
-/// refused; the lists and the table are unchanged then.
-fn insert_port<P: ConnectedPort, B: Body, N: Copy, H: Drop>(
+/// Gets room for one more port and one more sender, and adds a row to the table, which it returns. Returns `AllocError` if memory
+/// was refused; the table is unchanged then.
+fn reserve_row<P: Drop, S: Drop>(
     alloc: Global,
     ports: &mut Vec<P>,
-    senders: &mut Vec<OwnedSender<B, N, H>>,
+    senders: &mut Vec<S>,
     table: &mut Table<HandleEntry>,
-    port: P,
-    messages: Sender<B, N, H>,
-    may_answer: Vec<u64>,
     row_len: usize,
-) -> Result<(), AllocError>
-    ensures ports { ports.new.items ≡ (if is_ok result then ports.old.items ++ port ∷ [] else ports.old.items) }
-    ensures senders { senders.new.items ≡ (if is_ok result then senders.old.items ++ record { owner = P.id port; row = length table.old.rows; receiver = P.receiver port; has_value = true; loans = 0; pendings = 0; may_answer = may_answer; messages = messages } ∷ [] else senders.old.items) }
-    ensures table { table.new ≡ (if is_ok result then with_row table.old row_len else table.old) }
+) -> Result<usize, AllocError>
+    ensures ports { ports.new.items ≡ ports.old.items }
+    ensures senders { senders.new.items ≡ senders.old.items }
+    ensures port_room { OnOk result (vec_len ports.new < vec_capacity ports.new) }
+    ensures sender_room { OnOk result (vec_len senders.new < vec_capacity senders.new) }
+    ensures row { IfOk result (λ row. row ≡ length table.old.rows) }
+    ensures ok { OnOk result (table.new ≡ with_row table.old row_len) }
+    ensures err { OnErr result (table.new ≡ table.old) }
 {
     ports.reserve(1)?;
     senders.reserve(1)?;
-    let row = table.add_row(alloc, row_len, NO_HANDLE)?;
-    let details = port.details();
-    senders.push_reserved(OwnedSender {
-        owner: details.id,
-        row,
-        receiver: details.receiver,
-        has_value: true,
-        loans: 0,
-        pendings: 0,
-        may_answer,
-        messages,
-    });
-    ports.push_reserved(port);
-    Ok(())
+    table.add_row(alloc, row_len, NO_HANDLE)
 }
 
-/// Adds a port that sends from a sender that is there, which becomes a new one, and makes its row anew for its messages. Returns
-/// `AllocError` if memory was refused; the lists and the table are unchanged then.
-fn insert_port_again<P: ConnectedPort, B: Body, N: Copy, H: Drop>(
+/// Gets room for one more port, and makes a row of the table anew. Returns `AllocError` if memory was refused; the table is
+/// unchanged then.
+fn renew_row<P: Drop>(
     alloc: Global,
     ports: &mut Vec<P>,
-    senders: &mut Vec<OwnedSender<B, N, H>>,
     table: &mut Table<HandleEntry>,
-    port: P,
-    messages: Sender<B, N, H>,
-    may_answer: Vec<u64>,
+    row: usize,
     row_len: usize,
 ) -> Result<(), AllocError>
-    requires sender { P.sender port < length senders.old.items }
-    requires row { (sender_of (P.sender port) (map sender_part senders.old.items)).row < length table.old.rows }
-    ensures ports { ports.new.items ≡ (if is_ok result then ports.old.items ++ port ∷ [] else ports.old.items) }
-    ensures senders { map sender_part senders.new.items ≡ (if is_ok result then slice_set (map sender_part senders.old.items) (P.sender port) (record { owner = P.id port; row = (sender_of (P.sender port) (map sender_part senders.old.items)).row; receiver = P.receiver port; has_value = true; loans = 0; pendings = 0; may_answer = may_answer.items; messages = messages }) else map sender_part senders.old.items) }
-    ensures renewed { OnOk result (IsRenewed (sender_of (P.sender port) (map sender_part senders.old.items)).row row_len table.old table.new) }
-    ensures unchanged { OnErr result (table.new ≡ table.old) }
+    requires { row < length table.old.rows }
+    ensures ports { ports.new.items ≡ ports.old.items }
+    ensures room { OnOk result (vec_len ports.new < vec_capacity ports.new) }
+    ensures ok { OnOk result (IsRenewed row row_len table.old table.new) }
+    ensures err { OnErr result (table.new ≡ table.old) }
 {
     ports.reserve(1)?;
-    let details = port.details();
-    let row = senders[details.sender].row;
-    table.renew_row(alloc, row, row_len, NO_HANDLE)?;
-    senders[details.sender] = OwnedSender {
-        owner: details.id,
-        row,
-        receiver: details.receiver,
-        has_value: true,
-        loans: 0,
-        pendings: 0,
-        may_answer,
-        messages,
-    };
-    ports.push_reserved(port);
-    Ok(())
+    table.renew_row(alloc, row, row_len, NO_HANDLE)
 }
 
 /// Returns whether a port is this receiver.

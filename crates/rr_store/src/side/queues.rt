@@ -4,7 +4,8 @@ ghost use Rattle.rr_sender.specs.Senders.{uses};
 ghost use Rattle.rr_store.specs.Asked.{CanTake};
 ghost use Rattle.rr_store.specs.Delivering.{HasQueue, handed_on};
 ghost use Rattle.rr_store.specs.Ports.{server_part, sender_part};
-ghost use Rattle.rr_store.specs.Receiving.{IsNextSender, Reaches, queue_from};
+ghost use Rattle.rr_store.specs.Draining.{HaveQueues};
+ghost use Rattle.rr_store.specs.Receiving.{HaveChannels, IsNextSender, queue_from};
 ghost use Rattle.rr_store.specs.Sending.{HasQueues, after_queued};
 ghost use Rattle.rr_store.specs.Sides.{with_channel_emptied, with_first_taken, with_sender, with_sent};
 ghost use Rattle.rr_store.specs.Views.{sender_of};
@@ -20,7 +21,8 @@ impl<B: Body, N: Copy, H: Drop, P: Drop> Side<B, N, H, P> {
     /// Returns whether a message is queued for a receiver on a channel. Looks at most once at each sender.
     #[inline(always)]
     pub fn is_waiting(&self, receiver: usize, channel: usize) -> bool
-        requires { Reaches self.now.senders receiver channel }
+        requires receiver { HaveQueues self.now.senders receiver }
+        requires channel { HaveChannels self.now.senders receiver channel }
         ensures { result ≡ has_entry receiver channel self.now.senders }
     {
         for sender in &self.senders {
@@ -44,7 +46,8 @@ impl<B: Body, N: Copy, H: Drop, P: Drop> Side<B, N, H, P> {
         channel: usize,
         most: usize,
     ) -> Result<Option<usize>, ReceiveError>
-        requires { Reaches self.now.senders receiver channel }
+        requires receiver { HaveQueues self.now.senders receiver }
+        requires channel { HaveChannels self.now.senders receiver channel }
         ensures { IsNextSender self.now.senders receiver channel most result }
     {
         let mut is_at_limit = false;
@@ -77,7 +80,8 @@ impl<B: Body, N: Copy, H: Drop, P: Drop> Side<B, N, H, P> {
     /// Drops what is queued for a receiver on a channel.
     #[inline(always)]
     pub fn clear_channel(&mut self, receiver: usize, channel: usize)
-        requires { Reaches self.old.senders receiver channel }
+        requires receiver { HaveQueues self.old.senders receiver }
+        requires channel { HaveChannels self.old.senders receiver channel }
         ensures { self.new ≡ with_channel_emptied self.old receiver channel }
     {
         let senders = &mut self.senders;

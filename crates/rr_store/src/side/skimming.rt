@@ -2,7 +2,8 @@
 ghost use Rattle.std.specs.Prelude.{◌≡◌, ◌<◌, ◌↔◌, ℕ, [], Some, map, length, slice_index_or, IsTrue};
 ghost use Rattle.rr_sender.specs.Senders.{queue_at};
 ghost use Rattle.rr_store.specs.Ports.{sender_part};
-ghost use Rattle.rr_store.specs.Receiving.{IsNextSender, Reaches};
+ghost use Rattle.rr_store.specs.Draining.{HaveQueues};
+ghost use Rattle.rr_store.specs.Receiving.{HaveChannels, IsNextSender};
 ghost use Rattle.rr_store.specs.Skimming.{IsFrontAlive, IsSkimmedTo, SkimsSender, is_waited};
 
 use crate::side::Side;
@@ -26,7 +27,8 @@ impl<B: Body, H: Drop, P: Drop> Side<B, RequestDetails, H, P> {
         receiver: usize,
         most: usize,
     ) -> Result<Option<usize>, ReceiveError>
-        requires { Reaches self.old.senders receiver 0 }
+        requires receiver { HaveQueues self.old.senders receiver }
+        requires channel { HaveChannels self.old.senders receiver 0 }
         ensures rest { self.new ≡ record self.old { senders = self.new.senders } }
         ensures skimmed { IsSkimmedTo table.now receiver most self.old.senders self.new.senders result }
         ensures next { IsNextSender self.new.senders receiver 0 most result }

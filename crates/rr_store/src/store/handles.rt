@@ -78,7 +78,8 @@ impl<QB: Body, QH: Default + Drop, PB: Body, PH: Default + Drop, K: Backpressure
     /// Puts a handle into a vacant place, under a number that nothing has.
     #[inline(always)]
     pub fn insert(&mut self, number: u64, place: Place, entry: HandleEntry)
-        requires { CanInsert self.old.table number place × (number + 1 < 2 ^ 64) }
+        requires vacant { CanInsert self.old.table number place }
+        requires number { number + 1 < 2 ^ 64 }
         ensures { opened self.new ≡ with_handle (opened self.old) number place entry }
     {
         self.table.insert(place, number, entry);
@@ -87,7 +88,8 @@ impl<QB: Body, QH: Default + Drop, PB: Body, PH: Default + Drop, K: Backpressure
     /// Puts a handle into a vacant place, under the next number, which it returns.
     #[inline(always)]
     pub fn add(&mut self, place: Place, entry: HandleEntry) -> u64
-        requires { CanInsert self.old.table self.old.next place × (self.old.next + 1 < 2 ^ 64) }
+        requires vacant { CanInsert self.old.table self.old.next place }
+        requires number { self.old.next + 1 < 2 ^ 64 }
         ensures number { result ≡ self.old.next }
         ensures added { opened self.new ≡ with_new_handle (opened self.old) place entry }
     {

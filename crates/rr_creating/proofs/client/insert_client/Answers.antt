@@ -1,32 +1,11 @@
-use Rattle.std.proofs.Common.{length, refl, ap, ◌∙◌, arith}
-use Rattle.std.proofs.lemmas.List.{length-map}
+use Rattle.std.proofs.Common.{length, refl, ap, ◌∙◌}
 use Rattle.rr_store.specs.Parts.{ClientPart, Parts}
 use Rattle.rr_store.specs.Opened.{opened}
 use Rattle.rr_store.specs.Ports.{client_part}
 use Rattle.rr_store.proofs.base.lists.Seen.{seen_vacant}
-use Rattle.rr_creating.proofs.steps.Client.{room_asked, next_asked, hub_asked, there_asked, left_asked, core_again, core_then, ok_again, ok_then}
+use Rattle.rr_creating.proofs.steps.Client.{left_asked, core_again, core_then, ok_again, ok_then}
 use Rattle.rr_creating.proofs.steps.Rooms.{as_many, one_more, then_ok}
 use Rattle.rr_creating.proofs.client.insert_client.Goals as goal
-
-pub worst_case_requests-requires : goal.worst_case_requests-requires
-worst_case_requests-requires g c =
-    hub_asked (opened c.args.store.now) c.requires.core c.args.settings c.requires.due c.requires.room _ refl
-
-pub free_receiver-receiver-requires : goal.free_receiver-receiver-requires
-free_receiver-receiver-requires g c =
-    omega (
-      arith,
-      length-map c.args.store.now.clients.ports client_part,
-      (room_asked (opened c.args.store.now) c.requires.core
-          c.args.settings c.requires.due c.requires.room),
-    )
-
-pub idle_left-requires : goal.idle_left-requires
-idle_left-requires g c = there_asked (opened c.args.store.now) c.requires.core c.args.settings c.requires.due c.requires.room
-
-pub append_client_again-requires-clause-next : goal.append_client_again-requires-clause-next
-append_client_again-requires-clause-next g c = next_asked (opened c.args.store.now) c.requires.core c.args.settings c.requires.due
-    c.requires.room
 
 pub append_client_again-requires-clause-left : goal.append_client_again-requires-clause-left
 append_client_again-requires-clause-left g c =
@@ -52,9 +31,6 @@ returns-in-Some-clause-ok g c =
     c.in_ok-client.ensures.messages _ c.in_ok-client.ensures.marks _ c.in_ok-client.ensures.row c.in_ok-client.ensures.fits c.in-Some.index
     c.in-Some.ensures (opened c.append_client_again.new.store) c.append_client_again.result c.append_client_again.ensures.ok
     c.append_client_again.ensures.table
-
-pub append_client-requires : goal.append_client-requires
-append_client-requires g c = next_asked (opened c.args.store.now) c.requires.core c.args.settings c.requires.due c.requires.room
 
 pub returns-in-None-clause-core : goal.returns-in-None-clause-core
 returns-in-None-clause-core g c =

@@ -22,6 +22,9 @@ insert_server-requires-clause-core g c =
     server_room_core (opened c.args.store.now) c.requires.core (opened (record c.args.store.now { servers = c.reserve_left.new.self }))
     (ap (λ s. opened (record c.args.store.now { servers = s })) c.reserve_left.ensures.rest) c.reserve_left.ensures.more
 
+pub insert_server-requires-clause-left : goal.insert_server-requires-clause-left
+insert_server-requires-clause-left g c i l at = ((insert_server-requires-clause-core g c).sound.have_ports.left_servers.own i l at).0
+
 pub returns-clause-ok : goal.returns-clause-ok
 returns-clause-ok g c =
     ok_after (opened c.args.store.now) c.requires.core (opened (record c.args.store.now { servers = c.reserve_left.new.self }))

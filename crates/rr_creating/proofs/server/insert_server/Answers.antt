@@ -1,10 +1,9 @@
-use Rattle.std.proofs.Common.{length, refl, ap, ◌∙◌, arith}
-use Rattle.std.proofs.lemmas.List.{length-map}
+use Rattle.std.proofs.Common.{length, refl, ap, ◌∙◌}
 use Rattle.rr_store.specs.Parts.{ServerPart, Parts}
 use Rattle.rr_store.specs.Opened.{opened}
 use Rattle.rr_store.specs.Ports.{server_part}
 use Rattle.rr_store.proofs.base.lists.Seen.{seen_vacant}
-use Rattle.rr_creating.proofs.steps.Server.{room_asked, next_asked, clients_asked, hub_asked, counts_asked, loans_asked, there_asked, left_asked, core_again, core_then, ok_again, ok_then}
+use Rattle.rr_creating.proofs.steps.Server.{next_asked, clients_asked, hub_asked, counts_asked, loans_asked, left_asked, core_again, core_then, ok_again, ok_then}
 use Rattle.rr_creating.proofs.steps.Rooms.{as_many, one_more, then_ok}
 use Rattle.rr_creating.proofs.server.insert_server.Goals as goal
 
@@ -15,15 +14,6 @@ worst_case_responses-requires-clause-hub g c =
 pub worst_case_responses-requires-clause-counts : goal.worst_case_responses-requires-clause-counts
 worst_case_responses-requires-clause-counts g c =
     counts_asked (opened c.args.store.now) c.requires.core c.args.settings c.requires.due c.requires.room _ refl _ c.max-loans.ensures
-
-pub free_receiver-receiver-requires : goal.free_receiver-receiver-requires
-free_receiver-receiver-requires g c =
-    omega (
-      arith,
-      length-map c.args.store.now.servers.ports server_part,
-      (room_asked (opened c.args.store.now) c.requires.core
-          c.args.settings c.requires.due c.requires.room),
-    )
 
 pub server_messages-requires-clause-hub : goal.server_messages-requires-clause-hub
 server_messages-requires-clause-hub g c =
@@ -39,9 +29,6 @@ append_server-requires-clause-loans g c =
 
 pub append_server-requires-clause-next : goal.append_server-requires-clause-next
 append_server-requires-clause-next g c = next_asked (opened c.args.store.now) c.requires.core c.args.settings c.requires.due c.requires.room
-
-pub idle_left-requires : goal.idle_left-requires
-idle_left-requires g c = there_asked (opened c.args.store.now) c.requires.core c.args.settings c.requires.due c.requires.room
 
 pub append_server_again-requires-clause-clients : goal.append_server_again-requires-clause-clients
 append_server_again-requires-clause-clients g c = clients_asked (opened c.args.store.now) c.requires.core c.args.settings c.requires.due

@@ -1,12 +1,14 @@
-use Rattle.std.proofs.Common.{◌≡◌, ◌<◌, ◌+◌, ◌^◌, ap, ◌∙◌}
+use Rattle.std.proofs.Common.{◌≡◌, ◌<◌, ◌+◌, ◌^◌, length, ap, ◌∙◌}
 use Rattle.std.specs.Prelude.{◌==◌}
 use Rattle.rr_laws.proofs.Memory.{request_finds_memory}
+use Rattle.rr_store.specs.Asked.{CanInsert}
 use Rattle.rr_store.specs.Opened.{opened}
 use Rattle.rr_store.specs.Parts.{ClientPart}
 use Rattle.rr_store.specs.Ports.{client_part}
 use Rattle.rr_loaning.proofs.laws.Opened.{loaned_by}
 use Rattle.rr_store.proofs.base.lists.Seen.{kept_at, kept_rising, kept_some, seen_at, seen_found}
 use Rattle.rr_loaning.proofs.steps.Request.{client_asked, order_asked, refused, not_memory, sender_asked, out_of_memory, limit_asked, client_counts, sender_still, loans_still_fit, add_asked, loans, core_then}
+use Rattle.rr_loaning.proofs.request.loan_request.Goals.{After-count_request_loan}
 use Rattle.rr_loaning.proofs.request.loan_request.Goals as goal
 
 pub index_of-index-requires-clause-rising : goal.index_of-index-requires-clause-rising
@@ -19,9 +21,11 @@ index_of-index-requires-clause-present g c =
     kept_some client_part c.args.store.now.clients.ports (λ (x : ClientPart _). x.port.id == c.args.client) (client_asked (opened
     c.args.store.now) c.requires.core c.args.client c.requires.kind)
 
-pub request_loan_limit-requires : goal.request_loan_limit-requires
-request_loan_limit-requires g c = limit_asked (opened c.args.store.now) c.requires.core c.args.client c.requires.kind _ (seen_found
-    client_part c.args.store.now.clients.ports (λ (x : ClientPart _). x.port.id == c.args.client) _ c.index_of-index.ensures)
+pub request_loan_limit-requires-clause-sender : goal.request_loan_limit-requires-clause-sender
+request_loan_limit-requires-clause-sender g c =
+    kept_at client_part c.args.store.now.clients.ports c.index_of-index.result (λ (x : ClientPart _). x.sender < length
+    c.args.store.now.clients.senders) (limit_asked (opened c.args.store.now) c.requires.core c.args.client c.requires.kind _ (seen_found
+    client_part c.args.store.now.clients.ports (λ (x : ClientPart _). x.port.id == c.args.client) _ c.index_of-index.ensures))
 
 pub returns-in-Some-clause-loans : goal.returns-in-Some-clause-loans
 returns-in-Some-clause-loans g c =
@@ -76,8 +80,10 @@ count_request_loan-requires-clause-fits g c =
     c.in-Ok.ensures.row
     c.in-Ok.ensures.free c.in-Ok.ensures.unused (ap (λ s. opened (record c.args.store.now { clients = s })) c.in-Ok.ensures.ok)
 
-pub add-number-requires : goal.add-number-requires
-add-number-requires g c =
+-- the handle can be put there
+addable : (g : _) (c : After-count_request_loan g)
+    → CanInsert c.args.store.now.table c.args.store.now.next c.in-Ok.place × (c.args.store.now.next + 1 < 2 ^ 64)
+addable g c =
     add_asked (opened c.args.store.now) c.requires.core c.args.client c.requires.kind _ (seen_found client_part
     c.args.store.now.clients.ports (λ (x : ClientPart _). x.port.id == c.args.client) _ c.index_of-index.ensures) _ _
     c.request_loan_limit.ensures
@@ -87,6 +93,12 @@ add-number-requires g c =
     c.in-Ok.ensures.free c.in-Ok.ensures.unused (ap (λ s. opened (record c.args.store.now { clients = s })) c.in-Ok.ensures.ok) _
     (loaned_by (record c.args.store.now { clients = c.loan.new.self }) c.index_of-index.result c.sender_of_port-sender.result
     c.count_request_loan.new.self c.count_request_loan.ensures)
+
+pub add-number-requires-clause-vacant : goal.add-number-requires-clause-vacant
+add-number-requires-clause-vacant g c = (addable g (goal.at.add-number-requires-clause-vacant g c).After-count_request_loan).0
+
+pub add-number-requires-clause-number : goal.add-number-requires-clause-number
+add-number-requires-clause-number g c = (addable g (goal.at.add-number-requires-clause-number g c).After-count_request_loan).1
 
 pub returns-in-Ok-clause-core : goal.returns-in-Ok-clause-core
 returns-in-Ok-clause-core g c =

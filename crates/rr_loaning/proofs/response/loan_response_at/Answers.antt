@@ -1,12 +1,13 @@
-use Rattle.std.proofs.Common.{◌≡◌, sym, ◌∙◌, arith, ap}
+use Rattle.std.proofs.Common.{◌≡◌, ◌<◌, ◌+◌, ◌^◌, length, sym, ◌∙◌, arith, ap}
 use Rattle.std.specs.Prelude.{◌==◌}
-use Rattle.std.proofs.lemmas.List.{length-map}
 use Rattle.rr_laws.proofs.Memory.{response_finds_memory}
+use Rattle.rr_store.specs.Asked.{CanInsert}
 use Rattle.rr_store.specs.Opened.{opened}
 use Rattle.rr_store.specs.Parts.{ServerPart}
 use Rattle.rr_store.specs.Ports.{server_part}
-use Rattle.rr_store.proofs.base.lists.Seen.{kept_rising, kept_some, seen_at, seen_found}
-use Rattle.rr_loaning.proofs.steps.Response.{is_active, server_asked, order_asked, loans_fit, sender_asked, slot_asked, index_asked, refused, not_memory, own_asked, out_of_memory, limit_asked, sender_still, loans_still_fit, still_there, add_asked, loans_told, core_then}
+use Rattle.rr_store.proofs.base.lists.Seen.{kept_at, kept_rising, kept_some, seen_at, seen_found}
+use Rattle.rr_loaning.proofs.steps.Response.{is_active, server_asked, order_asked, loans_fit, sender_asked, slot_asked, refused, not_memory, own_asked, out_of_memory, limit_asked, sender_still, loans_still_fit, still_there, add_asked, loans_told, core_then}
+use Rattle.rr_loaning.proofs.response.loan_response_at.Goals.{After-set_at}
 use Rattle.rr_loaning.proofs.response.loan_response_at.Goals as goal
 
 pub unreachable-requires : goal.unreachable-requires
@@ -27,12 +28,13 @@ index_of-index-requires-clause-present g c =
     c.args.store.now) c.requires.core c.args.number c.args.place c.at-active.result c.at-active.ensures c.requires.kind _ _
     (sym c.active.ensures ∙ c.in-Some.is))
 
-pub response_loan_limit-requires : goal.response_loan_limit-requires
-response_loan_limit-requires g c =
-    limit_asked (opened c.args.store.now) c.requires.core c.args.number c.args.place c.at-active.result c.at-active.ensures
+pub response_loan_limit-requires-clause-sender : goal.response_loan_limit-requires-clause-sender
+response_loan_limit-requires-clause-sender g c =
+    kept_at server_part c.args.store.now.servers.ports c.index_of-index.result (λ (x : ServerPart _). x.sender < length
+    c.args.store.now.servers.senders) (limit_asked (opened c.args.store.now) c.requires.core c.args.number c.args.place c.at-active.result c.at-active.ensures
     c.requires.kind _ _
     (sym c.active.ensures ∙ c.in-Some.is) _ (seen_found server_part c.args.store.now.servers.ports (λ (x : ServerPart _).
-    x.port.id == c.in-Some.found.0) _ c.index_of-index.ensures)
+    x.port.id == c.in-Some.found.0) _ c.index_of-index.ensures))
 
 pub returns-in-Some-response_loan_limit-clause-loans : goal.returns-in-Some-response_loan_limit-clause-loans
 returns-in-Some-response_loan_limit-clause-loans g c =
@@ -49,17 +51,6 @@ returns-in-Some-response_loan_limit-clause-unreduced g c pool same =
     c.active.ensures ∙ c.in-Some.is) _ (seen_found server_part c.args.store.now.servers.ports (λ (x : ServerPart _).
     x.port.id == c.in-Some.found.0) _ c.index_of-index.ensures) _ _ c.response_loan_limit.ensures
     c.in-Some-response_loan_limit.refusal c.in-Some-response_loan_limit.is (let is : c.in-Some-response_loan_limit.refusal ≡ _ = cc in is)
-
-pub sender_of_port-sender-requires : goal.sender_of_port-sender-requires
-sender_of_port-sender-requires g c =
-    omega (
-      arith,
-      length-map c.args.store.now.servers.ports server_part,
-      index_asked (opened c.args.store.now) c.requires.core c.args.number c.args.place c.at-active.result c.at-active.ensures
-          c.requires.kind _ _
-          (sym c.active.ensures ∙ c.in-Some.is) _ (seen_found server_part c.args.store.now.servers.ports (λ (x : ServerPart _).
-          x.port.id == c.in-Some.found.0) _ c.index_of-index.ensures),
-    )
 
 pub new_response_details-details-requires-clause-sender : goal.new_response_details-details-requires-clause-sender
 new_response_details-details-requires-clause-sender g c =
@@ -124,8 +115,10 @@ set_at-requires g c =
     c.in-Ok.ensures.unused (ap (λ s. opened (record c.args.store.now { servers = s })) c.in-Ok.ensures.ok) _ (ap (λ s. opened (record
     c.args.store.now { servers = s })) c.count_loan.ensures)
 
-pub add-loaned-requires : goal.add-loaned-requires
-add-loaned-requires g c =
+-- the handle can be put there
+addable : (g : _) (c : After-set_at g)
+    → CanInsert c.set_at.new.self c.args.store.now.next c.in-Ok.own × (c.args.store.now.next + 1 < 2 ^ 64)
+addable g c =
     add_asked (opened c.args.store.now) c.requires.core c.args.number c.args.place c.at-active.result c.at-active.ensures c.requires.kind
     _ _
     (sym c.active.ensures ∙ c.in-Some.is) _ (seen_found server_part c.args.store.now.servers.ports (λ (x : ServerPart _).
@@ -136,6 +129,12 @@ add-loaned-requires g c =
     c.in-Ok.ensures.unused (ap (λ s. opened (record c.args.store.now { servers = s })) c.in-Ok.ensures.ok) _ (ap (λ s. opened (record
     c.args.store.now { servers = s })) c.count_loan.ensures) _ (ap (λ t. opened (record c.args.store.now
     { servers = c.count_loan.new.self; table = t })) c.set_at.ensures)
+
+pub add-loaned-requires-clause-vacant : goal.add-loaned-requires-clause-vacant
+add-loaned-requires-clause-vacant g c = (addable g (goal.at.add-loaned-requires-clause-vacant g c).After-set_at).0
+
+pub add-loaned-requires-clause-number : goal.add-loaned-requires-clause-number
+add-loaned-requires-clause-number g c = (addable g (goal.at.add-loaned-requires-clause-number g c).After-set_at).1
 
 pub returns-in-Ok-clause-core : goal.returns-in-Ok-clause-core
 returns-in-Ok-clause-core g c =

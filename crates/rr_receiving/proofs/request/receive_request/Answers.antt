@@ -1,13 +1,18 @@
-use Rattle.std.proofs.Common.{◌≡◌, Ok, ap, ◌∙◌}
+use Rattle.std.proofs.Common.{◌≡◌, ◌<◌, ◌+◌, ◌*◌, ◌^◌, Ok, length, ap, ◌∙◌}
 use Rattle.std.specs.Prelude.{◌==◌}
+use Rattle.rr_store.specs.Asked.{CanInsert}
 use Rattle.rr_store.specs.Parts.{ServerPart}
+use Rattle.rr_store.specs.Draining.{HaveQueues}
+use Rattle.rr_store.specs.Receiving.{HaveChannels}
+use Rattle.rr_store.proofs.base.senders.Connected.{reached_apart}
+use Rattle.rr_store.specs.Views.{sender_of}
 use Rattle.rr_store.specs.Opened.{opened}
-use Rattle.rr_store.specs.declared.port.ServerPort.{ServerPort}
 use Rattle.rr_store.specs.Ports.{server_part}
 use Rattle.rr_store.proofs.base.lists.Seen.{kept_rising, kept_some, seen_at, seen_found}
-use Rattle.rr_store.proofs.base.senders.Ports.{found_within, told_at}
+use Rattle.rr_store.proofs.base.senders.Ports.{told_at}
 use Rattle.rr_receiving.proofs.steps.Request.{server_asked, order_asked, queues_asked, skimmed_core, none_then, error_then}
-use Rattle.rr_receiving.proofs.steps.Request.{take_asked, active_place_asked, add_asked, core_then, receives_then}
+use Rattle.rr_receiving.proofs.steps.Request.{active_place_asked, add_asked, core_then, receives_then}
+use Rattle.rr_receiving.proofs.request.receive_request.Goals.{After-receiver_of_port-receiver, After-take-slot, After-place_at_receiver-own}
 use Rattle.rr_receiving.proofs.request.receive_request.Goals as goal
 
 pub index_of-index-requires-clause-rising : goal.index_of-index-requires-clause-rising
@@ -20,32 +25,31 @@ index_of-index-requires-clause-present g c =
     kept_some server_part c.args.store.now.servers.ports (λ (x : ServerPart _). x.port.id == c.args.server) (server_asked (opened
     c.args.store.now) c.requires.core c.args.server c.requires.kind)
 
-pub receiver_of_port-receiver-requires : goal.receiver_of_port-receiver-requires
-receiver_of_port-receiver-requires g c =
-    found_within (λ (x : ServerPort _). x.port.id == c.args.server) c.args.store.now.servers.ports c.index_of-index.result
-    c.index_of-index.ensures
-
-pub next_request_sender-requires : goal.next_request_sender-requires
-next_request_sender-requires g c =
-    queues_asked (opened c.args.store.now) c.requires.core c.args.server c.requires.kind _ (told_at (λ (s : ServerPart _).
+-- each client's sender reaches the server
+reach : (g : _) (c : After-receiver_of_port-receiver g) → HaveQueues c.args.store.now.clients.senders c.receiver_of_port-receiver.result
+    × HaveChannels c.args.store.now.clients.senders c.receiver_of_port-receiver.result 0
+reach g c =
+    reached_apart _ _ _
+    (queues_asked (opened c.args.store.now) c.requires.core c.args.server c.requires.kind _ (told_at (λ (s : ServerPart _).
     s.port.id == c.args.server) (opened c.args.store.now).servers (λ (s : ServerPart _). c.receiver_of_port-receiver.result ≡ s.receiver)
     c.index_of-index.result (seen_found server_part c.args.store.now.servers.ports (λ (x : ServerPart _). x.port.id == c.args.server) _
     c.index_of-index.ensures) (seen_at server_part c.args.store.now.servers.ports c.index_of-index.result (λ (x : ServerPart _).
-    c.receiver_of_port-receiver.result ≡ x.receiver) c.receiver_of_port-receiver.ensures))
+    c.receiver_of_port-receiver.result ≡ x.receiver) c.receiver_of_port-receiver.ensures)))
 
-pub take-slot-requires : goal.take-slot-requires
-take-slot-requires g c =
-    take_asked (opened c.args.store.now) c.requires.core c.args.server c.requires.kind _ (told_at (λ (s : ServerPart _).
-    s.port.id == c.args.server) (opened c.args.store.now).servers (λ (s : ServerPart _). c.receiver_of_port-receiver.result ≡ s.receiver)
-    c.index_of-index.result (seen_found server_part c.args.store.now.servers.ports (λ (x : ServerPart _). x.port.id == c.args.server) _
-    c.index_of-index.ensures) (seen_at server_part c.args.store.now.servers.ports c.index_of-index.result (λ (x : ServerPart _).
-    c.receiver_of_port-receiver.result ≡ x.receiver) c.receiver_of_port-receiver.ensures)) _
-    c.next_request_sender.ensures.rest c.next_request_sender.ensures.kept _ c.next_request_sender.ensures.skimmed
-    c.next_request_sender.ensures.next _
-    (c.in-Ok-Some.is ∙ ap Ok c.in-Ok-Some.field-0-is)
+pub next_request_sender-requires-clause-receiver : goal.next_request_sender-requires-clause-receiver
+next_request_sender-requires-clause-receiver g c =
+    (reach g (goal.at.next_request_sender-requires-clause-receiver g c).After-receiver_of_port-receiver).0
 
-pub place_at_receiver-own-requires : goal.place_at_receiver-own-requires
-place_at_receiver-own-requires g c =
+pub next_request_sender-requires-clause-channel : goal.next_request_sender-requires-clause-channel
+next_request_sender-requires-clause-channel g c =
+    (reach g (goal.at.next_request_sender-requires-clause-channel g c).After-receiver_of_port-receiver).1
+
+-- the place of the handle can be counted
+countable : (g : _) (c : After-take-slot g) → (c.in-Ok-Some.sender < length c.take-slot.new.self.senders)
+    × (c.receiver_of_port-receiver.result + 1 < 2 ^ 64)
+    × ((c.receiver_of_port-receiver.result + 1) * length (sender_of c.in-Ok-Some.sender c.take-slot.new.self.senders).messages.held
+    + c.take-slot.result < 2 ^ 64)
+countable g c =
     active_place_asked (opened c.args.store.now) c.requires.core c.args.server c.requires.kind _ (told_at (λ (s : ServerPart _).
     s.port.id == c.args.server) (opened c.args.store.now).servers (λ (s : ServerPart _). c.receiver_of_port-receiver.result ≡ s.receiver)
     c.index_of-index.result (seen_found server_part c.args.store.now.servers.ports (λ (x : ServerPart _). x.port.id == c.args.server) _
@@ -56,8 +60,23 @@ place_at_receiver-own-requires g c =
     (c.in-Ok-Some.is ∙ ap Ok c.in-Ok-Some.field-0-is) c.requires.number _ _ c.take-slot.ensures.first
     c.take-slot.ensures.within (ap (λ s. opened (record c.next_request_sender.new.store { clients = s })) c.take-slot.ensures.taken)
 
-pub add-number-requires : goal.add-number-requires
-add-number-requires g c =
+pub place_at_receiver-own-requires-clause-sender : goal.place_at_receiver-own-requires-clause-sender
+place_at_receiver-own-requires-clause-sender g c =
+    (countable g (goal.at.place_at_receiver-own-requires-clause-sender g c).After-take-slot).0
+
+pub place_at_receiver-own-requires-clause-receiver : goal.place_at_receiver-own-requires-clause-receiver
+place_at_receiver-own-requires-clause-receiver g c =
+    (countable g (goal.at.place_at_receiver-own-requires-clause-receiver g c).After-take-slot).1
+
+pub place_at_receiver-own-requires-clause-slot : goal.place_at_receiver-own-requires-clause-slot
+place_at_receiver-own-requires-clause-slot g c =
+    (countable g (goal.at.place_at_receiver-own-requires-clause-slot g c).After-take-slot).2
+
+-- the handle can be put there
+addable : (g : _) (c : After-place_at_receiver-own g)
+    → CanInsert c.next_request_sender.new.store.table c.next_request_sender.new.store.next c.place_at_receiver-own.result
+    × (c.next_request_sender.new.store.next + 1 < 2 ^ 64)
+addable g c =
     add_asked (opened c.args.store.now) c.requires.core c.args.server c.requires.kind _ (told_at (λ (s : ServerPart _).
     s.port.id == c.args.server) (opened c.args.store.now).servers (λ (s : ServerPart _). c.receiver_of_port-receiver.result ≡ s.receiver)
     c.index_of-index.result (seen_found server_part c.args.store.now.servers.ports (λ (x : ServerPart _). x.port.id == c.args.server) _
@@ -68,6 +87,12 @@ add-number-requires g c =
     (c.in-Ok-Some.is ∙ ap Ok c.in-Ok-Some.field-0-is) c.requires.number _ _ c.take-slot.ensures.first
     c.take-slot.ensures.within (ap (λ s. opened (record c.next_request_sender.new.store { clients = s })) c.take-slot.ensures.taken) _
     c.place_at_receiver-own.ensures
+
+pub add-number-requires-clause-vacant : goal.add-number-requires-clause-vacant
+add-number-requires-clause-vacant g c = (addable g (goal.at.add-number-requires-clause-vacant g c).After-place_at_receiver-own).0
+
+pub add-number-requires-clause-number : goal.add-number-requires-clause-number
+add-number-requires-clause-number g c = (addable g (goal.at.add-number-requires-clause-number g c).After-place_at_receiver-own).1
 
 pub returns-in-Ok-Some-clause-core : goal.returns-in-Ok-Some-clause-core
 returns-in-Ok-Some-clause-core g c =

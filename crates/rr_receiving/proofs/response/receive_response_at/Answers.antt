@@ -1,9 +1,14 @@
-use Rattle.std.proofs.Common.{Ok, ap, ◌∙◌}
+use Rattle.std.proofs.Common.{◌<◌, ◌+◌, ◌^◌, Ok, ap, ◌∙◌}
 use Rattle.rr_laws.proofs.Naming.{received_names_nothing}
+use Rattle.rr_store.specs.Asked.{CanInsert}
 use Rattle.rr_store.specs.Opened.{opened}
+use Rattle.rr_store.specs.Draining.{HaveQueues}
+use Rattle.rr_store.specs.Receiving.{HaveChannels}
+use Rattle.rr_store.proofs.base.senders.Connected.{reached_apart}
 use Rattle.rr_store.specs.Views.{no_response}
-use Rattle.rr_receiving.proofs.steps.Response.{own_asked, queues_asked, none_then, error_then, take_asked, taken_sender_asked, slot_asked}
+use Rattle.rr_receiving.proofs.steps.Response.{own_asked, queues_asked, none_then, error_then, taken_sender_asked, slot_asked}
 use Rattle.rr_receiving.proofs.steps.Response.{insert_asked, core_then, receives_then, unhandled}
+use Rattle.rr_receiving.proofs.response.receive_response_at.Goals.{After-receiver_of-receiver, After-own_place-own}
 use Rattle.rr_receiving.proofs.response.receive_response_at.Goals as goal
 
 pub at-request-requires : goal.at-request-requires
@@ -13,15 +18,19 @@ pub receiver_of-receiver-requires : goal.receiver_of-receiver-requires
 receiver_of-receiver-requires g c =
     own_asked (opened c.args.store.now) c.requires.core c.args.number c.args.place _ c.at-request.ensures c.requires.kind
 
-pub next_sender-requires : goal.next_sender-requires
-next_sender-requires g c =
-    queues_asked (opened c.args.store.now) c.requires.core c.args.number c.args.place _ c.at-request.ensures c.requires.kind _
-    c.receiver_of-receiver.ensures
+-- each server's sender reaches the client
+reach : (g : _) (c : After-receiver_of-receiver g) → HaveQueues c.args.store.now.servers.senders c.receiver_of-receiver.result
+    × HaveChannels c.args.store.now.servers.senders c.receiver_of-receiver.result c.at-request.result.slot
+reach g c =
+    reached_apart _ _ _
+    (queues_asked (opened c.args.store.now) c.requires.core c.args.number c.args.place _ c.at-request.ensures c.requires.kind _
+    c.receiver_of-receiver.ensures)
 
-pub take-slot-requires : goal.take-slot-requires
-take-slot-requires g c =
-    take_asked (opened c.args.store.now) c.requires.core c.args.number c.args.place _ c.at-request.ensures c.requires.kind _
-    c.receiver_of-receiver.ensures _ c.next_sender.ensures _ (c.in-Ok-Some.is ∙ ap Ok c.in-Ok-Some.field-0-is)
+pub next_sender-requires-clause-receiver : goal.next_sender-requires-clause-receiver
+next_sender-requires-clause-receiver g c = (reach g (goal.at.next_sender-requires-clause-receiver g c).After-receiver_of-receiver).0
+
+pub next_sender-requires-clause-channel : goal.next_sender-requires-clause-channel
+next_sender-requires-clause-channel g c = (reach g (goal.at.next_sender-requires-clause-channel g c).After-receiver_of-receiver).1
 
 pub details-details-requires-clause-sender : goal.details-details-requires-clause-sender
 details-details-requires-clause-sender g c =
@@ -37,20 +46,21 @@ details-details-requires-clause-slot g c =
     c.take-slot.ensures.first c.take-slot.ensures.within (ap (λ s. opened (record c.args.store.now { servers = s }))
     c.take-slot.ensures.taken)
 
-pub own_place-own-requires : goal.own_place-own-requires
-own_place-own-requires g c =
-    taken_sender_asked (opened c.args.store.now) c.requires.core c.args.number c.args.place _ c.at-request.ensures c.requires.kind _
-    c.receiver_of-receiver.ensures _ c.next_sender.ensures _ (c.in-Ok-Some.is ∙ ap Ok c.in-Ok-Some.field-0-is) _ _
-    c.take-slot.ensures.first c.take-slot.ensures.within (ap (λ s. opened (record c.args.store.now { servers = s }))
-    c.take-slot.ensures.taken)
-
-pub insert-requires : goal.insert-requires
-insert-requires g c =
+-- the handle can be put there
+insertable : (g : _) (c : After-own_place-own g)
+    → CanInsert c.args.store.now.table c.details-details.result.number c.own_place-own.result × (c.details-details.result.number + 1 < 2 ^ 64)
+insertable g c =
     insert_asked (opened c.args.store.now) c.requires.core c.args.number c.args.place _ c.at-request.ensures c.requires.kind _
     c.receiver_of-receiver.ensures _ c.next_sender.ensures _ (c.in-Ok-Some.is ∙ ap Ok c.in-Ok-Some.field-0-is) _ _
     c.take-slot.ensures.first c.take-slot.ensures.within (ap (λ s. opened (record c.args.store.now { servers = s }))
     c.take-slot.ensures.taken) _ _
     (c.details-details.ensures no_response) c.own_place-own.ensures
+
+pub insert-requires-clause-vacant : goal.insert-requires-clause-vacant
+insert-requires-clause-vacant g c = (insertable g (goal.at.insert-requires-clause-vacant g c).After-own_place-own).0
+
+pub insert-requires-clause-number : goal.insert-requires-clause-number
+insert-requires-clause-number g c = (insertable g (goal.at.insert-requires-clause-number g c).After-own_place-own).1
 
 pub returns-in-Ok-Some-clause-core : goal.returns-in-Ok-Some-clause-core
 returns-in-Ok-Some-clause-core g c =

@@ -1,12 +1,10 @@
 use Rattle.std.proofs.Common.{ap, ◌≡◌}
 use Rattle.rr_store.specs.Opened.{opened}
-use Rattle.rr_store.specs.declared.port.ServerPort.{ServerPort}
 use Rattle.rr_store.specs.Parts.{ServerPart}
 use Rattle.rr_store.specs.Ports.{server_part}
 use Rattle.rr_store.proofs.base.lists.Seen.{kept_rising, kept_some, seen_at, seen_found}
 use Rattle.rr_releasing.proofs.steps.Active.{server_asked, order_asked, sender_asked, mark_asked, sender_still, queue_asked, counted_asked, gone_then, port_then, sound_then}
 use Rattle.std.specs.Prelude.{◌==◌}
-use Rattle.rr_store.proofs.base.senders.Ports.{found_within}
 use Rattle.rr_releasing.proofs.active.end_active.Goals as goal
 
 pub take_at-entry-requires : goal.take_at-entry-requires
@@ -23,11 +21,6 @@ index_of-index-requires-clause-present g c =
     kept_some server_part c.args.store.now.servers.ports (λ (x : ServerPart _). x.port.id == c.server.result) (server_asked (opened
     c.args.store.now) c.requires.core c.args.number c.args.place _ c.take_at-entry.ensures.taken c.requires.kind _
     (ap (λ s. opened (record c.args.store.now { table = s })) c.take_at-entry.ensures.gone) _ c.server.ensures)
-
-pub receiver_of_port-receiver-requires : goal.receiver_of_port-receiver-requires
-receiver_of_port-receiver-requires g c =
-    found_within (λ (x : ServerPort _). x.port.id == c.server.result) c.args.store.now.servers.ports c.index_of-index.result
-    c.index_of-index.ensures
 
 pub clear_mark-requires-clause-sender : goal.clear_mark-requires-clause-sender
 clear_mark-requires-clause-sender g c =

@@ -18,8 +18,8 @@ index_of-index-requires-clause-present g c =
     kept_some client_part c.args.store.now.clients.ports (λ (x : ClientPart _). x.port.id == c.args.client) (found_asked (opened
     c.args.store.now) c.requires.core c.args.client c.requires.kind)
 
-pub end_value-requires : goal.end_value-requires
-end_value-requires g c =
+pub end_value-requires-clause-sender : goal.end_value-requires-clause-sender
+end_value-requires-clause-sender g c =
     kept_at client_part c.args.store.now.clients.ports c.index_of-index.result (λ (x : ClientPart _). x.sender < length
     c.args.store.now.clients.senders) (its_sender_asked (opened c.args.store.now) c.requires.core c.args.client c.requires.kind _
     (seen_found client_part c.args.store.now.clients.ports (λ (x : ClientPart _). x.port.id == c.args.client) _ c.index_of-index.ensures))

@@ -1,14 +1,22 @@
 -- What calls of a store ask and say of its ports, by the ports that it keeps.
-use Rattle.std.proofs.Common.{◌≡◌, ◌&&◌, ℕ, List, Some, map, sym, ap, ◌∙◌}
+use Rattle.std.proofs.Common.{◌≡◌, ◌&&◌, ℕ, List, Some, map, sym, ap, ◌∙◌, subst}
 use Rattle.std.specs.Prelude.{◌==◌, slice_get}
 use Rattle.std.specs.List.{list_any}
 use Rattle.rr_store.specs.declared.port.LeftPort.{LeftPort}
 use Rattle.rr_store.specs.Draining.{AreApart, SendersDrained}
 use Rattle.rr_store.specs.Leaving.{is_of, outdated}
 use Rattle.rr_store.specs.Parts.{Sender}
+use Rattle.rr_store.proofs.base.lists.Adding.{mapped}
 use Rattle.rr_store.proofs.base.lookups.Looking.{list_any-map}
 use Rattle.rr_store.proofs.base.views.Counts.{listed}
 use Rattle.rr_store.proofs.leaving.Drained.{drained_same}
+
+-- what is told of the one at an index is told of it as it is seen
+pub told_seen : {X Y : Type 0} (f : X → Y) (items : List X) (i : ℕ) (R : Y → Type 0)
+    → ((x : X) → slice_get items i ≡ Some x → R (f x)) → (y : Y) → slice_get (map f items) i ≡ Some y → R y
+told_seen f items i R told y at =
+    let found = mapped f items i y at in
+    subst R found.2 (told found.0 found.1)
 
 module _ {X Y : Type 0} (f : X → Y) (read : Y → ℕ) (slice items : List X) (is : slice ≡ items) where
   -- an element as it is seen

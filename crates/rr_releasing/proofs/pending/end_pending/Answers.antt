@@ -1,6 +1,10 @@
 use Rattle.std.proofs.Common.{ap}
 use Rattle.rr_store.specs.Opened.{opened}
+use Rattle.rr_store.specs.Draining.{HaveQueues}
+use Rattle.rr_store.specs.Receiving.{HaveChannels}
+use Rattle.rr_store.proofs.base.senders.Connected.{reached_apart}
 use Rattle.rr_releasing.proofs.steps.Pending.{pending_sender_asked, pending_asked, channel_asked, sender_asked, slot_asked, gone_then, port_then, sound_then}
+use Rattle.rr_releasing.proofs.pending.end_pending.Goals.{After-end_pending-receiver}
 use Rattle.rr_releasing.proofs.pending.end_pending.Goals as goal
 
 pub take_at-entry-requires : goal.take_at-entry-requires
@@ -17,11 +21,20 @@ end_pending-receiver-requires-clause-counted g c =
     pending_asked (opened c.args.store.now) c.requires.core c.args.number c.args.place _ c.take_at-entry.ensures.taken c.requires.kind _
     (ap (λ s. opened (record c.args.store.now { table = s })) c.take_at-entry.ensures.gone)
 
-pub clear_channel-requires : goal.clear_channel-requires
-clear_channel-requires g c =
-    channel_asked (opened c.args.store.now) c.requires.core c.args.number c.args.place _ c.take_at-entry.ensures.taken c.requires.kind _
+-- each server's sender reaches the client
+reach : (g : _) (c : After-end_pending-receiver g) → HaveQueues c.args.store.now.servers.senders c.end_pending-receiver.result
+    × HaveChannels c.args.store.now.servers.senders c.end_pending-receiver.result c.take_at-entry.result.slot
+reach g c =
+    reached_apart _ _ _
+    (channel_asked (opened c.args.store.now) c.requires.core c.args.number c.args.place _ c.take_at-entry.ensures.taken c.requires.kind _
     (ap (λ s. opened (record c.args.store.now { table = s })) c.take_at-entry.ensures.gone) _ _ c.end_pending-receiver.ensures.receiver
-    (ap (λ s. opened (record c.args.store.now { table = c.take_at-entry.new.self; clients = s })) c.end_pending-receiver.ensures.counted)
+    (ap (λ s. opened (record c.args.store.now { table = c.take_at-entry.new.self; clients = s })) c.end_pending-receiver.ensures.counted))
+
+pub clear_channel-requires-clause-receiver : goal.clear_channel-requires-clause-receiver
+clear_channel-requires-clause-receiver g c = (reach g (goal.at.clear_channel-requires-clause-receiver g c).After-end_pending-receiver).0
+
+pub clear_channel-requires-clause-channel : goal.clear_channel-requires-clause-channel
+clear_channel-requires-clause-channel g c = (reach g (goal.at.clear_channel-requires-clause-channel g c).After-end_pending-receiver).1
 
 pub give_back-requires-clause-sender : goal.give_back-requires-clause-sender
 give_back-requires-clause-sender g c =

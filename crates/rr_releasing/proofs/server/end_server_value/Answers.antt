@@ -18,8 +18,8 @@ index_of-index-requires-clause-present g c =
     kept_some server_part c.args.store.now.servers.ports (λ (x : ServerPart _). x.port.id == c.args.server) (found_asked (opened
     c.args.store.now) c.requires.core c.args.server c.requires.kind)
 
-pub end_value-requires : goal.end_value-requires
-end_value-requires g c =
+pub end_value-requires-clause-sender : goal.end_value-requires-clause-sender
+end_value-requires-clause-sender g c =
     kept_at server_part c.args.store.now.servers.ports c.index_of-index.result (λ (x : ServerPart _). x.sender < length
     c.args.store.now.servers.senders) (its_sender_asked (opened c.args.store.now) c.requires.core c.args.server c.requires.kind _
     (seen_found server_part c.args.store.now.servers.ports (λ (x : ServerPart _). x.port.id == c.args.server) _ c.index_of-index.ensures))

@@ -1,5 +1,5 @@
 -- Servers as they are stored, and as parts: their queues, marks and numbers.
-use Rattle.std.proofs.Common.{◌≡◌, ◌<◌, ◌+◌, ◌*◌, ℕ, Bool, true, false, not, List, [], ◌∷◌, Some, length, map, refl, sym, ap, ◌∙◌, arith}
+use Rattle.std.proofs.Common.{◌≡◌, ◌<◌, ◌+◌, ◌*◌, ℕ, Bool, true, false, not, Option, List, [], ◌∷◌, Some, length, map, refl, sym, ap, ◌∙◌, subst, arith}
 use Rattle.std.specs.Prelude.{◌&&◌, ◌||◌, count_by, slice_get, slice_index_or}
 use Rattle.std.specs.List.{list_any}
 use Rattle.std.proofs.lemmas.List.Sums.{count_by-le-length}
@@ -39,6 +39,15 @@ all_fail t (x ∷ xs) all = go (t x) refl (all_fail t xs)
         ))
     go false e rest = rest (omega (arith, count-cons (λ x. not (t x)) x xs, ap (λ b. mark (not b)) e, all))
 
+-- what is found at an index is one
+pub one_found : {X : Type 0} (xs : List X) (o : Option ℕ) (i j : ℕ) (x y : X) → o ≡ Some i → o ≡ Some j → slice_get xs i ≡ Some x
+    → slice_get xs j ≡ Some y → x ≡ y
+one_found xs o i j x y first second here there =
+    let both : Some i ≡ Some j = sym first ∙ second in
+    let same : i ≡ j = cc in
+    let found : Some x ≡ Some y = sym here ∙ ap (slice_get xs) same ∙ there in
+    cc
+
 module _ {K : Type 0} (items slice : List (ServerPort K)) (same : slice ≡ items) where
   -- a server of the slice is one of the parts
   part_there : (i : ℕ) (s : ServerPort K) → slice_get slice i ≡ Some s → slice_get (map server_part items) i ≡ Some (server_part s)
@@ -49,6 +58,12 @@ module _ {K : Type 0} (items slice : List (ServerPort K)) (same : slice ≡ item
       → ((i : ℕ) (s : ServerPart K) → slice_get (map server_part items) i ≡ Some s
       → (s.receiver < length m.queues) × (0 < length (slice_index_or m.queues s.receiver []))) → HasQueues m slice
   has_queues m h i s at = h i (server_part s) (part_there i s at)
+
+  -- also in what was read
+  pub queues_seen : {T N H : Type 0} (m read : Messages T N H) → read ≡ m
+      → ((i : ℕ) (s : ServerPart K) → slice_get (map server_part items) i ≡ Some s
+      → (s.receiver < length m.queues) × (0 < length (slice_index_or m.queues s.receiver []))) → HasQueues read slice
+  queues_seen m read is h = subst (λ (m : Messages _ _ _). HasQueues m slice) (sym is) (has_queues m h)
 
   -- how many of them pass, and whether one does
   pub any_is : (t : ServerPart K → Bool) → list_any (λ s. t (server_part s)) slice ≡ list_any t (map server_part items)

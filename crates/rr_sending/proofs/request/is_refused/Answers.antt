@@ -11,8 +11,12 @@ use Rattle.rr_sending.proofs.request.is_refused.Goals as goal
 use Rattle.rr_sending.proofs.request.is_refused.Goals.{else-is_request_blocked-via-then-is_request_blocked+else-not-discards, else-is_request_blocked-via-else-is_request_blocked}
 
 pub is_request_blocked-requires : goal.is_request_blocked-requires
-is_request_blocked-requires g c = c.requires c.loop-server.server-index c.server-item.result
-    (item_at c.args.servers.now c.loop-server.server-index c.server-item.result c.loop-server-test.true c.server-item.is)
+is_request_blocked-requires g c =
+    let at = item_at c.args.servers.now c.loop-server.server-index c.server-item.result c.loop-server-test.true c.server-item.is in (
+      c.requires.inside c.loop-server.server-index c.server-item.result at,
+      c.requires.channels c.loop-server.server-index
+          c.server-item.result at,
+    )
 
 pub loop-server-preserved : goal.loop-server-preserved
 loop-server-preserved g c =

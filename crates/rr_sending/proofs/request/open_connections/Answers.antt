@@ -1,4 +1,4 @@
-use Rattle.std.proofs.Common.{sym, ap, ◌∙◌, subst}
+use Rattle.std.proofs.Common.{sym, ap, ◌∙◌}
 use Rattle.std.specs.Prelude.{count_by, not}
 use Rattle.rr_map_laws.proofs.Counting.{count-map}
 use Rattle.rr_sender.specs.Senders.{Messages}
@@ -7,16 +7,22 @@ use Rattle.rr_store.specs.Opened.{opened}
 use Rattle.rr_store.specs.Ports.{server_part}
 use Rattle.rr_store.specs.Sending.{HasQueues, is_blocked_at}
 use Rattle.rr_store.specs.Views.{sender_of}
-use Rattle.rr_sending.proofs.laws.request.Stored.{has_queues}
+use Rattle.rr_sending.proofs.laws.request.Stored.{queues_seen}
+use Rattle.rr_sending.proofs.request.open_connections.Goals.{After-messages-messages}
 use Rattle.rr_sending.proofs.request.open_connections.Goals as goal
 
-pub open_count-requires : goal.open_count-requires
-open_count-requires g c =
-    let p = opened c.args.store.now in
-    let slice = c.connected-servers.result.now in
-    subst (λ (m : Messages _ _ _). HasQueues m slice) (sym c.messages-messages.ensures)
-    (has_queues c.args.store.now.servers.ports slice c.connected-servers.ensures (sender_of c.args.sender p.client_senders).messages
-    c.requires.queues)
+-- each queue is there
+queues : (g : _) (c : After-messages-messages g) → HasQueues c.messages-messages.result.now c.connected-servers.result.now
+queues g c =
+    queues_seen c.args.store.now.servers.ports c.connected-servers.result.now c.connected-servers.ensures
+    (sender_of c.args.sender c.args.store.now.clients.senders).messages _ c.messages-messages.ensures c.requires.queues
+
+pub open_count-requires-clause-inside : goal.open_count-requires-clause-inside
+open_count-requires-clause-inside g c i s at = (queues g (goal.at.open_count-requires-clause-inside g c).After-messages-messages i s at).0
+
+pub open_count-requires-clause-channels : goal.open_count-requires-clause-channels
+open_count-requires-clause-channels g c i s at = (queues g (goal.at.open_count-requires-clause-channels g c).After-messages-messages i s
+    at).1
 
 pub returns : goal.returns
 returns g c =

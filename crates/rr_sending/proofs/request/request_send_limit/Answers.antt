@@ -1,138 +1,101 @@
-use Rattle.std.proofs.Common.{◌≡◌, ◌<◌, Bool, true, false, cond, Option, None, Some, length, nat_le, sym, ap, ◌∙◌, subst, arith}
-use Rattle.std.specs.Prelude.{◌==◌, ◌&&◌, IsSomeAnd, count_by, not, slice_get}
+use Rattle.std.proofs.Common.{◌≡◌, ℕ, Bool, cond, None, Some, length, refl, sym, ap, ◌∙◌, arith}
+use Rattle.std.specs.Prelude.{◌==◌, ◌&&◌, count_by, not, slice_get}
 use Rattle.std.specs.List.{list_any, position}
-use Rattle.std.proofs.lemmas.Bool.{lt-leb}
 use Rattle.std.proofs.lemmas.List.{length-map}
 use Rattle.rr_sender.specs.Senders.{Messages}
 use Rattle.rr_protocol.specs.Backpressure.{discards}
-use Rattle.rr_protocol.specs.declared.error.RequestSendError.{RequestSendError}
-use Rattle.rr_protocol.specs.declared.error.SendError.{SendError}
-use Rattle.rr_store.specs.Changes.{is_closed_to, is_open_to, request_send_limit}
+use Rattle.rr_protocol.specs.declared.error.RequestSendError.TheVariants as limit
+use Rattle.rr_protocol.specs.declared.error.SendError.TheVariants as send
+use Rattle.rr_store.specs.declared.port.ClientPort.{ClientPort}
+use Rattle.rr_store.specs.Changes.{is_closed_to, is_open_to}
 use Rattle.rr_store.specs.Opened.{opened}
-use Rattle.rr_store.specs.Parts.{ClientPart, ServerPart}
+use Rattle.rr_store.specs.Parts.{ServerPart}
 use Rattle.rr_store.specs.Ports.{client_part, server_part}
 use Rattle.rr_store.specs.Sending.{HasQueues, is_refused_at}
 use Rattle.rr_store.specs.Views.{sender_of}
-use Rattle.rr_store.proofs.base.lists.Mapped.{position-map, some_mapped}
-use Rattle.rr_store.proofs.base.lists.Rising.{rising_unmapped}
-use Rattle.rr_store.proofs.base.senders.Ports.{found_within, of_each, told_at}
-use Rattle.rr_store.proofs.base.views.Counts.{listed}
-use Rattle.rr_sending.proofs.laws.request.Stored.{all_fail, any_is, has_queues, none_and}
-use Rattle.rr_sending.proofs.request.request_send_limit.Goals.{After-pendings, After-index_of_sender, After-port-client, After-is_refused}
+use Rattle.rr_sending.proofs.laws.request.Stored.{all_fail, any_is, none_and, one_found, queues_seen}
+use Rattle.rr_sending.proofs.request.request_send_limit.Goals.{After-messages-messages, After-is_refused}
 use Rattle.rr_sending.proofs.request.request_send_limit.Goals as goal
 
-pub index_of_sender-requires-clause-rising : goal.index_of_sender-requires-clause-rising
-index_of_sender-requires-clause-rising g c =
-    rising_unmapped client_part (λ (x : ClientPart _). x.port.id) c.args.store.now.clients.ports c.requires.rising
+pub returns-then-store-pendings-clause-many : goal.returns-then-store-pendings-clause-many
+returns-then-store-pendings-clause-many g c more = refl
 
-pub index_of_sender-requires-clause-present : goal.index_of_sender-requires-clause-present
-index_of_sender-requires-clause-present g c =
-    some_mapped client_part (λ (x : ClientPart _). x.port.id == (sender_of c.args.sender c.args.store.now.clients.senders).owner)
-    c.args.store.now.clients.ports c.requires.found
-
--- the client was found
-found : (g : _) (c : After-index_of_sender g)
-    → position (λ (x : ClientPart _). x.port.id == (sender_of c.args.sender (opened c.args.store.now).client_senders).owner)
-    (opened c.args.store.now).clients ≡ Some c.index_of_sender.result
-found g c =
-    position-map client_part (λ (x : ClientPart _). x.port.id == (sender_of c.args.sender (opened c.args.store.now).client_senders).owner)
-    c.args.store.now.clients.ports ∙ c.index_of_sender.ensures
-
-pub port-client-requires : goal.port-client-requires
-port-client-requires g c =
-    let p = opened c.args.store.now in
-    omega (
-      arith,
-      found_within (λ (x : ClientPart _). x.port.id == (sender_of c.args.sender p.client_senders).owner) p.clients
-          c.index_of_sender.result (found g (goal.at.port-client-requires g c).After-index_of_sender),
-      length-map c.args.store.now.clients.ports client_part,
-    )
-
-pub is_refused-requires : goal.is_refused-requires
-is_refused-requires g c =
-    let p = opened c.args.store.now in
-    let slice = c.connected-servers.result.now in
-    subst (λ (m : Messages _ _ _). HasQueues m slice) (sym c.messages-messages.ensures)
-    (has_queues c.args.store.now.servers.ports slice c.connected-servers.ensures (sender_of c.args.sender p.client_senders).messages
-    c.requires.queues)
-
--- the reason where the client has as many pending responses as it may, and where it has fewer
-abbrev reason : (many refused : Bool) → Option RequestSendError
-reason many refused =
-    cond many (Some RequestSendError.ExceedsMaxActiveRequests)
-    (cond refused (Some (RequestSendError.SendError SendError.UnableToDeliver)) None)
-
--- the client's pending responses are few
-few : (g : _) (c : After-pendings g) → c.pendings.result < c.args.store.now.limits.max_active_requests_per_client
-    → nat_le (opened c.args.store.now).limits.max_active_requests_per_client
-    (sender_of c.args.sender (opened c.args.store.now).client_senders).pendings ≡ false
-few g c fewer =
-    let p = opened c.args.store.now in
-    lt-leb p.limits.max_active_requests_per_client (sender_of c.args.sender p.client_senders).pendings
-    (omega (arith, c.pendings.ensures, fewer))
+-- the client's pending responses are as many as it may have, or fewer
+pub returns-then-store-pendings-clause-few : goal.returns-then-store-pendings-clause-few
+returns-then-store-pendings-clause-few g c i x found at fewer =
+    absurd (omega (arith, fewer, c.pendings.ensures, c.if-store-pendings.true))
 
 -- where each queue takes one more, none refuses
-pub returns-then-connections-servers : goal.returns-then-connections-servers
-returns-then-connections-servers g c =
-    let at = goal.at.returns-then-connections-servers g c in
+pub returns-then-connections-servers-clause-few : goal.returns-then-connections-servers-clause-few
+returns-then-connections-servers-clause-few g c i x found at fewer =
     let p = opened c.args.store.now in
-    let action = g.K.BackpressureFn.action in
     let ports = c.args.store.now.servers.ports in
     let all : count_by (is_open_to p c.args.sender) p.servers ≡ length p.servers =
     sym c.requires.connections ∙ c.if-connections-servers.true ∙ ap length c.connected-servers.ensures ∙ sym (length-map ports
     server_part) in
-    let open_all = all_fail (is_closed_to p c.args.sender) p.servers all in
-    of_each (λ (x : ClientPart _). x.port.id == (sender_of c.args.sender p.client_senders).owner) p.clients
-    (λ x. None ≡ request_send_limit p action x c.args.sender) c.requires.found
-    (λ x. sym (ap (λ b. reason b (list_any (λ s. is_closed_to p c.args.sender s && not (discards action x.port s.port.id)) p.servers))
-    (few g at.After-pendings c.if-store-pendings.false)
-    ∙ ap (reason false) (none_and (is_closed_to p c.args.sender) (λ s. not (discards action x.port s.port.id)) p.servers open_all)))
+    sym (ap (λ b. cond b (Some (limit.SendError send.UnableToDeliver)) None)
+    (none_and (is_closed_to p c.args.sender) (λ s. not (discards g.K.BackpressureFn.action (client_part x).port s.port.id)) p.servers
+    (all_fail (is_closed_to p c.args.sender) p.servers all)))
 
--- what is told of the client that was read is told of the one in the parts
-told : (g : _) (c : After-port-client g)
-    → position (λ (x : ClientPart _). x.port.id == (sender_of c.args.sender (opened c.args.store.now).client_senders).owner)
-    (opened c.args.store.now).clients ≡ Some c.index_of_sender.result
-    → (r : Option RequestSendError)
-    → r ≡ request_send_limit (opened c.args.store.now) g.K.BackpressureFn.action (client_part c.port-client.result.now) c.args.sender
-    → IsSomeAnd (position (λ (x : ClientPart _). x.port.id == (sender_of c.args.sender (opened c.args.store.now).client_senders).owner)
-    (opened c.args.store.now).clients)
-    (λ i. IsSomeAnd (slice_get (opened c.args.store.now).clients i)
-    (λ x. r ≡ request_send_limit (opened c.args.store.now) g.K.BackpressureFn.action x c.args.sender))
-told g c found r is =
-    let p = opened c.args.store.now in
-    let R : ClientPart _ → Type 0 = λ x. r ≡ request_send_limit p g.K.BackpressureFn.action x c.args.sender in
-    let i = c.index_of_sender.result in
-    told_at (λ (x : ClientPart _). x.port.id == (sender_of c.args.sender p.client_senders).owner) p.clients R i found
-    (subst (λ o. IsSomeAnd o R)
-    (sym (listed client_part c.args.store.now.clients.ports i c.port-client.result.now c.port-client.ensures)) is)
+pub returns-then-connections-servers-clause-many : goal.returns-then-connections-servers-clause-many
+returns-then-connections-servers-clause-many g c more = absurd (omega (arith, more, c.pendings.ensures, c.if-store-pendings.false))
 
--- whether a queue refuses the request decides
-decided : (g : _) (c : After-is_refused g) (b : Bool) → c.is_refused.result ≡ b
-    → nat_le (opened c.args.store.now).limits.max_active_requests_per_client
-    (sender_of c.args.sender (opened c.args.store.now).client_senders).pendings ≡ false
-    → reason false b
-    ≡ request_send_limit (opened c.args.store.now) g.K.BackpressureFn.action (client_part c.port-client.result.now) c.args.sender
-decided g c b is fewer =
+pub index_of_sender-requires-clause-sender : goal.index_of_sender-requires-clause-sender
+index_of_sender-requires-clause-sender g c = c.requires.sender
+
+pub index_of_sender-requires-clause-rising : goal.index_of_sender-requires-clause-rising
+index_of_sender-requires-clause-rising g c = c.requires.rising
+
+pub index_of_sender-requires-clause-present : goal.index_of_sender-requires-clause-present
+index_of_sender-requires-clause-present g c = c.requires.present
+
+-- each queue is there
+queues : (g : _) (c : After-messages-messages g) → HasQueues c.messages-messages.result.now c.connected-servers.result.now
+queues g c =
+    queues_seen c.args.store.now.servers.ports c.connected-servers.result.now c.connected-servers.ensures
+    (sender_of c.args.sender c.args.store.now.clients.senders).messages _ c.messages-messages.ensures c.requires.queues
+
+pub is_refused-requires-clause-inside : goal.is_refused-requires-clause-inside
+is_refused-requires-clause-inside g c i s at = (queues g (goal.at.is_refused-requires-clause-inside g c).After-messages-messages i s at).0
+
+pub is_refused-requires-clause-channels : goal.is_refused-requires-clause-channels
+is_refused-requires-clause-channels g c i s at = (queues g (goal.at.is_refused-requires-clause-channels g c).After-messages-messages i s
+    at).1
+
+-- what was found of the queues is so in the parts, of the client that is found
+refused : (g : _) (c : After-is_refused g) (i : ℕ) (x : ClientPort _)
+    → position (λ (x : ClientPort _). x.port.id == (sender_of c.args.sender c.args.store.now.clients.senders).owner)
+    c.args.store.now.clients.ports ≡ Some i
+    → slice_get c.args.store.now.clients.ports i ≡ Some x
+    → c.is_refused.result ≡ list_any (λ s. is_closed_to (opened c.args.store.now) c.args.sender s
+    && not (discards g.K.BackpressureFn.action (client_part x).port s.port.id)) (opened c.args.store.now).servers
+refused g c i x found at =
     let p = opened c.args.store.now in
-    let x = client_part c.port-client.result.now in
-    let action = g.K.BackpressureFn.action in
-    let slice = c.connected-servers.result.now in
     let overflow = p.limits.enable_safe_overflow_for_requests in
-    let test : ServerPart _ → Bool = λ s. is_closed_to p c.args.sender s && not (discards action x.port s.port.id) in
-    let refused : b ≡ list_any test p.servers =
-    sym is ∙ c.is_refused.ensures
-    ∙ ap (λ (m : Messages _ _ _). list_any (λ s. is_refused_at action x.port overflow m s) slice) c.messages-messages.ensures
-    ∙ any_is c.args.store.now.servers.ports slice c.connected-servers.ensures test in
-    ap (reason false) refused ∙ sym (ap (λ a. reason a (list_any test p.servers)) fewer)
+    let test : ClientPort _ → ServerPart _ → Bool =
+    λ x s. is_closed_to p c.args.sender s && not (discards g.K.BackpressureFn.action (client_part x).port s.port.id) in
+    let client = c.port-client.result.now in
+    let slice = c.connected-servers.result.now in
+    c.is_refused.ensures
+    ∙ ap (λ (m : Messages _ _ _). list_any (λ s. is_refused_at g.K.BackpressureFn.action (client_part client).port overflow m s) slice)
+    c.messages-messages.ensures
+    ∙ any_is c.args.store.now.servers.ports slice c.connected-servers.ensures (test client)
+    ∙ ap (λ x. list_any (test x) p.servers)
+    (one_found c.args.store.now.clients.ports _ c.index_of_sender.result i client x c.index_of_sender.ensures found c.port-client.ensures
+    at)
 
-pub returns-then-is_refused : goal.returns-then-is_refused
-returns-then-is_refused g c =
-    let at = goal.at.returns-then-is_refused g c in
-    told g at.After-port-client (found g at.After-index_of_sender) _
-    (decided g at.After-is_refused true c.if-is_refused.true (few g at.After-pendings c.if-store-pendings.false))
+pub returns-then-is_refused-clause-few : goal.returns-then-is_refused-clause-few
+returns-then-is_refused-clause-few g c i x found at fewer =
+    ap (λ b. cond b (Some (limit.SendError send.UnableToDeliver)) None)
+    (sym c.if-is_refused.true ∙ refused g (goal.at.returns-then-is_refused-clause-few g c).After-is_refused i x found at)
 
-pub returns : goal.returns
-returns g c =
-    let at = goal.at.returns g c in
-    told g at.After-port-client (found g at.After-index_of_sender) _
-    (decided g at.After-is_refused false c.if-is_refused.false (few g at.After-pendings c.if-store-pendings.false))
+pub returns-clause-few : goal.returns-clause-few
+returns-clause-few g c i x found at fewer =
+    ap (λ b. cond b (Some (limit.SendError send.UnableToDeliver)) None)
+    (sym c.if-is_refused.false ∙ refused g (goal.at.returns-clause-few g c).After-is_refused i x found at)
+
+pub returns-then-is_refused-clause-many : goal.returns-then-is_refused-clause-many
+returns-then-is_refused-clause-many g c more = absurd (omega (arith, more, c.pendings.ensures, c.if-store-pendings.false))
+
+pub returns-clause-many : goal.returns-clause-many
+returns-clause-many g c more = absurd (omega (arith, more, c.pendings.ensures, c.if-store-pendings.false))

@@ -1,16 +1,17 @@
 -- Which receivers connected ports are, and that each sender of the other side has queues for them.
-use Rattle.std.proofs.Common.{◌≡◌, ◌<◌, ℕ, Option, None, Some, map, refl, sym, ap, ◌∙◌, ⊎_elim, arith}
+use Rattle.std.proofs.Common.{◌≡◌, ◌<◌, ℕ, List, Option, None, Some, map, refl, sym, ap, ◌∙◌, ⊎_elim, arith}
 use Rattle.std.specs.Prelude.{◌==◌, slice_get, find}
 use Rattle.std.specs.Option.{option_map_or}
 use Rattle.std.proofs.lemmas.Bool.{cases_eq, eq-eqb, eqb-true, ne_eqb}
-use Rattle.rr_store.specs.Parts.{Parts, ServerPart, ClientPart}
+use Rattle.rr_store.specs.Draining.{HaveQueues}
+use Rattle.rr_store.specs.Parts.{Parts, Sender, ServerPart, ClientPart}
 use Rattle.rr_store.specs.Sound.{IsSoundStore, empty_hand, server_place, Hand}
 use Rattle.rr_store.proofs.base.lists.Found.{found_passes, found_somewhere}
 use Rattle.rr_store.proofs.base.views.Counts.{listed}
 use Rattle.rr_store.proofs.base.senders.Numbered.{numbered_once}
 use Rattle.rr_protocol.specs.Lists.{at}
 use Rattle.rr_protocol.specs.Limits.{worst_case_requests}
-use Rattle.rr_store.specs.Receiving.{Reaches}
+use Rattle.rr_store.specs.Receiving.{HaveChannels, Reaches}
 
 module _ {Q QH P PH K : Type 0} (p : Parts Q QH P PH K) (hand : Hand) (sound : IsSoundStore p hand) where
   -- servers have receivers and numbers of their own
@@ -78,3 +79,13 @@ module _ {Q QH P PH K : Type 0} (p : Parts Q QH P PH K) (sound : IsSoundStore p 
       let shaped = sound.sized.server_senders sender there in
       let placed = sound.client_ports.placed index c.connected (listed (λ (c : ClientPart K). c.connected) p.clients index c at) in
       (omega (arith, placed, shaped.queues), omega (arith, inside, shaped.queue_channels c.receiver placed))
+
+-- senders that have queues to a receiver, with a channel, reach it on that channel
+pub reaches_both : {T N H : Type 0} (senders : List (Sender T N H)) (receiver channel : ℕ) → HaveQueues senders receiver
+    → HaveChannels senders receiver channel → Reaches senders receiver channel
+reaches_both senders receiver channel there wide sender inside = (there sender inside, wide sender inside)
+
+-- and those that reach it have both
+pub reached_apart : {T N H : Type 0} (senders : List (Sender T N H)) (receiver channel : ℕ) → Reaches senders receiver channel
+    → HaveQueues senders receiver × HaveChannels senders receiver channel
+reached_apart senders receiver channel reach = (λ sender inside. (reach sender inside).0, λ sender inside. (reach sender inside).1)

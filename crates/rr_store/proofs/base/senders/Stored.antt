@@ -1,9 +1,10 @@
 -- A sender that is stored, and the senders after its messages changed.
-use Rattle.std.proofs.Common.{◌≡◌, ◌<◌, ℕ, List, Some, length, map, get_or, refl, sym, ap, ◌∙◌}
+use Rattle.std.proofs.Common.{◌≡◌, ◌<◌, ◌≤◌, ℕ, List, Some, length, map, get_or, sym, ap, ◌∙◌, arith}
 use Rattle.std.specs.Prelude.{slice_get, slice_index_or, slice_set}
-use Rattle.std.proofs.lemmas.List.{get_or-set_same, set-set}
+use Rattle.std.proofs.lemmas.List.{get_or-set_same, length-map, set-set}
 use Rattle.std.proofs.lemmas.Option.{get_or_from_slice_get}
-use Rattle.rr_sender.specs.Senders.{Messages}
+use Rattle.rr_slots.specs.Pools.{Written, nothing_written}
+use Rattle.rr_sender.specs.Senders.{Messages, content_at}
 use Rattle.rr_store.specs.declared.port.OwnedSender.{OwnedSender}
 use Rattle.rr_store.specs.declared.side.Side.TheInside.{Inside}
 use Rattle.rr_store.specs.Loaning as part
@@ -29,6 +30,13 @@ module _ {B N H T : Type 0} (items : List (OwnedSender B N H T)) (sender : ℕ) 
       sym (get_or_from_slice_get x.messages.details slot details none at)
       ∙ ap (λ l. slice_index_or l.messages.details slot none) (sym stored_is)
 
+  -- what was read of a slot
+  pub content_is : (slot : ℕ) (content : Written T) → slice_get x.messages.contents slot ≡ Some content
+      → content_at (sender_of sender (map sender_part items)).messages slot ≡ content
+  content_is slot content at =
+      ap (λ l. content_at l.messages slot) stored_is
+      ∙ get_or_from_slice_get x.messages.contents slot content (nothing_written 0) at
+
   -- the user header
   pub user_header_is : (slot : ℕ) (header spare : H) → slice_get x.messages.user_headers slot ≡ Some header
       → header ≡ slice_index_or (sender_of sender (map sender_part items)).messages.user_headers slot spare
@@ -46,14 +54,24 @@ module _ {B N H T : Type 0} (items : List (OwnedSender B N H T)) (sender : ℕ) 
       ∙ map-set_one sender_part items sender (with_messages x (change x.messages))
       ∙ ap (λ y. slice_set (map sender_part items) sender (part.with_messages y (change y.messages))) (sym stored_is)
 
--- a side after a part of the messages of a sender, which was lent, was written
-pub lent_set : {B N H P T : Type 0} (s : Inside B N H P T) (sender : ℕ) (x : OwnedSender B N H T)
-    (there : sender < length (map sender_part s.senders.items)) (read : x ≡ get_or s.senders.items sender x)
-    (change : Messages T N H → Messages T N H)
-    → record (side_of s) { senders = map sender_part (slice_set s.senders.items sender (with_messages x (change x.messages))) }
+-- an index that was counted up to is one of a sender
+pub in_senders : {B N H T : Type 0} (items : List (OwnedSender B N H T)) {n end many : ℕ} → n < end → end ≡ many → many ≡ length items
+    → n < length (map sender_part items)
+in_senders items below end many = omega (arith, below, end, many, length-map items sender_part)
+
+-- and one that was counted to the end is past all
+pub past_senders : {B N H T : Type 0} (items : List (OwnedSender B N H T)) {n end many : ℕ} → end ≤ n → end ≡ many → many ≡ length items
+    → length (map sender_part items) ≤ n
+past_senders items past end many = omega (arith, past, end, many, length-map items sender_part)
+
+-- a side after the messages of a sender, which was read, changed
+pub sent_set : {B N H P T : Type 0} (s : Inside B N H P T) (sender : ℕ) (x : OwnedSender B N H T)
+    (there : sender < length (map sender_part s.senders.items)) (read : x ≡ get_or s.senders.items sender x) (m : Messages T N H)
+    (change : Messages T N H → Messages T N H) → m ≡ change x.messages
+    → record (side_of s) { senders = map sender_part (slice_set s.senders.items sender (with_messages x m)) }
     ≡ with_sent (side_of s) sender change
-lent_set s sender x there read change =
-    ap (λ ls. record (side_of s) { senders = ls }) (stored_set s.senders.items sender x there read (change x.messages) change refl)
+sent_set s sender x there read m change is =
+    ap (λ ls. record (side_of s) { senders = ls }) (stored_set s.senders.items sender x there read m change is)
 
 -- the senders after one of them, which was read, changed
 pub stored_changed : {B N H T : Type 0} (items : List (OwnedSender B N H T)) (sender : ℕ) (x : OwnedSender B N H T) → sender < length items

@@ -1,6 +1,6 @@
 -- Requests that nobody waits for leave the fronts of queues.
 use Rattle.std.proofs.Common.{zero, suc, ◌≡◌, ◌<◌, ◌≤◌, ◌+◌, ℕ, Bool, true, false, List, [], ◌∷◌, ◌++◌, Option, None, Some, Ok, length, refl, sym, ap, ◌∙◌, subst, ⊎_elim, arith}
-use Rattle.std.specs.Prelude.{Result, drop, slice_get, slice_set, slice_index_or}
+use Rattle.std.specs.Prelude.{IfSome, Result, drop, slice_get, slice_set, slice_index_or}
 use Rattle.std.proofs.lemmas.Bool.{cases_eq, cases_lt}
 use Rattle.std.proofs.lemmas.List.{get_or-set_same, get_or-set_other, set-get_or, length-set}
 use Rattle.rr_table.specs.TableView.{TableView}
@@ -46,6 +46,14 @@ module _ {T H : Type 0} (table : TableView HandleEntry) (receiver : ℕ) where
         borrowed = r.borrowed;
       }
 
+  -- the queue is there
+  pub skim_reach : (n : ℕ) (a b : Sender T RequestDetails H) → SkimsSender table receiver n a b → receiver < length a.messages.queues
+      → 0 < length (slice_index_or a.messages.queues receiver [])
+      → (receiver < length b.messages.queues) × (0 < length (slice_index_or b.messages.queues receiver []))
+  skim_reach n a b steps there some =
+      let alike = skim_alike n a b steps in
+      (omega (arith, there, alike.rows), omega (arith, some, alike.row))
+
   -- one more leaves it
   pub skim_more : (n : ℕ) (a b : Sender T RequestDetails H) → SkimsSender table receiver n a b → (slot : ℕ)
       → slice_get (queue_at b.messages receiver 0) 0 ≡ Some slot → is_waited table b slot ≡ false
@@ -58,6 +66,11 @@ module _ {T H : Type 0} (table : TableView HandleEntry) (receiver : ℕ) where
     ap (first_skimmed receiver) e,
   )
   skim_more (suc n) a b (first, g, h, more) slot f d = (first, g, h, skim_more n (first_skimmed receiver a) b more slot f d)
+
+  -- what is told of the front
+  pub front_of : (s : Sender T RequestDetails H) (front : Option ℕ) → slice_get (queue_at s.messages receiver 0) 0 ≡ front
+      → IfSome front (λ slot. is_waited table s slot ≡ true) → IsFrontAlive table receiver s
+  front_of s front is told = subst (λ o. IfSome o (λ slot. is_waited table s slot ≡ true)) (sym is) told
 
   module _ (most : ℕ) where
     -- what leaves the queue from one sender, as steps over all senders
@@ -143,6 +156,11 @@ module _ {T H : Type 0} (table : TableView HandleEntry) (receiver : ℕ) where
 pub shorter : {X : Type 0} (xs ys : List X) (x : X) → ys ≡ drop 1 xs → slice_get xs 0 ≡ Some x → length ys < length xs
 shorter [] ys x e f = absurd (let g : None ≡ Some x = f in cc)
 shorter (y ∷ xs) ys x e f = omega (arith, ap length e)
+
+-- or has none
+pub no_front : {X : Type 0} (xs : List X) → slice_get xs 0 ≡ None → 0 < length xs → ⊥
+no_front [] e h = omega (arith, h)
+no_front (x ∷ xs) e h = let f : Some x ≡ None = e in cc
 
 -- a sender is told once
 told_is : (n m : ℕ) → (let told : ℕ → Result (Option ℕ) ReceiveError = λ l. Ok (Some l) in told n ≡ told m) → n ≡ m

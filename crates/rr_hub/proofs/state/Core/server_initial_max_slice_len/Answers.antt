@@ -1,13 +1,12 @@
 use Rattle.std.proofs.Common.{refl}
-use Rattle.rr_store.proofs.base.senders.Ports.{found_within}
 use Rattle.rr_hub.proofs.queries.Ports.{server_asked, server_then, server_apart}
 use Rattle.rr_hub.proofs.state.Core.server_initial_max_slice_len.Goals as goal
 
-pub index_of-index-requires : goal.index_of-index-requires
-index_of-index-requires g c = server_asked c.self.invariant c.self.view_is c.args.server c.self.inside.parts.servers.ports refl c.requires
+pub index_of-index-requires-clause-rising : goal.index_of-index-requires-clause-rising
+index_of-index-requires-clause-rising g c = (server_asked c.self.invariant c.self.view_is c.args.server _ refl c.requires).rising
 
-pub port-requires : goal.port-requires
-port-requires g c = found_within _ _ _ c.index_of-index.ensures
+pub index_of-index-requires-clause-present : goal.index_of-index-requires-clause-present
+index_of-index-requires-clause-present g c = (server_asked c.self.invariant c.self.view_is c.args.server _ refl c.requires).present
 
 pub returns-clause-len : goal.returns-clause-len
 returns-clause-len g c =

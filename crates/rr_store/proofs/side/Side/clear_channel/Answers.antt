@@ -8,6 +8,8 @@ use Rattle.rr_store.specs.Parts.{Sender}
 use Rattle.rr_store.specs.Receiving.{Reaches}
 use Rattle.rr_store.specs.SideInside.{side_of}
 use Rattle.rr_store.specs.Views.{sender_of}
+use Rattle.rr_store.proofs.base.senders.Stored.{in_senders, past_senders}
+use Rattle.rr_store.proofs.base.senders.Connected.{reaches_both}
 use Rattle.rr_store.proofs.base.lookups.Asking.{sender_is}
 use Rattle.rr_store.proofs.releasing.pending.Cleared.{cleared_none, cleared_more, cleared_all}
 use Rattle.rr_store.proofs.base.lists.Replaced.{map-set_one}
@@ -17,18 +19,11 @@ use Rattle.rr_store.proofs.side.Side.clear_channel.Goals.{In-loop-sender, After-
 -- the sender is there
 within : (g : _) (c : In-loop-sender g) → c.loop-sender.sender < length (map sender_part c.self.inside.senders.items)
 within g c =
-    omega (
-      arith,
-      c.loop-sender-test.true,
-      c.len-sender-end.ensures,
-      c.self.inside.senders.ok.0,
-      length-map c.self.inside.senders.items
-          sender_part,
-    )
+    in_senders c.self.inside.senders.items c.loop-sender-test.true c.len-sender-end.ensures c.self.inside.senders.ok.0
 
 -- and has a queue to the receiver
 asked : (g : _) (c : In-loop-sender g) → Reaches (map sender_part c.self.inside.senders.items) c.args.receiver c.args.channel
-asked g c = rw (← c.self.view_is) at c.requires
+asked g c = rw (← c.self.view_is) at (reaches_both _ _ _ c.requires.receiver c.requires.channel)
 
 -- it is the one that is lent
 sender_lent : (g : _) (c : After-index_mut g) → c.loop-sender.sender < length (map sender_part c.self.inside.senders.items)
@@ -89,10 +84,4 @@ returns g c =
     rw (← c.self.view_is) (ap (λ ls. record (side_of c.self.inside) { senders = ls })
     (cleared_all c.args.receiver c.args.channel (map sender_part c.self.inside.senders.items) c.loop-sender.sender
     (map sender_part c.loop-sender.senders.items) c.loop-sender.invariant
-    (omega (
-      arith,
-      c.loop-sender-test.false,
-      c.len-sender-end.ensures,
-      c.self.inside.senders.ok.0,
-      length-map c.self.inside.senders.items sender_part,
-    ))))
+    (past_senders c.self.inside.senders.items c.loop-sender-test.false c.len-sender-end.ensures c.self.inside.senders.ok.0)))

@@ -17,7 +17,7 @@ its_sender g c =
     omega (
       arith,
       of_read c.self.inside.ports.items c.args.index c.index_mut-port.result.now c.index_mut-port.ensures.value
-          (λ p. g.P.ConnectedPort.sender p < length s.senders) (rw (← c.self.view_is) at c.requires),
+          (λ p. g.P.ConnectedPort.sender p < length s.senders) (rw (← c.self.view_is) at c.requires.sender),
       c.details-sender.ensures.sender,
       length-map c.self.inside.senders.items sender_part,
     )
@@ -31,7 +31,7 @@ pub returns : goal.returns
 returns g c =
     let s = side_of c.self.inside in
     let i = c.args.index in
-    let within = asked_within s.ports i (λ p. g.P.ConnectedPort.sender p < length s.senders) (rw (← c.self.view_is) at c.requires) in
+    let within = asked_within s.ports i (λ p. g.P.ConnectedPort.sender p < length s.senders) (rw (← c.self.view_is) at c.requires.sender) in
     let changed = stored_changed c.self.inside.senders.items c.details-sender.result.sender c.index_mut.result.now
     (its_sender g (goal.at.returns g c).After-details-sender) c.index_mut.ensures.value _ valueless refl in
     rw (← c.self.view_is) (to_read s.ports i c.index_mut-port.result.now c.index_mut-port.ensures.value

@@ -8,6 +8,7 @@ use Rattle.rr_store.specs.declared.port.OwnedSender.{OwnedSender}
 use Rattle.rr_store.specs.Parts.{Sender}
 use Rattle.rr_store.specs.Ports.{sender_part}
 use Rattle.rr_store.specs.Waiting.{has_entry}
+use Rattle.rr_store.proofs.base.senders.Connected.{reaches_both}
 use Rattle.rr_store.proofs.base.lists.ReadAt.{item_at, one_further}
 use Rattle.rr_store.proofs.base.lookups.Looking.{list_any-map}
 use Rattle.rr_store.proofs.base.views.Counts.{listed}
@@ -29,7 +30,7 @@ reach g c =
     each_stored c.self.inside.senders.items c.deref-sender-items.result.now c.deref-sender-items.ensures.value
     (λ (l : Sender _ _ _). (c.args.receiver < length l.messages.queues)
     × (c.args.channel < length (slice_index_or l.messages.queues c.args.receiver [])))
-    (rw (← c.self.view_is) at c.requires) c.loop-sender.sender-index c.sender-item.result (its g c)
+    (rw (← c.self.view_is) at (reaches_both _ _ _ c.requires.receiver c.requires.channel)) c.loop-sender.sender-index c.sender-item.result (its g c)
 
 pub has_entries-requires-clause-receiver : goal.has_entries-requires-clause-receiver
 has_entries-requires-clause-receiver g c = (reach g (goal.at.has_entries-requires-clause-receiver g c).After-sender-item).0

@@ -7,6 +7,7 @@ use Rattle.std.proofs.lemmas.Bool.{false≢true}
 use Rattle.std.proofs.lemmas.List.{length-map}
 use Rattle.rr_store.specs.Receiving.{IsLookedThrough, Reaches, queue_from, borrowed_from}
 use Rattle.rr_store.specs.Views.{sender_of}
+use Rattle.rr_store.proofs.base.senders.Connected.{reaches_both}
 use Rattle.rr_store.proofs.base.lookups.Asking.{sender_is}
 use Rattle.rr_store.proofs.receiving.NextSender.{looked_at_none, looked_at_empty, looked_at_limit, empty_of, some_of}
 use Rattle.rr_store.proofs.side.Side.next_sender.Goals as goal
@@ -34,7 +35,7 @@ reach : (g : _) (c : In-loop-sender g)
     × (c.args.channel < length (slice_index_or (sender_of c.loop-sender.sender (map sender_part c.self.inside.senders.items)).messages.queues
     c.args.receiver []))
 reach g c =
-    let asked : Reaches (map sender_part c.self.inside.senders.items) c.args.receiver c.args.channel = rw (← c.self.view_is) at c.requires in
+    let asked : Reaches (map sender_part c.self.inside.senders.items) c.args.receiver c.args.channel = rw (← c.self.view_is) at (reaches_both _ _ _ c.requires.receiver c.requires.channel) in
     asked c.loop-sender.sender (omega (arith, within g c, length-map c.self.inside.senders.items sender_part))
 
 pub index-requires : goal.index-requires

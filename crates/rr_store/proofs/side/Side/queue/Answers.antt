@@ -45,6 +45,14 @@ within g c =
     → c.args.slot * c.args.receivers + s.port.receiver < length l.may_answer)
     (lent g c) (rw (← c.self.view_is) at c.requires.marks)
 
+pub index_mut-owned-requires : goal.index_mut-owned-requires
+index_mut-owned-requires g c =
+    omega (
+      arith,
+      senders_many c.self.inside.senders.items c.args.sender (rw (← c.self.view_is) at c.requires.sender),
+      c.self.inside.senders.ok.0,
+    )
+
 pub loop-server-init : goal.loop-server-init
 loop-server-init g c = (
   record {

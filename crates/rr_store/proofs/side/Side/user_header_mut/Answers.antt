@@ -1,14 +1,14 @@
 use Rattle.std.proofs.Common.{◌≡◌, Some, refl, sym, subst}
 use Rattle.std.specs.Prelude.{slice_get}
 use Rattle.rr_sender.specs.Senders.{with_user_header}
-use Rattle.rr_store.proofs.base.senders.Stored.{lent_set, stored_is}
+use Rattle.rr_store.proofs.base.senders.Stored.{sent_set, stored_is}
 use Rattle.rr_store.proofs.side.Side.user_header_mut.Goals as goal
 
 pub returns : goal.returns
 returns g c =
     rw (← c.self.view_is)
     (let there = rw (← c.self.view_is) at c.requires.sender in (
-      (refl, λ w. lent_set c.self.inside c.args.sender _ there c.index_mut.ensures.value (λ m. with_user_header m c.args.slot w)),
+      (refl, λ w. sent_set c.self.inside c.args.sender _ there c.index_mut.ensures.value _ (λ m. with_user_header m c.args.slot w) refl),
       record {
         lends = tt;
         value = subst (λ l. slice_get l.messages.user_headers c.args.slot ≡ Some c.user_header_mut.result.now)

@@ -1,13 +1,46 @@
-use Rattle.std.proofs.Common.{◌≡◌, ◌-◌, ℕ, length, map, sym, ap, ◌∙◌, arith}
+use Rattle.std.proofs.Common.{◌≡◌, ◌<◌, ◌-◌, ℕ, length, map, sym, ap, ◌∙◌, subst, arith}
+use Rattle.rr_store.specs.Draining.{AreThere, HaveQueues}
 use Rattle.rr_store.specs.Leaving.{has_queued, queued_left}
 use Rattle.rr_store.specs.Ports.{sender_part}
 use Rattle.rr_store.specs.Views.{sender_of}
+use Rattle.rr_store.proofs.base.lookups.Asking.{senders_many}
 use Rattle.rr_store.proofs.leaving.OutdatedAt.{expired_each, expired_none, expired_some}
 use Rattle.rr_store.proofs.side.leaving.expire.Goals as goal
 
 -- the excess is what is queued above the room for others
 excess_is : (excess queued less room n : ℕ) → excess ≡ queued - less → less ≡ room - 1 → queued ≡ n → excess ≡ n - (room - 1)
 excess_is excess queued less room n e f h = omega (arith, e, f, h)
+
+pub has_queued-requires-clause-sender : goal.has_queued-requires-clause-sender
+has_queued-requires-clause-sender g c =
+    subst (λ items. c.args.leaving.sender < length items) (sym c.as_slice.ensures.value)
+    (senders_many c.args.senders.now.items c.args.leaving.sender c.requires.leaving)
+
+pub has_queued-requires-clause-queues : goal.has_queued-requires-clause-queues
+has_queued-requires-clause-queues g c =
+    subst (λ items. c.args.receiver < length (sender_of c.args.leaving.sender (map sender_part items)).messages.queues)
+    (sym c.as_slice.ensures.value) (c.requires.queues c.args.leaving.sender c.requires.leaving)
+
+pub count_queued-queued-requires-clause-queues : goal.count_queued-queued-requires-clause-queues
+count_queued-queued-requires-clause-queues g c =
+    subst (λ items. HaveQueues (map sender_part items) c.args.receiver) (sym c.as_slice-then-has_queued.ensures.value) c.requires.queues
+
+pub count_queued-queued-requires-clause-left : goal.count_queued-queued-requires-clause-left
+count_queued-queued-requires-clause-left g c =
+    subst (λ items. AreThere (map sender_part items) c.args.left.now) (sym c.as_slice-then-has_queued.ensures.value) c.requires.left
+
+pub clear_for-requires-clause-sender : goal.clear_for-requires-clause-sender
+clear_for-requires-clause-sender g c =
+    senders_many c.expire_oldest.new.senders.items c.args.leaving.sender
+    (omega (arith, c.requires.leaving, c.expire_oldest.ensures.many))
+
+pub clear_for-requires-clause-queues : goal.clear_for-requires-clause-queues
+clear_for-requires-clause-queues g c =
+    omega (
+      arith,
+      c.requires.queues c.args.leaving.sender c.requires.leaving,
+      (c.expire_oldest.ensures.each c.args.leaving.sender).messages.receivers,
+    )
 
 pub returns-then-room-eq0 : goal.returns-then-room-eq0
 returns-then-room-eq0 g c =

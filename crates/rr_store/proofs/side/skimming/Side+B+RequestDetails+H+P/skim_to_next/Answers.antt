@@ -1,4 +1,4 @@
-use Rattle.std.proofs.Common.{Vec, ◌≡◌, ◌<◌, ◌+◌, true, [], Ok, Some, length, map, sym, ap, ◌∙◌, subst, arith}
+use Rattle.std.proofs.Common.{Vec, ◌≡◌, ◌<◌, ◌+◌, true, [], Ok, Some, length, map, refl, sym, ap, ◌∙◌, subst, arith}
 use Rattle.std.specs.Prelude.{slice_index_or, slice_set}
 use Rattle.std.proofs.lemmas.Bool.{false≢true}
 use Rattle.std.proofs.lemmas.List.{length-map}
@@ -7,6 +7,7 @@ use Rattle.rr_store.specs.Ports.{sender_part}
 use Rattle.rr_store.specs.Parts.{Sender}
 use Rattle.rr_store.specs.Receiving.{IsLookedThrough, IsNextSender, borrowed_from, queue_from}
 use Rattle.rr_store.specs.Skimming.{IsSkimmedBelow, IsSkimmedTo, SkimsSender}
+use Rattle.rr_store.proofs.base.senders.Connected.{reaches_both}
 use Rattle.rr_store.proofs.base.lookups.Asking.{sender_is, senders_many}
 use Rattle.rr_store.proofs.base.lists.Replaced.{map-set_one}
 use Rattle.rr_store.proofs.receiving.NextSender.{looked_at_none, empty_of, some_of}
@@ -31,7 +32,7 @@ within g c =
 pub loop-sender-init : goal.loop-sender-init
 loop-sender-init g c =
     let old = map sender_part c.self.inside.senders.items in (
-      skimmed_none c.args.table.now c.args.receiver c.args.most old (rw (← c.self.view_is) at c.requires),
+      skimmed_none c.args.table.now c.args.receiver c.args.most old (rw (← c.self.view_is) at (reaches_both _ _ _ c.requires.receiver c.requires.channel)),
       looked_at_none old c.args.receiver 0 c.args.most,
     )
 
@@ -178,3 +179,12 @@ loop-sender-preserved g c =
           (omega (arith, count, w.if-borrowed-most.false)) (ap (λ (l : Sender _ _ _). queue_at l.messages c.args.receiver 0) here
           ∙ empty_of _ (λ h. false≢true (sym w.if-has_entries.false ∙ w.has_entries.ensures.1 h)))))
     ]
+
+pub returns-then-skim_sender-clause-rest : goal.returns-then-skim_sender-clause-rest
+returns-then-skim_sender-clause-rest g c = rw (← c.self.view_is) refl
+
+pub returns-then-is_at_limit-clause-rest : goal.returns-then-is_at_limit-clause-rest
+returns-then-is_at_limit-clause-rest g c = rw (← c.self.view_is) refl
+
+pub returns-clause-rest : goal.returns-clause-rest
+returns-clause-rest g c = rw (← c.self.view_is) refl
