@@ -13,6 +13,7 @@ use Rattle.rr_store.specs.Parts.{ServerPart}
 use Rattle.rr_store.specs.Ports.{client_part, server_part}
 use Rattle.rr_store.specs.Sending.{HasQueues, is_refused_at}
 use Rattle.rr_store.specs.Views.{sender_of}
+use Rattle.rr_store.proofs.base.senders.Ports.{found_within}
 use Rattle.rr_sending.proofs.laws.request.Stored.{all_fail, any_is, none_and, one_found, queues_seen}
 use Rattle.rr_sending.proofs.request.request_send_limit.Goals.{After-messages-messages, After-is_refused}
 use Rattle.rr_sending.proofs.request.request_send_limit.Goals as goal
@@ -48,6 +49,11 @@ index_of_sender-requires-clause-rising g c = c.requires.rising
 
 pub index_of_sender-requires-clause-present : goal.index_of_sender-requires-clause-present
 index_of_sender-requires-clause-present g c = c.requires.present
+
+pub port-client-requires : goal.port-client-requires
+port-client-requires g c =
+    found_within (λ (x : ClientPort _). x.port.id == (sender_of c.args.sender c.args.store.now.clients.senders).owner)
+    c.args.store.now.clients.ports c.index_of_sender.result c.index_of_sender.ensures
 
 -- each queue is there
 queues : (g : _) (c : After-messages-messages g) → HasQueues c.messages-messages.result.now c.connected-servers.result.now
