@@ -4,7 +4,8 @@ use Rattle.std.proofs.lemmas.List.{get_or_push}
 use Rattle.std.proofs.lemmas.List.Elements.{All-nil, All-cons, All-append}
 use Rattle.rr_protocol.specs.declared.kind.Kind.TheVariants as kind
 use Rattle.rr_protocol.specs.State.{State}
-use Rattle.rr_ports.specs.Kinds.{Names, KeepsKinds}
+use Rattle.rr_ports.specs.Facts.{IsA, Names, Keeps}
+use Rattle.rr_ports.proofs.Frames.{kept}
 use Rattle.rr_bench.specs.Onlookers.{AreServers}
 
 module _ {Q QH P PH K : Type 0} (s : State Q QH P PH K) where
@@ -25,10 +26,10 @@ module _ {Q QH P PH K : Type 0} (s : State Q QH P PH K) where
   one_of_them servers i d are h = are i d h
 
 -- servers stay servers
-pub kept_servers : {Q QH P PH K : Type 0} (old new : State Q QH P PH K) (servers : List ℕ) → KeepsKinds old new
+pub kept_servers : {Q QH P PH K : Type 0} (old new : State Q QH P PH K) (servers : List ℕ) → Keeps [] old new
     → AreServers old servers → AreServers new servers
-unfolding KeepsKinds Names AreServers
-kept_servers old new servers keeps are i d h = keeps (slice_index_or servers i d) kind.Server (are i d h)
+unfolding AreServers
+kept_servers old new servers keeps are i d h = kept [] old new (slice_index_or servers i d) (IsA kind.Server) keeps tt (are i d h)
 
 -- what leaves a list is what came last
 pub popped : (all before after : List ℕ) (n m : ℕ) → all ≡ before ++ n ∷ [] → all ≡ after ++ m ∷ [] → n ≡ m

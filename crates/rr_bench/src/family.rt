@@ -1,10 +1,9 @@
 //! The two families of messages.
-#![tactic(auto, using(rr_ports::proofs::Frames::frames))]
+#![tactic(auto, using(rr_ports::proofs::Frames::callers), unfolding(rr_ports::specs::Facts::Keeps, rr_ports::specs::Facts::IsFree))]
 
-ghost use Rattle.std.specs.Prelude.{◌≡◌, ◌<◌, ◌≤◌, ◌+◌, IfOk};
+ghost use Rattle.std.specs.Prelude.{◌≡◌, ◌<◌, ◌≤◌, ◌+◌, IfOk, []};
 ghost use Rattle.rr_protocol.specs.declared.kind.Kind.TheVariants as kind;
-ghost use Rattle.rr_protocol.specs.State.{numbers_left};
-ghost use Rattle.rr_ports.specs.Kinds.{Names, NamesNothing, KeepsKinds};
+ghost use Rattle.rr_ports.specs.Facts.{IsFree, Keeps, Names, numbers_left};
 
 use crate::payload::Payload;
 use rr_ports::{
@@ -20,15 +19,15 @@ pub type Hub<B> = rr_ports::Hub<B, u64, B, u64, NoHandler>;
 pub trait Family: Body {
     /// Creates a client whose requests have at most `len` elements.
     fn client(hub: &mut Hub<Self>, len: usize) -> Result<Client<Self>, ClientCreateError>
-        ensures fresh { IfOk result (λ client. NamesNothing hub.old client) }
+        ensures free { IfOk result (λ client. IsFree [] hub.old client) }
         ensures kind { IfOk result (λ client. Names hub.new client kind.Client) }
-        ensures kinds { KeepsKinds hub.old hub.new };
+        ensures keeps { Keeps [] hub.old hub.new };
 
     /// Creates a server whose responses have at most `len` elements.
     fn server(hub: &mut Hub<Self>, len: usize) -> Result<Server<Self>, ServerCreateError>
-        ensures fresh { IfOk result (λ server. NamesNothing hub.old server) }
+        ensures free { IfOk result (λ server. IsFree [] hub.old server) }
         ensures kind { IfOk result (λ server. Names hub.new server kind.Server) }
-        ensures kinds { KeepsKinds hub.old hub.new };
+        ensures keeps { Keeps [] hub.old hub.new };
 
     /// Loans a request, and fills it with a word.
     fn request(
@@ -39,9 +38,9 @@ pub trait Family: Body {
     ) -> Result<RequestMut<Self>, LoanError>
         requires client { Names hub.old client.now kind.Client }
         requires numbers { 0 < numbers_left hub.old }
-        ensures fresh { IfOk result (λ request. NamesNothing hub.old request) }
+        ensures free { IfOk result (λ request. IsFree [] hub.old request) }
         ensures kind { IfOk result (λ request. Names hub.new request kind.RequestMut) }
-        ensures kinds { KeepsKinds hub.old hub.new }
+        ensures keeps { Keeps [] hub.old hub.new }
         ensures numbers { numbers_left hub.old ≤ numbers_left hub.new + 1 };
 
     /// Returns the last word of a request. Returns `None` if it has no elements.
@@ -57,9 +56,9 @@ pub trait Family: Body {
     ) -> Result<ResponseMut<Self>, LoanError>
         requires active { Names hub.old active.now kind.ActiveRequest }
         requires numbers { 0 < numbers_left hub.old }
-        ensures fresh { IfOk result (λ response. NamesNothing hub.old response) }
+        ensures free { IfOk result (λ response. IsFree [] hub.old response) }
         ensures kind { IfOk result (λ response. Names hub.new response kind.ResponseMut) }
-        ensures kinds { KeepsKinds hub.old hub.new }
+        ensures keeps { Keeps [] hub.old hub.new }
         ensures numbers { numbers_left hub.old ≤ numbers_left hub.new + 1 };
 
     /// Returns the last word of a response. Returns `None` if it has no elements.

@@ -1,9 +1,9 @@
 //! The rows that are printed.
-#![tactic(auto, using(rr_ports::proofs::Frames::frames, crate::proofs::Frames::servers))]
+#![tactic(auto, using(rr_ports::proofs::Frames::callers, crate::proofs::Frames::servers), unfolding(rr_ports::specs::Facts::Keeps, rr_ports::specs::Facts::IsFree))]
 
-ghost use Rattle.std.specs.Prelude.{◌≡◌, ◌<◌, ◌+◌, ◌^◌};
+ghost use Rattle.std.specs.Prelude.{◌≡◌, ◌<◌, ◌+◌, ◌^◌, []};
 ghost use Rattle.rr_protocol.specs.declared.kind.Kind.TheVariants as kind;
-ghost use Rattle.rr_ports.specs.Kinds.{Names, KeepsKinds};
+ghost use Rattle.rr_ports.specs.Facts.{Keeps, Names};
 ghost use Rattle.rr_bench.specs.Onlookers.{AreServers};
 
 use crate::family::{Family, Hub};
@@ -53,7 +53,7 @@ fn checked<B: Family>(
     requires client { Names hub.old client.now kind.Client }
     requires server { Names hub.old server.now kind.Server }
     requires onlookers { AreServers hub.old onlookers.now }
-    ensures { KeepsKinds hub.old hub.new }
+    ensures { Keeps [] hub.old hub.new }
 {
     let sum = trips(hub, client, server, onlookers, len, count)?;
     if sum != expected_sum(count) {
@@ -74,7 +74,7 @@ fn sample<B: Family>(
     requires client { Names hub.old client.now kind.Client }
     requires server { Names hub.old server.now kind.Server }
     requires onlookers { AreServers hub.old onlookers.now }
-    ensures { KeepsKinds hub.old hub.new }
+    ensures { Keeps [] hub.old hub.new }
 {
     for _ in 0..SAMPLES {
         let start = Instant::now(rt)?;
@@ -101,7 +101,7 @@ pub fn work<B: Family>(
     requires client { Names hub.old client.now kind.Client }
     requires server { Names hub.old server.now kind.Server }
     requires onlookers { AreServers hub.old onlookers.now }
-    ensures { KeepsKinds hub.old hub.new }
+    ensures { Keeps [] hub.old hub.new }
 {
     match job {
         Job::Check => checked(hub, client, server, onlookers, shape.len, CHECKED),

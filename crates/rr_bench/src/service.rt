@@ -1,9 +1,9 @@
 //! The hub of a shape, and its ports.
-#![tactic(auto, using(rr_ports::proofs::Frames::frames, crate::proofs::Frames::servers))]
+#![tactic(auto, using(rr_ports::proofs::Frames::callers, crate::proofs::Frames::servers), unfolding(rr_ports::specs::Facts::Keeps, rr_ports::specs::Facts::IsFree))]
 
-ghost use Rattle.std.specs.Prelude.{◌≡◌};
+ghost use Rattle.std.specs.Prelude.{◌≡◌, []};
 ghost use Rattle.rr_protocol.specs.declared.kind.Kind.TheVariants as kind;
-ghost use Rattle.rr_ports.specs.Kinds.{Names, KeepsKinds};
+ghost use Rattle.rr_ports.specs.Facts.{Keeps, Names};
 ghost use Rattle.rr_bench.specs.Onlookers.{AreServers};
 
 use crate::family::{Family, Hub};
@@ -22,7 +22,7 @@ fn come_and_leave<B: Family>(
     len: usize,
 ) -> anyhow::Result<()>
     requires { Names hub.old server.now kind.Server }
-    ensures { KeepsKinds hub.old hub.new }
+    ensures { Keeps [] hub.old hub.new }
 {
     let client = B::client(hub, len)?;
     let nobody = Vec::new(rt.alloc());
@@ -41,7 +41,7 @@ fn let_pass<B: Family>(
     shape: &Shape,
 ) -> anyhow::Result<()>
     requires { Names hub.old server.now kind.Server }
-    ensures { KeepsKinds hub.old hub.new }
+    ensures { Keeps [] hub.old hub.new }
 {
     for _ in 0..shape.passed {
         come_and_leave(rt, hub, server, shape.len)?;
@@ -63,7 +63,7 @@ fn beside_onlookers<B: Family>(
     requires client { Names hub.old client.now kind.Client }
     requires server { Names hub.old server.now kind.Server }
     requires onlookers { AreServers hub.old onlookers.old.items }
-    ensures kinds { KeepsKinds hub.old hub.new }
+    ensures keeps { Keeps [] hub.old hub.new }
     ensures onlookers { onlookers.new.items ≡ onlookers.old.items }
 {
     if left == 0 {
@@ -95,7 +95,7 @@ fn beside_loans<B: Family>(
 ) -> anyhow::Result<()>
     requires client { Names hub.old client.now kind.Client }
     requires server { Names hub.old server.now kind.Server }
-    ensures { KeepsKinds hub.old hub.new }
+    ensures { Keeps [] hub.old hub.new }
 {
     if left == 0 {
         let mut onlookers = Vec::new(rt.alloc());
@@ -125,7 +125,7 @@ fn before_clients<B: Family>(
 ) -> anyhow::Result<()>
     requires client { Names hub.old client.now kind.Client }
     requires server { Names hub.old server.now kind.Server }
-    ensures { KeepsKinds hub.old hub.new }
+    ensures { Keeps [] hub.old hub.new }
 {
     if left == 0 {
         return beside_loans(rt, hub, client, server, shape.held, shape, job);
@@ -146,7 +146,7 @@ fn after_clients<B: Family>(
     job: Job,
 ) -> anyhow::Result<()>
     requires { Names hub.old server.now kind.Server }
-    ensures { KeepsKinds hub.old hub.new }
+    ensures { Keeps [] hub.old hub.new }
 {
     let client = B::client(hub, shape.len)?;
     let done = if left == 0 {
@@ -178,7 +178,7 @@ fn serve<B: Family>(
     job: Job,
 ) -> anyhow::Result<()>
     requires { Names hub.old server.now kind.Server }
-    ensures { KeepsKinds hub.old hub.new }
+    ensures { Keeps [] hub.old hub.new }
 {
     let_pass(rt, hub, server, shape)?;
     let before = shape.limits.max_clients / 2;

@@ -1,10 +1,9 @@
 //! One round trip.
-#![tactic(auto, using(rr_ports::proofs::Frames::frames, crate::proofs::Frames::servers))]
+#![tactic(auto, using(rr_ports::proofs::Frames::callers, crate::proofs::Frames::servers), unfolding(rr_ports::specs::Facts::Keeps, rr_ports::specs::Facts::IsFree))]
 
-ghost use Rattle.std.specs.Prelude.{◌≡◌, ◌<◌, ◌≤◌, ◌+◌, IfOk};
+ghost use Rattle.std.specs.Prelude.{◌≡◌, ◌<◌, ◌≤◌, ◌+◌, IfOk, []};
 ghost use Rattle.rr_protocol.specs.declared.kind.Kind.TheVariants as kind;
-ghost use Rattle.rr_protocol.specs.State.{numbers_left};
-ghost use Rattle.rr_ports.specs.Kinds.{Names, NamesNothing, KeepsKinds};
+ghost use Rattle.rr_ports.specs.Facts.{IsFree, Keeps, Names, numbers_left};
 ghost use Rattle.rr_bench.specs.Onlookers.{AreServers};
 
 use crate::family::{Family, Hub};
@@ -21,9 +20,9 @@ fn ask<B: Family>(
 ) -> Result<PendingResponse<B>, TripError>
     requires client { Names hub.old client.now kind.Client }
     requires numbers { 0 < numbers_left hub.old }
-    ensures fresh { IfOk result (λ pending. NamesNothing hub.old pending) }
+    ensures free { IfOk result (λ pending. IsFree [] hub.old pending) }
     ensures kind { IfOk result (λ pending. Names hub.new pending kind.PendingResponse) }
-    ensures kinds { KeepsKinds hub.old hub.new }
+    ensures keeps { Keeps [] hub.old hub.new }
     ensures numbers { numbers_left hub.old ≤ numbers_left hub.new + 1 }
 {
     let request = B::request(hub, client, len, word)?;
@@ -39,7 +38,7 @@ fn respond<B: Family>(
 ) -> Result<(), TripError>
     requires active { Names hub.old active.now kind.ActiveRequest }
     requires numbers { 0 < numbers_left hub.old }
-    ensures kinds { KeepsKinds hub.old hub.new }
+    ensures keeps { Keeps [] hub.old hub.new }
     ensures numbers { numbers_left hub.old ≤ numbers_left hub.new + 1 }
 {
     let word = B::word_asked(hub, active).ok_or(TripError::NoElements)?;
@@ -52,7 +51,7 @@ fn respond<B: Family>(
 fn answer<B: Family>(hub: &mut Hub<B>, server: &Server<B>, len: usize) -> Result<(), TripError>
     requires server { Names hub.old server.now kind.Server }
     requires numbers { 1 < numbers_left hub.old }
-    ensures kinds { KeepsKinds hub.old hub.new }
+    ensures keeps { Keeps [] hub.old hub.new }
     ensures numbers { numbers_left hub.old ≤ numbers_left hub.new + 2 }
 {
     let Some(active) = server.receive(hub)? else {
@@ -70,7 +69,7 @@ fn answer<B: Family>(hub: &mut Hub<B>, server: &Server<B>, len: usize) -> Result
 #[inline(always)]
 fn conclude<B: Family>(hub: &mut Hub<B>, pending: &PendingResponse<B>) -> Result<u64, TripError>
     requires { Names hub.old pending.now kind.PendingResponse }
-    ensures kinds { KeepsKinds hub.old hub.new }
+    ensures keeps { Keeps [] hub.old hub.new }
     ensures numbers { numbers_left hub.new ≡ numbers_left hub.old }
 {
     let Some(response) = pending.receive(hub)? else {
@@ -92,7 +91,7 @@ fn exchange<B: Family>(
     requires server { Names hub.old server.now kind.Server }
     requires pending { Names hub.old pending.now kind.PendingResponse }
     requires numbers { 1 < numbers_left hub.old }
-    ensures { KeepsKinds hub.old hub.new }
+    ensures { Keeps [] hub.old hub.new }
 {
     answer(hub, server, len)?;
     conclude(hub, pending)
@@ -110,7 +109,7 @@ fn round_trip<B: Family>(
     requires client { Names hub.old client.now kind.Client }
     requires server { Names hub.old server.now kind.Server }
     requires numbers { 2 < numbers_left hub.old }
-    ensures { KeepsKinds hub.old hub.new }
+    ensures { Keeps [] hub.old hub.new }
 {
     let pending = ask(hub, client, len, word)?;
     match exchange(hub, server, &pending, len) {
@@ -128,7 +127,7 @@ fn round_trip<B: Family>(
 /// Lets servers look for requests, and releases those that come.
 fn look<B: Family>(hub: &mut Hub<B>, onlookers: &[Server<B>]) -> Result<(), TripError>
     requires { AreServers hub.old onlookers.now }
-    ensures { KeepsKinds hub.old hub.new }
+    ensures { Keeps [] hub.old hub.new }
 {
     for server in onlookers {
         if hub.numbers_left() == 0 {
@@ -155,7 +154,7 @@ pub fn trips<B: Family>(
     requires client { Names hub.old client.now kind.Client }
     requires server { Names hub.old server.now kind.Server }
     requires onlookers { AreServers hub.old onlookers.now }
-    ensures { KeepsKinds hub.old hub.new }
+    ensures { Keeps [] hub.old hub.new }
 {
     let mut sum = 0u64;
     for _ in 0..count {

@@ -1,10 +1,9 @@
 //! A client asks, a server answers, and the program prints the answer.
-#![tactic(auto, using(rr_ports::proofs::Frames::frames))]
+#![tactic(auto, using(rr_ports::proofs::Frames::callers), unfolding(rr_ports::specs::Facts::Keeps, rr_ports::specs::Facts::IsFree))]
 
-ghost use Rattle.std.specs.Prelude.{◌<◌};
+ghost use Rattle.std.specs.Prelude.{◌<◌, []};
 ghost use Rattle.rr_protocol.specs.declared.kind.Kind.TheVariants as kind;
-ghost use Rattle.rr_protocol.specs.State.{numbers_left};
-ghost use Rattle.rr_ports.specs.Kinds.{Names, KeepsKinds};
+ghost use Rattle.rr_ports.specs.Facts.{Keeps, Names, numbers_left};
 
 use rr_ports::typed::{Client, Hub, PendingResponse, Server};
 use rr_ports::{Limits, UniqueNodeId};
@@ -30,7 +29,7 @@ const LIMITS: Limits = Limits {
 fn answer(hub: &mut Service, server: &Server<u64>)
     requires server { Names hub.old server.now kind.Server }
     requires numbers { 1 < numbers_left hub.old }
-    ensures { KeepsKinds hub.old hub.new }
+    ensures { Keeps [] hub.old hub.new }
 {
     if let Ok(Some(active)) = server.receive(hub) {
         let asked = *active.payload(hub);
@@ -42,7 +41,7 @@ fn answer(hub: &mut Service, server: &Server<u64>)
 /// Reads a response, if one is queued.
 fn read(hub: &mut Service, pending: &PendingResponse<u64>) -> Option<u64>
     requires { Names hub.old pending.now kind.PendingResponse }
-    ensures { KeepsKinds hub.old hub.new }
+    ensures { Keeps [] hub.old hub.new }
 {
     match pending.receive(hub) {
         Ok(Some(response)) => {
@@ -59,7 +58,7 @@ fn exchange(hub: &mut Service, server: &Server<u64>, pending: &PendingResponse<u
     requires server { Names hub.old server.now kind.Server }
     requires pending { Names hub.old pending.now kind.PendingResponse }
     requires numbers { 1 < numbers_left hub.old }
-    ensures { KeepsKinds hub.old hub.new }
+    ensures { Keeps [] hub.old hub.new }
 {
     answer(hub, server);
     read(hub, pending)
@@ -70,7 +69,7 @@ fn double(hub: &mut Service, client: &Client<u64>, server: &Server<u64>, value: 
     requires client { Names hub.old client.now kind.Client }
     requires server { Names hub.old server.now kind.Server }
     requires numbers { 2 < numbers_left hub.old }
-    ensures { KeepsKinds hub.old hub.new }
+    ensures { Keeps [] hub.old hub.new }
 {
     let Ok(pending) = client.send_copy(hub, value) else {
         return None;

@@ -3,6 +3,7 @@ ghost use Rattle.std.specs.Prelude.{◌≡◌, None, IfOk, IsTrue};
 ghost use Rattle.rr_slots.specs.Families.{takes_len};
 ghost use Rattle.rr_protocol.specs.Creation.{CreatesClient, CreatesServer};
 ghost use Rattle.rr_protocol.specs.Queries.{kind_at};
+ghost use Rattle.rr_protocol.specs.State.{client_at, server_at};
 
 use crate::state::Core;
 use rr_creating::{create_client, create_server};
@@ -31,6 +32,7 @@ impl<QB: Body, QH: Default + Drop, PB: Body, PH: Default + Drop, K: Backpressure
         requires { IsTrue (takes_len QB.family settings.initial_max_slice_len) }
         ensures creates { CreatesClient self.old settings result self.new }
         ensures unnamed { IfOk result (λ number. kind_at self.old number ≡ None) }
+        ensures unmade { IfOk result (λ number. client_at self.old number ≡ None) }
     {
         create_client(&mut self.parts, self.alloc, settings)
     }
@@ -48,6 +50,7 @@ impl<QB: Body, QH: Default + Drop, PB: Body, PH: Default + Drop, K: Backpressure
         requires { IsTrue (takes_len PB.family settings.initial_max_slice_len) }
         ensures creates { CreatesServer self.old settings result self.new }
         ensures unnamed { IfOk result (λ number. kind_at self.old number ≡ None) }
+        ensures unmade { IfOk result (λ number. server_at self.old number ≡ None) }
     {
         create_server(&mut self.parts, self.alloc, settings)
     }

@@ -125,7 +125,7 @@ module _ {Q QH P PH K : Type 0} where
   handle_gone s (ResponseMut m) = refl
   handle_gone s (Response m) = refl
 
-  released : (s : State Q QH P PH K) (n : ℕ) → Lasts s (after_release s n)
+  pub released : (s : State Q QH P PH K) (n : ℕ) → Lasts s (after_release s n)
   released s n = go (handle_at s n)
     where
       go : (o : Option (Handle Q QH P PH)) → Lasts s
@@ -137,7 +137,7 @@ module _ {Q QH P PH K : Type 0} where
           lasts_then s gone (without_unused_port gone (port_of h))
           (lasts_by_frame s gone (handle_gone (record s { handles = fin_map.remove s.handles n }) h)) (unused_port gone (port_of h))
 
-  creates_client : (s : State Q QH P PH K) (settings : ClientSettings K) (result : Result ℕ ClientCreateError) (new : State Q QH P PH K)
+  pub creates_client : (s : State Q QH P PH K) (settings : ClientSettings K) (result : Result ℕ ClientCreateError) (new : State Q QH P PH K)
       → CreatesClient s settings result new → Lasts s new
   creates_client s settings (Ok number) new made = moved new (with_client s settings) s made.2
       (record {
@@ -148,7 +148,7 @@ module _ {Q QH P PH K : Type 0} where
       })
   creates_client s settings (Err error) new made = same new s s made.1 refl
 
-  creates_server : (s : State Q QH P PH K) (settings : ServerSettings K) (result : Result ℕ ServerCreateError) (new : State Q QH P PH K)
+  pub creates_server : (s : State Q QH P PH K) (settings : ServerSettings K) (result : Result ℕ ServerCreateError) (new : State Q QH P PH K)
       → CreatesServer s settings result new → Lasts s new
   creates_server s settings (Ok number) new made = moved new (with_server s settings) s made.2
       (record {
@@ -159,7 +159,7 @@ module _ {Q QH P PH K : Type 0} where
       })
   creates_server s settings (Err error) new made = same new s s made.1 refl
 
-  loans_request : (IsDefault : QH → Type 0) (s : State Q QH P PH K) (n len : ℕ) (result : Result ℕ LoanError) (new : State Q QH P PH K)
+  pub loans_request : (IsDefault : QH → Type 0) (s : State Q QH P PH K) (n len : ℕ) (result : Result ℕ LoanError) (new : State Q QH P PH K)
       → LoansRequest IsDefault s n len result new → Lasts s new
   loans_request IsDefault s n len (Ok number) new loans =
       let o = some_and (client_at s n) _ loans in
@@ -174,18 +174,18 @@ module _ {Q QH P PH K : Type 0} where
       })
   loans_request IsDefault s n len (Err error) new loans = same new s s (some_and (client_at s n) _ loans).2.1 refl
 
-  loans_response : (IsDefault : PH → Type 0) (s : State Q QH P PH K) (n len : ℕ) (result : Result ℕ LoanError) (new : State Q QH P PH K)
+  pub loans_response : (IsDefault : PH → Type 0) (s : State Q QH P PH K) (n len : ℕ) (result : Result ℕ LoanError) (new : State Q QH P PH K)
       → LoansResponse IsDefault s n len result new → Lasts s new
   loans_response IsDefault s n len (Ok number) new loans = moved new _ s (open_active s n _ loans).4.2.2
       (lasts_with_more s _ refl (omega arith) refl refl)
   loans_response IsDefault s n len (Err error) new loans = same new s s (open_active s n _ loans).4.1 refl
 
-  sends_request : (action : K → ℕ → ℕ → BackpressureAction) (s : State Q QH P PH K) (n : ℕ) (result : Result ℕ RequestSendError)
+  pub sends_request : (action : K → ℕ → ℕ → BackpressureAction) (s : State Q QH P PH K) (n : ℕ) (result : Result ℕ RequestSendError)
       (new : State Q QH P PH K) → SendsRequest action s n result new → Lasts s new
   sends_request action s n (Ok connections) new sends = same new _ s (open_request_mut s n _ sends).4.2 refl
   sends_request action s n (Err error) new sends = moved new _ s (open_request_mut s n _ sends).4.1 (released s n)
 
-  sends_response : {U : Type 0} (action : K → ℕ → ℕ → BackpressureAction) (s : State Q QH P PH K) (n : ℕ) (result : Result U SendError)
+  pub sends_response : {U : Type 0} (action : K → ℕ → ℕ → BackpressureAction) (s : State Q QH P PH K) (n : ℕ) (result : Result U SendError)
       (new : State Q QH P PH K) → SendsResponse action s n result new → Lasts s new
   sends_response action s n (Ok u) new sends =
       let o = open_response_mut s n _ sends in
@@ -207,11 +207,11 @@ module _ {Q QH P PH K : Type 0} where
   unskimmed s server (Err ReceiveError.ExceedsMaxBorrows) new h = same new s s h.2 refl
   unskimmed s server (Err (ReceiveError.ConnectionFailure failure)) new h = absurd h
 
-  receives_request : (s : State Q QH P PH K) (n : ℕ) (result : Result (Option ℕ) ReceiveError) (new : State Q QH P PH K)
+  pub receives_request : (s : State Q QH P PH K) (n : ℕ) (result : Result (Option ℕ) ReceiveError) (new : State Q QH P PH K)
       → ReceivesRequest s n result new → Lasts s new
   receives_request s n result new h = lasts_then s h.1.1 new (skims h.1.0 s n h.1.1 h.1.2) (unskimmed h.1.1 n result new h.1.3)
 
-  receives_response : (s : State Q QH P PH K) (n : ℕ) (result : Result (Option ℕ) ReceiveError) (new : State Q QH P PH K)
+  pub receives_response : (s : State Q QH P PH K) (n : ℕ) (result : Result (Option ℕ) ReceiveError) (new : State Q QH P PH K)
       → ReceivesResponse s n result new → Lasts s new
   receives_response s n (Ok (Some number)) new h =
       let r = (some_and (pending_at s n) _ h).2 in

@@ -76,7 +76,7 @@ whole_size worst_case None some e = refl
 whole_size worst_case (Some pool) some e = let most = leb-true worst_case pool e in omega (arith, some, most)
 
 -- the worst case of responses is above 0
-responses_positive : (l : Limits) (loans : ℕ) → ArePositive l → 0 < loans → 0 < worst_case_responses l loans
+pub responses_positive : (l : Limits) (loans : ℕ) → ArePositive l → 0 < loans → 0 < worst_case_responses l loans
 responses_positive l loans p some = more _ _ (mul-pos (mul-pos some p.active) p.clients)
   where
     more : (a b : ℕ) → 0 < a → 0 < a + b

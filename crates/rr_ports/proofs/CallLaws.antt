@@ -1,23 +1,25 @@
--- What numbers name after loans and receives.
-use Rattle.std.proofs.Common.{◌≡◌, ◌≢◌, ℕ, ◌+◌, ◌-◌, ◌^◌, ◌≤◌, true, false, cond, List, [], ◌∷◌, map, Option, Some, None, refl, sym, ap, ◌∙◌, subst, arith, Result, Ok, Err}
-use Rattle.std.specs.Prelude.{IsSomeAnd, option_and_then, ◌&&◌, ◌||◌, ◌==◌, IfOk, IfSome}
+-- Which facts hold of numbers after loans and receives.
+use Rattle.std.proofs.Common.{◌≡◌, ◌≢◌, ℕ, ◌+◌, ◌-◌, ◌^◌, ◌≤◌, true, false, cond, List, [], ◌∷◌, map, Option, Some, None, refl, sym, ap, ◌∙◌, arith, Result, Ok, Err}
+use Rattle.std.specs.Prelude.{◌&&◌, ◌||◌, ◌==◌, IfOk, IfSome}
 use Rattle.std.specs.List.{list_any}
 use Rattle.std.specs.FinMap as fin_map
-use Rattle.rr_map_laws.proofs.MapLaws.{get-insert_same}
 use Rattle.rr_protocol.specs.declared.kind.Kind.{Kind}
 use Rattle.rr_protocol.specs.declared.error.LoanError.{LoanError}
 use Rattle.rr_protocol.specs.declared.error.ReceiveError.{ReceiveError}
 use Rattle.rr_protocol.specs.Keys.{RequestKey, request_key}
-use Rattle.rr_protocol.specs.Messages.{request_in, response_in, RequestMessage, Handle, ActiveRequest, Response}
+use Rattle.rr_protocol.specs.Messages.{RequestMessage, Handle, RequestMutUninit, ResponseMutUninit, ActiveRequest, Response}
 use Rattle.rr_protocol.specs.Ports.{Client}
-use Rattle.rr_protocol.specs.State.{State, handle_at, client_at, pending_at, is_client_value, is_server_value, numbers_left}
+use Rattle.rr_protocol.specs.State.{State, client_at, pending_at, is_client_value, is_server_value}
 use Rattle.rr_protocol.specs.Queries.{kind_of, kind_at}
-use Rattle.rr_protocol.specs.Loans.{LoansRequest, LoansResponse, with_loan_counted}
+use Rattle.rr_protocol.specs.Loans.{LoansRequest, LoansResponse, with_loan_counted, empty_content}
 use Rattle.rr_protocol.specs.Receives.{ReceivesRequest, ReceivesResponse, TakesRequest, Skims}
 use Rattle.rr_laws.specs.Unreduced.{ClientHasPool, ServerHasPool}
 use Rattle.rr_laws.proofs.Opening.{some_and, open_active}
-use Rattle.rr_ports.specs.Kinds.{Names, NamesNothing, KeepsKinds, RequestAsksFor, ResponseAsksFor}
-use Rattle.rr_ports.proofs.NameLaws.{SamePorts, free_no_port, keeps_new, keeps_each, keeps_same, other_kind, own_kind}
+use Rattle.rr_laws.proofs.Lasting.{Lasts}
+use Rattle.rr_laws.proofs.LastingSteps.{loans_request, loans_response, receives_request, receives_response}
+use Rattle.rr_ports.specs.Facts.{Asks, Answers, AskedLen, WholePool, Has, Names, Keeps, IsFree, shown_of, shown_at, numbers_left}
+use Rattle.rr_ports.proofs.FactLaws.{if_ok, if_some, asks, asks_for, answers, is_free, keeps_new, keeps_each, keeps_same, other_shown, own_shown, own_kind, client_has_pool, server_has_pool, active_pool}
+use Rattle.rr_ports.proofs.NameLaws.{SamePorts, free_no_port}
 use Rattle.rr_ports.proofs.ReleaseLaws.{SameNames, names_then, names_equal, names_ports, names_each}
 
 -- a client's value lives as before, once a loan was counted
@@ -43,17 +45,24 @@ module _ {Q QH P PH K : Type 0} where
     pub ports : SamePorts old new
 
   pub gains_names : (k : ℕ) (kind : Kind) (old new : State Q QH P PH K) → Gains k kind old new → kind_at old k ≡ None → Names new k kind
-  unfolding Names
+  unfolding Has
   gains_names k kind old new g free = own_kind old new g.ports k g.handle g.handles (free_no_port old k free) ∙ ap Some g.is_kind
 
-  pub gains_keeps : (k : ℕ) (kind : Kind) (old new : State Q QH P PH K) → Gains k kind old new → kind_at old k ≡ None → KeepsKinds old new
-  gains_keeps k kind old new g free = keeps_new k old new free (other_kind old new g.ports k g.handle g.handles)
+  pub gains_keeps : (k : ℕ) (kind : Kind) (old new : State Q QH P PH K) → Lasts old new → Gains k kind old new → kind_at old k ≡ None
+      → Keeps [] old new
+  gains_keeps k kind old new lasts g free = keeps_new k old new lasts free (other_shown old new g.ports k g.handle g.handles)
+
+  pub gains_shows : (k : ℕ) (kind : Kind) (old new : State Q QH P PH K) (g : Gains k kind old new) → kind_at old k ≡ None
+      → shown_at new k ≡ Some (shown_of g.handle)
+  gains_shows k kind old new g free = own_shown old new g.ports k g.handle g.handles (free_no_port old k free)
 
   -- numbers left where one was given, or none was
   one_fewer : (old new : State Q QH P PH K) → new.next ≡ old.next + 1 → numbers_left old ≤ numbers_left new + 1
+  unfolding numbers_left
   one_fewer old new e = omega arith
 
   none_fewer : (old new : State Q QH P PH K) → new.next ≡ old.next → numbers_left old ≤ numbers_left new + 1
+  unfolding numbers_left
   none_fewer old new e = omega arith
 
   -- loans of requests
@@ -64,15 +73,21 @@ module _ {Q QH P PH K : Type 0} where
     pub loan_gains : (k : ℕ) → LoansRequest IsDefault old n len (Ok k) new → Gains k Kind.RequestMutUninit old new
     loan_gains k loans =
         let l = some_and (client_at old n) _ loans in
-        subst (λ i. Gains i Kind.RequestMutUninit old new) (sym l.2.1) (record {
-          handle = _;
-          handles = ap (λ t. t.handles) l.2.2.4;
+        let h : Handle Q QH P PH = RequestMutUninit (record {
+          number = old.next;
+          client = l.0.id;
+          request_id = l.0.loans_made;
+          channel = l.2.2.0;
+          content = empty_content l.2.2.1 len;
+        }) in record {
+          handle = h;
+          handles = ap (λ t. t.handles) l.2.2.4 ∙ ap (λ i. fin_map.insert old.handles i h) (sym l.2.1);
           is_kind = refl;
           ports = record {
             clients = λ i. ap (λ t. is_client_value t i) l.2.2.4 ∙ counted_values i l.0.id old.clients;
             servers = λ i. ap (λ t. is_server_value t i) l.2.2.4;
           };
-        })
+        }
 
     pub loan_names : (result : Result ℕ LoanError) → LoansRequest IsDefault old n len result new → IfOk result (λ k. kind_at old k ≡ None)
         → IfOk result (λ k. Names new k Kind.RequestMutUninit)
@@ -80,25 +95,30 @@ module _ {Q QH P PH K : Type 0} where
     loan_names (Err e) loans free = tt
 
     pub loan_keeps : (result : Result ℕ LoanError) → LoansRequest IsDefault old n len result new → IfOk result (λ k. kind_at old k ≡ None)
-        → KeepsKinds old new
-    loan_keeps (Ok k) loans free = gains_keeps k Kind.RequestMutUninit old new (loan_gains k loans) free
+        → Keeps [] old new
+    loan_keeps (Ok k) loans free = gains_keeps k Kind.RequestMutUninit old new (loans_request IsDefault old n len (Ok k) new loans) (loan_gains k loans) free
     loan_keeps (Err e) loans free = keeps_same old new (loan_refused e loans)
 
     pub loan_numbers : (result : Result ℕ LoanError) → LoansRequest IsDefault old n len result new → numbers_left old ≤ numbers_left new + 1
     loan_numbers (Ok k) loans = one_fewer old new (ap (λ t. t.next) (some_and (client_at old n) _ loans).2.2.4)
     loan_numbers (Err e) loans = none_fewer old new (ap (λ t. t.next) (loan_refused e loans))
 
-    pub loan_asks : (result : Result ℕ LoanError) → LoansRequest IsDefault old n len result new → IfOk result (λ k. RequestAsksFor new k len)
-    unfolding RequestAsksFor
-    loan_asks (Ok k) loans =
-        let l = some_and (client_at old n) _ loans in
-        let there = ap (λ t. fin_map.get t.handles old.next) l.2.2.4 ∙ get-insert_same old.handles old.next _ old.next refl in
-        subst (λ i. IsSomeAnd (option_and_then request_in (handle_at new i)) (λ m. len ≡ m.content.asked_len)) (sym l.2.1)
-        (subst (λ o. IsSomeAnd (option_and_then request_in o) (λ m. len ≡ m.content.asked_len)) (sym there) refl)
-    loan_asks (Err e) loans = tt
+    -- it asks for so many elements, and has none
+    loan_says : (result : Result ℕ LoanError) → LoansRequest IsDefault old n len result new → IfOk result (λ k. kind_at old k ≡ None)
+        → IfOk result (λ k. Has new k (Asks []) × Has new k (AskedLen len))
+    unfolding loan_gains
+    loan_says (Ok k) loans free =
+        let shows = gains_shows k Kind.RequestMutUninit old new (loan_gains k loans) free in
+        (asks new k _ shows [] refl, asks_for new k _ shows len refl)
+    loan_says (Err e) loans free = tt
 
-    -- what the call of a port tells of the loan, of one element and of many
-    module _ (result : Result ℕ LoanError) (told : record {
+    -- a loan from a whole pool finds a slot
+    loan_found : (result : Result ℕ LoanError) → (ClientHasPool old.limits old n len → result ≢ Err LoanError.OutOfMemory)
+        → Names old n Kind.Client → (room : ℕ) → len ≤ room → Has old n (WholePool room) → result ≢ Err LoanError.OutOfMemory
+    loan_found result unreduced is room short has = unreduced (client_has_pool old n room len is short has)
+
+    -- what the call of a port tells of the loan
+    module _ (result : Result ℕ LoanError) (is : Names old n Kind.Client) (told : record {
       loans : LoansRequest IsDefault old n len result new;
       unnamed : IfOk result (λ k. kind_at old k ≡ None);
       unreduced : ClientHasPool old.limits old n len → result ≢ Err LoanError.OutOfMemory;
@@ -106,38 +126,24 @@ module _ {Q QH P PH K : Type 0} where
       pub request_loaned : record {
         loans : LoansRequest IsDefault old n len result new;
         unreduced : ClientHasPool old.limits old n len → result ≢ Err LoanError.OutOfMemory;
-        fresh : IfOk result (λ k. NamesNothing old k);
+        whole : (room : ℕ) → len ≤ room → Has old n (WholePool room) → result ≢ Err LoanError.OutOfMemory;
+        free : IfOk result (λ k. IsFree [] old k);
         kind : IfOk result (λ k. Names new k Kind.RequestMutUninit);
-        kinds : KeepsKinds old new;
+        says : IfOk result (λ k. Has new k (Asks []));
+        asked : IfOk result (λ k. Has new k (AskedLen len));
+        keeps : Keeps [] old new;
         numbers : numbers_left old ≤ numbers_left new + 1;
       }
-      unfolding NamesNothing
       request_loaned = record {
         loans = told.loans;
         unreduced = told.unreduced;
-        fresh = told.unnamed;
+        whole = loan_found result told.unreduced is;
+        free = if_ok result told.unnamed (λ k. is_free [] old k);
         kind = loan_names result told.loans told.unnamed;
-        kinds = loan_keeps result told.loans told.unnamed;
+        says = if_ok result (loan_says result told.loans told.unnamed) (λ k h. h.0);
+        asked = if_ok result (loan_says result told.loans told.unnamed) (λ k h. h.1);
+        keeps = loan_keeps result told.loans told.unnamed;
         numbers = loan_numbers result told.loans;
-      }
-
-      pub request_slice_loaned : record {
-        loans : LoansRequest IsDefault old n len result new;
-        unreduced : ClientHasPool old.limits old n len → result ≢ Err LoanError.OutOfMemory;
-        fresh : IfOk result (λ k. NamesNothing old k);
-        kind : IfOk result (λ k. Names new k Kind.RequestMutUninit);
-        asked : IfOk result (λ k. RequestAsksFor new k len);
-        kinds : KeepsKinds old new;
-        numbers : numbers_left old ≤ numbers_left new + 1;
-      }
-      request_slice_loaned = let one = request_loaned in record {
-        loans = one.loans;
-        unreduced = one.unreduced;
-        fresh = one.fresh;
-        kind = one.kind;
-        asked = loan_asks result told.loans;
-        kinds = one.kinds;
-        numbers = one.numbers;
       }
 
   -- loans of responses
@@ -147,13 +153,22 @@ module _ {Q QH P PH K : Type 0} where
 
     pub response_loan_gains : (k : ℕ) → LoansResponse IsDefault old n len (Ok k) new → Gains k Kind.ResponseMutUninit old new
     response_loan_gains k loans =
-        let l = (open_active old n _ loans).4 in
-        subst (λ i. Gains i Kind.ResponseMutUninit old new) (sym l.1) (record {
-          handle = _;
-          handles = ap (λ t. t.handles) l.2.2;
+        let o = open_active old n _ loans in
+        let h : Handle Q QH P PH = ResponseMutUninit (record {
+          number = old.next;
+          server = o.1.server;
+          active_request = n;
+          request = o.1.message.number;
+          request_id = o.1.message.request_id;
+          client = o.1.message.client;
+          channel = o.1.message.channel;
+          content = empty_content o.4.2.0 len;
+        }) in record {
+          handle = h;
+          handles = ap (λ t. t.handles) o.4.2.2 ∙ ap (λ i. fin_map.insert old.handles i h) (sym o.4.1);
           is_kind = refl;
-          ports = record { clients = λ i. ap (λ t. is_client_value t i) l.2.2; servers = λ i. ap (λ t. is_server_value t i) l.2.2 };
-        })
+          ports = record { clients = λ i. ap (λ t. is_client_value t i) o.4.2.2; servers = λ i. ap (λ t. is_server_value t i) o.4.2.2 };
+        }
 
     pub response_loan_names : (result : Result ℕ LoanError) → LoansResponse IsDefault old n len result new → IfOk result (λ k. kind_at old k ≡ None)
         → IfOk result (λ k. Names new k Kind.ResponseMutUninit)
@@ -161,25 +176,30 @@ module _ {Q QH P PH K : Type 0} where
     response_loan_names (Err e) loans free = tt
 
     pub response_loan_keeps : (result : Result ℕ LoanError) → LoansResponse IsDefault old n len result new → IfOk result (λ k. kind_at old k ≡ None)
-        → KeepsKinds old new
-    response_loan_keeps (Ok k) loans free = gains_keeps k Kind.ResponseMutUninit old new (response_loan_gains k loans) free
+        → Keeps [] old new
+    response_loan_keeps (Ok k) loans free = gains_keeps k Kind.ResponseMutUninit old new (loans_response IsDefault old n len (Ok k) new loans) (response_loan_gains k loans) free
     response_loan_keeps (Err e) loans free = keeps_same old new (response_loan_refused e loans)
 
     pub response_loan_numbers : (result : Result ℕ LoanError) → LoansResponse IsDefault old n len result new → numbers_left old ≤ numbers_left new + 1
     response_loan_numbers (Ok k) loans = one_fewer old new (ap (λ t. t.next) (open_active old n _ loans).4.2.2)
     response_loan_numbers (Err e) loans = none_fewer old new (ap (λ t. t.next) (response_loan_refused e loans))
 
-    pub response_loan_asks : (result : Result ℕ LoanError) → LoansResponse IsDefault old n len result new → IfOk result (λ k. ResponseAsksFor new k len)
-    unfolding ResponseAsksFor
-    response_loan_asks (Ok k) loans =
-        let l = (open_active old n _ loans).4 in
-        let there = ap (λ t. fin_map.get t.handles old.next) l.2.2 ∙ get-insert_same _ old.next _ old.next refl in
-        subst (λ i. IsSomeAnd (option_and_then response_in (handle_at new i)) (λ m. len ≡ m.content.asked_len)) (sym l.1)
-        (subst (λ o. IsSomeAnd (option_and_then response_in o) (λ m. len ≡ m.content.asked_len)) (sym there) refl)
-    response_loan_asks (Err e) loans = tt
+    -- it asks for so many elements, and has none
+    response_loan_says : (result : Result ℕ LoanError) → LoansResponse IsDefault old n len result new → IfOk result (λ k. kind_at old k ≡ None)
+        → IfOk result (λ k. Has new k (Answers []) × Has new k (AskedLen len))
+    unfolding response_loan_gains
+    response_loan_says (Ok k) loans free =
+        let shows = gains_shows k Kind.ResponseMutUninit old new (response_loan_gains k loans) free in
+        (answers new k _ shows [] refl, asks_for new k _ shows len refl)
+    response_loan_says (Err e) loans free = tt
 
-    -- what the call of a port tells of the loan, of one element and of many
-    module _ (result : Result ℕ LoanError) (told : record {
+    -- a loan from a whole pool finds a slot
+    response_loan_found : (result : Result ℕ LoanError) → (ServerHasPool old.limits old n len → result ≢ Err LoanError.OutOfMemory)
+        → Names old n Kind.ActiveRequest → (room : ℕ) → len ≤ room → Has old n (WholePool room) → result ≢ Err LoanError.OutOfMemory
+    response_loan_found result unreduced is room short has = unreduced (server_has_pool old n room len is short has)
+
+    -- what the call of a port tells of the loan
+    module _ (result : Result ℕ LoanError) (is : Names old n Kind.ActiveRequest) (told : record {
       loans : LoansResponse IsDefault old n len result new;
       unnamed : IfOk result (λ k. kind_at old k ≡ None);
       unreduced : ServerHasPool old.limits old n len → result ≢ Err LoanError.OutOfMemory;
@@ -187,38 +207,24 @@ module _ {Q QH P PH K : Type 0} where
       pub response_loaned : record {
         loans : LoansResponse IsDefault old n len result new;
         unreduced : ServerHasPool old.limits old n len → result ≢ Err LoanError.OutOfMemory;
-        fresh : IfOk result (λ k. NamesNothing old k);
+        whole : (room : ℕ) → len ≤ room → Has old n (WholePool room) → result ≢ Err LoanError.OutOfMemory;
+        free : IfOk result (λ k. IsFree [] old k);
         kind : IfOk result (λ k. Names new k Kind.ResponseMutUninit);
-        kinds : KeepsKinds old new;
+        says : IfOk result (λ k. Has new k (Answers []));
+        asked : IfOk result (λ k. Has new k (AskedLen len));
+        keeps : Keeps [] old new;
         numbers : numbers_left old ≤ numbers_left new + 1;
       }
-      unfolding NamesNothing
       response_loaned = record {
         loans = told.loans;
         unreduced = told.unreduced;
-        fresh = told.unnamed;
+        whole = response_loan_found result told.unreduced is;
+        free = if_ok result told.unnamed (λ k. is_free [] old k);
         kind = response_loan_names result told.loans told.unnamed;
-        kinds = response_loan_keeps result told.loans told.unnamed;
+        says = if_ok result (response_loan_says result told.loans told.unnamed) (λ k h. h.0);
+        asked = if_ok result (response_loan_says result told.loans told.unnamed) (λ k h. h.1);
+        keeps = response_loan_keeps result told.loans told.unnamed;
         numbers = response_loan_numbers result told.loans;
-      }
-
-      pub response_slice_loaned : record {
-        loans : LoansResponse IsDefault old n len result new;
-        unreduced : ServerHasPool old.limits old n len → result ≢ Err LoanError.OutOfMemory;
-        fresh : IfOk result (λ k. NamesNothing old k);
-        kind : IfOk result (λ k. Names new k Kind.ResponseMutUninit);
-        asked : IfOk result (λ k. ResponseAsksFor new k len);
-        kinds : KeepsKinds old new;
-        numbers : numbers_left old ≤ numbers_left new + 1;
-      }
-      response_slice_loaned = let one = response_loaned in record {
-        loans = one.loans;
-        unreduced = one.unreduced;
-        fresh = one.fresh;
-        kind = one.kind;
-        asked = response_loan_asks result told.loans;
-        kinds = one.kinds;
-        numbers = one.numbers;
       }
 
 -- receives
@@ -276,10 +282,10 @@ module _ {Q QH P PH K : Type 0} where
     received_names (Err e) receives free = tt
 
     pub received_keeps : (result : Result (Option ℕ) ReceiveError) → ReceivesRequest old server result new
-        → IfOk result (λ o. IfSome o (λ k. kind_at old k ≡ None)) → KeepsKinds old new
-    received_keeps (Ok (Some k)) receives free = gains_keeps k Kind.ActiveRequest old new (received_gains k receives) free
-    received_keeps (Ok None) receives free = keeps_each old new (names_each old new (none_names receives)).kinds
-    received_keeps (Err e) receives free = keeps_each old new (names_each old new (refused_names e receives)).kinds
+        → IfOk result (λ o. IfSome o (λ k. kind_at old k ≡ None)) → Keeps [] old new
+    received_keeps (Ok (Some k)) receives free = gains_keeps k Kind.ActiveRequest old new (receives_request old server (Ok (Some k)) new receives) (received_gains k receives) free
+    received_keeps (Ok None) receives free = keeps_each old new (receives_request old server (Ok None) new receives) (names_each old new (none_names receives)).shown
+    received_keeps (Err e) receives free = keeps_each old new (receives_request old server (Err e) new receives) (names_each old new (refused_names e receives)).shown
 
     pub received_numbers : (result : Result (Option ℕ) ReceiveError) → ReceivesRequest old server result new
         → numbers_left old ≤ numbers_left new + 1
@@ -287,24 +293,36 @@ module _ {Q QH P PH K : Type 0} where
     received_numbers (Ok None) receives = none_fewer old new (none_names receives).next
     received_numbers (Err e) receives = none_fewer old new (refused_names e receives).next
 
+    -- an active request loans from its server's pool
+    received_pool : Names old server Kind.Server → (result : Result (Option ℕ) ReceiveError) → ReceivesRequest old server result new
+        → IfOk result (λ o. IfSome o (λ k. kind_at old k ≡ None)) → (room : ℕ) → Has old server (WholePool room)
+        → IfOk result (λ o. IfSome o (λ k. Has new k (WholePool room)))
+    unfolding received_gains
+    received_pool is (Ok (Some k)) receives free room has =
+        active_pool old new (receives_request old server (Ok (Some k)) new receives) server k is _
+        (gains_shows k Kind.ActiveRequest old new (received_gains k receives) free) refl refl room has
+    received_pool is (Ok None) receives free room has = tt
+    received_pool is (Err e) receives free room has = tt
+
     -- what the call of a server tells of it
-    pub request_received : (result : Result (Option ℕ) ReceiveError) → record {
+    pub request_received : (result : Result (Option ℕ) ReceiveError) → Names old server Kind.Server → record {
       receives : ReceivesRequest old server result new;
       unnamed : IfOk result (λ o. IfSome o (λ k. kind_at old k ≡ None));
     }
         → record {
           receives : ReceivesRequest old server result new;
-          fresh : IfOk result (λ o. IfSome o (λ k. NamesNothing old k));
+          free : IfOk result (λ o. IfSome o (λ k. IsFree [] old k));
           kind : IfOk result (λ o. IfSome o (λ k. Names new k Kind.ActiveRequest));
-          kinds : KeepsKinds old new;
+          pool : (room : ℕ) → Has old server (WholePool room) → IfOk result (λ o. IfSome o (λ k. Has new k (WholePool room)));
+          keeps : Keeps [] old new;
           numbers : numbers_left old ≤ numbers_left new + 1;
         }
-    unfolding NamesNothing
-    request_received result told = record {
+    request_received result is told = record {
       receives = told.receives;
-      fresh = told.unnamed;
+      free = if_ok result told.unnamed (λ o h. if_some o h (λ k. is_free [] old k));
       kind = received_names result told.receives told.unnamed;
-      kinds = received_keeps result told.receives told.unnamed;
+      pool = received_pool is result told.receives told.unnamed;
+      keeps = received_keeps result told.receives told.unnamed;
       numbers = received_numbers result told.receives;
     }
 
@@ -343,12 +361,13 @@ module _ {Q QH P PH K : Type 0} where
     came_names (Err e) receives free = tt
 
     pub came_keeps : (result : Result (Option ℕ) ReceiveError) → ReceivesResponse old n result new
-        → IfOk result (λ o. IfSome o (λ k. kind_at old k ≡ None)) → KeepsKinds old new
-    came_keeps (Ok (Some k)) receives free = gains_keeps k Kind.Response old new (came_gains k receives) free
+        → IfOk result (λ o. IfSome o (λ k. kind_at old k ≡ None)) → Keeps [] old new
+    came_keeps (Ok (Some k)) receives free = gains_keeps k Kind.Response old new (receives_response old n (Ok (Some k)) new receives) (came_gains k receives) free
     came_keeps (Ok None) receives free = keeps_same old new (no_response receives)
     came_keeps (Err e) receives free = keeps_same old new (response_refused e receives)
 
     pub came_numbers : (result : Result (Option ℕ) ReceiveError) → ReceivesResponse old n result new → numbers_left new ≡ numbers_left old
+    unfolding numbers_left
     came_numbers (Ok (Some k)) receives = ap (λ i. 2 ^ 62 - i) (came_next k receives)
     came_numbers (Ok None) receives = ap numbers_left (no_response receives)
     came_numbers (Err e) receives = ap numbers_left (response_refused e receives)
@@ -360,16 +379,15 @@ module _ {Q QH P PH K : Type 0} where
     }
         → record {
           receives : ReceivesResponse old n result new;
-          fresh : IfOk result (λ o. IfSome o (λ k. NamesNothing old k));
+          free : IfOk result (λ o. IfSome o (λ k. IsFree [] old k));
           kind : IfOk result (λ o. IfSome o (λ k. Names new k Kind.Response));
-          kinds : KeepsKinds old new;
+          keeps : Keeps [] old new;
           numbers : numbers_left new ≡ numbers_left old;
         }
-    unfolding NamesNothing
     response_received result told = record {
       receives = told.receives;
-      fresh = told.unnamed;
+      free = if_ok result told.unnamed (λ o h. if_some o h (λ k. is_free [] old k));
       kind = came_names result told.receives told.unnamed;
-      kinds = came_keeps result told.receives told.unnamed;
+      keeps = came_keeps result told.receives told.unnamed;
       numbers = came_numbers result told.receives;
     }

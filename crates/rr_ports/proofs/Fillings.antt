@@ -13,7 +13,8 @@ use Rattle.rr_protocol.specs.State.{State, handle_at, with_changed}
 use Rattle.rr_protocol.specs.Writing.{is_complete, with_element, with_element_at, with_elements, filled, with_request_content, with_response_content, after_init}
 use Rattle.rr_hub.specs.CoreLends.{refilled}
 use Rattle.rr_ports.specs.Filling.{ReturnsInOrder, FillsRequest, FillsResponse, with_request_element, with_response_element}
-use Rattle.rr_ports.specs.Kinds.{RequestAsksFor, ResponseAsksFor}
+use Rattle.rr_ports.specs.Facts.{AskedLen, Has}
+use Rattle.rr_ports.proofs.FactLaws.{asked_for_len}
 use Rattle.rr_ports.specs.Loaning.{AreDefaults, with_complete_request, with_complete_response}
 use Rattle.rr_ports.proofs.Asking.{there}
 use Rattle.rr_ports.proofs.NameLaws.{opened_request, opened_response}
@@ -178,19 +179,29 @@ all_returned step R each first k (x ∷ xs) last returned =
     All-cons R x xs (each first k x returned.0 returned.1.0) (all_returned step R each returned.0 (k + 1) xs last returned.1.1)
 
 module _ {F Q QH P PH K : Type 0} (f : F) (old new : State Q QH P PH K) (n len : ℕ) where
+  request_asks : kind_at old n ≡ Some Kind.RequestMutUninit → Has old n (AskedLen len) → IsSomeAnd (option_and_then request_in (handle_at old n)) (λ m. len ≡ m.content.asked_len)
+  request_asks is asks =
+      let b = request_being_written old n is in
+      let e = asked_for_len old n Kind.RequestMutUninit (λ e. cc) (λ e. cc) is _ b.1 len asks in
+      subst (λ o. IsSomeAnd (option_and_then request_in o) (λ m. len ≡ m.content.asked_len)) (sym b.1) (let f : Some b.0.content.asked_len ≡ Some len = e in cc)
+
+  response_asks : kind_at old n ≡ Some Kind.ResponseMutUninit → Has old n (AskedLen len) → IsSomeAnd (option_and_then response_in (handle_at old n)) (λ m. len ≡ m.content.asked_len)
+  response_asks is asks =
+      let b = response_being_written old n is in
+      let e = asked_for_len old n Kind.ResponseMutUninit (λ e. cc) (λ e. cc) is _ b.1 len asks in
+      subst (λ o. IsSomeAnd (option_and_then response_in o) (λ m. len ≡ m.content.asked_len)) (sym b.1) (let f : Some b.0.content.asked_len ≡ Some len = e in cc)
+
   -- a message that a function of defaults filled has as many defaults as were asked for
   pub request_defaults : (step : F → ℕ → Q → F → Type 0) (w : FillsRequest step f old new n) (IsDefault : Q → Type 0)
-      → ((p : F) (k : ℕ) (x : Q) (q : F) → step p k x q → IsDefault x) → RequestAsksFor old n len → AreDefaults IsDefault len w.elements
-  unfolding RequestAsksFor
-  request_defaults step w IsDefault each asks = (
-    as_many (option_and_then request_in (handle_at old n)) (λ m. m.content.asked_len) w.complete asks,
+      → ((p : F) (k : ℕ) (x : Q) (q : F) → step p k x q → IsDefault x) → kind_at old n ≡ Some Kind.RequestMutUninit → Has old n (AskedLen len) → AreDefaults IsDefault len w.elements
+  request_defaults step w IsDefault each is asks = (
+    as_many (option_and_then request_in (handle_at old n)) (λ m. m.content.asked_len) w.complete (request_asks is asks),
     all_returned step IsDefault each f 0 w.elements w.last w.returned,
   )
 
   pub response_defaults : (step : F → ℕ → P → F → Type 0) (w : FillsResponse step f old new n) (IsDefault : P → Type 0)
-      → ((p : F) (k : ℕ) (x : P) (q : F) → step p k x q → IsDefault x) → ResponseAsksFor old n len → AreDefaults IsDefault len w.elements
-  unfolding ResponseAsksFor
-  response_defaults step w IsDefault each asks = (
-    as_many (option_and_then response_in (handle_at old n)) (λ m. m.content.asked_len) w.complete asks,
+      → ((p : F) (k : ℕ) (x : P) (q : F) → step p k x q → IsDefault x) → kind_at old n ≡ Some Kind.ResponseMutUninit → Has old n (AskedLen len) → AreDefaults IsDefault len w.elements
+  response_defaults step w IsDefault each is asks = (
+    as_many (option_and_then response_in (handle_at old n)) (λ m. m.content.asked_len) w.complete (response_asks is asks),
     all_returned step IsDefault each f 0 w.elements w.last w.returned,
   )

@@ -1,70 +1,64 @@
--- What callers rest on: what numbers name after a call.
-use Rattle.std.proofs.Common.{◌≡◌, ℕ, true, false, Some, None, refl, sym, ap, ◌∙◌}
+-- What callers rest on: which facts hold of numbers after a call.
+use Rattle.std.proofs.Common.{◌≡◌, ◌≢◌, ℕ, Bool, true, false, List, Some, refl, sym, ap, ◌∙◌}
+use Rattle.std.specs.Prelude.{◌==◌}
 use Rattle.std.proofs.lemmas.Bool.{eq-eqb}
 use Rattle.rr_protocol.specs.declared.kind.Kind.{Kind}
 use Rattle.rr_protocol.specs.Queries.{kind_at}
 use Rattle.rr_protocol.specs.State.{State}
 use Rattle.rr_ports.proofs.LendLaws.{lends}
-use Rattle.rr_ports.proofs.NameLaws.{keeps_same}
-use Rattle.rr_ports.specs.Kinds.{Names, NamesNothing, KeepsKinds, KeepsKindsBut, kind_number, is_kind}
+use Rattle.rr_ports.specs.Facts.{Fact, IsA, IsNone, Has, IsThere, Keeps, IsFree}
 
--- kinds that a test tells apart differ
-apart : (j k : Kind) → j ≡ k → is_kind k j ≡ false → ⊥
-apart j k e other =
-    let f : is_kind k k ≡ false = ap (is_kind k) (sym e) ∙ other in
-    let g : is_kind k k ≡ true = eq-eqb (kind_number k) (kind_number k) refl in
-    absurd (let h : true ≡ false = sym g ∙ f in cc)
+-- kinds by number, by which they are told apart
+abbrev kind_number : Kind → ℕ
+kind_number Kind.Client = 0
+kind_number Kind.Server = 1
+kind_number Kind.RequestMutUninit = 2
+kind_number Kind.RequestMut = 3
+kind_number Kind.PendingResponse = 4
+kind_number Kind.ActiveRequest = 5
+kind_number Kind.ResponseMutUninit = 6
+kind_number Kind.ResponseMut = 7
+kind_number Kind.Response = 8
+
+-- whether they are the same
+abbrev pub is_kind : Kind → Kind → Bool
+is_kind a b = kind_number a == kind_number b
 
 module _ {Q QH P PH K : Type 0} where
-  -- what a number names after a call
-  pub kept : (old new : State Q QH P PH K) (n : ℕ) (k : Kind) → KeepsKinds old new → Names old n k → Names new n k
-  unfolding KeepsKinds Names
-  kept old new n k keeps names = keeps n k names
+  -- a fact holds after a call that keeps facts, of a number that it doesn't take
+  pub kept : (handed : List ℕ) (old new : State Q QH P PH K) (n : ℕ) (fact : Fact Q P) → Keeps handed old new → IsNone handed n → Has old n fact
+      → Has new n fact
+  unfolding Keeps
+  kept handed old new n fact keeps other has = keeps n fact other has
 
-  -- what a number of another kind names
-  pub kept_apart : (old new : State Q QH P PH K) (but n : ℕ) (j k : Kind) → KeepsKindsBut but old new → Names old but j → is_kind k j ≡ false
-      → Names old n k → Names new n k
-  unfolding KeepsKindsBut Names
-  kept_apart old new but n j k keeps is other names =
-      keeps n (λ same. apart j k (let e : Some j ≡ Some k = sym is ∙ ap (kind_at old) (sym same) ∙ names in cc) other) ∙ names
+  -- and so some fact does
+  pub there_kept : (handed : List ℕ) (old new : State Q QH P PH K) (n : ℕ) → Keeps handed old new → IsNone handed n → IsThere old n → IsThere new n
+  unfolding IsThere
+  there_kept handed old new n keeps other there = (there.0, kept handed old new n there.0 keeps other there.1)
 
-  -- what a number names that was given after the one that changed
-  pub kept_older : (old new at : State Q QH P PH K) (but n : ℕ) (j k : Kind) → KeepsKindsBut but old new → NamesNothing at n → Names at but j
-      → Names old n k → Names new n k
-  unfolding KeepsKindsBut Names NamesNothing
-  kept_older old new at but n j k keeps none is names =
-      keeps n (λ same. absurd (let e : None ≡ Some j = sym none ∙ ap (kind_at at) same ∙ is in cc)) ∙ names
+  -- some fact holds
+  pub is_there : (s : State Q QH P PH K) (n : ℕ) (fact : Fact Q P) → Has s n fact → IsThere s n
+  unfolding IsThere
+  is_there s n fact has = (fact, has)
 
-  -- and one that was given before
-  pub kept_newer : (old new at : State Q QH P PH K) (but n : ℕ) (j k : Kind) → KeepsKindsBut but old new → NamesNothing at but → Names at n j
-      → Names old n k → Names new n k
-  unfolding KeepsKindsBut Names NamesNothing
-  kept_newer old new at but n j k keeps none is names =
-      keeps n (λ same. absurd (let e : None ≡ Some j = sym none ∙ ap (kind_at at) (sym same) ∙ is in cc)) ∙ names
+  -- a number of which no fact held is no other one
+  pub not_there : (handed : List ℕ) (s : State Q QH P PH K) (n : ℕ) → IsFree handed s n → IsNone handed n → IsThere s n → ⊥
+  unfolding IsFree
+  not_there handed s n free other there = free other there
 
--- a number that named nothing is given, and changes what it names
-module _ {Q QH P PH K : Type 0} (old mid new : State Q QH P PH K) where
-  pub kept_through : (n : ℕ) → NamesNothing old n → KeepsKinds old mid → KeepsKindsBut n mid new → KeepsKinds old new
-  unfolding NamesNothing KeepsKinds KeepsKindsBut
-  kept_through n none first second m k names =
-      second m (λ same. absurd (let e : None ≡ Some k = sym none ∙ ap (kind_at old) (sym same) ∙ names in cc)) ∙ first m k names
-
-  pub kept_both : KeepsKinds old mid → KeepsKinds mid new → KeepsKinds old new
-  unfolding KeepsKinds
-  kept_both first second m k names = second m k (first m k names)
-
-  -- a number changes twice
-  pub kept_but_both : (n : ℕ) → KeepsKindsBut n old mid → KeepsKindsBut n mid new → KeepsKindsBut n old new
-  unfolding KeepsKindsBut
-  kept_but_both n first second m other = second m other ∙ first m other
-
--- a number that named nothing is given, all is kept once more, and it changes what it names
-pub kept_across : {Q QH P PH K : Type 0} (old first mid new : State Q QH P PH K) (n : ℕ) → NamesNothing old n → KeepsKinds old first
-    → KeepsKinds first mid → KeepsKindsBut n mid new → KeepsKinds old new
-kept_across old first mid new n none one two three = kept_through old mid new n none (kept_both old first mid one two) three
+  -- numbers of two kinds differ
+  pub of_two_kinds : (s : State Q QH P PH K) (n m : ℕ) (j k : Kind) → Has s n (IsA j) → Has s m (IsA k) → is_kind j k ≡ false → n ≢ m
+  unfolding Has
+  of_two_kinds s n m j k one two other same = go (let e : Some j ≡ Some k = sym one ∙ ap (kind_at s) same ∙ two in cc)
+    where
+      go : j ≡ k → ⊥
+      go e =
+          let f : is_kind k k ≡ false = ap (λ i. is_kind i k) (sym e) ∙ other in
+          let g : is_kind k k ≡ true = eq-eqb (kind_number k) (kind_number k) refl in
+          absurd (let h : true ≡ false = sym g ∙ f in cc)
 
 -- what callers rest on
-pub ruleset kinds = (kept, kept_apart, kept_older, kept_newer, lends)
+pub ruleset callers = (kept, there_kept, is_there, not_there, of_two_kinds)
 
--- what callers rest on that promise to keep kinds themselves
-pub ruleset frames = (kinds, kept_through, kept_both, kept_but_both, kept_across, keeps_same)
+-- what callers rest on that write through what was lent
+pub ruleset borrowers = (callers, lends)

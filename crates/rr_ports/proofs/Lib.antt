@@ -1,5 +1,6 @@
 pub mod Frames
 pub mod NameLaws
+pub mod FactLaws
 pub mod Asking
 pub mod Payloads
 pub mod ReleaseLaws

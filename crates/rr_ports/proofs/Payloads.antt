@@ -1,5 +1,5 @@
 -- What a complete message of one element says.
-use Rattle.std.proofs.Common.{◌≡◌, ℕ, Bool, true, false, [], ◌∷◌, length, Some, None, Option, refl, sym, ap, ◌∙◌, subst}
+use Rattle.std.proofs.Common.{◌≡◌, ◌≢◌, ℕ, Bool, true, false, List, [], ◌∷◌, length, Some, None, Option, refl, sym, ap, ◌∙◌, subst}
 use Rattle.std.specs.Prelude.{◌==◌, option_and_then, IsSome, IsSomeAnd}
 use Rattle.std.proofs.lemmas.Bool.{false≢true}
 use Rattle.rr_slots.specs.Elements.{option_elements}
@@ -9,7 +9,8 @@ use Rattle.rr_protocol.specs.State.{State, handle_at}
 use Rattle.rr_protocol.specs.Queries.{kind_of}
 use Rattle.rr_protocol.specs.Writing.{is_complete}
 use Rattle.rr_laws.specs.Complete.{HasComplete}
-use Rattle.rr_ports.specs.Kinds.{Names}
+use Rattle.rr_ports.specs.Facts.{Asks, Answers, Has, Names}
+use Rattle.rr_ports.proofs.FactLaws.{request_asks, request_reads, response_answers, response_reads}
 use Rattle.rr_ports.proofs.Asking.{there}
 
 -- whether a handle of this kind has a whole request, or a whole response
@@ -97,7 +98,7 @@ module _ {Q QH P PH K : Type 0} {s t : State Q QH P PH K} {n m : ℕ} (view : s 
       → IsSomeAnd (message_in h) (λ x. is_complete (content x) ≡ true))
       → is_whole k ≡ true → IsSomeAnd (handle_at s n) HasComplete
       → IsSomeAnd (option_and_then message_in (handle_at t m)) (λ x. is_complete (content x) ≡ true)
-  unfolding Names
+  unfolding Has
   complete_in message_in content is_whole client server by sent whole =
       let h = there t m k (λ e. false≢true (sym client ∙ ap is_whole e ∙ sent))
       (λ e. false≢true (sym server ∙ ap is_whole e ∙ sent)) names in
@@ -118,10 +119,25 @@ module _ {Q QH P PH K : Type 0} {s t : State Q QH P PH K} {n m : ℕ} (view : s 
           (subst (λ h. IsSomeAnd (option_and_then request_in h) (λ x. is_complete x.content ≡ true)) (sym read)
           (request_complete body.complete))
 
-      pub request_value : (v : Q) → o ≡ Some v → IsSomeAnd (option_and_then request_in (handle_at t m)) (λ x. x.content.elements ≡ v ∷ [])
+      request_value : (v : Q) → o ≡ Some v → IsSomeAnd (option_and_then request_in (handle_at t m)) (λ x. x.content.elements ≡ v ∷ [])
       request_value v e =
           subst (λ h. IsSomeAnd (option_and_then request_in h) (λ x. x.content.elements ≡ v ∷ [])) read
           (value_in (λ (x : RequestMessage Q QH). x.content) (option_and_then request_in (handle_at s n)) o v e body.elements)
+
+      -- what the call tells of it
+      pub request_tells : (v : Q) → o ≡ Some v → record {
+        value : IsSomeAnd (option_and_then request_in (handle_at t m)) (λ x. x.content.elements ≡ v ∷ []);
+        says : Has t m (Asks (v ∷ []));
+        reads : (x : Q) → Has t m (Asks (x ∷ [])) → v ≡ x;
+      }
+      request_tells v e =
+          let client : Kind.Client ≢ k = (λ is. false≢true (ap is_whole_request is ∙ sent)) in
+          let server : Kind.Server ≢ k = (λ is. false≢true (ap is_whole_request is ∙ sent)) in
+          let value = request_value v e in record {
+            value = value;
+            says = request_asks t m k client server names (v ∷ []) value;
+            reads = λ x has. let e : v ∷ [] ≡ x ∷ [] = request_reads t m k client server names (v ∷ []) value (x ∷ []) has in cc;
+          }
 
   -- and a response
   module _ (sent : is_whole_response k ≡ true) where
@@ -137,7 +153,46 @@ module _ {Q QH P PH K : Type 0} {s t : State Q QH P PH K} {n m : ℕ} (view : s 
           (subst (λ h. IsSomeAnd (option_and_then response_in h) (λ x. is_complete x.content ≡ true)) (sym read)
           (response_complete body.complete))
 
-      pub response_value : (v : P) → o ≡ Some v → IsSomeAnd (option_and_then response_in (handle_at t m)) (λ x. x.content.elements ≡ v ∷ [])
+      response_value : (v : P) → o ≡ Some v → IsSomeAnd (option_and_then response_in (handle_at t m)) (λ x. x.content.elements ≡ v ∷ [])
       response_value v e =
           subst (λ h. IsSomeAnd (option_and_then response_in h) (λ x. x.content.elements ≡ v ∷ [])) read
           (value_in (λ (x : ResponseMessage P PH). x.content) (option_and_then response_in (handle_at s n)) o v e body.elements)
+
+      -- what the call tells of it
+      pub response_tells : (v : P) → o ≡ Some v → record {
+        value : IsSomeAnd (option_and_then response_in (handle_at t m)) (λ x. x.content.elements ≡ v ∷ []);
+        says : Has t m (Answers (v ∷ []));
+        reads : (x : P) → Has t m (Answers (x ∷ [])) → v ≡ x;
+      }
+      response_tells v e =
+          let client : Kind.Client ≢ k = (λ is. false≢true (ap is_whole_response is ∙ sent)) in
+          let server : Kind.Server ≢ k = (λ is. false≢true (ap is_whole_response is ∙ sent)) in
+          let value = response_value v e in record {
+            value = value;
+            says = response_answers t m k client server names (v ∷ []) value;
+            reads = λ x has. let e : v ∷ [] ≡ x ∷ [] = response_reads t m k client server names (v ∷ []) value (x ∷ []) has in cc;
+          }
+
+-- what a slice says that a call reads
+module _ {Q QH P PH K : Type 0} {s t : State Q QH P PH K} {n m : ℕ} where
+  pub request_elements_read : (elements : List Q) (slice : List Q) → s ≡ t → n ≡ m
+      → IsSomeAnd (option_and_then request_in (handle_at s n)) (λ x. elements ≡ x.content.elements) → slice ≡ elements
+      → IsSomeAnd (option_and_then request_in (handle_at t m)) (λ x. x.content.elements ≡ slice)
+  request_elements_read elements slice view same has read =
+      subst (λ h. IsSomeAnd (option_and_then request_in h) (λ x. x.content.elements ≡ slice)) (ap (λ x. handle_at x n) view ∙ ap (handle_at t) same)
+      (go (option_and_then request_in (handle_at s n)) has)
+    where
+      go : (o : Option (RequestMessage Q QH)) → IsSomeAnd o (λ x. elements ≡ x.content.elements) → IsSomeAnd o (λ x. x.content.elements ≡ slice)
+      go None e = e
+      go (Some x) e = sym e ∙ sym read
+
+  pub response_elements_read : (elements : List P) (slice : List P) → s ≡ t → n ≡ m
+      → IsSomeAnd (option_and_then response_in (handle_at s n)) (λ x. elements ≡ x.content.elements) → slice ≡ elements
+      → IsSomeAnd (option_and_then response_in (handle_at t m)) (λ x. x.content.elements ≡ slice)
+  response_elements_read elements slice view same has read =
+      subst (λ h. IsSomeAnd (option_and_then response_in h) (λ x. x.content.elements ≡ slice)) (ap (λ x. handle_at x n) view ∙ ap (handle_at t) same)
+      (go (option_and_then response_in (handle_at s n)) has)
+    where
+      go : (o : Option (ResponseMessage P PH)) → IsSomeAnd o (λ x. elements ≡ x.content.elements) → IsSomeAnd o (λ x. x.content.elements ≡ slice)
+      go None e = e
+      go (Some x) e = sym e ∙ sym read

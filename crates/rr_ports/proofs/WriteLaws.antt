@@ -1,14 +1,15 @@
--- What numbers name after writes.
-use Rattle.std.proofs.Common.{◌≡◌, ◌≢◌, ℕ, Bool, not, false, cond, Option, Some, None, option_map, refl, sym, ap, ◌∙◌}
-use Rattle.std.specs.Prelude.{IsSomeAnd}
+-- Which facts hold of numbers after writes.
+use Rattle.std.proofs.Common.{◌≡◌, ◌≢◌, ℕ, ◌-◌, ◌^◌, Bool, not, false, cond, List, [], ◌∷◌, ◌++◌, Option, Some, None, option_map, refl, sym, ap, ◌∙◌, subst}
+use Rattle.std.specs.Prelude.{IsSomeAnd, replicate}
 use Rattle.rr_protocol.specs.declared.kind.Kind.{Kind}
-use Rattle.rr_protocol.specs.Messages.{Handle, with_hint, Content}
-use Rattle.rr_protocol.specs.State.{State, numbers_left, with_changed}
+use Rattle.rr_protocol.specs.Messages.{Handle, with_hint, Content, port_of}
+use Rattle.rr_protocol.specs.State.{State, handle_at, with_changed}
 use Rattle.rr_protocol.specs.Queries.{kind_of, kind_at}
-use Rattle.rr_protocol.specs.Writing.{with_request_content, with_response_content, after_init}
-use Rattle.rr_ports.specs.Kinds.{Names, KeepsKinds, KeepsKindsBut}
-use Rattle.rr_ports.proofs.NameLaws.{each_handle, opened_request, opened_response}
-use Rattle.rr_ports.proofs.NameLaws.{handle_no_port, some_handle, keeps_but, keeps_each, changed_own, changed_other, changed_keeps}
+use Rattle.rr_protocol.specs.Writing.{with_request_content, with_response_content, after_init, with_element, with_elements, filled, with_user_header}
+use Rattle.rr_laws.proofs.Lasting.{frame_of, lasts_by_frame}
+use Rattle.rr_ports.specs.Facts.{Fact, IsA, Asks, Answers, AskedLen, said_of, Shown, shown_port, shown_of, shown_at, asked_in, Has, Names, Keeps, numbers_left}
+use Rattle.rr_ports.proofs.FactLaws.{kind_shown, asks, asked, answers, answered, asks_for, asked_for, handle_shows, keeps_but, keeps_each}
+use Rattle.rr_ports.proofs.NameLaws.{IsNoPort, each_handle, opened_request, opened_response, handle_no_port, some_handle, changed_at, changed_other, changed_same}
 
 module _ {Q QH P PH : Type 0} where
   -- changes of content and hints leave each handle of its kind
@@ -24,35 +25,77 @@ module _ {Q QH P PH : Type 0} where
       each_handle (λ h. kind_of (with_response_content change h) ≡ kind_of h)
       (λ m. refl) (λ m. refl) (λ p. refl) (λ a. refl) (λ m. refl) (λ m. refl) (λ m. refl)
 
-  hint_kind : (h : Handle Q QH P PH) → kind_of (with_hint h) ≡ kind_of h
-  hint_kind =
-      each_handle (λ h. kind_of (with_hint h) ≡ kind_of h)
-      (λ m. refl) (λ m. refl) (λ p. refl) (λ a. refl) (λ m. refl) (λ m. refl) (λ m. refl)
-
-  -- what was being written can be sent once it is taken as complete
-  pub request_init_kind : (h : Handle Q QH P PH) → kind_of h ≡ Kind.RequestMutUninit → kind_of (after_init h) ≡ Kind.RequestMut
-  request_init_kind h e = ap (λ (x : Handle Q QH P PH). kind_of (after_init x)) (opened_request h e).1
-
-  pub response_init_kind : (h : Handle Q QH P PH) → kind_of h ≡ Kind.ResponseMutUninit → kind_of (after_init h) ≡ Kind.ResponseMut
-  response_init_kind h e = ap (λ (x : Handle Q QH P PH). kind_of (after_init x)) (opened_response h e).1
-
--- of which kind a message is while it is being written, which no port is, and of which once it can be sent
-pub record Inits (Q QH P PH : Type 0) : Type 0 where
+-- a direction of messages, of requests or of responses, as far as writing goes
+pub record Direction (Q QH P PH K T H : Type 0) : Type 0 where
+  -- of which kind a message is while it is being written, which no port is, and of which once it can be sent
   pub before : Kind
   pub after : Kind
   pub client : Kind.Client ≢ before
   pub server : Kind.Server ≢ before
-  pub becomes : (h : Handle Q QH P PH) → kind_of h ≡ before → kind_of (after_init h) ≡ after
+  -- how a handle of such a message changes, what it shows, and which fact tells its elements
+  pub change : (Content T H → Content T H) → Handle Q QH P PH → Handle Q QH P PH
+  pub shown : Kind → ℕ → Content T H → Shown Q P
+  pub fact : List T → Fact Q P
+  pub kinds : (f : Content T H → Content T H) (h : Handle Q QH P PH) → kind_of (change f h) ≡ kind_of h
+  pub opens : (h : Handle Q QH P PH) → kind_of h ≡ before
+      → (c : Content T H) × (shown_of h ≡ shown before (port_of h) c) × ((f : Content T H → Content T H) → shown_of (change f h) ≡ shown before (port_of h) (f c))
+      × ((f : Content T H → Content T H) → shown_of (after_init (change f h)) ≡ shown after (port_of h) (f c)) × (shown_of (after_init h) ≡ shown after (port_of h) c)
+  pub lens : (k : Kind) (port : ℕ) (c : Content T H) → asked_in (shown k port c) ≡ Some c.asked_len
+  pub kind_shown : (k : Kind) (port : ℕ) (c : Content T H) → (shown k port c).kind ≡ k
+  pub says : (s : State Q QH P PH K) (n : ℕ) (k : Kind) (port : ℕ) (c : Content T H) → shown_at s n ≡ Some (shown k port c) → Has s n (fact c.elements)
+  pub said : (s : State Q QH P PH K) (n : ℕ) (k : Kind) (port : ℕ) (c : Content T H) → shown_at s n ≡ Some (shown k port c) → (xs : List T)
+      → Has s n (fact xs) → c.elements ≡ xs
 
-module _ {Q QH P PH : Type 0} where
-  -- a request, and a response
-  abbrev pub requests : Inits Q QH P PH
-  requests =
-      record { before = Kind.RequestMutUninit; after = Kind.RequestMut; client = λ e. cc; server = λ e. cc; becomes = request_init_kind }
+module _ {Q P : Type 0} where
+  -- a message of a kind, which says this
+  abbrev pub shown_request : {QH : Type 0} → Kind → ℕ → Content Q QH → Shown Q P
+  shown_request k port c = record { kind = k; port = port; request = Some (said_of c); response = None }
 
-  abbrev pub responses : Inits Q QH P PH
-  responses =
-      record { before = Kind.ResponseMutUninit; after = Kind.ResponseMut; client = λ e. cc; server = λ e. cc; becomes = response_init_kind }
+  abbrev pub shown_response : {PH : Type 0} → Kind → ℕ → Content P PH → Shown Q P
+  shown_response k port c = record { kind = k; port = port; request = None; response = Some (said_of c) }
+
+module _ {Q QH P PH K : Type 0} where
+  -- requests
+  abbrev pub requests : Direction Q QH P PH K Q QH
+  requests = record {
+    before = Kind.RequestMutUninit;
+    after = Kind.RequestMut;
+    client = λ e. cc;
+    server = λ e. cc;
+    change = with_request_content;
+    shown = shown_request;
+    fact = Asks;
+    kinds = request_content_kind;
+    opens = λ h e. let o = opened_request h e in subst (λ h. (c : Content Q QH) × (shown_of h ≡ shown_request Kind.RequestMutUninit (port_of h) c)
+        × ((f : Content Q QH → Content Q QH) → shown_of (with_request_content f h) ≡ shown_request Kind.RequestMutUninit (port_of h) (f c))
+        × ((f : Content Q QH → Content Q QH) → shown_of (after_init (with_request_content f h)) ≡ shown_request Kind.RequestMut (port_of h) (f c))
+        × (shown_of (after_init h) ≡ shown_request Kind.RequestMut (port_of h) c)) (sym o.1) (o.0.content, refl, λ f. refl, λ f. refl, refl);
+    lens = λ k port c. refl;
+    kind_shown = λ k port c. refl;
+    says = λ s n k port c shows. asks s n (shown_request k port c) shows c.elements refl;
+    said = λ s n k port c shows xs has. let e = asked s n (shown_request k port c) shows xs has in cc;
+  }
+
+  -- responses
+  abbrev pub responses : Direction Q QH P PH K P PH
+  responses = record {
+    before = Kind.ResponseMutUninit;
+    after = Kind.ResponseMut;
+    client = λ e. cc;
+    server = λ e. cc;
+    change = with_response_content;
+    shown = shown_response;
+    fact = Answers;
+    kinds = response_content_kind;
+    opens = λ h e. let o = opened_response h e in subst (λ h. (c : Content P PH) × (shown_of h ≡ shown_response Kind.ResponseMutUninit (port_of h) c)
+        × ((f : Content P PH → Content P PH) → shown_of (with_response_content f h) ≡ shown_response Kind.ResponseMutUninit (port_of h) (f c))
+        × ((f : Content P PH → Content P PH) → shown_of (after_init (with_response_content f h)) ≡ shown_response Kind.ResponseMut (port_of h) (f c))
+        × (shown_of (after_init h) ≡ shown_response Kind.ResponseMut (port_of h) c)) (sym o.1) (o.0.content, refl, λ f. refl, λ f. refl, refl);
+    lens = λ k port c. refl;
+    kind_shown = λ k port c. refl;
+    says = λ s n k port c shows. answers s n (shown_response k port c) shows c.elements refl;
+    said = λ s n k port c shows xs has. let e = answered s n (shown_response k port c) shows xs has in cc;
+  }
 
 -- a message that is not complete takes an element
 module _ {M S : Type 0} (is_whole : M → Bool) (told : Bool) (new pushed old : S) where
@@ -60,95 +103,181 @@ module _ {M S : Type 0} (is_whole : M → Bool) (told : Bool) (new pushed old : 
   open_pushed None unfilled happened = absurd unfilled
   open_pushed (Some m) unfilled happened = happened.1 ∙ ap (λ b. cond b pushed old) (happened.0 ∙ ap not unfilled)
 
-module _ {Q QH P PH K : Type 0} where
-  -- a call takes a message as complete, which is of another kind then
-  abbrev pub TellsInited : State Q QH P PH K → State Q QH P PH K → ℕ → Kind → Type 0
-  TellsInited old new n j = record {
-    same : n ≡ n;
-    initialised : new ≡ with_changed old n after_init;
-    kind : Names new n j;
-    kinds : KeepsKindsBut n old new;
-    numbers : numbers_left new ≡ numbers_left old;
-  }
+module _ {Q QH P PH K : Type 0} (old new : State Q QH P PH K) (n : ℕ) where
+  -- no number is given
+  pub changed_numbers : (f : Handle Q QH P PH → Handle Q QH P PH) → new ≡ with_changed old n f → numbers_left new ≡ numbers_left old
+  unfolding numbers_left
+  changed_numbers f e = ap (λ s. 2 ^ 62 - s.next) e
 
-  -- and changes it before
-  abbrev pub TellsWritten : State Q QH P PH K → State Q QH P PH K → ℕ → (Handle Q QH P PH → Handle Q QH P PH) → Kind → Type 0
-  TellsWritten old new n change j = record {
-    same : n ≡ n;
-    written : new ≡ with_changed (with_changed old n change) n after_init;
-    kind : Names new n j;
-    kinds : KeepsKindsBut n old new;
-    numbers : numbers_left new ≡ numbers_left old;
-  }
+  -- other numbers show what they showed
+  pub change_but : (f : Handle Q QH P PH → Handle Q QH P PH) → new ≡ with_changed old n f → Keeps (n ∷ []) old new
+  change_but f e =
+      keeps_but n old new (lasts_by_frame old new (ap frame_of e)) (λ i other. ap (λ t. shown_at t i) e
+      ∙ changed_other old n f (shown_port Kind.Client) (shown_port Kind.Server) shown_of i other)
 
-  -- a handle under a number becomes one that can be sent
-  becomes : (s : State Q QH P PH K) (n : ℕ) (kinds : Inits Q QH P PH) → kind_at s n ≡ Some kinds.before
-      → kind_at (with_changed s n after_init) n ≡ Some kinds.after
-  becomes s n kinds is =
-      let port = handle_no_port s n kinds.before kinds.client kinds.server is in
-      let h = some_handle s n kinds.before port.1 in
-      changed_own s n after_init h.0 h.1 port.0
-      ∙ ap Some (kinds.becomes h.0 (let e : Some (kind_of h.0) ≡ Some kinds.before = sym (ap (option_map kind_of) h.1) ∙ port.1 in cc))
+  -- and so does this one, where the change shows nowhere
+  pub change_each : (f : Handle Q QH P PH → Handle Q QH P PH) → ((h : Handle Q QH P PH) → shown_of (f h) ≡ shown_of h)
+      → new ≡ with_changed old n f → Keeps [] old new
+  change_each f same e =
+      keeps_each old new (lasts_by_frame old new (ap frame_of e)) (λ i. ap (λ t. shown_at t i) e
+      ∙ changed_same old n f (shown_port Kind.Client) (shown_port Kind.Server) shown_of same i)
 
-  module _ (old new : State Q QH P PH K) (n : ℕ) where
-    -- no number is given
-    pub changed_numbers : (f : Handle Q QH P PH → Handle Q QH P PH) → new ≡ with_changed old n f → numbers_left new ≡ numbers_left old
-    changed_numbers f e = ap numbers_left e
+  -- each number is of the kind of which it was, where content changes
+  pub kind_kept : {T H : Type 0} (d : Direction Q QH P PH K T H) (f : Content T H → Content T H) → new ≡ with_changed old n (d.change f) → (i : ℕ)
+      (k : Kind) → Has old i (IsA k) → Has new i (IsA k)
+  unfolding Has
+  kind_kept d f e i k has =
+      ap (λ t. kind_at t i) e ∙ changed_same old n (d.change f) (λ j. Kind.Client) (λ j. Kind.Server) kind_of (d.kinds f) i ∙ has
 
-    -- a change of a handle that stays of its kind
-    module _ (change : Handle Q QH P PH → Handle Q QH P PH) (same : (h : Handle Q QH P PH) → kind_of (change h) ≡ kind_of h) where
-      change_keeps : new ≡ with_changed old n change → KeepsKinds old new
-      change_keeps e = keeps_each old new (λ i. ap (λ t. kind_at t i) e ∙ changed_keeps old n change same i)
+  -- a hint that is set
+  pub hint_keeps : new ≡ with_changed old n with_hint → Keeps [] old new
+  hint_keeps = change_each with_hint (each_handle (λ h. shown_of (with_hint h) ≡ shown_of h)
+      (λ m. refl) (λ m. refl) (λ p. refl) (λ a. refl) (λ m. refl) (λ m. refl) (λ m. refl))
 
-    -- a change of content
-    pub request_content_keeps : (change : Content Q QH → Content Q QH) → new ≡ with_changed old n (with_request_content change) → KeepsKinds old new
-    request_content_keeps change = change_keeps (with_request_content change) (request_content_kind change)
+  -- a user header changes, of which no fact tells
+  pub request_header_keeps : (header : QH) → new ≡ with_changed old n (with_request_content (with_user_header header)) → Keeps [] old new
+  request_header_keeps header = change_each (with_request_content (with_user_header header))
+      (each_handle (λ h. shown_of (with_request_content (with_user_header header) h) ≡ shown_of h)
+      (λ m. refl) (λ m. refl) (λ p. refl) (λ a. refl) (λ m. refl) (λ m. refl) (λ m. refl))
 
-    pub response_content_keeps : (change : Content P PH → Content P PH) → new ≡ with_changed old n (with_response_content change) → KeepsKinds old new
-    response_content_keeps change = change_keeps (with_response_content change) (response_content_kind change)
+  pub response_header_keeps : (header : PH) → new ≡ with_changed old n (with_response_content (with_user_header header)) → Keeps [] old new
+  response_header_keeps header = change_each (with_response_content (with_user_header header))
+      (each_handle (λ h. shown_of (with_response_content (with_user_header header) h) ≡ shown_of h)
+      (λ m. refl) (λ m. refl) (λ p. refl) (λ a. refl) (λ m. refl) (λ m. refl) (λ m. refl))
 
-    -- a hint that is set
-    pub hint_keeps : new ≡ with_changed old n with_hint → KeepsKinds old new
-    hint_keeps = change_keeps with_hint hint_kind
+  -- a message that is being written
+  module _ {T H : Type 0} (d : Direction Q QH P PH K T H) (is : Names old n d.before) where
+    opened : (h : Handle Q QH P PH) × ((handle_at old n ≡ Some h) × ((kind_of h ≡ d.before) × IsNoPort old n))
+    unfolding Has
+    opened =
+        let port = handle_no_port old n d.before d.client d.server is in
+        let h = some_handle old n d.before port.1 in
+        (h.0, (h.1, ((let e : Some (kind_of h.0) ≡ Some d.before = sym (ap (option_map kind_of) h.1) ∙ port.1 in cc), port.0)))
 
-    -- what a call tells that changes a message unless it is complete, where it is not
-    pub pushed : (change : Handle Q QH P PH → Handle Q QH P PH) → ((h : Handle Q QH P PH) → kind_of (change h) ≡ kind_of h)
-        → {M : Type 0} → (is_whole : M → Bool) (o : Option M) (told : Bool) → IsSomeAnd o (λ m. is_whole m ≡ false)
-        → IsSomeAnd o (λ m. (told ≡ not (is_whole m)) × (new ≡ cond told (with_changed old n change) old)) → record {
-          pushed : new ≡ with_changed old n change;
-          kinds : KeepsKinds old new;
+    -- what it says, and shows
+    content : Content T H
+    content = (d.opens opened.0 opened.1.1.0).0
+
+    shows : shown_at old n ≡ Some (d.shown d.before (port_of opened.0) content)
+    unfolding content opened
+    shows = handle_shows old n opened.0 opened.1.1.1 opened.1.0 ∙ ap Some (d.opens opened.0 opened.1.1.0).1
+
+    -- its content changes
+    module _ (f : Content T H → Content T H) where
+      changed_shows : new ≡ with_changed old n (d.change f) → shown_at new n ≡ Some (d.shown d.before (port_of opened.0) (f content))
+      unfolding content opened
+      changed_shows e =
+          ap (λ s. shown_at s n) e
+          ∙ handle_shows (with_changed old n (d.change f)) n (d.change f opened.0) (record { client = opened.1.1.1.client; server = opened.1.1.1.server })
+          (changed_at old n (d.change f) opened.0 opened.1.0)
+          ∙ ap Some ((d.opens opened.0 opened.1.1.0).2 f)
+
+      -- and it is taken as complete
+      written_shows : new ≡ with_changed (with_changed old n (d.change f)) n after_init
+          → shown_at new n ≡ Some (d.shown d.after (port_of opened.0) (f content))
+      unfolding content opened
+      written_shows e =
+          let mid = with_changed old n (d.change f) in
+          ap (λ s. shown_at s n) e
+          ∙ handle_shows (with_changed mid n after_init) n (after_init (d.change f opened.0)) (record { client = opened.1.1.1.client; server = opened.1.1.1.server })
+          (changed_at mid n after_init (d.change f opened.0) (changed_at old n (d.change f) opened.0 opened.1.0))
+          ∙ ap Some ((d.opens opened.0 opened.1.1.0).3 f)
+
+      written_but : new ≡ with_changed (with_changed old n (d.change f)) n after_init → Keeps (n ∷ []) old new
+      written_but e =
+          keeps_but n old new (lasts_by_frame old new (ap frame_of e)) (λ i other. ap (λ t. shown_at t i) e
+          ∙ changed_other (with_changed old n (d.change f)) n after_init (shown_port Kind.Client) (shown_port Kind.Server) shown_of i other
+          ∙ changed_other old n (d.change f) (shown_port Kind.Client) (shown_port Kind.Server) shown_of i other)
+
+    inited_shows : new ≡ with_changed old n after_init → shown_at new n ≡ Some (d.shown d.after (port_of opened.0) content)
+    unfolding content opened
+    inited_shows e =
+        ap (λ s. shown_at s n) e
+        ∙ handle_shows (with_changed old n after_init) n (after_init opened.0) (record { client = opened.1.1.1.client; server = opened.1.1.1.server })
+        (changed_at old n after_init opened.0 opened.1.0)
+        ∙ ap Some (d.opens opened.0 opened.1.1.0).4
+
+    is_after : (k : Kind) (port : ℕ) (c : Content T H) → shown_at new n ≡ Some (d.shown k port c) → Names new n k
+    unfolding Has
+    is_after k port c e = kind_shown new n ∙ ap (option_map (λ (x : Shown Q P). x.kind)) e ∙ ap Some (d.kind_shown k port c)
+
+    -- what a call tells that takes the message as complete
+    pub inited : new ≡ with_changed old n after_init → record {
+      same : n ≡ n;
+      initialised : new ≡ with_changed old n after_init;
+      kind : Names new n d.after;
+      says : (xs : List T) → Has old n (d.fact xs) → Has new n (d.fact xs);
+      keeps : Keeps (n ∷ []) old new;
+      numbers : numbers_left new ≡ numbers_left old;
+    }
+    inited e = let now = inited_shows e in record {
+      same = refl;
+      initialised = e;
+      kind = is_after d.after _ _ now;
+      says = λ xs has. subst (λ ys. Has new n (d.fact ys)) (d.said old n d.before _ content shows xs has) (d.says new n d.after _ content now);
+      keeps = change_but after_init e;
+      numbers = changed_numbers after_init e;
+    }
+
+    -- one that writes all elements
+    pub written : (elements : List T) → new ≡ with_changed (with_changed old n (d.change (with_elements elements))) n after_init → record {
+      same : n ≡ n;
+      written : new ≡ with_changed (with_changed old n (d.change (with_elements elements))) n after_init;
+      kind : Names new n d.after;
+      says : Has new n (d.fact elements);
+      keeps : Keeps (n ∷ []) old new;
+      numbers : numbers_left new ≡ numbers_left old;
+    }
+    unfolding numbers_left
+    written elements e = let now = written_shows (with_elements elements) e in record {
+      same = refl;
+      written = e;
+      kind = is_after d.after _ _ now;
+      says = d.says new n d.after _ (with_elements elements content) now;
+      keeps = written_but (with_elements elements) e;
+      numbers = ap (λ s. 2 ^ 62 - s.next) e;
+    }
+
+    -- one that writes an element everywhere
+    pub filled_with : (element : T) → new ≡ with_changed (with_changed old n (d.change (filled element))) n after_init → record {
+      same : n ≡ n;
+      written : new ≡ with_changed (with_changed old n (d.change (filled element))) n after_init;
+      kind : Names new n d.after;
+      says : (len : ℕ) → Has old n (AskedLen len) → Has new n (d.fact (replicate len element));
+      keeps : Keeps (n ∷ []) old new;
+      numbers : numbers_left new ≡ numbers_left old;
+    }
+    unfolding numbers_left
+    filled_with element e = let now = written_shows (filled element) e in record {
+      same = refl;
+      written = e;
+      kind = is_after d.after _ _ now;
+      says = λ len asked. subst (λ k. Has new n (d.fact (replicate k element)))
+          (let a = sym (d.lens d.before (port_of opened.0) content) ∙ asked_for old n _ shows len asked in cc)
+          (d.says new n d.after _ (filled element content) now);
+      keeps = written_but (filled element) e;
+      numbers = ap (λ s. 2 ^ 62 - s.next) e;
+    }
+
+    -- one that appends an element, where the message is not complete
+    pub pushed : (element : T) → {M : Type 0} → (is_whole : M → Bool) (o : Option M) (told : Bool) → IsSomeAnd o (λ m. is_whole m ≡ false)
+        → IsSomeAnd o (λ m. (told ≡ not (is_whole m)) × (new ≡ cond told (with_changed old n (d.change (with_element element))) old)) → record {
+          pushed : new ≡ with_changed old n (d.change (with_element element));
+          kind : Names new n d.before;
+          says : (xs : List T) → Has old n (d.fact xs) → Has new n (d.fact (xs ++ element ∷ []));
+          asked : (len : ℕ) → Has old n (AskedLen len) → Has new n (AskedLen len);
+          keeps : Keeps (n ∷ []) old new;
           numbers : numbers_left new ≡ numbers_left old;
         }
-    pushed change alike is_whole o told unfilled happened =
-        let is = open_pushed is_whole told new (with_changed old n change) old o unfilled happened in record {
-          pushed = is;
-          kinds = change_keeps change alike is;
-          numbers = ap numbers_left is;
+    pushed element is_whole o told unfilled happened =
+        let e = open_pushed is_whole told new (with_changed old n (d.change (with_element element))) old o unfilled happened in
+        let now = changed_shows (with_element element) e in record {
+          pushed = e;
+          kind = is_after d.before _ _ now;
+          says = λ xs has. subst (λ ys. Has new n (d.fact (ys ++ element ∷ []))) (d.said old n d.before _ content shows xs has)
+              (d.says new n d.before _ (with_element element content) now);
+          asked = λ len has. asks_for new n _ now len (d.lens d.before _ (with_element element content)
+              ∙ sym (d.lens d.before (port_of opened.0) content) ∙ asked_for old n _ shows len has);
+          keeps = change_but (d.change (with_element element)) e;
+          numbers = changed_numbers (d.change (with_element element)) e;
         }
-
-    -- a message of a kind is taken as complete
-    module _ (kinds : Inits Q QH P PH) where
-      pub inited : new ≡ with_changed old n after_init → Names old n kinds.before → TellsInited old new n kinds.after
-      unfolding Names
-      inited e is = record {
-        same = refl;
-        initialised = e;
-        kind = ap (λ t. kind_at t n) e ∙ becomes old n kinds is;
-        kinds = keeps_but n old new (λ i other. ap (λ t. kind_at t i) e ∙ changed_other old n after_init i other);
-        numbers = ap numbers_left e;
-      }
-
-      -- and was written before
-      pub written : (change : Handle Q QH P PH → Handle Q QH P PH) → ((h : Handle Q QH P PH) → kind_of (change h) ≡ kind_of h)
-          → new ≡ with_changed (with_changed old n change) n after_init → Names old n kinds.before
-          → TellsWritten old new n change kinds.after
-      unfolding Names
-      written change alike e is = record {
-        same = refl;
-        written = e;
-        kind = ap (λ t. kind_at t n) e
-            ∙ becomes (with_changed old n change) n kinds (changed_keeps old n change alike n ∙ is);
-        kinds = keeps_but n old new (λ i other. ap (λ t. kind_at t i) e ∙ changed_other (with_changed old n change) n after_init i other
-            ∙ changed_keeps old n change alike i);
-        numbers = ap numbers_left e;
-      }

@@ -1,5 +1,6 @@
 -- What contracts see of the factories of ports, and what they create.
-use Rattle.std.specs.Prelude.{◌≡◌, ℕ, if◌then◌else◌, Option, Some, None, Result}
+use Rattle.std.specs.Prelude.{◌≡◌, ℕ, ◌≤◌, if◌then◌else◌, Option, Some, None, Result}
+use Rattle.std.specs.Option.{ForSome}
 use Rattle.rr_protocol.specs.declared.settings.ClientSettings.{ClientSettings}
 use Rattle.rr_protocol.specs.declared.settings.ServerSettings.{ServerSettings}
 use Rattle.rr_protocol.specs.declared.settings.BackpressureStrategy.TheVariants.{DiscardData}
@@ -31,6 +32,10 @@ counted size = if is_too_large size then None else Some size
 abbrev pub IsChosen : {F : Type 0} → (F → ℕ → ℕ → Type 0) → Option ℕ → Option F → Option ℕ → Type 0
 IsChosen post (Some worst_case) (Some f) pool = (slots : ℕ) × post f worst_case slots × (pool ≡ Some slots)
 IsChosen post worst_case preallocation pool = pool ≡ None
+
+-- an override, if there is one, chooses at least the worst case
+abbrev pub LeavesWhole : {F : Type 0} → (F → ℕ → ℕ → Type 0) → ℕ → Option F → Type 0
+LeavesWhole post worst_case preallocation = ForSome preallocation (λ f. (slots : ℕ) → post f worst_case slots → worst_case ≤ slots)
 
 module _ {Q QH P PH K F : Type 0} where
   -- a factory creates a client with its settings and the pool that the override chooses

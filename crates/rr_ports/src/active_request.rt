@@ -1,14 +1,14 @@
 //! A request that a server received and may answer.
-#![tactic(auto, using(crate::proofs::Asking::asks), unfolding(crate::specs::Kinds::Names))]
+#![tactic(auto, using(crate::proofs::Asking::asks), unfolding(crate::specs::Facts::Has, crate::specs::Facts::numbers_left))]
 
-ghost use Rattle.std.specs.Prelude.{◌≡◌, IsSomeAnd, option_and_then};
+ghost use Rattle.std.specs.Prelude.{◌≡◌, IsSomeAnd, option_and_then, ◌∷◌, []};
 ghost use Rattle.rr_protocol.specs.declared.kind.Kind.TheVariants as kind;
-ghost use Rattle.rr_ports.specs.Kinds.{Names, KeepsKindsBut};
+ghost use Rattle.rr_ports.specs.Facts.{Has, Keeps, Names, numbers_left};
 ghost use Rattle.rr_protocol.specs.Counts.{is_alive};
 ghost use Rattle.rr_protocol.specs.Messages.{request_in};
 ghost use Rattle.rr_protocol.specs.Queries.{request_header, has_disconnect_hint};
 ghost use Rattle.rr_protocol.specs.Releases.{after_release};
-ghost use Rattle.rr_protocol.specs.State.{handle_at, active_at, numbers_left};
+ghost use Rattle.rr_protocol.specs.State.{handle_at, active_at};
 
 use crate::handle::Handle;
 use crate::hub::Hub;
@@ -25,7 +25,7 @@ use std::marker::{Model, PhantomData};
 /// ```
 /// fn is_sent(hub: &mut Service, active: &ActiveRequest<u64>, value: u64) -> bool
 ///     requires { Names hub.old active.now kind.ActiveRequest }
-///     ensures { KeepsKinds hub.old hub.new }
+///     ensures { Keeps [] hub.old hub.new }
 /// {
 ///     if active.has_disconnect_hint(hub) || hub.numbers_left() == 0 {
 ///         return false;
@@ -135,7 +135,7 @@ impl<QB: Body> ActiveRequest<QB> {
     )
         requires { Names hub.old self kind.ActiveRequest }
         ensures released { hub.new ≡ after_release hub.old self }
-        ensures kinds { KeepsKindsBut self hub.old hub.new }
+        ensures keeps { Keeps (self ∷ []) hub.old hub.new }
         ensures numbers { numbers_left hub.new ≡ numbers_left hub.old }
     {
         let ActiveRequest { id, of: _ } = self;

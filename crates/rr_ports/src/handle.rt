@@ -1,6 +1,6 @@
 //! What ports and handles have in common.
 ghost use Rattle.std.specs.Prelude.{◌↔◌, IsTrue};
-ghost use Rattle.rr_ports.specs.Kinds.{Names};
+ghost use Rattle.rr_ports.specs.Facts.{Names};
 
 use crate::hub::Hub;
 use rr_hub::BackpressureFn;

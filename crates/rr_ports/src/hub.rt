@@ -1,9 +1,10 @@
 //! What owns all ports of a service.
-ghost use Rattle.std.specs.Prelude.{◌≡◌, ◌↔◌, None, IsTrue};
+#![tactic(auto, unfolding(crate::specs::Facts::numbers_left))]
+
+ghost use Rattle.std.specs.Prelude.{◌≡◌, ◌↔◌, None, IsTrue, IfOk, ◌^◌};
 ghost use Rattle.rr_protocol.specs.Creation.{CreatesHub};
-ghost use Rattle.rr_protocol.specs.State.{numbers_left};
 ghost use Rattle.rr_ports.specs.Factories.{client_defaults, server_defaults};
-ghost use Rattle.rr_ports.specs.Kinds.{Names};
+ghost use Rattle.rr_ports.specs.Facts.{Names, numbers_left};
 
 use crate::handle::Handle;
 use crate::port_factory::{PortFactoryClient, PortFactoryServer};
@@ -44,7 +45,8 @@ impl<QB: Body, QH: Default + Drop, PB: Body, PH: Default + Drop, K: Backpressure
     /// - `ZeroLimit` if a limit is below its least value.
     /// - `LimitsTooLarge` if a worst-case size is more than a `usize` counts.
     pub fn new(alloc: Global, limits: Limits, node_id: UniqueNodeId) -> Result<Self, HubCreateError>
-        ensures { CreatesHub limits node_id.0 result }
+        ensures creates { CreatesHub limits node_id.0 result }
+        ensures numbers { IfOk result (λ hub. numbers_left hub ≡ 2 ^ 62) }
     {
         match Core::new(alloc, limits, node_id) {
             Ok(core) => Ok(Hub { core }),
@@ -57,6 +59,20 @@ impl<QB: Body, QH: Default + Drop, PB: Body, PH: Default + Drop, K: Backpressure
         ensures { result ≡ numbers_left self.now }
     {
         self.core.numbers_left()
+    }
+
+    /// Returns the limits that the hub was made with. Not in iceoryx2, which has one getter for each.
+    pub fn limits(&self) -> Limits
+        ensures { result ≡ self.now.limits }
+    {
+        self.core.limits()
+    }
+
+    /// Returns the node that the hub was made with. Not in iceoryx2, whose services have nodes.
+    pub fn node_id(&self) -> UniqueNodeId
+        ensures { result.0 ≡ self.now.node_id }
+    {
+        self.core.node_id()
     }
 
     /// Returns whether the hub has a port or a handle: its number names one of its kind here. A port or a handle of another hub

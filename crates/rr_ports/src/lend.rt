@@ -1,15 +1,15 @@
 //! Lending what a message says for writing, before it is sent. The hub is the first parameter of a call that lends from it.
-#![tactic(auto, using(crate::proofs::Asking::asks), unfolding(crate::specs::Kinds::Names, crate::specs::Lends::with_request_changed, crate::specs::Lends::with_response_changed))]
+#![tactic(auto, using(crate::proofs::Asking::asks), unfolding(crate::specs::Facts::Has, crate::specs::Facts::numbers_left, crate::specs::Lends::with_request_changed, crate::specs::Lends::with_response_changed))]
 
-ghost use Rattle.std.specs.Prelude.{◌≡◌, IsSomeAnd, option_and_then};
+ghost use Rattle.std.specs.Prelude.{◌≡◌, IsSomeAnd, option_and_then, []};
 ghost use Rattle.std.specs.Borrow.{sem};
 ghost use Rattle.std.specs.Fn.{FnOnceReturnsAtMut, FnOnceTakesAtMut};
 ghost use Rattle.rr_protocol.specs.declared.kind.Kind.TheVariants as kind;
-ghost use Rattle.rr_ports.specs.Kinds.{Names, KeepsKinds};
+ghost use Rattle.rr_ports.specs.Facts.{Has, Keeps, Names, numbers_left};
 ghost use Rattle.rr_ports.specs.Lends.{lends_request, lends_response};
 ghost use Rattle.rr_ports.specs.Updates.{UpdatesRequest, UpdatesResponse};
 ghost use Rattle.rr_protocol.specs.Messages.{request_in, response_in};
-ghost use Rattle.rr_protocol.specs.State.{handle_at, numbers_left};
+ghost use Rattle.rr_protocol.specs.State.{handle_at};
 ghost use Rattle.rr_protocol.specs.Writing.{with_user_header};
 
 mod sliced;
@@ -49,7 +49,7 @@ impl<QB: Body> RequestMutUninit<QB> {
         requires kind { Names hub.old self.now kind.RequestMutUninit }
         requires callable { (header : _) → IsSomeAnd (option_and_then request_in (handle_at hub.old self.now)) (λ m. m.content.user_header ≡ header) → FnOnceTakesAtMut F.FnOnce f header }
         ensures updated { UpdatesRequest (λ c header. c.user_header ≡ header) with_user_header (FnOnceReturnsAtMut F.FnOnce f) hub.old hub.new self.now }
-        ensures kinds { KeepsKinds hub.old hub.new }
+        ensures keeps { Keeps [] hub.old hub.new }
         ensures numbers { numbers_left hub.new ≡ numbers_left hub.old }
     {
         f(Self::user_header_mut(hub, self))
@@ -82,7 +82,7 @@ impl<QB: Body> RequestMut<QB> {
         requires kind { Names hub.old self.now kind.RequestMut }
         requires callable { (header : _) → IsSomeAnd (option_and_then request_in (handle_at hub.old self.now)) (λ m. m.content.user_header ≡ header) → FnOnceTakesAtMut F.FnOnce f header }
         ensures updated { UpdatesRequest (λ c header. c.user_header ≡ header) with_user_header (FnOnceReturnsAtMut F.FnOnce f) hub.old hub.new self.now }
-        ensures kinds { KeepsKinds hub.old hub.new }
+        ensures keeps { Keeps [] hub.old hub.new }
         ensures numbers { numbers_left hub.new ≡ numbers_left hub.old }
     {
         f(Self::user_header_mut(hub, self))
@@ -115,7 +115,7 @@ impl<PB: Body> ResponseMutUninit<PB> {
         requires kind { Names hub.old self.now kind.ResponseMutUninit }
         requires callable { (header : _) → IsSomeAnd (option_and_then response_in (handle_at hub.old self.now)) (λ m. m.content.user_header ≡ header) → FnOnceTakesAtMut F.FnOnce f header }
         ensures updated { UpdatesResponse (λ c header. c.user_header ≡ header) with_user_header (FnOnceReturnsAtMut F.FnOnce f) hub.old hub.new self.now }
-        ensures kinds { KeepsKinds hub.old hub.new }
+        ensures keeps { Keeps [] hub.old hub.new }
         ensures numbers { numbers_left hub.new ≡ numbers_left hub.old }
     {
         f(Self::user_header_mut(hub, self))
@@ -148,7 +148,7 @@ impl<PB: Body> ResponseMut<PB> {
         requires kind { Names hub.old self.now kind.ResponseMut }
         requires callable { (header : _) → IsSomeAnd (option_and_then response_in (handle_at hub.old self.now)) (λ m. m.content.user_header ≡ header) → FnOnceTakesAtMut F.FnOnce f header }
         ensures updated { UpdatesResponse (λ c header. c.user_header ≡ header) with_user_header (FnOnceReturnsAtMut F.FnOnce f) hub.old hub.new self.now }
-        ensures kinds { KeepsKinds hub.old hub.new }
+        ensures keeps { Keeps [] hub.old hub.new }
         ensures numbers { numbers_left hub.new ≡ numbers_left hub.old }
     {
         f(Self::user_header_mut(hub, self))

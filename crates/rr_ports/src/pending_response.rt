@@ -1,14 +1,14 @@
 //! A request that was sent, and whose responses are received.
-#![tactic(auto, using(crate::proofs::Asking::asks), unfolding(crate::specs::Kinds::Names))]
+#![tactic(auto, using(crate::proofs::Asking::asks), unfolding(crate::specs::Facts::Has, crate::specs::Facts::numbers_left))]
 
-ghost use Rattle.std.specs.Prelude.{◌↔◌, ◌≡◌, IfOk, IfSome, IsSomeAnd, IsTrue, option_and_then, length, nat_lt};
+ghost use Rattle.std.specs.Prelude.{◌↔◌, ◌≡◌, IfOk, IfSome, IsSomeAnd, IsTrue, option_and_then, length, nat_lt, ◌∷◌, []};
 ghost use Rattle.rr_protocol.specs.declared.kind.Kind.TheVariants as kind;
-ghost use Rattle.rr_ports.specs.Kinds.{Names, NamesNothing, KeepsKinds, KeepsKindsBut};
+ghost use Rattle.rr_ports.specs.Facts.{Has, IsFree, Keeps, Names, numbers_left};
 ghost use Rattle.rr_protocol.specs.Messages.{request_in, with_hint};
 ghost use Rattle.rr_protocol.specs.Queries.{request_header, HasResponse};
 ghost use Rattle.rr_protocol.specs.Receives.{ReceivesResponse};
 ghost use Rattle.rr_protocol.specs.Releases.{after_release};
-ghost use Rattle.rr_protocol.specs.State.{handle_at, pending_at, numbers_left, with_changed};
+ghost use Rattle.rr_protocol.specs.State.{handle_at, pending_at, with_changed};
 
 use crate::handle::Handle;
 use crate::hub::Hub;
@@ -27,7 +27,7 @@ use std::marker::{Model, PhantomData};
 /// ```
 /// fn received(hub: &mut Service, pending: &PendingResponse<u64>) -> Option<u64>
 ///     requires { Names hub.old pending.now kind.PendingResponse }
-///     ensures kinds { KeepsKinds hub.old hub.new }
+///     ensures keeps { Keeps [] hub.old hub.new }
 ///     ensures numbers { numbers_left hub.new ≡ numbers_left hub.old }
 /// {
 ///     match pending.receive(hub) {
@@ -88,7 +88,7 @@ impl<QB: Body> PendingResponse<QB> {
     )
         requires { Names hub.old self.now kind.PendingResponse }
         ensures hinted { hub.new ≡ with_changed hub.old self.now with_hint }
-        ensures kinds { KeepsKinds hub.old hub.new }
+        ensures keeps { Keeps [] hub.old hub.new }
         ensures numbers { numbers_left hub.new ≡ numbers_left hub.old }
     {
         hub.core.set_disconnect_hint(&self.id);
@@ -146,9 +146,9 @@ impl<QB: Body> PendingResponse<QB> {
     ) -> Result<Option<Response<PB>>, ReceiveError>
         requires { Names hub.old self.now kind.PendingResponse }
         ensures receives { ReceivesResponse hub.old self.now result hub.new }
-        ensures fresh { IfOk result (λ received. IfSome received (λ response. NamesNothing hub.old response)) }
+        ensures free { IfOk result (λ received. IfSome received (λ response. IsFree [] hub.old response)) }
         ensures kind { IfOk result (λ received. IfSome received (λ response. Names hub.new response kind.Response)) }
-        ensures kinds { KeepsKinds hub.old hub.new }
+        ensures keeps { Keeps [] hub.old hub.new }
         ensures numbers { numbers_left hub.new ≡ numbers_left hub.old }
     {
         response::received(hub.core.receive_response(&self.id))
@@ -163,7 +163,7 @@ impl<QB: Body> PendingResponse<QB> {
     )
         requires { Names hub.old self kind.PendingResponse }
         ensures released { hub.new ≡ after_release hub.old self }
-        ensures kinds { KeepsKindsBut self hub.old hub.new }
+        ensures keeps { Keeps (self ∷ []) hub.old hub.new }
         ensures numbers { numbers_left hub.new ≡ numbers_left hub.old }
     {
         let PendingResponse { id, of: _ } = self;

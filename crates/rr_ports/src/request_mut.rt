@@ -1,15 +1,15 @@
 //! A loaned request that can be sent.
-#![tactic(auto, using(crate::proofs::Asking::asks), unfolding(crate::specs::Kinds::Names))]
+#![tactic(auto, using(crate::proofs::Asking::asks), unfolding(crate::specs::Facts::Has, crate::specs::Facts::numbers_left))]
 
-ghost use Rattle.std.specs.Prelude.{◌≡◌, IfOk, IsSomeAnd, option_and_then};
+ghost use Rattle.std.specs.Prelude.{◌≡◌, IfOk, IsSomeAnd, option_and_then, ◌∷◌, [], List};
 ghost use Rattle.rr_protocol.specs.declared.kind.Kind.TheVariants as kind;
-ghost use Rattle.rr_ports.specs.Kinds.{Names, KeepsKindsBut};
+ghost use Rattle.rr_ports.specs.Facts.{Has, Keeps, Names, numbers_left, Asks};
 ghost use Rattle.rr_ports.specs.Sending.{SendsPending};
 ghost use Rattle.rr_protocol.specs.Messages.{request_in};
 ghost use Rattle.rr_protocol.specs.Queries.{request_header};
 ghost use Rattle.rr_protocol.specs.Releases.{after_release};
 ghost use Rattle.rr_protocol.specs.Sends.{is_request_deliverable};
-ghost use Rattle.rr_protocol.specs.State.{handle_at, request_at, numbers_left};
+ghost use Rattle.rr_protocol.specs.State.{handle_at, request_at};
 
 use crate::handle::Handle;
 use crate::hub::Hub;
@@ -85,7 +85,8 @@ impl<QB: Body> RequestMut<QB> {
         requires { Names hub.old self kind.RequestMut }
         ensures sends { SendsPending K.action hub.old self result hub.new }
         ensures kind { IfOk result (λ pending. Names hub.new pending kind.PendingResponse) }
-        ensures kinds { KeepsKindsBut self hub.old hub.new }
+        ensures says { IfOk result (λ pending. (xs : List QB.Item) → Has hub.old self (Asks xs) → Has hub.new pending (Asks xs)) }
+        ensures keeps { Keeps (self ∷ []) hub.old hub.new }
         ensures numbers { numbers_left hub.new ≡ numbers_left hub.old }
     {
         let RequestMut { id, of: _ } = self;
@@ -104,7 +105,7 @@ impl<QB: Body> RequestMut<QB> {
     )
         requires { Names hub.old self kind.RequestMut }
         ensures released { hub.new ≡ after_release hub.old self }
-        ensures kinds { KeepsKindsBut self hub.old hub.new }
+        ensures keeps { Keeps (self ∷ []) hub.old hub.new }
         ensures numbers { numbers_left hub.new ≡ numbers_left hub.old }
     {
         let RequestMut { id, of: _ } = self;

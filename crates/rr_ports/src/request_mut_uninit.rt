@@ -1,13 +1,13 @@
 //! A loaned request whose payload is being written.
-#![tactic(auto, using(crate::proofs::Asking::asks), unfolding(crate::specs::Kinds::Names))]
+#![tactic(auto, using(crate::proofs::Asking::asks), unfolding(crate::specs::Facts::Has, crate::specs::Facts::numbers_left))]
 
-ghost use Rattle.std.specs.Prelude.{◌≡◌, IsSomeAnd, option_and_then, true};
+ghost use Rattle.std.specs.Prelude.{◌≡◌, IsSomeAnd, option_and_then, true, ◌∷◌, [], List};
 ghost use Rattle.rr_protocol.specs.declared.kind.Kind.TheVariants as kind;
-ghost use Rattle.rr_ports.specs.Kinds.{Names, KeepsKindsBut};
+ghost use Rattle.rr_ports.specs.Facts.{Has, Keeps, Names, numbers_left, Asks};
 ghost use Rattle.rr_protocol.specs.Messages.{request_in};
 ghost use Rattle.rr_protocol.specs.Queries.{request_header};
 ghost use Rattle.rr_protocol.specs.Releases.{after_release};
-ghost use Rattle.rr_protocol.specs.State.{handle_at, numbers_left, with_changed};
+ghost use Rattle.rr_protocol.specs.State.{handle_at, with_changed};
 ghost use Rattle.rr_protocol.specs.Writing.{is_complete, after_init};
 
 use crate::handle::Handle;
@@ -26,7 +26,7 @@ use std::marker::{Model, PhantomData};
 /// ```
 /// fn write(hub: &mut Service, request: &RequestMutUninit<u64>, values: &[u64])
 ///     requires { Names hub.old request.now kind.RequestMutUninit }
-///     ensures kinds { KeepsKinds hub.old hub.new }
+///     ensures keeps { Keeps [] hub.old hub.new }
 ///     ensures numbers { numbers_left hub.new ≡ numbers_left hub.old }
 /// {
 ///     for value in values {
@@ -114,7 +114,8 @@ impl<QB: Body> RequestMutUninit<QB> {
         ensures same { result ≡ self }
         ensures initialised { hub.new ≡ with_changed hub.old self after_init }
         ensures kind { Names hub.new result kind.RequestMut }
-        ensures kinds { KeepsKindsBut self hub.old hub.new }
+        ensures says { (xs : List QB.Item) → Has hub.old self (Asks xs) → Has hub.new result (Asks xs) }
+        ensures keeps { Keeps (self ∷ []) hub.old hub.new }
         ensures numbers { numbers_left hub.new ≡ numbers_left hub.old }
     {
         let RequestMutUninit { id, of: _ } = self;
@@ -133,7 +134,7 @@ impl<QB: Body> RequestMutUninit<QB> {
     )
         requires { Names hub.old self kind.RequestMutUninit }
         ensures released { hub.new ≡ after_release hub.old self }
-        ensures kinds { KeepsKindsBut self hub.old hub.new }
+        ensures keeps { Keeps (self ∷ []) hub.old hub.new }
         ensures numbers { numbers_left hub.new ≡ numbers_left hub.old }
     {
         let RequestMutUninit { id, of: _ } = self;

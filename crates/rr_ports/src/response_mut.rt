@@ -1,14 +1,14 @@
 //! A loaned response that can be sent.
-#![tactic(auto, using(crate::proofs::Asking::asks), unfolding(crate::specs::Kinds::Names))]
+#![tactic(auto, using(crate::proofs::Asking::asks), unfolding(crate::specs::Facts::Has, crate::specs::Facts::numbers_left))]
 
-ghost use Rattle.std.specs.Prelude.{◌≡◌, IsSomeAnd, option_and_then};
+ghost use Rattle.std.specs.Prelude.{◌≡◌, IsSomeAnd, option_and_then, ◌∷◌, []};
 ghost use Rattle.rr_protocol.specs.declared.kind.Kind.TheVariants as kind;
-ghost use Rattle.rr_ports.specs.Kinds.{Names, KeepsKindsBut};
+ghost use Rattle.rr_ports.specs.Facts.{Has, Keeps, Names, numbers_left};
 ghost use Rattle.rr_protocol.specs.Messages.{response_in};
 ghost use Rattle.rr_protocol.specs.Queries.{response_header};
 ghost use Rattle.rr_protocol.specs.Releases.{after_release};
 ghost use Rattle.rr_protocol.specs.Sends.{is_response_deliverable, SendsResponse};
-ghost use Rattle.rr_protocol.specs.State.{handle_at, response_at, numbers_left};
+ghost use Rattle.rr_protocol.specs.State.{handle_at, response_at};
 
 use crate::handle::Handle;
 use crate::hub::Hub;
@@ -82,7 +82,7 @@ impl<PB: Body> ResponseMut<PB> {
     ) -> Result<(), SendError>
         requires { Names hub.old self kind.ResponseMut }
         ensures sends { SendsResponse K.action hub.old self result hub.new }
-        ensures kinds { KeepsKindsBut self hub.old hub.new }
+        ensures keeps { Keeps (self ∷ []) hub.old hub.new }
         ensures numbers { numbers_left hub.new ≡ numbers_left hub.old }
     {
         let ResponseMut { id, of: _ } = self;
@@ -97,7 +97,7 @@ impl<PB: Body> ResponseMut<PB> {
     )
         requires { Names hub.old self kind.ResponseMut }
         ensures released { hub.new ≡ after_release hub.old self }
-        ensures kinds { KeepsKindsBut self hub.old hub.new }
+        ensures keeps { Keeps (self ∷ []) hub.old hub.new }
         ensures numbers { numbers_left hub.new ≡ numbers_left hub.old }
     {
         let ResponseMut { id, of: _ } = self;

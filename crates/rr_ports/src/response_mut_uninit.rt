@@ -1,13 +1,13 @@
 //! A loaned response whose payload is being written.
-#![tactic(auto, using(crate::proofs::Asking::asks), unfolding(crate::specs::Kinds::Names))]
+#![tactic(auto, using(crate::proofs::Asking::asks), unfolding(crate::specs::Facts::Has, crate::specs::Facts::numbers_left))]
 
-ghost use Rattle.std.specs.Prelude.{◌≡◌, IsSomeAnd, option_and_then, true};
+ghost use Rattle.std.specs.Prelude.{◌≡◌, IsSomeAnd, option_and_then, true, ◌∷◌, [], List};
 ghost use Rattle.rr_protocol.specs.declared.kind.Kind.TheVariants as kind;
-ghost use Rattle.rr_ports.specs.Kinds.{Names, KeepsKindsBut};
+ghost use Rattle.rr_ports.specs.Facts.{Has, Keeps, Names, numbers_left, Answers};
 ghost use Rattle.rr_protocol.specs.Messages.{response_in};
 ghost use Rattle.rr_protocol.specs.Queries.{response_header};
 ghost use Rattle.rr_protocol.specs.Releases.{after_release};
-ghost use Rattle.rr_protocol.specs.State.{handle_at, numbers_left, with_changed};
+ghost use Rattle.rr_protocol.specs.State.{handle_at, with_changed};
 ghost use Rattle.rr_protocol.specs.Writing.{is_complete, after_init};
 
 use crate::handle::Handle;
@@ -27,7 +27,7 @@ use std::marker::{Model, PhantomData};
 /// fn send_one(hub: &mut Service, active: &ActiveRequest<u64>, value: u64) -> Result<(), SendError>
 ///     requires active { Names hub.old active.now kind.ActiveRequest }
 ///     requires number { 0 < numbers_left hub.old }
-///     ensures { KeepsKinds hub.old hub.new }
+///     ensures { Keeps [] hub.old hub.new }
 /// {
 ///     let response = active.loan_slice_uninit(hub, 1)?;
 ///     let response = response.fill(hub, value);
@@ -113,7 +113,8 @@ impl<PB: Body> ResponseMutUninit<PB> {
         ensures same { result ≡ self }
         ensures initialised { hub.new ≡ with_changed hub.old self after_init }
         ensures kind { Names hub.new result kind.ResponseMut }
-        ensures kinds { KeepsKindsBut self hub.old hub.new }
+        ensures says { (xs : List PB.Item) → Has hub.old self (Answers xs) → Has hub.new result (Answers xs) }
+        ensures keeps { Keeps (self ∷ []) hub.old hub.new }
         ensures numbers { numbers_left hub.new ≡ numbers_left hub.old }
     {
         let ResponseMutUninit { id, of: _ } = self;
@@ -132,7 +133,7 @@ impl<PB: Body> ResponseMutUninit<PB> {
     )
         requires { Names hub.old self kind.ResponseMutUninit }
         ensures released { hub.new ≡ after_release hub.old self }
-        ensures kinds { KeepsKindsBut self hub.old hub.new }
+        ensures keeps { Keeps (self ∷ []) hub.old hub.new }
         ensures numbers { numbers_left hub.new ≡ numbers_left hub.old }
     {
         let ResponseMutUninit { id, of: _ } = self;

@@ -1,13 +1,13 @@
 //! Servers.
-#![tactic(auto, using(crate::proofs::Asking::asks), unfolding(crate::specs::Kinds::Names))]
+#![tactic(auto, using(crate::proofs::Asking::asks), unfolding(crate::specs::Facts::Has, crate::specs::Facts::numbers_left))]
 
-ghost use Rattle.std.specs.Prelude.{◌↔◌, ◌+◌, ◌≤◌, ◌<◌, ◌≡◌, IfOk, IfSome, IsOk, IsSomeAnd, IsTrue};
+ghost use Rattle.std.specs.Prelude.{◌↔◌, ◌+◌, ◌≤◌, ◌<◌, ◌≡◌, IfOk, IfSome, IsOk, IsSomeAnd, IsTrue, ◌∷◌, [], ℕ};
 ghost use Rattle.rr_protocol.specs.declared.kind.Kind.TheVariants as kind;
-ghost use Rattle.rr_ports.specs.Kinds.{Names, NamesNothing, KeepsKinds, KeepsKindsBut};
+ghost use Rattle.rr_ports.specs.Facts.{Has, IsFree, Keeps, Names, numbers_left, WholePool};
 ghost use Rattle.rr_protocol.specs.Queries.{HasRequests};
 ghost use Rattle.rr_protocol.specs.Receives.{ReceivesRequest};
 ghost use Rattle.rr_protocol.specs.Releases.{after_release};
-ghost use Rattle.rr_protocol.specs.State.{server_at, numbers_left};
+ghost use Rattle.rr_protocol.specs.State.{server_at};
 
 use crate::active_request;
 use crate::active_request::ActiveRequest;
@@ -31,7 +31,7 @@ use std::marker::{Model, PhantomData};
 /// fn is_served(hub: &mut Service, server: &Server<u64>) -> Result<bool, ReceiveError>
 ///     requires server { Names hub.old server.now kind.Server }
 ///     requires numbers { 1 < numbers_left hub.old }
-///     ensures { KeepsKinds hub.old hub.new }
+///     ensures { Keeps [] hub.old hub.new }
 /// {
 ///     let Some(active) = server.receive(hub)? else {
 ///         return Ok(false);
@@ -128,9 +128,10 @@ impl<PB: Body> Server<PB> {
         requires kind { Names hub.old self.now kind.Server }
         requires number { 0 < numbers_left hub.old }
         ensures receives { ReceivesRequest hub.old self.now result hub.new }
-        ensures fresh { IfOk result (λ received. IfSome received (λ active. NamesNothing hub.old active)) }
+        ensures free { IfOk result (λ received. IfSome received (λ active. IsFree [] hub.old active)) }
         ensures kind { IfOk result (λ received. IfSome received (λ active. Names hub.new active kind.ActiveRequest)) }
-        ensures kinds { KeepsKinds hub.old hub.new }
+        ensures pool { (room : ℕ) → Has hub.old self.now (WholePool room) → IfOk result (λ received. IfSome received (λ active. Has hub.new active (WholePool room))) }
+        ensures keeps { Keeps [] hub.old hub.new }
         ensures numbers { numbers_left hub.old ≤ numbers_left hub.new + 1 }
     {
         active_request::received(hub.core.receive_request(self.number))
@@ -145,7 +146,7 @@ impl<PB: Body> Server<PB> {
     )
         requires { Names hub.old self kind.Server }
         ensures released { hub.new ≡ after_release hub.old self }
-        ensures kinds { KeepsKindsBut self hub.old hub.new }
+        ensures keeps { Keeps (self ∷ []) hub.old hub.new }
         ensures numbers { numbers_left hub.new ≡ numbers_left hub.old }
     {
         let Server { number, of: _ } = self;

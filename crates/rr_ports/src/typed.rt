@@ -9,6 +9,7 @@ mod request_mut_uninit;
 mod response;
 mod response_mut;
 mod response_mut_uninit;
+mod server;
 
 /// A hub whose requests and responses are single values.
 pub type Hub<Q, QH, P, PH, K = crate::NoHandler> = crate::Hub<Option<Q>, QH, Option<P>, PH, K>;

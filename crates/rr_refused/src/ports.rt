@@ -1,5 +1,5 @@
 //! Ports that are created directly, in both families: the first of a hub, and one in the place of another that left.
-#![tactic(auto, using(rr_ports::proofs::Frames::kinds))]
+#![tactic(auto, using(rr_ports::proofs::Frames::callers), unfolding(rr_ports::specs::Facts::Keeps, rr_ports::specs::Facts::IsFree))]
 
 use crate::stage::{LIMITS, Stage};
 use rr_ports::{ClientCreateError, Hub, NoHandler, ServerCreateError, UniqueNodeId};

@@ -1,14 +1,13 @@
 //! A question that tells each reason for which it may fail.
-#![tactic(auto, using(rr_ports::proofs::Frames::frames))]
+#![tactic(auto, using(rr_ports::proofs::Frames::callers), unfolding(rr_ports::specs::Facts::Keeps, rr_ports::specs::Facts::IsFree))]
 
-ghost use Rattle.std.specs.Prelude.{◌≡◌, ◌<◌};
+ghost use Rattle.std.specs.Prelude.{◌≡◌, ◌<◌, []};
 ghost use Rattle.rr_protocol.specs.declared.kind.Kind.TheVariants as kind;
 ghost use Rattle.rr_protocol.specs.declared.error.LoanError.{LoanError};
 ghost use Rattle.rr_protocol.specs.declared.error.ReceiveError.{ReceiveError};
 ghost use Rattle.rr_protocol.specs.declared.error.RequestSendError.{RequestSendError};
 ghost use Rattle.rr_protocol.specs.declared.error.SendError.{SendError};
-ghost use Rattle.rr_protocol.specs.State.{numbers_left};
-ghost use Rattle.rr_ports.specs.Kinds.{Names, KeepsKinds};
+ghost use Rattle.rr_ports.specs.Facts.{Keeps, Names, numbers_left};
 ghost use Rattle.rr_uses.specs.declared.asking.AskError.{AskError};
 
 use crate::serving::serve;
@@ -70,7 +69,7 @@ fn not_received(error: ReceiveError) -> AskError
 /// `TooManyHeld` if as many answers are held as may be.
 pub fn receive(hub: &mut Service, pending: &PendingResponse<u64>) -> Result<Option<u64>, AskError>
     requires { Names hub.old pending.now kind.PendingResponse }
-    ensures { KeepsKinds hub.old hub.new }
+    ensures { Keeps [] hub.old hub.new }
 {
     match pending.receive(hub) {
         Ok(Some(response)) => {
@@ -97,7 +96,7 @@ pub fn double(
     requires client { Names hub.old client.now kind.Client }
     requires server { Names hub.old server.now kind.Server }
     requires number { 0 < numbers_left hub.old }
-    ensures { KeepsKinds hub.old hub.new }
+    ensures { Keeps [] hub.old hub.new }
 {
     let pending = client.send_copy(hub, value).map_err(not_sent)?;
     let answer = match serve(hub, server) {

@@ -1,10 +1,9 @@
 //! A parameter service: a server keeps a number, which two clients read and replace.
-#![tactic(auto, using(rr_ports::proofs::Frames::frames))]
+#![tactic(auto, using(rr_ports::proofs::Frames::callers), unfolding(rr_ports::specs::Facts::Keeps, rr_ports::specs::Facts::IsFree))]
 
-ghost use Rattle.std.specs.Prelude.{◌≡◌, ◌<◌, ◌≤◌, ◌+◌};
+ghost use Rattle.std.specs.Prelude.{◌≡◌, ◌<◌, ◌≤◌, ◌+◌, []};
 ghost use Rattle.rr_protocol.specs.declared.kind.Kind.TheVariants as kind;
-ghost use Rattle.rr_protocol.specs.State.{numbers_left};
-ghost use Rattle.rr_ports.specs.Kinds.{Names, KeepsKinds};
+ghost use Rattle.rr_ports.specs.Facts.{Keeps, Names, numbers_left};
 
 use rr_ports::RequestSendError;
 use rr_ports::typed::{Client, Hub, PendingResponse, Server};
@@ -15,7 +14,7 @@ type Service = Hub<u64, u64, u64, u64>;
 /// Returns the number that came as a response, if one did, and releases it.
 fn received(hub: &mut Service, pending: &PendingResponse<u64>) -> Option<u64>
     requires { Names hub.old pending.now kind.PendingResponse }
-    ensures kinds { KeepsKinds hub.old hub.new }
+    ensures keeps { Keeps [] hub.old hub.new }
     ensures numbers { numbers_left hub.new ≡ numbers_left hub.old }
 {
     match pending.receive(hub) {
@@ -33,7 +32,7 @@ fn received(hub: &mut Service, pending: &PendingResponse<u64>) -> Option<u64>
 fn answered(hub: &mut Service, server: &Server<u64>, parameter: u64) -> u64
     requires server { Names hub.old server.now kind.Server }
     requires numbers { 1 < numbers_left hub.old }
-    ensures kinds { KeepsKinds hub.old hub.new }
+    ensures keeps { Keeps [] hub.old hub.new }
     ensures numbers { numbers_left hub.old ≤ numbers_left hub.new + 2 }
 {
     let Ok(Some(active)) = server.receive(hub) else {
@@ -51,7 +50,7 @@ fn answered(hub: &mut Service, server: &Server<u64>, parameter: u64) -> u64
 /// # Errors
 ///
 /// As `Client::send_copy`.
-#[tactic(auto, using(rr_ports::proofs::Frames::kinds))]
+#[tactic(auto, using(rr_ports::proofs::Frames::callers), unfolding(rr_ports::specs::Facts::Keeps, rr_ports::specs::Facts::IsFree))]
 pub fn replace_twice(
     hub: &mut Service,
     first: &Client<u64>,

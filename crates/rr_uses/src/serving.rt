@@ -1,10 +1,9 @@
 //! A server that answers what is queued.
-#![tactic(auto, using(rr_ports::proofs::Frames::frames))]
+#![tactic(auto, using(rr_ports::proofs::Frames::callers), unfolding(rr_ports::specs::Facts::Keeps, rr_ports::specs::Facts::IsFree))]
 
-ghost use Rattle.std.specs.Prelude.{◌<◌};
+ghost use Rattle.std.specs.Prelude.{◌<◌, []};
 ghost use Rattle.rr_protocol.specs.declared.kind.Kind.TheVariants as kind;
-ghost use Rattle.rr_protocol.specs.State.{numbers_left};
-ghost use Rattle.rr_ports.specs.Kinds.{Names, KeepsKinds};
+ghost use Rattle.rr_ports.specs.Facts.{Keeps, Names, numbers_left};
 
 use rr_ports::ReceiveError;
 use rr_ports::typed::{Hub, Server};
@@ -20,7 +19,7 @@ type Service = Hub<u64, u64, u64, u64>;
 fn is_served(hub: &mut Service, server: &Server<u64>) -> Result<bool, ReceiveError>
     requires server { Names hub.old server.now kind.Server }
     requires numbers { 1 < numbers_left hub.old }
-    ensures { KeepsKinds hub.old hub.new }
+    ensures { Keeps [] hub.old hub.new }
 {
     let Some(active) = server.receive(hub)? else {
         return Ok(false);
@@ -39,7 +38,7 @@ fn is_served(hub: &mut Service, server: &Server<u64>) -> Result<bool, ReceiveErr
 /// As `Server::receive`. Requests that were answered before stay answered.
 pub fn serve(hub: &mut Service, server: &Server<u64>) -> Result<u64, ReceiveError>
     requires { Names hub.old server.now kind.Server }
-    ensures { KeepsKinds hub.old hub.new }
+    ensures { Keeps [] hub.old hub.new }
 {
     for served in 0..u64::MAX {
         if hub.numbers_left() < 2 || !is_served(hub, server)? {

@@ -1,10 +1,9 @@
 //! Requests and answers that are slices.
-#![tactic(auto, using(rr_ports::proofs::Frames::frames))]
+#![tactic(auto, using(rr_ports::proofs::Frames::callers), unfolding(rr_ports::specs::Facts::Keeps, rr_ports::specs::Facts::IsFree))]
 
-ghost use Rattle.std.specs.Prelude.{◌≡◌, ◌<◌, ◌≤◌, ◌+◌, IfOk, IfSome};
+ghost use Rattle.std.specs.Prelude.{◌≡◌, ◌<◌, ◌≤◌, ◌+◌, IfOk, IfSome, [], ◌∷◌};
 ghost use Rattle.rr_protocol.specs.declared.kind.Kind.TheVariants as kind;
-ghost use Rattle.rr_protocol.specs.State.{numbers_left};
-ghost use Rattle.rr_ports.specs.Kinds.{Names, KeepsKinds, KeepsKindsBut};
+ghost use Rattle.rr_ports.specs.Facts.{IsFree, Keeps, Names, numbers_left};
 
 use rr_ports::sliced::{ActiveRequest, Client, Hub, PendingResponse, RequestMutUninit, Server};
 use rr_ports::{RequestSendError, SendError};
@@ -15,7 +14,8 @@ type Service = Hub<u64, u64, u64, u64>;
 /// Appends values to a request until it is complete or no value is left.
 fn write(hub: &mut Service, request: &RequestMutUninit<u64>, values: &[u64])
     requires { Names hub.old request.now kind.RequestMutUninit }
-    ensures kinds { KeepsKinds hub.old hub.new }
+    ensures kind { Names hub.new request.now kind.RequestMutUninit }
+    ensures keeps { Keeps (request.now ∷ []) hub.old hub.new }
     ensures numbers { numbers_left hub.new ≡ numbers_left hub.old }
 {
     for value in values {
@@ -36,8 +36,9 @@ fn send(
     request: RequestMutUninit<u64>,
 ) -> Result<Option<PendingResponse<u64>>, RequestSendError>
     requires { Names hub.old request kind.RequestMutUninit }
+    ensures same { IfOk result (λ sent. IfSome sent (λ pending. pending ≡ request)) }
     ensures pending { IfOk result (λ sent. IfSome sent (λ pending. Names hub.new pending kind.PendingResponse)) }
-    ensures kinds { KeepsKindsBut request hub.old hub.new }
+    ensures keeps { Keeps (request ∷ []) hub.old hub.new }
     ensures numbers { numbers_left hub.new ≡ numbers_left hub.old }
 {
     if !request.is_complete(hub) {
@@ -61,8 +62,9 @@ pub fn ask(
 ) -> Result<Option<PendingResponse<u64>>, RequestSendError>
     requires client { Names hub.old client.now kind.Client }
     requires numbers { 0 < numbers_left hub.old }
+    ensures free { IfOk result (λ sent. IfSome sent (λ pending. IsFree [] hub.old pending)) }
     ensures pending { IfOk result (λ sent. IfSome sent (λ pending. Names hub.new pending kind.PendingResponse)) }
-    ensures kinds { KeepsKinds hub.old hub.new }
+    ensures keeps { Keeps [] hub.old hub.new }
     ensures numbers { numbers_left hub.old ≤ numbers_left hub.new + 1 }
 {
     let request = client.loan_slice_uninit(hub, len)?;
@@ -78,7 +80,7 @@ pub fn ask(
 fn send_one(hub: &mut Service, active: &ActiveRequest<u64>, value: u64) -> Result<(), SendError>
     requires active { Names hub.old active.now kind.ActiveRequest }
     requires number { 0 < numbers_left hub.old }
-    ensures { KeepsKinds hub.old hub.new }
+    ensures { Keeps [] hub.old hub.new }
 {
     let response = active.loan_slice_uninit(hub, 1)?;
     let response = response.fill(hub, value);
@@ -89,7 +91,7 @@ fn send_one(hub: &mut Service, active: &ActiveRequest<u64>, value: u64) -> Resul
 pub fn answer(hub: &mut Service, server: &Server<u64>)
     requires server { Names hub.old server.now kind.Server }
     requires numbers { 1 < numbers_left hub.old }
-    ensures { KeepsKinds hub.old hub.new }
+    ensures { Keeps [] hub.old hub.new }
 {
     if let Ok(Some(active)) = server.receive(hub) {
         let sum = active
@@ -104,7 +106,7 @@ pub fn answer(hub: &mut Service, server: &Server<u64>)
 /// Returns the first element of the response that came, if one did, and releases it.
 pub fn receive(hub: &mut Service, pending: &PendingResponse<u64>) -> Option<u64>
     requires { Names hub.old pending.now kind.PendingResponse }
-    ensures { KeepsKinds hub.old hub.new }
+    ensures { Keeps [] hub.old hub.new }
 {
     match pending.receive(hub) {
         Ok(Some(response)) => {

@@ -1,10 +1,9 @@
 //! A stream of answers to one request, which the client ends by a hint once it has enough.
-#![tactic(auto, using(rr_ports::proofs::Frames::frames))]
+#![tactic(auto, using(rr_ports::proofs::Frames::callers), unfolding(rr_ports::specs::Facts::Keeps, rr_ports::specs::Facts::IsFree))]
 
-ghost use Rattle.std.specs.Prelude.{◌<◌, ◌≤◌, IfOk};
+ghost use Rattle.std.specs.Prelude.{◌<◌, ◌≤◌, IfOk, []};
 ghost use Rattle.rr_protocol.specs.declared.kind.Kind.TheVariants as kind;
-ghost use Rattle.rr_protocol.specs.State.{numbers_left};
-ghost use Rattle.rr_ports.specs.Kinds.{Names, KeepsKinds};
+ghost use Rattle.rr_ports.specs.Facts.{Keeps, Names, numbers_left};
 
 use rr_ports::RequestSendError;
 use rr_ports::typed::{ActiveRequest, Client, Hub, PendingResponse, Server};
@@ -15,7 +14,7 @@ type Service = Hub<u64, u64, u64, u64>;
 /// Sends a number as the next response, unless the client wants no more or no number is left. Returns whether it was sent.
 fn is_sent(hub: &mut Service, active: &ActiveRequest<u64>, value: u64) -> bool
     requires { Names hub.old active.now kind.ActiveRequest }
-    ensures { KeepsKinds hub.old hub.new }
+    ensures { Keeps [] hub.old hub.new }
 {
     if active.has_disconnect_hint(hub) || hub.numbers_left() == 0 {
         return false;
@@ -27,7 +26,7 @@ fn is_sent(hub: &mut Service, active: &ActiveRequest<u64>, value: u64) -> bool
 /// or no number is left. Returns how many were sent.
 pub fn answer(hub: &mut Service, active: &ActiveRequest<u64>, most: u64) -> u64
     requires { Names hub.old active.now kind.ActiveRequest }
-    ensures kinds { KeepsKinds hub.old hub.new }
+    ensures keeps { Keeps [] hub.old hub.new }
     ensures most { result ≤ most }
 {
     for value in 0..most {
@@ -41,7 +40,7 @@ pub fn answer(hub: &mut Service, active: &ActiveRequest<u64>, most: u64) -> u64
 /// Receives the next response and releases it. Returns whether one came.
 fn is_received(hub: &mut Service, pending: &PendingResponse<u64>) -> bool
     requires { Names hub.old pending.now kind.PendingResponse }
-    ensures { KeepsKinds hub.old hub.new }
+    ensures { Keeps [] hub.old hub.new }
 {
     match pending.receive(hub) {
         Ok(Some(response)) => {
@@ -56,7 +55,7 @@ fn is_received(hub: &mut Service, pending: &PendingResponse<u64>) -> bool
 /// it wants still.
 pub fn receive(hub: &mut Service, pending: &PendingResponse<u64>, wanted: u64) -> u64
     requires { Names hub.old pending.now kind.PendingResponse }
-    ensures kinds { KeepsKinds hub.old hub.new }
+    ensures keeps { Keeps [] hub.old hub.new }
     ensures wanted { result ≤ wanted }
 {
     for received in 0..wanted {
@@ -78,7 +77,7 @@ fn take_turns(
 ) -> u64
     requires active { Names hub.old active.now kind.ActiveRequest }
     requires pending { Names hub.old pending.now kind.PendingResponse }
-    ensures kinds { KeepsKinds hub.old hub.new }
+    ensures keeps { Keeps [] hub.old hub.new }
     ensures wanted { result ≤ wanted }
 {
     let mut left = wanted;

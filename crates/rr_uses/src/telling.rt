@@ -1,10 +1,9 @@
 //! A message that needs no answer.
-#![tactic(auto, using(rr_ports::proofs::Frames::kinds))]
+#![tactic(auto, using(rr_ports::proofs::Frames::callers), unfolding(rr_ports::specs::Facts::Keeps, rr_ports::specs::Facts::IsFree))]
 
 ghost use Rattle.std.specs.Prelude.{◌<◌};
 ghost use Rattle.rr_protocol.specs.declared.kind.Kind.TheVariants as kind;
-ghost use Rattle.rr_protocol.specs.State.{numbers_left};
-ghost use Rattle.rr_ports.specs.Kinds.{Names};
+ghost use Rattle.rr_ports.specs.Facts.{Names, numbers_left};
 
 use rr_ports::RequestSendError;
 use rr_ports::typed::{Client, Hub};

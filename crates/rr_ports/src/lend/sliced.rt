@@ -1,17 +1,17 @@
 //! Lending the elements of a sliced message for writing.
-#![tactic(auto, using(crate::proofs::Asking::asks), unfolding(crate::specs::Kinds::Names, crate::specs::Lends::with_request_changed, crate::specs::Lends::with_response_changed))]
+#![tactic(auto, using(crate::proofs::Asking::asks), unfolding(crate::specs::Facts::Has, crate::specs::Facts::numbers_left, crate::specs::Lends::with_request_changed, crate::specs::Lends::with_response_changed))]
 
-ghost use Rattle.std.specs.Prelude.{◌≡◌, IsSomeAnd, option_and_then};
+ghost use Rattle.std.specs.Prelude.{◌≡◌, IsSomeAnd, option_and_then, [], ◌∷◌};
 ghost use Rattle.std.specs.Borrow.{sem, Array};
 ghost use Rattle.std.specs.Fn.{FnOnceReturnsAtMut, FnOnceTakesAtMut};
 ghost use Rattle.rr_slots.specs.contracts.slice_body.SliceBody.{the_row as slice_row};
 ghost use Rattle.rr_hub.specs.CoreLends.{refilled};
 ghost use Rattle.rr_protocol.specs.declared.kind.Kind.TheVariants as kind;
-ghost use Rattle.rr_ports.specs.Kinds.{Names, KeepsKinds};
+ghost use Rattle.rr_ports.specs.Facts.{Has, Keeps, Names, numbers_left};
 ghost use Rattle.rr_ports.specs.Lends.{lends_request, lends_response};
 ghost use Rattle.rr_ports.specs.Updates.{UpdatesRequest, UpdatesResponse};
 ghost use Rattle.rr_protocol.specs.Messages.{request_in, response_in};
-ghost use Rattle.rr_protocol.specs.State.{handle_at, numbers_left};
+ghost use Rattle.rr_protocol.specs.State.{handle_at};
 
 use crate::hub::Hub;
 use crate::request_mut::RequestMut;
@@ -48,7 +48,8 @@ impl<T: Drop> RequestMutUninit<SliceBody<T>> {
         requires kind { Names hub.old self.now kind.RequestMutUninit }
         requires callable { (items : _) → IsSomeAnd (option_and_then request_in (handle_at hub.old self.now)) (λ m. m.content.elements ≡ items) → FnOnceTakesAtMut F.FnOnce f items }
         ensures updated { UpdatesRequest (λ c items. c.elements ≡ items) refilled (FnOnceReturnsAtMut F.FnOnce f) hub.old hub.new self.now }
-        ensures kinds { KeepsKinds hub.old hub.new }
+        ensures kind { Names hub.new self.now kind.RequestMutUninit }
+        ensures keeps { Keeps (self.now ∷ []) hub.old hub.new }
         ensures numbers { numbers_left hub.new ≡ numbers_left hub.old }
     {
         f(Self::payload_mut(hub, self))
@@ -81,7 +82,8 @@ impl<T: Drop> RequestMut<SliceBody<T>> {
         requires kind { Names hub.old self.now kind.RequestMut }
         requires callable { (items : _) → IsSomeAnd (option_and_then request_in (handle_at hub.old self.now)) (λ m. m.content.elements ≡ items) → FnOnceTakesAtMut F.FnOnce f items }
         ensures updated { UpdatesRequest (λ c items. c.elements ≡ items) refilled (FnOnceReturnsAtMut F.FnOnce f) hub.old hub.new self.now }
-        ensures kinds { KeepsKinds hub.old hub.new }
+        ensures kind { Names hub.new self.now kind.RequestMut }
+        ensures keeps { Keeps (self.now ∷ []) hub.old hub.new }
         ensures numbers { numbers_left hub.new ≡ numbers_left hub.old }
     {
         f(Self::payload_mut(hub, self))
@@ -115,7 +117,8 @@ impl<T: Drop> ResponseMutUninit<SliceBody<T>> {
         requires kind { Names hub.old self.now kind.ResponseMutUninit }
         requires callable { (items : _) → IsSomeAnd (option_and_then response_in (handle_at hub.old self.now)) (λ m. m.content.elements ≡ items) → FnOnceTakesAtMut F.FnOnce f items }
         ensures updated { UpdatesResponse (λ c items. c.elements ≡ items) refilled (FnOnceReturnsAtMut F.FnOnce f) hub.old hub.new self.now }
-        ensures kinds { KeepsKinds hub.old hub.new }
+        ensures kind { Names hub.new self.now kind.ResponseMutUninit }
+        ensures keeps { Keeps (self.now ∷ []) hub.old hub.new }
         ensures numbers { numbers_left hub.new ≡ numbers_left hub.old }
     {
         f(Self::payload_mut(hub, self))
@@ -148,7 +151,8 @@ impl<T: Drop> ResponseMut<SliceBody<T>> {
         requires kind { Names hub.old self.now kind.ResponseMut }
         requires callable { (items : _) → IsSomeAnd (option_and_then response_in (handle_at hub.old self.now)) (λ m. m.content.elements ≡ items) → FnOnceTakesAtMut F.FnOnce f items }
         ensures updated { UpdatesResponse (λ c items. c.elements ≡ items) refilled (FnOnceReturnsAtMut F.FnOnce f) hub.old hub.new self.now }
-        ensures kinds { KeepsKinds hub.old hub.new }
+        ensures kind { Names hub.new self.now kind.ResponseMut }
+        ensures keeps { Keeps (self.now ∷ []) hub.old hub.new }
         ensures numbers { numbers_left hub.new ≡ numbers_left hub.old }
     {
         f(Self::payload_mut(hub, self))

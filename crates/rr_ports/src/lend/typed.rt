@@ -1,5 +1,5 @@
 //! Lending the payload of a typed message for writing.
-#![tactic(auto, using(crate::proofs::Asking::asks), unfolding(crate::specs::Kinds::Names, crate::specs::Lends::with_request_changed, crate::specs::Lends::with_response_changed))]
+#![tactic(auto, using(crate::proofs::Asking::asks), unfolding(crate::specs::Facts::Has, crate::specs::Facts::numbers_left, crate::specs::Lends::with_request_changed, crate::specs::Lends::with_response_changed))]
 
 ghost use Rattle.std.specs.Prelude.{◌∷◌, ◌≡◌, IsSomeAnd, option_and_then, []};
 ghost use Rattle.std.specs.Borrow.{sem};
@@ -7,11 +7,11 @@ ghost use Rattle.std.specs.Fn.{FnOnceReturnsAtMut, FnOnceTakesAtMut};
 ghost use Rattle.std.specs.contracts.option.Option.{the_row as option_row};
 ghost use Rattle.rr_slots.specs.Elements.{option_elements};
 ghost use Rattle.rr_protocol.specs.declared.kind.Kind.TheVariants as kind;
-ghost use Rattle.rr_ports.specs.Kinds.{Names, KeepsKinds};
+ghost use Rattle.rr_ports.specs.Facts.{Has, Keeps, Names, numbers_left};
 ghost use Rattle.rr_ports.specs.Lends.{lends_request, lends_response};
 ghost use Rattle.rr_ports.specs.Updates.{UpdatesRequest, UpdatesResponse};
 ghost use Rattle.rr_protocol.specs.Messages.{request_in, response_in};
-ghost use Rattle.rr_protocol.specs.State.{handle_at, numbers_left};
+ghost use Rattle.rr_protocol.specs.State.{handle_at};
 ghost use Rattle.rr_protocol.specs.Writing.{with_elements};
 
 use crate::hub::Hub;
@@ -49,7 +49,8 @@ impl<T: Drop> RequestMutUninit<Option<T>> {
         requires kind { Names hub.old self.now kind.RequestMutUninit }
         requires callable { (item : _) → IsSomeAnd (option_and_then request_in (handle_at hub.old self.now)) (λ m. m.content.elements ≡ option_elements item) → FnOnceTakesAtMut F.FnOnce f item }
         ensures updated { UpdatesRequest (λ c item. c.elements ≡ option_elements item) (λ item. with_elements (option_elements item)) (FnOnceReturnsAtMut F.FnOnce f) hub.old hub.new self.now }
-        ensures kinds { KeepsKinds hub.old hub.new }
+        ensures kind { Names hub.new self.now kind.RequestMutUninit }
+        ensures keeps { Keeps (self.now ∷ []) hub.old hub.new }
         ensures numbers { numbers_left hub.new ≡ numbers_left hub.old }
     {
         f(Self::payload_mut(hub, self))
@@ -84,7 +85,8 @@ impl<T: Drop> RequestMut<Option<T>> {
         requires kind { Names hub.old self.now kind.RequestMut }
         requires callable { (value : _) → IsSomeAnd (option_and_then request_in (handle_at hub.old self.now)) (λ m. m.content.elements ≡ value ∷ []) → FnOnceTakesAtMut F.FnOnce f value }
         ensures updated { UpdatesRequest (λ c value. c.elements ≡ value ∷ []) (λ value. with_elements (value ∷ [])) (FnOnceReturnsAtMut F.FnOnce f) hub.old hub.new self.now }
-        ensures kinds { KeepsKinds hub.old hub.new }
+        ensures kind { Names hub.new self.now kind.RequestMut }
+        ensures keeps { Keeps (self.now ∷ []) hub.old hub.new }
         ensures numbers { numbers_left hub.new ≡ numbers_left hub.old }
     {
         f(Self::payload_mut(hub, self))
@@ -118,7 +120,8 @@ impl<T: Drop> ResponseMutUninit<Option<T>> {
         requires kind { Names hub.old self.now kind.ResponseMutUninit }
         requires callable { (item : _) → IsSomeAnd (option_and_then response_in (handle_at hub.old self.now)) (λ m. m.content.elements ≡ option_elements item) → FnOnceTakesAtMut F.FnOnce f item }
         ensures updated { UpdatesResponse (λ c item. c.elements ≡ option_elements item) (λ item. with_elements (option_elements item)) (FnOnceReturnsAtMut F.FnOnce f) hub.old hub.new self.now }
-        ensures kinds { KeepsKinds hub.old hub.new }
+        ensures kind { Names hub.new self.now kind.ResponseMutUninit }
+        ensures keeps { Keeps (self.now ∷ []) hub.old hub.new }
         ensures numbers { numbers_left hub.new ≡ numbers_left hub.old }
     {
         f(Self::payload_mut(hub, self))
@@ -153,7 +156,8 @@ impl<T: Drop> ResponseMut<Option<T>> {
         requires kind { Names hub.old self.now kind.ResponseMut }
         requires callable { (value : _) → IsSomeAnd (option_and_then response_in (handle_at hub.old self.now)) (λ m. m.content.elements ≡ value ∷ []) → FnOnceTakesAtMut F.FnOnce f value }
         ensures updated { UpdatesResponse (λ c value. c.elements ≡ value ∷ []) (λ value. with_elements (value ∷ [])) (FnOnceReturnsAtMut F.FnOnce f) hub.old hub.new self.now }
-        ensures kinds { KeepsKinds hub.old hub.new }
+        ensures kind { Names hub.new self.now kind.ResponseMut }
+        ensures keeps { Keeps (self.now ∷ []) hub.old hub.new }
         ensures numbers { numbers_left hub.new ≡ numbers_left hub.old }
     {
         f(Self::payload_mut(hub, self))

@@ -1,13 +1,12 @@
 //! How a client is created.
-#![tactic(auto, using(crate::proofs::FamilyLaws::takes_one), unfolding(crate::specs::Kinds::Names))]
+#![tactic(auto, using(crate::proofs::FamilyLaws::takes_one), unfolding(crate::specs::Facts::Has, crate::specs::Facts::numbers_left))]
 
-ghost use Rattle.std.specs.Prelude.{◌≡◌, ◌+◌, ◌≤◌, None, Some, IfOk};
+ghost use Rattle.std.specs.Prelude.{◌≡◌, ◌+◌, ◌≤◌, None, Some, IfOk, []};
 ghost use Rattle.std.specs.Option.{ForSome};
 ghost use Rattle.rr_protocol.specs.declared.kind.Kind.TheVariants as kind;
 ghost use Rattle.rr_protocol.specs.Limits.{worst_case_requests};
-ghost use Rattle.rr_protocol.specs.State.{numbers_left};
-ghost use Rattle.rr_ports.specs.Factories.{client_defaults, CreatesClientBy};
-ghost use Rattle.rr_ports.specs.Kinds.{Names, NamesNothing, KeepsKinds};
+ghost use Rattle.rr_ports.specs.Factories.{client_defaults, CreatesClientBy, LeavesWhole};
+ghost use Rattle.rr_ports.specs.Facts.{Has, IsFree, Keeps, Names, WholePool, numbers_left};
 
 use super::{chosen, request_slots};
 use crate::client;
@@ -114,9 +113,10 @@ impl<QB: Body, K: BackpressureFn, F: Drop> PortFactoryClient<QB, K, F> {
         F: FnOnce(usize) -> usize,
         requires { ForSome self.preallocation (λ f. F.pre f (worst_case_requests hub.old.limits)) }
         ensures creates { CreatesClientBy F.post hub.old self result hub.new }
-        ensures fresh { IfOk result (λ client. NamesNothing hub.old client) }
+        ensures free { IfOk result (λ client. IsFree [] hub.old client) }
         ensures kind { IfOk result (λ client. Names hub.new client kind.Client) }
-        ensures kinds { KeepsKinds hub.old hub.new }
+        ensures pool { LeavesWhole F.post (worst_case_requests hub.old.limits) self.preallocation → IfOk result (λ client. Has hub.new client (WholePool self.settings.initial_max_slice_len)) }
+        ensures keeps { Keeps [] hub.old hub.new }
         ensures numbers { numbers_left hub.old ≤ numbers_left hub.new + 1 }
     {
         let PortFactoryClient {

@@ -1,14 +1,14 @@
 //! What a request of the sliced family says, and sliced responses to it.
-#![tactic(auto, using(crate::proofs::Asking::asks), unfolding(crate::specs::Kinds::Names))]
+#![tactic(auto, using(crate::proofs::Asking::asks), unfolding(crate::specs::Facts::Has, crate::specs::Facts::numbers_left))]
 
-ghost use Rattle.std.specs.Prelude.{◌+◌, ◌≤◌, ◌<◌, ◌≢◌, ◌≡◌, Err, IfOk, IsSomeAnd, option_and_then, true};
+ghost use Rattle.std.specs.Prelude.{◌+◌, ◌≤◌, ◌<◌, ◌≢◌, ◌≡◌, Err, IfOk, IsSomeAnd, option_and_then, true, [], ℕ, List};
 ghost use Rattle.rr_protocol.specs.declared.kind.Kind.TheVariants as kind;
 ghost use Rattle.rr_laws.specs.Unreduced.{ServerHasPool};
-ghost use Rattle.rr_ports.specs.Kinds.{Names, NamesNothing, KeepsKinds, ResponseAsksFor};
+ghost use Rattle.rr_ports.specs.Facts.{AskedLen, Answers, Has, IsFree, Keeps, Names, WholePool, numbers_left, Asks};
 ghost use Rattle.rr_ports.specs.Loaning.{AreDefaults, LoansResponseComplete};
 ghost use Rattle.rr_protocol.specs.Loans.{LoansResponse};
 ghost use Rattle.rr_protocol.specs.Messages.{request_in};
-ghost use Rattle.rr_protocol.specs.State.{handle_at, numbers_left};
+ghost use Rattle.rr_protocol.specs.State.{handle_at};
 ghost use Rattle.rr_protocol.specs.Writing.{is_complete};
 
 use crate::active_request::ActiveRequest;
@@ -28,6 +28,8 @@ impl<T: Drop> ActiveRequest<SliceBody<T>> {
     ) -> &'a [T]
         requires { Names hub.now self.now kind.ActiveRequest }
         ensures elements { IsSomeAnd (option_and_then request_in (handle_at hub.now self.now)) (λ m. m.content.elements ≡ result.now) }
+        ensures says { Has hub.now self.now (Asks result.now) }
+        ensures reads { (xs : List T) → Has hub.now self.now (Asks xs) → result.now ≡ xs }
         ensures complete { IsSomeAnd (option_and_then request_in (handle_at hub.now self.now)) (λ m. is_complete m.content ≡ true) }
     {
         hub.core.request_body(&self.id).as_slice()
@@ -55,10 +57,12 @@ impl<QB: Body> ActiveRequest<QB> {
         requires number { 0 < numbers_left hub.old }
         ensures loans { LoansResponse PH.is_default hub.old self.now len result hub.new }
         ensures unreduced { ServerHasPool hub.old.limits hub.old self.now len → result ≢ Err LoanError.OutOfMemory }
-        ensures fresh { IfOk result (λ response. NamesNothing hub.old response) }
+        ensures whole { (room : ℕ) → len ≤ room → Has hub.old self.now (WholePool room) → result ≢ Err LoanError.OutOfMemory }
+        ensures free { IfOk result (λ response. IsFree [] hub.old response) }
         ensures kind { IfOk result (λ response. Names hub.new response kind.ResponseMutUninit) }
-        ensures asked { IfOk result (λ response. ResponseAsksFor hub.new response len) }
-        ensures kinds { KeepsKinds hub.old hub.new }
+        ensures says { IfOk result (λ response. Has hub.new response (Answers [])) }
+        ensures asked { IfOk result (λ response. Has hub.new response (AskedLen len)) }
+        ensures keeps { Keeps [] hub.old hub.new }
         ensures numbers { numbers_left hub.old ≤ numbers_left hub.new + 1 }
     {
         response_mut_uninit::loaned(hub.core.loan_response(&self.id, len))
@@ -81,9 +85,10 @@ impl<QB: Body> ActiveRequest<QB> {
         requires number { 0 < numbers_left hub.old }
         ensures loans { LoansResponseComplete PH.is_default (AreDefaults T.is_default len) hub.old self.now len result hub.new }
         ensures unreduced { ServerHasPool hub.old.limits hub.old self.now len → result ≢ Err LoanError.OutOfMemory }
-        ensures fresh { IfOk result (λ response. NamesNothing hub.old response) }
+        ensures whole { (room : ℕ) → len ≤ room → Has hub.old self.now (WholePool room) → result ≢ Err LoanError.OutOfMemory }
+        ensures free { IfOk result (λ response. IsFree [] hub.old response) }
         ensures kind { IfOk result (λ response. Names hub.new response kind.ResponseMut) }
-        ensures kinds { KeepsKinds hub.old hub.new }
+        ensures keeps { Keeps [] hub.old hub.new }
         ensures numbers { numbers_left hub.old ≤ numbers_left hub.new + 1 }
     {
         let response = self.loan_slice_uninit(hub, len)?;

@@ -1,13 +1,13 @@
 //! What a client of the sliced family loans.
-#![tactic(auto, using(crate::proofs::Asking::asks), unfolding(crate::specs::Kinds::Names))]
+#![tactic(auto, using(crate::proofs::Asking::asks), unfolding(crate::specs::Facts::Has, crate::specs::Facts::numbers_left))]
 
-ghost use Rattle.std.specs.Prelude.{◌+◌, ◌≤◌, ◌<◌, ◌≢◌, ◌≡◌, Err, IfOk, IsSomeAnd};
+ghost use Rattle.std.specs.Prelude.{◌+◌, ◌≤◌, ◌<◌, ◌≢◌, ◌≡◌, Err, IfOk, IsSomeAnd, [], ℕ};
 ghost use Rattle.rr_protocol.specs.declared.kind.Kind.TheVariants as kind;
 ghost use Rattle.rr_laws.specs.Unreduced.{ClientHasPool};
-ghost use Rattle.rr_ports.specs.Kinds.{Names, NamesNothing, KeepsKinds, RequestAsksFor};
+ghost use Rattle.rr_ports.specs.Facts.{AskedLen, Asks, Has, IsFree, Keeps, Names, WholePool, numbers_left};
 ghost use Rattle.rr_ports.specs.Loaning.{AreDefaults, LoansComplete};
 ghost use Rattle.rr_protocol.specs.Loans.{LoansRequest};
-ghost use Rattle.rr_protocol.specs.State.{client_at, numbers_left};
+ghost use Rattle.rr_protocol.specs.State.{client_at};
 
 use crate::client::Client;
 use crate::hub::Hub;
@@ -38,10 +38,12 @@ impl<T: Drop> Client<SliceBody<T>> {
         requires number { 0 < numbers_left hub.old }
         ensures loans { LoansRequest QH.is_default hub.old self.now len result hub.new }
         ensures unreduced { ClientHasPool hub.old.limits hub.old self.now len → result ≢ Err LoanError.OutOfMemory }
-        ensures fresh { IfOk result (λ request. NamesNothing hub.old request) }
+        ensures whole { (room : ℕ) → len ≤ room → Has hub.old self.now (WholePool room) → result ≢ Err LoanError.OutOfMemory }
+        ensures free { IfOk result (λ request. IsFree [] hub.old request) }
         ensures kind { IfOk result (λ request. Names hub.new request kind.RequestMutUninit) }
-        ensures asked { IfOk result (λ request. RequestAsksFor hub.new request len) }
-        ensures kinds { KeepsKinds hub.old hub.new }
+        ensures says { IfOk result (λ request. Has hub.new request (Asks [])) }
+        ensures asked { IfOk result (λ request. Has hub.new request (AskedLen len)) }
+        ensures keeps { Keeps [] hub.old hub.new }
         ensures numbers { numbers_left hub.old ≤ numbers_left hub.new + 1 }
     {
         request_mut_uninit::loaned(hub.core.loan_request(self.number, len))
@@ -80,9 +82,10 @@ impl<T: Default + Drop> Client<SliceBody<T>> {
         requires number { 0 < numbers_left hub.old }
         ensures loans { LoansComplete QH.is_default (AreDefaults T.is_default len) hub.old self.now len result hub.new }
         ensures unreduced { ClientHasPool hub.old.limits hub.old self.now len → result ≢ Err LoanError.OutOfMemory }
-        ensures fresh { IfOk result (λ request. NamesNothing hub.old request) }
+        ensures whole { (room : ℕ) → len ≤ room → Has hub.old self.now (WholePool room) → result ≢ Err LoanError.OutOfMemory }
+        ensures free { IfOk result (λ request. IsFree [] hub.old request) }
         ensures kind { IfOk result (λ request. Names hub.new request kind.RequestMut) }
-        ensures kinds { KeepsKinds hub.old hub.new }
+        ensures keeps { Keeps [] hub.old hub.new }
         ensures numbers { numbers_left hub.old ≤ numbers_left hub.new + 1 }
     {
         let request = self.loan_slice_uninit(hub, len)?;

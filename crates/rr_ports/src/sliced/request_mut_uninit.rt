@@ -1,13 +1,13 @@
 //! Writing the elements of a request.
-#![tactic(auto, using(crate::proofs::Asking::asks), unfolding(crate::specs::Kinds::Names, crate::specs::Kinds::RequestAsksFor))]
+#![tactic(auto, using(crate::proofs::Asking::asks), unfolding(crate::specs::Facts::Has, crate::specs::Facts::numbers_left))]
 
-ghost use Rattle.std.specs.Prelude.{◌≡◌, ℕ, IsSomeAnd, option_and_then, false, length};
+ghost use Rattle.std.specs.Prelude.{◌≡◌, ℕ, IsSomeAnd, option_and_then, false, length, ◌∷◌, [], List, ◌++◌, replicate};
 ghost use Rattle.rr_protocol.specs.declared.kind.Kind.TheVariants as kind;
-ghost use Rattle.rr_ports.specs.Filling.{CallableInOrder, CompletesRequest, FillsRequest, with_request_element};
-ghost use Rattle.rr_ports.specs.Kinds.{Names, KeepsKinds, KeepsKindsBut, RequestAsksFor};
+ghost use Rattle.rr_ports.specs.Filling.{CallableInOrder, CompletesRequest, FillsRequest, with_request_element, ReturnsInOrder};
+ghost use Rattle.rr_ports.specs.Facts.{AskedLen, Has, Keeps, Names, numbers_left, Asks};
 ghost use Rattle.rr_ports.specs.Loaning.{with_complete_request};
 ghost use Rattle.rr_protocol.specs.Messages.{request_in};
-ghost use Rattle.rr_protocol.specs.State.{handle_at, numbers_left, with_changed};
+ghost use Rattle.rr_protocol.specs.State.{handle_at, with_changed};
 ghost use Rattle.rr_protocol.specs.Writing.{is_complete, after_init, with_element, with_request_content, filled};
 
 use crate::hub::Hub;
@@ -57,7 +57,7 @@ impl<T: Drop> RequestMutUninit<SliceBody<T>> {
         hub: &Hub<SliceBody<T>, QH, PB, PH, K>,
     ) -> usize
         requires { Names hub.now self.now kind.RequestMutUninit }
-        ensures { RequestAsksFor hub.now self.now result }
+        ensures { Has hub.now self.now (AskedLen result) }
     {
         hub.core.request_body(&self.id).asked_len()
     }
@@ -73,7 +73,10 @@ impl<T: Drop> RequestMutUninit<SliceBody<T>> {
         requires kind { Names hub.old self.now kind.RequestMutUninit }
         requires open { IsSomeAnd (option_and_then request_in (handle_at hub.old self.now)) (λ m. is_complete m.content ≡ false) }
         ensures pushed { hub.new ≡ with_changed hub.old self.now (with_request_content (with_element element)) }
-        ensures kinds { KeepsKinds hub.old hub.new }
+        ensures kind { Names hub.new self.now kind.RequestMutUninit }
+        ensures says { (xs : List T) → Has hub.old self.now (Asks xs) → Has hub.new self.now (Asks (xs ++ element ∷ [])) }
+        ensures asked { (len : ℕ) → Has hub.old self.now (AskedLen len) → Has hub.new self.now (AskedLen len) }
+        ensures keeps { Keeps (self.now ∷ []) hub.old hub.new }
         ensures numbers { numbers_left hub.new ≡ numbers_left hub.old }
     {
         hub.core.push_request(&self.id, element);
@@ -92,11 +95,12 @@ impl<T: Drop> RequestMutUninit<SliceBody<T>> {
         F: FnMut(usize) -> T,
     >(self, hub: &mut Hub<SliceBody<T>, QH, PB, PH, K>, mut f: F) -> RequestMut<SliceBody<T>>
         requires kind { Names hub.old self kind.RequestMutUninit }
-        requires callable { (len : ℕ) → RequestAsksFor hub.old self len → CallableInOrder F.pre F.step f len }
+        requires callable { (len : ℕ) → Has hub.old self (AskedLen len) → CallableInOrder F.pre F.step f len }
         ensures same { result ≡ self }
         ensures written { FillsRequest F.step f hub.old hub.new self }
         ensures kind { Names hub.new result kind.RequestMut }
-        ensures kinds { KeepsKindsBut self hub.old hub.new }
+        ensures says { (elements : List T) × (last : F) × ReturnsInOrder F.step f 0 elements last × Has hub.new result (Asks elements) }
+        ensures keeps { Keeps (self ∷ []) hub.old hub.new }
         ensures numbers { numbers_left hub.new ≡ numbers_left hub.old }
     {
         let RequestMutUninit { id, of: _ } = self;
@@ -120,7 +124,7 @@ fn complete_request<T: Copy, QH: Default + Drop, PB: Body, PH: Default + Drop, K
     elements: &[T],
 )
     requires kind { Names hub.old id.now kind.RequestMutUninit }
-    requires len { RequestAsksFor hub.old id.now (length elements.now) }
+    requires len { Has hub.old id.now (AskedLen (length elements.now)) }
     ensures { CompletesRequest hub.old hub.new id.now (length elements.now) }
 {
     if hub.core.request_body(id).is_complete() {
@@ -143,7 +147,8 @@ impl<T: Copy> RequestMutUninit<SliceBody<T>> {
         ensures same { result ≡ self }
         ensures written { hub.new ≡ with_changed (with_changed hub.old self (with_request_content (filled element))) self after_init }
         ensures kind { Names hub.new result kind.RequestMut }
-        ensures kinds { KeepsKindsBut self hub.old hub.new }
+        ensures says { (len : ℕ) → Has hub.old self (AskedLen len) → Has hub.new result (Asks (replicate len element)) }
+        ensures keeps { Keeps (self ∷ []) hub.old hub.new }
         ensures numbers { numbers_left hub.new ≡ numbers_left hub.old }
     {
         let RequestMutUninit { id, of: _ } = self;
@@ -164,11 +169,12 @@ impl<T: Copy> RequestMutUninit<SliceBody<T>> {
         elements: &[T],
     ) -> RequestMut<SliceBody<T>>
         requires kind { Names hub.old self kind.RequestMutUninit }
-        requires len { RequestAsksFor hub.old self (length elements.now) }
+        requires len { Has hub.old self (AskedLen (length elements.now)) }
         ensures same { result ≡ self }
         ensures written { hub.new ≡ with_complete_request hub.old self elements.now }
         ensures kind { Names hub.new result kind.RequestMut }
-        ensures kinds { KeepsKindsBut self hub.old hub.new }
+        ensures says { Has hub.new result (Asks elements.now) }
+        ensures keeps { Keeps (self ∷ []) hub.old hub.new }
         ensures numbers { numbers_left hub.new ≡ numbers_left hub.old }
     {
         let RequestMutUninit { id, of: _ } = self;

@@ -1,13 +1,13 @@
 //! Writing the elements of a response.
-#![tactic(auto, using(crate::proofs::Asking::asks), unfolding(crate::specs::Kinds::Names, crate::specs::Kinds::ResponseAsksFor))]
+#![tactic(auto, using(crate::proofs::Asking::asks), unfolding(crate::specs::Facts::Has, crate::specs::Facts::numbers_left))]
 
-ghost use Rattle.std.specs.Prelude.{◌≡◌, ℕ, IsSomeAnd, option_and_then, false, length};
+ghost use Rattle.std.specs.Prelude.{◌≡◌, ℕ, IsSomeAnd, option_and_then, false, length, ◌∷◌, [], List, ◌++◌, replicate};
 ghost use Rattle.rr_protocol.specs.declared.kind.Kind.TheVariants as kind;
-ghost use Rattle.rr_ports.specs.Filling.{CallableInOrder, CompletesResponse, FillsResponse, with_response_element};
-ghost use Rattle.rr_ports.specs.Kinds.{Names, KeepsKinds, KeepsKindsBut, ResponseAsksFor};
+ghost use Rattle.rr_ports.specs.Filling.{CallableInOrder, CompletesResponse, FillsResponse, with_response_element, ReturnsInOrder};
+ghost use Rattle.rr_ports.specs.Facts.{AskedLen, Has, Keeps, Names, numbers_left, Answers};
 ghost use Rattle.rr_ports.specs.Loaning.{with_complete_response};
 ghost use Rattle.rr_protocol.specs.Messages.{response_in};
-ghost use Rattle.rr_protocol.specs.State.{handle_at, numbers_left, with_changed};
+ghost use Rattle.rr_protocol.specs.State.{handle_at, with_changed};
 ghost use Rattle.rr_protocol.specs.Writing.{is_complete, after_init, with_element, with_response_content, filled};
 
 use crate::hub::Hub;
@@ -57,7 +57,7 @@ impl<T: Drop> ResponseMutUninit<SliceBody<T>> {
         hub: &Hub<QB, QH, SliceBody<T>, PH, K>,
     ) -> usize
         requires { Names hub.now self.now kind.ResponseMutUninit }
-        ensures { ResponseAsksFor hub.now self.now result }
+        ensures { Has hub.now self.now (AskedLen result) }
     {
         hub.core.response_body(&self.id).asked_len()
     }
@@ -73,7 +73,10 @@ impl<T: Drop> ResponseMutUninit<SliceBody<T>> {
         requires kind { Names hub.old self.now kind.ResponseMutUninit }
         requires open { IsSomeAnd (option_and_then response_in (handle_at hub.old self.now)) (λ m. is_complete m.content ≡ false) }
         ensures pushed { hub.new ≡ with_changed hub.old self.now (with_response_content (with_element element)) }
-        ensures kinds { KeepsKinds hub.old hub.new }
+        ensures kind { Names hub.new self.now kind.ResponseMutUninit }
+        ensures says { (xs : List T) → Has hub.old self.now (Answers xs) → Has hub.new self.now (Answers (xs ++ element ∷ [])) }
+        ensures asked { (len : ℕ) → Has hub.old self.now (AskedLen len) → Has hub.new self.now (AskedLen len) }
+        ensures keeps { Keeps (self.now ∷ []) hub.old hub.new }
         ensures numbers { numbers_left hub.new ≡ numbers_left hub.old }
     {
         hub.core.push_response(&self.id, element);
@@ -92,11 +95,12 @@ impl<T: Drop> ResponseMutUninit<SliceBody<T>> {
         F: FnMut(usize) -> T,
     >(self, hub: &mut Hub<QB, QH, SliceBody<T>, PH, K>, mut f: F) -> ResponseMut<SliceBody<T>>
         requires kind { Names hub.old self kind.ResponseMutUninit }
-        requires callable { (len : ℕ) → ResponseAsksFor hub.old self len → CallableInOrder F.pre F.step f len }
+        requires callable { (len : ℕ) → Has hub.old self (AskedLen len) → CallableInOrder F.pre F.step f len }
         ensures same { result ≡ self }
         ensures written { FillsResponse F.step f hub.old hub.new self }
         ensures kind { Names hub.new result kind.ResponseMut }
-        ensures kinds { KeepsKindsBut self hub.old hub.new }
+        ensures says { (elements : List T) × (last : F) × ReturnsInOrder F.step f 0 elements last × Has hub.new result (Answers elements) }
+        ensures keeps { Keeps (self ∷ []) hub.old hub.new }
         ensures numbers { numbers_left hub.new ≡ numbers_left hub.old }
     {
         let ResponseMutUninit { id, of: _ } = self;
@@ -120,7 +124,7 @@ fn complete_response<QB: Body, QH: Default + Drop, T: Copy, PH: Default + Drop, 
     elements: &[T],
 )
     requires kind { Names hub.old id.now kind.ResponseMutUninit }
-    requires len { ResponseAsksFor hub.old id.now (length elements.now) }
+    requires len { Has hub.old id.now (AskedLen (length elements.now)) }
     ensures { CompletesResponse hub.old hub.new id.now (length elements.now) }
 {
     if hub.core.response_body(id).is_complete() {
@@ -143,7 +147,8 @@ impl<T: Copy> ResponseMutUninit<SliceBody<T>> {
         ensures same { result ≡ self }
         ensures written { hub.new ≡ with_changed (with_changed hub.old self (with_response_content (filled element))) self after_init }
         ensures kind { Names hub.new result kind.ResponseMut }
-        ensures kinds { KeepsKindsBut self hub.old hub.new }
+        ensures says { (len : ℕ) → Has hub.old self (AskedLen len) → Has hub.new result (Answers (replicate len element)) }
+        ensures keeps { Keeps (self ∷ []) hub.old hub.new }
         ensures numbers { numbers_left hub.new ≡ numbers_left hub.old }
     {
         let ResponseMutUninit { id, of: _ } = self;
@@ -164,11 +169,12 @@ impl<T: Copy> ResponseMutUninit<SliceBody<T>> {
         elements: &[T],
     ) -> ResponseMut<SliceBody<T>>
         requires kind { Names hub.old self kind.ResponseMutUninit }
-        requires len { ResponseAsksFor hub.old self (length elements.now) }
+        requires len { Has hub.old self (AskedLen (length elements.now)) }
         ensures same { result ≡ self }
         ensures written { hub.new ≡ with_complete_response hub.old self elements.now }
         ensures kind { Names hub.new result kind.ResponseMut }
-        ensures kinds { KeepsKindsBut self hub.old hub.new }
+        ensures says { Has hub.new result (Answers elements.now) }
+        ensures keeps { Keeps (self ∷ []) hub.old hub.new }
         ensures numbers { numbers_left hub.new ≡ numbers_left hub.old }
     {
         let ResponseMutUninit { id, of: _ } = self;

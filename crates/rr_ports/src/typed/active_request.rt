@@ -1,14 +1,14 @@
 //! What a request of the typed family says, and typed responses to it.
-#![tactic(auto, using(crate::proofs::Asking::asks), unfolding(crate::specs::Kinds::Names))]
+#![tactic(auto, using(crate::proofs::Asking::asks), unfolding(crate::specs::Facts::Has, crate::specs::Facts::numbers_left))]
 
-ghost use Rattle.std.specs.Prelude.{◌∷◌, ◌+◌, ◌≤◌, ◌<◌, ◌≢◌, ◌≡◌, Err, IfOk, IsSomeAnd, option_and_then, []};
+ghost use Rattle.std.specs.Prelude.{◌∷◌, ◌+◌, ◌≤◌, ◌<◌, ◌≢◌, ◌≡◌, Err, IfOk, IsSomeAnd, option_and_then, [], ℕ};
 ghost use Rattle.rr_protocol.specs.declared.kind.Kind.TheVariants as kind;
 ghost use Rattle.rr_laws.specs.Unreduced.{ServerHasPool};
-ghost use Rattle.rr_ports.specs.Kinds.{Names, NamesNothing, KeepsKinds};
+ghost use Rattle.rr_ports.specs.Facts.{AskedLen, Answers, Has, IsFree, Keeps, Names, WholePool, numbers_left, Asks};
 ghost use Rattle.rr_ports.specs.Loaning.{SendsResponseCopy, LoansResponseComplete, IsOneDefault};
 ghost use Rattle.rr_protocol.specs.Loans.{LoansResponse};
 ghost use Rattle.rr_protocol.specs.Messages.{request_in};
-ghost use Rattle.rr_protocol.specs.State.{handle_at, numbers_left};
+ghost use Rattle.rr_protocol.specs.State.{handle_at};
 
 use crate::active_request::ActiveRequest;
 use crate::hub::Hub;
@@ -27,7 +27,9 @@ impl<T: Drop> ActiveRequest<Option<T>> {
         hub: &'a Hub<Option<T>, QH, PB, PH, K>,
     ) -> &'a T
         requires { Names hub.now self.now kind.ActiveRequest }
-        ensures { IsSomeAnd (option_and_then request_in (handle_at hub.now self.now)) (λ m. m.content.elements ≡ result.now ∷ []) }
+        ensures value { IsSomeAnd (option_and_then request_in (handle_at hub.now self.now)) (λ m. m.content.elements ≡ result.now ∷ []) }
+        ensures says { Has hub.now self.now (Asks (result.now ∷ [])) }
+        ensures reads { (x : T) → Has hub.now self.now (Asks (x ∷ [])) → result.now ≡ x }
     {
         payload_of(hub.core.request_body(&self.id))
     }
@@ -51,9 +53,12 @@ impl<QB: Body> ActiveRequest<QB> {
         requires number { 0 < numbers_left hub.old }
         ensures loans { LoansResponse PH.is_default hub.old self.now 1 result hub.new }
         ensures unreduced { ServerHasPool hub.old.limits hub.old self.now 1 → result ≢ Err LoanError.OutOfMemory }
-        ensures fresh { IfOk result (λ response. NamesNothing hub.old response) }
+        ensures whole { (room : ℕ) → 1 ≤ room → Has hub.old self.now (WholePool room) → result ≢ Err LoanError.OutOfMemory }
+        ensures free { IfOk result (λ response. IsFree [] hub.old response) }
         ensures kind { IfOk result (λ response. Names hub.new response kind.ResponseMutUninit) }
-        ensures kinds { KeepsKinds hub.old hub.new }
+        ensures says { IfOk result (λ response. Has hub.new response (Answers [])) }
+        ensures asked { IfOk result (λ response. Has hub.new response (AskedLen 1)) }
+        ensures keeps { Keeps [] hub.old hub.new }
         ensures numbers { numbers_left hub.old ≤ numbers_left hub.new + 1 }
     {
         response_mut_uninit::loaned(hub.core.loan_response(&self.id, 1))
@@ -73,9 +78,10 @@ impl<QB: Body> ActiveRequest<QB> {
         requires number { 0 < numbers_left hub.old }
         ensures loans { LoansResponseComplete PH.is_default (IsOneDefault T.is_default) hub.old self.now 1 result hub.new }
         ensures unreduced { ServerHasPool hub.old.limits hub.old self.now 1 → result ≢ Err LoanError.OutOfMemory }
-        ensures fresh { IfOk result (λ response. NamesNothing hub.old response) }
+        ensures whole { (room : ℕ) → 1 ≤ room → Has hub.old self.now (WholePool room) → result ≢ Err LoanError.OutOfMemory }
+        ensures free { IfOk result (λ response. IsFree [] hub.old response) }
         ensures kind { IfOk result (λ response. Names hub.new response kind.ResponseMut) }
-        ensures kinds { KeepsKinds hub.old hub.new }
+        ensures keeps { Keeps [] hub.old hub.new }
         ensures numbers { numbers_left hub.old ≤ numbers_left hub.new + 1 }
     {
         let response = self.loan_uninit(hub)?;
@@ -99,7 +105,8 @@ impl<QB: Body> ActiveRequest<QB> {
         requires number { 0 < numbers_left hub.old }
         ensures sends { SendsResponseCopy PH.is_default K.action hub.old self.now value result hub.new }
         ensures unreduced { ServerHasPool hub.old.limits hub.old self.now 1 → result ≢ Err (SendError.LoanError LoanError.OutOfMemory) }
-        ensures kinds { KeepsKinds hub.old hub.new }
+        ensures whole { (room : ℕ) → 1 ≤ room → Has hub.old self.now (WholePool room) → result ≢ Err (SendError.LoanError LoanError.OutOfMemory) }
+        ensures keeps { Keeps [] hub.old hub.new }
         ensures numbers { numbers_left hub.old ≤ numbers_left hub.new + 1 }
     {
         let response = self.loan_uninit(hub)?;

@@ -1,14 +1,14 @@
 //! What a client of the typed family loans and sends.
-#![tactic(auto, using(crate::proofs::Asking::asks), unfolding(crate::specs::Kinds::Names))]
+#![tactic(auto, using(crate::proofs::Asking::asks), unfolding(crate::specs::Facts::Has, crate::specs::Facts::numbers_left))]
 
-ghost use Rattle.std.specs.Prelude.{◌+◌, ◌≤◌, ◌<◌, ◌≢◌, Err, IfOk};
+ghost use Rattle.std.specs.Prelude.{◌+◌, ◌≤◌, ◌<◌, ◌≢◌, Err, IfOk, [], ℕ, ◌∷◌};
 ghost use Rattle.rr_protocol.specs.declared.kind.Kind.TheVariants as kind;
 ghost use Rattle.rr_laws.specs.Unreduced.{ClientHasPool};
-ghost use Rattle.rr_ports.specs.Kinds.{Names, NamesNothing, KeepsKinds};
+ghost use Rattle.rr_ports.specs.Facts.{AskedLen, Asks, Has, IsFree, Keeps, Names, WholePool, numbers_left};
+ghost use Rattle.rr_ports.specs.Shortcuts.{TellsCopy};
 ghost use Rattle.rr_ports.specs.Loaning.{SendsCopy, LoansComplete, IsOneDefault};
 ghost use Rattle.rr_protocol.specs.declared.error.SendError.TheVariants as send;
 ghost use Rattle.rr_protocol.specs.Loans.{LoansRequest};
-ghost use Rattle.rr_protocol.specs.State.{numbers_left};
 
 use crate::client::Client;
 use crate::hub::Hub;
@@ -37,9 +37,12 @@ impl<T: Drop> Client<Option<T>> {
         requires number { 0 < numbers_left hub.old }
         ensures loans { LoansRequest QH.is_default hub.old self.now 1 result hub.new }
         ensures unreduced { ClientHasPool hub.old.limits hub.old self.now 1 → result ≢ Err LoanError.OutOfMemory }
-        ensures fresh { IfOk result (λ request. NamesNothing hub.old request) }
+        ensures whole { (room : ℕ) → 1 ≤ room → Has hub.old self.now (WholePool room) → result ≢ Err LoanError.OutOfMemory }
+        ensures free { IfOk result (λ request. IsFree [] hub.old request) }
         ensures kind { IfOk result (λ request. Names hub.new request kind.RequestMutUninit) }
-        ensures kinds { KeepsKinds hub.old hub.new }
+        ensures says { IfOk result (λ request. Has hub.new request (Asks [])) }
+        ensures asked { IfOk result (λ request. Has hub.new request (AskedLen 1)) }
+        ensures keeps { Keeps [] hub.old hub.new }
         ensures numbers { numbers_left hub.old ≤ numbers_left hub.new + 1 }
     {
         request_mut_uninit::loaned(hub.core.loan_request(self.number, 1))
@@ -61,9 +64,10 @@ impl<T: Drop> Client<Option<T>> {
         requires number { 0 < numbers_left hub.old }
         ensures loans { LoansComplete QH.is_default (IsOneDefault T.is_default) hub.old self.now 1 result hub.new }
         ensures unreduced { ClientHasPool hub.old.limits hub.old self.now 1 → result ≢ Err LoanError.OutOfMemory }
-        ensures fresh { IfOk result (λ request. NamesNothing hub.old request) }
+        ensures whole { (room : ℕ) → 1 ≤ room → Has hub.old self.now (WholePool room) → result ≢ Err LoanError.OutOfMemory }
+        ensures free { IfOk result (λ request. IsFree [] hub.old request) }
         ensures kind { IfOk result (λ request. Names hub.new request kind.RequestMut) }
-        ensures kinds { KeepsKinds hub.old hub.new }
+        ensures keeps { Keeps [] hub.old hub.new }
         ensures numbers { numbers_left hub.old ≤ numbers_left hub.new + 1 }
     {
         let request = self.loan_uninit(hub)?;
@@ -87,13 +91,44 @@ impl<T: Drop> Client<Option<T>> {
         requires number { 0 < numbers_left hub.old }
         ensures sends { SendsCopy QH.is_default K.action hub.old self.now value result hub.new }
         ensures unreduced { ClientHasPool hub.old.limits hub.old self.now 1 → result ≢ Err (RequestSendError.SendError (send.LoanError LoanError.OutOfMemory)) }
-        ensures fresh { IfOk result (λ pending. NamesNothing hub.old pending) }
+        ensures whole { (room : ℕ) → 1 ≤ room → Has hub.old self.now (WholePool room) → result ≢ Err (RequestSendError.SendError (send.LoanError LoanError.OutOfMemory)) }
+        ensures free { IfOk result (λ pending. IsFree [] hub.old pending) }
         ensures kind { IfOk result (λ pending. Names hub.new pending kind.PendingResponse) }
-        ensures kinds { KeepsKinds hub.old hub.new }
+        ensures says { IfOk result (λ pending. Has hub.new pending (Asks (value ∷ []))) }
+        ensures keeps { Keeps [] hub.old hub.new }
         ensures numbers { numbers_left hub.old ≤ numbers_left hub.new + 1 }
     {
         let request = self.loan_uninit(hub)?;
         let request = request.write_payload(hub, value);
         request.send(hub)
+    }
+
+    /// Sends a value and waits for no answer: the pending response is released at once. A server still receives the request where
+    /// the limits have fire-and-forget requests, and else drops it. Takes no memory. Not in iceoryx2: `send_copy`, whose pending
+    /// response is dropped.
+    ///
+    /// # Errors
+    ///
+    /// As `send_copy`.
+    #[inline(always)]
+    pub fn tell<QH: Default + Drop, PB: Body, PH: Default + Drop, K: BackpressureFn>(
+        &self,
+        hub: &mut Hub<Option<T>, QH, PB, PH, K>,
+        value: T,
+    ) -> Result<(), RequestSendError>
+        requires kind { Names hub.old self.now kind.Client }
+        requires number { 0 < numbers_left hub.old }
+        ensures tells { TellsCopy QH.is_default K.action hub.old self.now value result hub.new }
+        ensures whole { (room : ℕ) → 1 ≤ room → Has hub.old self.now (WholePool room) → result ≢ Err (RequestSendError.SendError (send.LoanError LoanError.OutOfMemory)) }
+        ensures keeps { Keeps [] hub.old hub.new }
+        ensures numbers { numbers_left hub.old ≤ numbers_left hub.new + 1 }
+    {
+        match self.send_copy(hub, value) {
+            Ok(pending) => {
+                pending.release(hub);
+                Ok(())
+            }
+            Err(error) => Err(error),
+        }
     }
 }

@@ -1,11 +1,11 @@
 //! Writing the payload of a typed request.
-#![tactic(auto, using(crate::proofs::Asking::asks), unfolding(crate::specs::Kinds::Names))]
+#![tactic(auto, using(crate::proofs::Asking::asks), unfolding(crate::specs::Facts::Has, crate::specs::Facts::numbers_left))]
 
 ghost use Rattle.std.specs.Prelude.{◌∷◌, ◌≡◌, IsSomeAnd, option_and_then, []};
 ghost use Rattle.rr_protocol.specs.declared.kind.Kind.TheVariants as kind;
-ghost use Rattle.rr_ports.specs.Kinds.{Names, KeepsKindsBut};
+ghost use Rattle.rr_ports.specs.Facts.{Has, Keeps, Names, numbers_left, Asks};
 ghost use Rattle.rr_protocol.specs.Messages.{request_in};
-ghost use Rattle.rr_protocol.specs.State.{handle_at, numbers_left, with_changed};
+ghost use Rattle.rr_protocol.specs.State.{handle_at, with_changed};
 ghost use Rattle.rr_protocol.specs.Writing.{after_init, with_elements, with_request_content};
 ghost use Rattle.rr_slots.specs.Elements.{option_elements};
 
@@ -42,7 +42,8 @@ impl<T: Drop> RequestMutUninit<Option<T>> {
         ensures same { result ≡ self }
         ensures written { hub.new ≡ with_changed (with_changed hub.old self (with_request_content (with_elements (value ∷ [])))) self after_init }
         ensures kind { Names hub.new result kind.RequestMut }
-        ensures kinds { KeepsKindsBut self hub.old hub.new }
+        ensures says { Has hub.new result (Asks (value ∷ [])) }
+        ensures keeps { Keeps (self ∷ []) hub.old hub.new }
         ensures numbers { numbers_left hub.new ≡ numbers_left hub.old }
     {
         let RequestMutUninit { id, of: _ } = self;

@@ -1,9 +1,9 @@
 //! The payload of a typed response that was received.
-#![tactic(auto, using(crate::proofs::Asking::asks), unfolding(crate::specs::Kinds::Names))]
+#![tactic(auto, using(crate::proofs::Asking::asks), unfolding(crate::specs::Facts::Has, crate::specs::Facts::numbers_left))]
 
 ghost use Rattle.std.specs.Prelude.{◌∷◌, ◌≡◌, IsSomeAnd, option_and_then, []};
 ghost use Rattle.rr_protocol.specs.declared.kind.Kind.TheVariants as kind;
-ghost use Rattle.rr_ports.specs.Kinds.{Names};
+ghost use Rattle.rr_ports.specs.Facts.{Has, Names, Answers};
 ghost use Rattle.rr_protocol.specs.Messages.{response_in};
 ghost use Rattle.rr_protocol.specs.State.{handle_at};
 
@@ -21,7 +21,9 @@ impl<T: Drop> Response<Option<T>> {
         hub: &'a Hub<QB, QH, Option<T>, PH, K>,
     ) -> &'a T
         requires { Names hub.now self.now kind.Response }
-        ensures { IsSomeAnd (option_and_then response_in (handle_at hub.now self.now)) (λ m. m.content.elements ≡ result.now ∷ []) }
+        ensures value { IsSomeAnd (option_and_then response_in (handle_at hub.now self.now)) (λ m. m.content.elements ≡ result.now ∷ []) }
+        ensures says { Has hub.now self.now (Answers (result.now ∷ [])) }
+        ensures reads { (x : T) → Has hub.now self.now (Answers (x ∷ [])) → result.now ≡ x }
     {
         payload_of(hub.core.response_body(&self.id))
     }

@@ -1,10 +1,9 @@
 //! Hubs with what a test needs, and the ends of them.
-#![tactic(auto, using(rr_ports::proofs::Frames::frames))]
+#![tactic(auto, using(rr_ports::proofs::Frames::callers), unfolding(rr_ports::specs::Facts::Keeps, rr_ports::specs::Facts::IsFree))]
 
-ghost use Rattle.std.specs.Prelude.{◌≡◌, ◌<◌, ◌≤◌, ◌+◌, None};
+ghost use Rattle.std.specs.Prelude.{◌≡◌, ◌<◌, ◌≤◌, ◌+◌, None, []};
 ghost use Rattle.rr_protocol.specs.declared.kind.Kind.TheVariants as kind;
-ghost use Rattle.rr_protocol.specs.State.{numbers_left};
-ghost use Rattle.rr_ports.specs.Kinds.{Names, KeepsKinds};
+ghost use Rattle.rr_ports.specs.Facts.{Keeps, Names, numbers_left};
 
 use super::LIMITS;
 use super::handlers::At;
@@ -86,7 +85,7 @@ pub fn connect(rt: &impl Abort, alloc: Global, setup: Setup) -> Connected
 
 impl Connected {
     /// Releases the ports.
-    #[tactic(auto, using(rr_ports::proofs::Frames::kinds))]
+    #[tactic(auto, using(rr_ports::proofs::Frames::callers), unfolding(rr_ports::specs::Facts::Keeps, rr_ports::specs::Facts::IsFree))]
     pub fn end(self)
         requires client { Names self.hub self.client kind.Client }
         requires server { Names self.hub self.server kind.Server }
@@ -105,7 +104,7 @@ impl Connected {
 pub fn tell(hub: &mut Service, client: &Client<u64>, value: u64) -> Result<usize, RequestSendError>
     requires client { Names hub.old client.now kind.Client }
     requires number { 0 < numbers_left hub.old }
-    ensures kinds { KeepsKinds hub.old hub.new }
+    ensures keeps { Keeps [] hub.old hub.new }
     ensures numbers { numbers_left hub.old ≤ numbers_left hub.new + 1 }
 {
     let pending = client.send_copy(hub, value)?;
@@ -123,7 +122,7 @@ pub fn received(
     pending: &PendingResponse<u64>,
 ) -> Result<Option<Received>, ReceiveError>
     requires { Names hub.old pending.now kind.PendingResponse }
-    ensures { KeepsKinds hub.old hub.new }
+    ensures { Keeps [] hub.old hub.new }
 {
     let Some(response) = pending.receive(hub)? else {
         return Ok(None);

@@ -1,10 +1,9 @@
 //! Handlers of full queues, set through the factories of ports.
-#![tactic(auto, using(rr_ports::proofs::Frames::frames))]
+#![tactic(auto, using(rr_ports::proofs::Frames::callers), unfolding(rr_ports::specs::Facts::Keeps, rr_ports::specs::Facts::IsFree))]
 
-ghost use Rattle.std.specs.Prelude.{◌<◌};
+ghost use Rattle.std.specs.Prelude.{◌<◌, []};
 ghost use Rattle.rr_protocol.specs.declared.kind.Kind.TheVariants as kind;
-ghost use Rattle.rr_protocol.specs.State.{numbers_left};
-ghost use Rattle.rr_ports.specs.Kinds.{Names, KeepsKinds};
+ghost use Rattle.rr_ports.specs.Facts.{Keeps, Names, numbers_left};
 
 use super::fixtures::{SETUP, Service, Setup, connect, tell};
 use rr_ports::typed::Client;
@@ -39,7 +38,7 @@ impl BackpressureFn for At {
 fn tell_three(hub: &mut Service, client: &Client<u64>) -> Result<usize, RequestSendError>
     requires client { Names hub.old client.now kind.Client }
     requires numbers { 2 < numbers_left hub.old }
-    ensures { KeepsKinds hub.old hub.new }
+    ensures { Keeps [] hub.old hub.new }
 {
     let _first = tell(hub, client, 1);
     let _second = tell(hub, client, 2);

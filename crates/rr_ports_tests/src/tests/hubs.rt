@@ -1,5 +1,5 @@
 //! What a hub holds, and where it may go.
-#![tactic(auto, using(rr_ports::proofs::Frames::frames))]
+#![tactic(auto, using(rr_ports::proofs::Frames::callers), unfolding(rr_ports::specs::Facts::Keeps, rr_ports::specs::Facts::IsFree))]
 
 use super::LIMITS;
 use super::fixtures::{SETUP, Service, connect};
@@ -14,7 +14,7 @@ fn holds_strange(hub: &Service, other: &mut Service) -> Result<bool, ServerCreat
     Ok(held)
 }
 
-/// A hub holds the ports that it lists; another hub doesn't, nor does the hub a server that has the number of its client elsewhere.
+/// A hub has the limits and the node that it was made with, and holds the ports that it lists; another hub doesn't, nor does the hub a server that has the number of its client elsewhere.
 #[test]
 fn a_hub_holds_its_own_ports(rt: HostRuntime) {
     let connected = connect(&rt, rt.alloc(), SETUP);
@@ -26,11 +26,17 @@ fn a_hub_holds_its_own_ports(rt: HostRuntime) {
         holds_strange(hub, &mut other),
     );
     let updated = connected.client.update_connections(hub);
+    let made = (other.limits() == LIMITS, other.node_id());
     drop(other);
     connected.end();
     assert_eq!(rt;
-        (own, strange, updated),
-        ((true, true), (false, Ok(false)), Ok(()))
+        (own, strange, updated, made),
+        (
+            (true, true),
+            (false, Ok(false)),
+            Ok(()),
+            (true, UniqueNodeId(8))
+        )
     );
 }
 

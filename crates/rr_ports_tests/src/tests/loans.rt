@@ -1,10 +1,9 @@
 //! Responses, as iceoryx2's documents write and send them.
-#![tactic(auto, using(rr_ports::proofs::Frames::frames))]
+#![tactic(auto, using(rr_ports::proofs::Frames::callers), unfolding(rr_ports::specs::Facts::Keeps, rr_ports::specs::Facts::IsFree))]
 
-ghost use Rattle.std.specs.Prelude.{◌<◌, IfOk};
+ghost use Rattle.std.specs.Prelude.{◌<◌, IfOk, []};
 ghost use Rattle.rr_protocol.specs.declared.kind.Kind.TheVariants as kind;
-ghost use Rattle.rr_protocol.specs.State.{numbers_left};
-ghost use Rattle.rr_ports.specs.Kinds.{Names, NamesNothing, KeepsKinds};
+ghost use Rattle.rr_ports.specs.Facts.{IsFree, Keeps, Names, numbers_left};
 
 use super::fixtures::{Received, SETUP, Service, connect, received};
 use rr_ports::typed::{ActiveRequest, Client, PendingResponse, ResponseMutUninit, Server};
@@ -14,7 +13,7 @@ use rr_ports::{LoanError, ReceiveError, RequestSendError, SendError};
 fn send_set(hub: &mut Service, active: &ActiveRequest<u64>, value: u64) -> Result<(), SendError>
     requires active { Names hub.old active.now kind.ActiveRequest }
     requires number { 0 < numbers_left hub.old }
-    ensures { KeepsKinds hub.old hub.new }
+    ensures { Keeps [] hub.old hub.new }
 {
     let response = active.loan(hub)?;
     response.update(hub, |payload: &mut u64| *payload = value);
@@ -22,7 +21,7 @@ fn send_set(hub: &mut Service, active: &ActiveRequest<u64>, value: u64) -> Resul
 }
 
 /// Loans a response and writes its payload through a `&mut`, which does not make it one that can be sent.
-#[tactic(auto, using(rr_ports::proofs::Frames::frames, rr_ports::proofs::LendLaws::response_keeps))]
+#[tactic(auto, using(rr_ports::proofs::Frames::borrowers), unfolding(rr_ports::specs::Facts::Keeps, rr_ports::specs::Facts::IsFree))]
 fn loan_written(
     hub: &mut Service,
     active: &ActiveRequest<u64>,
@@ -30,9 +29,9 @@ fn loan_written(
 ) -> Result<ResponseMutUninit<u64>, LoanError>
     requires active { Names hub.old active.now kind.ActiveRequest }
     requires number { 0 < numbers_left hub.old }
-    ensures fresh { IfOk result (λ response. NamesNothing hub.old response) }
+    ensures free { IfOk result (λ response. IsFree [] hub.old response) }
     ensures kind { IfOk result (λ response. Names hub.new response kind.ResponseMutUninit) }
-    ensures kinds { KeepsKinds hub.old hub.new }
+    ensures keeps { Keeps [] hub.old hub.new }
 {
     let response = active.loan_uninit(hub)?;
     *ResponseMutUninit::payload_mut(hub, &response) = Some(value);
@@ -48,7 +47,7 @@ fn send_rewritten(
 ) -> Result<(), SendError>
     requires active { Names hub.old active.now kind.ActiveRequest }
     requires number { 0 < numbers_left hub.old }
-    ensures { KeepsKinds hub.old hub.new }
+    ensures { Keeps [] hub.old hub.new }
 {
     let response = loan_written(hub, active, first)?;
     let response = response.write_payload(hub, value);
@@ -59,7 +58,7 @@ fn send_rewritten(
 fn send_headed(hub: &mut Service, active: &ActiveRequest<u64>) -> Result<(), SendError>
     requires active { Names hub.old active.now kind.ActiveRequest }
     requires number { 0 < numbers_left hub.old }
-    ensures { KeepsKinds hub.old hub.new }
+    ensures { Keeps [] hub.old hub.new }
 {
     let response = active.loan(hub)?;
     response.update_user_header(hub, |header: &mut u64| *header = 10);
@@ -79,7 +78,7 @@ enum Way {
 fn send(hub: &mut Service, active: &ActiveRequest<u64>, way: Way) -> Result<(), SendError>
     requires active { Names hub.old active.now kind.ActiveRequest }
     requires number { 0 < numbers_left hub.old }
-    ensures { KeepsKinds hub.old hub.new }
+    ensures { Keeps [] hub.old hub.new }
 {
     match way {
         Way::Copied => active.send_copy(hub, 12),
@@ -96,7 +95,7 @@ type Answered = Result<Option<Result<(), SendError>>, ReceiveError>;
 fn answer(hub: &mut Service, server: &Server<u64>, way: Way) -> Answered
     requires server { Names hub.old server.now kind.Server }
     requires numbers { 1 < numbers_left hub.old }
-    ensures { KeepsKinds hub.old hub.new }
+    ensures { Keeps [] hub.old hub.new }
 {
     let Some(active) = server.receive(hub)? else {
         return Ok(None);
@@ -119,7 +118,7 @@ fn conclude(
     requires server { Names hub.old server.now kind.Server }
     requires pending { Names hub.old pending.now kind.PendingResponse }
     requires numbers { 1 < numbers_left hub.old }
-    ensures { KeepsKinds hub.old hub.new }
+    ensures { Keeps [] hub.old hub.new }
 {
     let answered = answer(hub, server, way);
     let received = received(hub, pending);
@@ -136,7 +135,7 @@ fn exchange(
     requires client { Names hub.old client.now kind.Client }
     requires server { Names hub.old server.now kind.Server }
     requires numbers { 2 < numbers_left hub.old }
-    ensures { KeepsKinds hub.old hub.new }
+    ensures { Keeps [] hub.old hub.new }
 {
     let pending = client.send_copy(hub, 123)?;
     let exchanged = conclude(hub, server, &pending, way);

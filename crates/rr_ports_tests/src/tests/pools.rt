@@ -1,10 +1,9 @@
 //! How many loans are granted, by the server's settings and by the pools.
-#![tactic(auto, using(rr_ports::proofs::Frames::frames))]
+#![tactic(auto, using(rr_ports::proofs::Frames::callers), unfolding(rr_ports::specs::Facts::Keeps, rr_ports::specs::Facts::IsFree))]
 
-ghost use Rattle.std.specs.Prelude.{◌<◌, ◌≤◌, ◌+◌};
+ghost use Rattle.std.specs.Prelude.{◌<◌, ◌≤◌, ◌+◌, []};
 ghost use Rattle.rr_protocol.specs.declared.kind.Kind.TheVariants as kind;
-ghost use Rattle.rr_protocol.specs.State.{numbers_left};
-ghost use Rattle.rr_ports.specs.Kinds.{Names, KeepsKinds};
+ghost use Rattle.rr_ports.specs.Facts.{Keeps, Names, numbers_left};
 
 use super::fixtures::{SETUP, Service, Setup, connect};
 use rr_ports::typed::{ActiveRequest, Client, Server};
@@ -14,7 +13,7 @@ use rr_ports::{LoanError, ReceiveError, RequestSendError};
 fn request_refusal(hub: &mut Service, client: &Client<u64>) -> Option<LoanError>
     requires client { Names hub.old client.now kind.Client }
     requires number { 0 < numbers_left hub.old }
-    ensures kinds { KeepsKinds hub.old hub.new }
+    ensures keeps { Keeps [] hub.old hub.new }
     ensures numbers { numbers_left hub.old ≤ numbers_left hub.new + 1 }
 {
     match client.loan_uninit(hub) {
@@ -30,7 +29,7 @@ fn request_refusal(hub: &mut Service, client: &Client<u64>) -> Option<LoanError>
 fn refusal(hub: &mut Service, active: &ActiveRequest<u64>) -> Option<LoanError>
     requires active { Names hub.old active.now kind.ActiveRequest }
     requires number { 0 < numbers_left hub.old }
-    ensures { KeepsKinds hub.old hub.new }
+    ensures { Keeps [] hub.old hub.new }
 {
     match active.loan_uninit(hub) {
         Ok(response) => {
@@ -48,7 +47,7 @@ fn refusals(
 ) -> (Option<LoanError>, Option<LoanError>)
     requires active { Names hub.old active.now kind.ActiveRequest }
     requires numbers { 1 < numbers_left hub.old }
-    ensures { KeepsKinds hub.old hub.new }
+    ensures { Keeps [] hub.old hub.new }
 {
     match active.loan_uninit(hub) {
         Ok(response) => {
@@ -67,7 +66,7 @@ fn refusals_of(
 ) -> Result<Option<(Option<LoanError>, Option<LoanError>)>, ReceiveError>
     requires server { Names hub.old server.now kind.Server }
     requires numbers { 2 < numbers_left hub.old }
-    ensures { KeepsKinds hub.old hub.new }
+    ensures { Keeps [] hub.old hub.new }
 {
     let Some(active) = server.receive(hub)? else {
         return Ok(None);
@@ -88,7 +87,7 @@ fn both_refusals(hub: &mut Service, client: &Client<u64>, server: &Server<u64>) 
     requires client { Names hub.old client.now kind.Client }
     requires server { Names hub.old server.now kind.Server }
     requires numbers { 3 < numbers_left hub.old }
-    ensures { KeepsKinds hub.old hub.new }
+    ensures { Keeps [] hub.old hub.new }
 {
     let request = request_refusal(hub, client);
     let responses = refusals_of(hub, server);
@@ -104,7 +103,7 @@ fn refused(
     requires client { Names hub.old client.now kind.Client }
     requires server { Names hub.old server.now kind.Server }
     requires numbers { 4 < numbers_left hub.old }
-    ensures { KeepsKinds hub.old hub.new }
+    ensures { Keeps [] hub.old hub.new }
 {
     let pending = client.send_copy(hub, 123)?;
     let refusals = both_refusals(hub, client, server);

@@ -1,10 +1,9 @@
 //! What ports are that builders made, and what they are without a word.
-#![tactic(auto, using(rr_ports::proofs::Frames::frames))]
+#![tactic(auto, using(rr_ports::proofs::Frames::callers), unfolding(rr_ports::specs::Facts::Keeps, rr_ports::specs::Facts::IsFree))]
 
-ghost use Rattle.std.specs.Prelude.{◌≡◌, ◌<◌, ◌≤◌, ◌+◌, None};
+ghost use Rattle.std.specs.Prelude.{◌≡◌, ◌<◌, ◌≤◌, ◌+◌, None, []};
 ghost use Rattle.rr_protocol.specs.declared.kind.Kind.TheVariants as kind;
-ghost use Rattle.rr_protocol.specs.State.{numbers_left};
-ghost use Rattle.rr_ports.specs.Kinds.{Names, KeepsKinds};
+ghost use Rattle.rr_ports.specs.Facts.{Keeps, Names, numbers_left};
 
 use super::slice_fixtures::{Service, service};
 use rr_ports::sliced::{Client, PortFactoryClient, PortFactoryServer};
@@ -17,7 +16,7 @@ use rr_ports::{
 fn loaned_len(hub: &mut Service, client: &Client<u64>, len: usize) -> Result<usize, LoanError>
     requires client { Names hub.old client.now kind.Client }
     requires number { 0 < numbers_left hub.old }
-    ensures kinds { KeepsKinds hub.old hub.new }
+    ensures keeps { Keeps [] hub.old hub.new }
     ensures numbers { numbers_left hub.old ≤ numbers_left hub.new + 1 }
 {
     let request = client.loan_slice(hub, len)?;

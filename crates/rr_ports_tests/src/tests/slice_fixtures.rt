@@ -1,10 +1,9 @@
 //! Hubs of slices with what a test needs, and the ends of them.
-#![tactic(auto, using(rr_ports::proofs::Frames::frames))]
+#![tactic(auto, using(rr_ports::proofs::Frames::callers), unfolding(rr_ports::specs::Facts::Keeps, rr_ports::specs::Facts::IsFree))]
 
 ghost use Rattle.std.specs.Prelude.{◌<◌};
 ghost use Rattle.rr_protocol.specs.declared.kind.Kind.TheVariants as kind;
-ghost use Rattle.rr_protocol.specs.State.{numbers_left};
-ghost use Rattle.rr_ports.specs.Kinds.{Names};
+ghost use Rattle.rr_ports.specs.Facts.{Names, numbers_left};
 
 use super::LIMITS;
 use rr_ports::sliced::{Client, Hub, Server};
@@ -57,7 +56,7 @@ pub fn connect(
 
 impl Connected {
     /// Releases the ports.
-    #[tactic(auto, using(rr_ports::proofs::Frames::kinds))]
+    #[tactic(auto, using(rr_ports::proofs::Frames::callers), unfolding(rr_ports::specs::Facts::Keeps, rr_ports::specs::Facts::IsFree))]
     pub fn end(self)
         requires client { Names self.hub self.client kind.Client }
         requires server { Names self.hub self.server kind.Server }

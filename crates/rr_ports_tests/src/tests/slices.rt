@@ -1,10 +1,9 @@
 //! Slices that are written by a function or from a slice, as iceoryx2's documents have them.
-#![tactic(auto, using(rr_ports::proofs::Frames::frames))]
+#![tactic(auto, using(rr_ports::proofs::Frames::callers), unfolding(rr_ports::specs::Facts::Keeps, rr_ports::specs::Facts::IsFree))]
 
-ghost use Rattle.std.specs.Prelude.{◌≡◌, ◌<◌, ◌≤◌, ◌+◌, IfOk};
+ghost use Rattle.std.specs.Prelude.{◌≡◌, ◌<◌, ◌≤◌, ◌+◌, IfOk, [], ◌∷◌};
 ghost use Rattle.rr_protocol.specs.declared.kind.Kind.TheVariants as kind;
-ghost use Rattle.rr_protocol.specs.State.{numbers_left};
-ghost use Rattle.rr_ports.specs.Kinds.{Names, NamesNothing, KeepsKinds};
+ghost use Rattle.rr_ports.specs.Facts.{IsFree, Keeps, Names, numbers_left};
 
 use super::slice_fixtures::{Service, connect};
 use rr_ports::sliced::{ActiveRequest, Client, PendingResponse, RequestMutUninit, Server};
@@ -13,7 +12,8 @@ use rr_ports::{AllocationStrategy, LoanError, ReceiveError, RequestSendError, Se
 /// Pushes an element, unless all are written. Returns what is written then, if it is one element.
 fn pushed(hub: &mut Service, request: &RequestMutUninit<u64>, element: u64) -> Option<[u64; 1]>
     requires { Names hub.old request.now kind.RequestMutUninit }
-    ensures kinds { KeepsKinds hub.old hub.new }
+    ensures kind { Names hub.new request.now kind.RequestMutUninit }
+    ensures keeps { Keeps (request.now ∷ []) hub.old hub.new }
     ensures numbers { numbers_left hub.new ≡ numbers_left hub.old }
 {
     if request.is_complete(hub) {
@@ -31,7 +31,7 @@ fn overwritten_request(
 ) -> Result<(Option<[u64; 1]>, Option<[u64; 13]>), LoanError>
     requires client { Names hub.old client.now kind.Client }
     requires number { 0 < numbers_left hub.old }
-    ensures kinds { KeepsKinds hub.old hub.new }
+    ensures keeps { Keeps [] hub.old hub.new }
     ensures numbers { numbers_left hub.old ≤ numbers_left hub.new + 1 }
 {
     let request = client.loan_slice_uninit(hub, 13)?;
@@ -49,7 +49,7 @@ fn filled_request(
 ) -> Result<(bool, Option<[u64; 3]>), LoanError>
     requires client { Names hub.old client.now kind.Client }
     requires number { 0 < numbers_left hub.old }
-    ensures kinds { KeepsKinds hub.old hub.new }
+    ensures keeps { Keeps [] hub.old hub.new }
     ensures numbers { numbers_left hub.old ≤ numbers_left hub.new + 1 }
 {
     let request = client.loan_slice_uninit(hub, 3)?;
@@ -64,7 +64,7 @@ fn filled_request(
 fn copied_request(hub: &mut Service, client: &Client<u64>) -> Result<Option<[u64; 3]>, LoanError>
     requires client { Names hub.old client.now kind.Client }
     requires number { 0 < numbers_left hub.old }
-    ensures kinds { KeepsKinds hub.old hub.new }
+    ensures keeps { Keeps [] hub.old hub.new }
     ensures numbers { numbers_left hub.old ≤ numbers_left hub.new + 1 }
 {
     let request = client.loan_slice_uninit(hub, 3)?;
@@ -86,7 +86,7 @@ type Written = (
 fn written_requests(hub: &mut Service, client: &Client<u64>) -> Written
     requires client { Names hub.old client.now kind.Client }
     requires numbers { 2 < numbers_left hub.old }
-    ensures { KeepsKinds hub.old hub.new }
+    ensures { Keeps [] hub.old hub.new }
 {
     let overwritten = overwritten_request(hub, client);
     let filled = filled_request(hub, client);
@@ -113,9 +113,9 @@ fn requests_are_written(rt: HostRuntime) {
 fn ask(hub: &mut Service, client: &Client<u64>) -> Result<PendingResponse<u64>, RequestSendError>
     requires client { Names hub.old client.now kind.Client }
     requires number { 0 < numbers_left hub.old }
-    ensures fresh { IfOk result (λ pending. NamesNothing hub.old pending) }
+    ensures free { IfOk result (λ pending. IsFree [] hub.old pending) }
     ensures kind { IfOk result (λ pending. Names hub.new pending kind.PendingResponse) }
-    ensures kinds { KeepsKinds hub.old hub.new }
+    ensures keeps { Keeps [] hub.old hub.new }
     ensures numbers { numbers_left hub.old ≤ numbers_left hub.new + 1 }
 {
     let request = client.loan_slice_uninit(hub, 10)?;
@@ -133,7 +133,7 @@ fn copied_response(
 ) -> Result<Option<[u64; 4]>, LoanError>
     requires active { Names hub.old active.now kind.ActiveRequest }
     requires number { 0 < numbers_left hub.old }
-    ensures kinds { KeepsKinds hub.old hub.new }
+    ensures keeps { Keeps [] hub.old hub.new }
     ensures numbers { numbers_left hub.old ≤ numbers_left hub.new + 1 }
 {
     let response = active.loan_slice_uninit(hub, 4)?;
@@ -150,7 +150,7 @@ fn send_counted(
 ) -> Result<Option<[u64; 13]>, SendError>
     requires active { Names hub.old active.now kind.ActiveRequest }
     requires number { 0 < numbers_left hub.old }
-    ensures { KeepsKinds hub.old hub.new }
+    ensures { Keeps [] hub.old hub.new }
 {
     let response = active.loan_slice_uninit(hub, 13)?;
     let response = response.write_from_fn(
@@ -172,7 +172,7 @@ type Responses = (
 fn respond(hub: &mut Service, active: &ActiveRequest<u64>) -> Responses
     requires active { Names hub.old active.now kind.ActiveRequest }
     requires numbers { 1 < numbers_left hub.old }
-    ensures { KeepsKinds hub.old hub.new }
+    ensures { Keeps [] hub.old hub.new }
 {
     let copied = copied_response(hub, active);
     let sent = send_counted(hub, active);
@@ -186,7 +186,7 @@ type Answered = Result<Option<(Option<[u64; 10]>, Responses)>, ReceiveError>;
 fn answer(hub: &mut Service, server: &Server<u64>) -> Answered
     requires server { Names hub.old server.now kind.Server }
     requires numbers { 2 < numbers_left hub.old }
-    ensures { KeepsKinds hub.old hub.new }
+    ensures { Keeps [] hub.old hub.new }
 {
     let Some(active) = server.receive(hub)? else {
         return Ok(None);
@@ -203,7 +203,7 @@ fn received(
     pending: &PendingResponse<u64>,
 ) -> Result<Option<[u64; 13]>, ReceiveError>
     requires { Names hub.old pending.now kind.PendingResponse }
-    ensures { KeepsKinds hub.old hub.new }
+    ensures { Keeps [] hub.old hub.new }
 {
     let Some(response) = pending.receive(hub)? else {
         return Ok(None);
@@ -221,7 +221,7 @@ fn conclude(hub: &mut Service, server: &Server<u64>, pending: &PendingResponse<u
     requires server { Names hub.old server.now kind.Server }
     requires pending { Names hub.old pending.now kind.PendingResponse }
     requires numbers { 2 < numbers_left hub.old }
-    ensures { KeepsKinds hub.old hub.new }
+    ensures { Keeps [] hub.old hub.new }
 {
     let answered = answer(hub, server);
     let received = received(hub, pending);
@@ -237,7 +237,7 @@ fn exchange(
     requires client { Names hub.old client.now kind.Client }
     requires server { Names hub.old server.now kind.Server }
     requires numbers { 3 < numbers_left hub.old }
-    ensures { KeepsKinds hub.old hub.new }
+    ensures { Keeps [] hub.old hub.new }
 {
     let pending = ask(hub, client)?;
     let exchanged = conclude(hub, server, &pending);

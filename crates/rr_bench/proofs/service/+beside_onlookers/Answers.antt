@@ -1,7 +1,8 @@
-use Rattle.std.proofs.Common.{◌∙◌, sym, subst}
+use Rattle.std.proofs.Common.{[], ◌∷◌, ◌∙◌, sym, subst}
 use Rattle.rr_protocol.specs.declared.kind.Kind.TheVariants as kind
-use Rattle.rr_ports.specs.Kinds.{Names, KeepsKindsBut}
-use Rattle.rr_ports.proofs.Frames.{kept, kept_across}
+use Rattle.rr_ports.specs.Facts.{IsA, Names, Keeps}
+use Rattle.rr_ports.proofs.Frames.{kept}
+use Rattle.rr_ports.proofs.FactLaws.{keeps_both, keeps_through}
 use Rattle.rr_bench.proofs.Frames.{popped}
 use Rattle.rr_bench.proofs.service.+beside_onlookers.Goals as goal
 
@@ -11,13 +12,13 @@ release-requires-in-Some g t c =
     subst (λ n. Names c.beside_onlookers-done.new.hub n kind.Server)
     (popped c.beside_onlookers-done.new.onlookers.items c.args.onlookers.now.items c.pop.new.self.items c.in_ok-onlooker.onlooker c.in-Some.onlooker
     (c.beside_onlookers-done.ensures.onlookers ∙ c.in-Ok.ensures.items) c.in-Some.ensures.items)
-    (kept c.server.new.hub c.beside_onlookers-done.new.hub c.in_ok-onlooker.onlooker kind.Server c.beside_onlookers-done.ensures.kinds c.in_ok-onlooker.ensures.kind)
+    (kept [] c.server.new.hub c.beside_onlookers-done.new.hub c.in_ok-onlooker.onlooker (IsA kind.Server) c.beside_onlookers-done.ensures.keeps tt c.in_ok-onlooker.ensures.kind)
 
-pub returns-in-Some-clause-kinds : goal.returns-in-Some-clause-kinds
-returns-in-Some-clause-kinds g t c =
-    kept_across c.args.hub.now c.server.new.hub c.beside_onlookers-done.new.hub c.release-in-Some.new.hub c.in_ok-onlooker.onlooker c.in_ok-onlooker.ensures.fresh
-    c.in_ok-onlooker.ensures.kinds c.beside_onlookers-done.ensures.kinds
-    (subst (λ n. KeepsKindsBut n c.beside_onlookers-done.new.hub c.release-in-Some.new.hub)
+pub returns-in-Some-clause-keeps : goal.returns-in-Some-clause-keeps
+returns-in-Some-clause-keeps g t c =
+    keeps_through c.args.hub.now c.beside_onlookers-done.new.hub c.release-in-Some.new.hub c.in_ok-onlooker.onlooker c.in_ok-onlooker.ensures.free
+    (keeps_both c.args.hub.now c.server.new.hub c.beside_onlookers-done.new.hub c.in_ok-onlooker.ensures.keeps c.beside_onlookers-done.ensures.keeps)
+    (subst (λ n. Keeps (n ∷ []) c.beside_onlookers-done.new.hub c.release-in-Some.new.hub)
     (sym (popped c.beside_onlookers-done.new.onlookers.items c.args.onlookers.now.items c.pop.new.self.items c.in_ok-onlooker.onlooker c.in-Some.onlooker
     (c.beside_onlookers-done.ensures.onlookers ∙ c.in-Ok.ensures.items) c.in-Some.ensures.items))
-    c.release-in-Some.ensures.kinds)
+    c.release-in-Some.ensures.keeps)

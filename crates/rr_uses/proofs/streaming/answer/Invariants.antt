@@ -1,6 +1,7 @@
-use Rattle.rr_ports.specs.Kinds.{KeepsKinds}
+use Rattle.std.proofs.Common.{[]}
+use Rattle.rr_ports.specs.Facts.{Keeps}
 use Rattle.rr_uses.proofs.streaming.answer.Given as goal
 
 -- what numbers named they name still
 abbrev pub invariant-loop-value : goal.invariant-loop-value
-invariant-loop-value l = KeepsKinds l.fn.hub l.hub
+invariant-loop-value l = Keeps [] l.fn.hub l.hub

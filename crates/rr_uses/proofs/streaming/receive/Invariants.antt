@@ -1,6 +1,7 @@
-use Rattle.rr_ports.specs.Kinds.{KeepsKinds}
+use Rattle.std.proofs.Common.{[]}
+use Rattle.rr_ports.specs.Facts.{Keeps}
 use Rattle.rr_uses.proofs.streaming.receive.Given as goal
 
 -- what numbers named they name still
 abbrev pub invariant-loop-received : goal.invariant-loop-received
-invariant-loop-received l = KeepsKinds l.fn.hub l.hub
+invariant-loop-received l = Keeps [] l.fn.hub l.hub

@@ -2,10 +2,15 @@ use Rattle.rr_store.specs.Sound.{empty_hand}
 use Rattle.rr_store.specs.Views.{state_of}
 use Rattle.rr_store.specs.Opened.{opened}
 use Rattle.rr_hub.proofs.laws.NextNumber.{next_names_nothing}
-use Rattle.rr_hub.proofs.Unnamed.{by_client}
+use Rattle.rr_hub.proofs.Unnamed.{by_client, no_client}
 use Rattle.rr_hub.proofs.state.Core.create_client.Goals as goal
 
 pub returns-clause-unnamed : goal.returns-clause-unnamed
 returns-clause-unnamed g c =
     rw (← c.self.view_is) (by_client (state_of (opened c.self.inside.parts))
     (next_names_nothing (opened c.self.inside.parts) empty_hand c.self.invariant.sound) c.args.settings _ _ c.create_client.ensures.view)
+
+pub returns-clause-unmade : goal.returns-clause-unmade
+returns-clause-unmade g c =
+    rw (← c.self.view_is) (no_client (state_of (opened c.self.inside.parts)) c.self.invariant.reached.ports.client_numbers
+    c.args.settings _ _ c.create_client.ensures.view)

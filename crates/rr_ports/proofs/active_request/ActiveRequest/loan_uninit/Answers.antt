@@ -4,4 +4,4 @@ use Rattle.rr_ports.proofs.active_request.ActiveRequest.loan_uninit.Goals as goa
 pub returns : goal.returns
 returns g c =
     rw (c.loaned.ensures, ← c.hub.view_is, ← c.self.view_is) (response_loaned g.PH.Default.is_default c.hub.inside.core
-    c.loan_response.new.self c.self.inside.id 1 c.loan_response.result c.loan_response.ensures)
+    c.loan_response.new.self c.self.inside.id 1 c.loan_response.result (rw (← c.hub.view_is, ← c.self.view_is) at c.requires.kind) c.loan_response.ensures)

@@ -3,4 +3,4 @@ use Rattle.rr_ports.proofs.LendLaws.{response_updated}
 use Rattle.rr_ports.proofs.lend.sliced.ResponseMut+SliceBody+T.update.Goals as goal
 
 pub returns : goal.returns
-returns g c = response_updated _ _ c.payload_mut.result.now c.f.new.arg2 _ _ _ c.payload_mut.ensures.value (search of_calls)
+returns g c = response_updated _ _ _ c.requires.kind c.payload_mut.result.now c.f.new.arg2 _ _ _ c.payload_mut.ensures.value (search of_calls)

@@ -1,16 +1,14 @@
-use Rattle.std.proofs.Common.{◌≡◌, ◌<◌, ◌≤◌, length, sym, ap, ◌∙◌, subst, refl, inl, arith}
+use Rattle.std.proofs.Common.{◌≡◌, ◌<◌, ◌≤◌, length, Some, sym, ap, ◌∙◌, subst, refl, inl, arith}
 use Rattle.rr_protocol.specs.declared.kind.Kind.{Kind}
-use Rattle.rr_protocol.specs.Writing.{with_elements}
-use Rattle.std.specs.Prelude.{IsSomeAnd, option_and_then}
-use Rattle.rr_protocol.specs.Messages.{request_in}
-use Rattle.rr_ports.specs.Kinds.{Names, RequestAsksFor}
+use Rattle.rr_ports.specs.Facts.{Asks, Has}
+use Rattle.rr_ports.proofs.FactLaws.{asks_for_len}
 use Rattle.rr_ports.proofs.FillLaws.{fill_start, filling_kind}
 use Rattle.rr_ports.proofs.Fillings.{held_request, request_being_written, request_put, request_ready, fills_request}
-use Rattle.rr_ports.proofs.WriteLaws.{request_content_kind, requests, written}
+use Rattle.rr_ports.proofs.WriteLaws.{requests, written}
 use Rattle.rr_ports.proofs.sliced.request_mut_uninit.RequestMutUninit+SliceBody+T.write_from_fn.Goals as goal
 
 pub loop-index-init : goal.loop-index-init
-unfolding Names
+unfolding Has
 loop-index-init g c =
     let m = request_being_written c.hub.inside.core c.self.inside.id (rw (← c.hub.view_is, ← c.self.view_is) at c.requires.kind) in
     let long : length m.0.content.elements ≡ c.lens-asked.result.1 =
@@ -19,18 +17,19 @@ loop-index-init g c =
     fill_start held_request (goal.F-step g) c.args.f c.hub.inside.core c.self.inside.id c.lens-asked.result.1 m.0 m.0.content.elements m.1 long)
 
 pub put_request-requires : goal.put_request-requires
-unfolding Names
+unfolding Has
 put_request-requires g c =
     filling_kind held_request (goal.F-step g) c.args.f c.args.hub.now c.self.inside.id c.lens-asked.result.1 c.loop-index.hub c.loop-index.index c.loop-index.f
     c.loop-index.invariant Kind.RequestMutUninit (λ e. cc) (λ e. cc) (rw (← c.self.view_is) at c.requires.kind) refl
 
 pub f-requires : goal.f-requires
-unfolding RequestAsksFor
+unfolding Has
 f-requires g c =
     let w = c.loop-index.invariant in
     let few : length w.elements < c.lens-asked.result.0 = (let a = w.count in let b = c.loop-index-test.true in omega arith) in
     let asked = c.lens-asked.ensures.asked ∙ (rw (w.was) at (rw c.hub.view_is at c.request_body.ensures.asked)) in
-    let asks = subst (λ o. IsSomeAnd (option_and_then request_in o) (λ m. c.lens-asked.result.0 ≡ m.content.asked_len)) (sym w.was) asked in
+    let asks = asks_for_len c.args.hub.now c.self.inside.id Kind.RequestMutUninit (λ e. cc) (λ e. cc) (rw (← c.self.view_is) at c.requires.kind)
+    _ w.was c.lens-asked.result.0 (ap Some (sym asked)) in
     subst (λ k. goal.F-pre g c.loop-index.f k) w.count
     ((c.requires.callable c.lens-asked.result.0 (rw (← c.self.view_is) asks)).at w.elements c.loop-index.f w.returned few)
 
@@ -42,7 +41,7 @@ loop-index-preserved g c =
     (goal.F-step g) w c.f.result c.f.ensures (subst (λ k. c.loop-index.index < k) asked c.loop-index-test.true) c.put_request.ensures
 
 pub assume_init-requires-clause-uninit : goal.assume_init-requires-clause-uninit
-unfolding Names
+unfolding Has
 assume_init-requires-clause-uninit g c =
     inl (rw c.hub-2.view_is (filling_kind held_request (goal.F-step g) c.args.f c.args.hub.now c.self.inside.id c.lens-asked.result.1 c.loop-index.hub c.loop-index.index c.loop-index.f
     c.loop-index.invariant Kind.RequestMutUninit (λ e. cc) (λ e. cc) (rw (← c.self.view_is) at c.requires.kind) refl))
@@ -69,12 +68,19 @@ returns-clause-written g c =
 pub returns-clause-kind : goal.returns-clause-kind
 returns-clause-kind g c =
     let f = returns-clause-written g c in
-    rw c.self.view_is
-    (written c.args.hub.now c.assume_init.new.self c.args.self requests _
-    (request_content_kind (with_elements f.elements)) f.written c.requires.kind).kind
+    rw c.self.view_is (written c.args.hub.now c.assume_init.new.self c.args.self requests c.requires.kind f.elements f.written).kind
 
-pub returns-clause-kinds : goal.returns-clause-kinds
-returns-clause-kinds g c =
+pub returns-clause-says : goal.returns-clause-says
+returns-clause-says g c =
+    let f = returns-clause-written g c in (
+      f.elements,
+      f.last,
+      f.returned,
+      subst (λ i. Has c.assume_init.new.self i (Asks f.elements)) (sym c.self.view_is)
+          (written c.args.hub.now c.assume_init.new.self c.args.self requests c.requires.kind f.elements f.written).says,
+    )
+
+pub returns-clause-keeps : goal.returns-clause-keeps
+returns-clause-keeps g c =
     let f = returns-clause-written g c in
-    (written c.args.hub.now c.assume_init.new.self c.args.self requests _
-    (request_content_kind (with_elements f.elements)) f.written c.requires.kind).kinds
+    (written c.args.hub.now c.assume_init.new.self c.args.self requests c.requires.kind f.elements f.written).keeps

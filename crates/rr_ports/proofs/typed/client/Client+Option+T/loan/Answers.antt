@@ -1,6 +1,6 @@
 use Rattle.std.proofs.Common.{[], ◌∷◌, refl}
 use Rattle.rr_ports.specs.Loaning.{IsOneDefault}
-use Rattle.rr_ports.proofs.Frames.{kept_through}
+use Rattle.rr_ports.proofs.FactLaws.{keeps_through}
 use Rattle.rr_ports.proofs.CopyLaws.{request_completed}
 use Rattle.rr_ports.proofs.typed.client.Client+Option+T.loan.Goals as goal
 
@@ -9,5 +9,5 @@ returns-clause-loans g c =
     request_completed c.args.hub.now c.loan_uninit.new.hub c.write_payload.new.hub c.args.self.now c.in_ok-request.request g.QH.Default.is_default (IsOneDefault g.T.Default.is_default) 1
     (c.default.result ∷ []) c.write_payload.result c.write_payload.ensures.same c.in_ok-request.ensures.loans (c.default.result, c.default.ensures, refl) c.write_payload.ensures.written
 
-pub returns-clause-kinds : goal.returns-clause-kinds
-returns-clause-kinds g c = kept_through _ _ _ _ c.in_ok-request.ensures.fresh c.in_ok-request.ensures.kinds c.write_payload.ensures.kinds
+pub returns-clause-keeps : goal.returns-clause-keeps
+returns-clause-keeps g c = keeps_through _ _ _ _ c.in_ok-request.ensures.free c.in_ok-request.ensures.keeps c.write_payload.ensures.keeps

@@ -4,4 +4,4 @@ use Rattle.rr_ports.proofs.typed.client.Client+Option+T.loan_uninit.Goals as goa
 pub returns : goal.returns
 returns g c =
     rw (c.loaned.ensures, ← c.hub.view_is, ← c.self.view_is) (request_loaned g.QH.Default.is_default c.hub.inside.core
-    c.loan_request.new.self c.self.inside.number 1 c.loan_request.result c.loan_request.ensures)
+    c.loan_request.new.self c.self.inside.number 1 c.loan_request.result (rw (← c.hub.view_is, ← c.self.view_is) at c.requires.kind) c.loan_request.ensures)

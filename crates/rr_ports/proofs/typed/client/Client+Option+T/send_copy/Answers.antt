@@ -1,6 +1,6 @@
-use Rattle.std.proofs.Common.{subst}
-use Rattle.rr_ports.specs.Kinds.{KeepsKindsBut}
-use Rattle.rr_ports.proofs.Frames.{kept_through}
+use Rattle.std.proofs.Common.{[], ◌∷◌, subst}
+use Rattle.rr_ports.specs.Facts.{Keeps}
+use Rattle.rr_ports.proofs.FactLaws.{keeps_through}
 use Rattle.rr_ports.proofs.CopyLaws.{request_copied}
 use Rattle.rr_ports.proofs.typed.client.Client+Option+T.send_copy.Goals as goal
 
@@ -10,8 +10,8 @@ returns-clause-sends g c =
     c.in_ok-request.ensures.loans c.write_payload-request.new.hub c.write_payload-request.ensures.written c.write_payload-request.result c.write_payload-request.ensures.same
     c.send.result c.send.ensures.sends
 
-pub returns-clause-kinds : goal.returns-clause-kinds
-returns-clause-kinds g c =
-    let written = kept_through c.args.hub.now c.loan_uninit.new.hub c.write_payload-request.new.hub c.in_ok-request.request c.in_ok-request.ensures.fresh c.in_ok-request.ensures.kinds c.write_payload-request.ensures.kinds in
-    kept_through c.args.hub.now c.write_payload-request.new.hub c.send.new.hub c.in_ok-request.request c.in_ok-request.ensures.fresh written
-    (subst (λ i. KeepsKindsBut i c.write_payload-request.new.hub c.send.new.hub) c.write_payload-request.ensures.same c.send.ensures.kinds)
+pub returns-clause-keeps : goal.returns-clause-keeps
+returns-clause-keeps g c =
+    let written = keeps_through c.args.hub.now c.loan_uninit.new.hub c.write_payload-request.new.hub c.in_ok-request.request c.in_ok-request.ensures.free c.in_ok-request.ensures.keeps c.write_payload-request.ensures.keeps in
+    keeps_through c.args.hub.now c.write_payload-request.new.hub c.send.new.hub c.in_ok-request.request c.in_ok-request.ensures.free written
+    (subst (λ i. Keeps (i ∷ []) c.write_payload-request.new.hub c.send.new.hub) c.write_payload-request.ensures.same c.send.ensures.keeps)

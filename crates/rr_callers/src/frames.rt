@@ -1,0 +1,141 @@
+//! What a function keeps: handles that come by value, that are returned, and that are made and released inside.
+#![tactic(auto, using(rr_ports::proofs::Frames::callers), unfolding(rr_ports::specs::Facts::Keeps, rr_ports::specs::Facts::IsFree))]
+
+ghost use Rattle.std.specs.Prelude.{◌≡◌, ◌<◌, ◌≤◌, ◌+◌, ◌∷◌, [], IfOk, IfSome};
+ghost use Rattle.rr_protocol.specs.declared.kind.Kind.TheVariants as kind;
+ghost use Rattle.rr_ports.specs.Facts.{IsFree, Keeps, Names, numbers_left};
+
+use rr_ports::typed::{ActiveRequest, Client, Hub, PendingResponse, RequestMutUninit, Server};
+use rr_ports::{ClientCreateError, ReceiveError, RequestSendError, SendError};
+
+/// A service that answers numbers with numbers.
+pub type Service = Hub<u64, u64, u64, u64>;
+
+/// Takes a pending response, and returns the response that came, if one did.
+pub fn take(hub: &mut Service, pending: PendingResponse<u64>) -> Option<u64>
+    requires { Names hub.old pending kind.PendingResponse }
+    ensures keeps { Keeps (pending ∷ []) hub.old hub.new }
+    ensures numbers { numbers_left hub.new ≡ numbers_left hub.old }
+{
+    let came = match pending.receive(hub) {
+        Ok(Some(response)) => {
+            let value = *response.payload(hub);
+            response.release(hub);
+            Some(value)
+        }
+        _ => None,
+    };
+    pending.release(hub);
+    came
+}
+
+/// Returns a handle that is made inside.
+pub fn ask(
+    hub: &mut Service,
+    client: &Client<u64>,
+    value: u64,
+) -> Result<PendingResponse<u64>, RequestSendError>
+    requires client { Names hub.old client.now kind.Client }
+    requires number { 0 < numbers_left hub.old }
+    ensures free { IfOk result (λ pending. IsFree [] hub.old pending) }
+    ensures kind { IfOk result (λ pending. Names hub.new pending kind.PendingResponse) }
+    ensures keeps { Keeps [] hub.old hub.new }
+    ensures numbers { numbers_left hub.old ≤ numbers_left hub.new + 1 }
+{
+    let request = client.loan_uninit(hub)?;
+    let request = request.write_payload(hub, value);
+    request.send(hub)
+}
+
+/// Takes one handle and returns another.
+pub fn answer(hub: &mut Service, active: ActiveRequest<u64>, value: u64) -> Result<(), SendError>
+    requires active { Names hub.old active kind.ActiveRequest }
+    requires number { 0 < numbers_left hub.old }
+    ensures keeps { Keeps (active ∷ []) hub.old hub.new }
+    ensures numbers { numbers_left hub.old ≤ numbers_left hub.new + 1 }
+{
+    let sent = active.send_copy(hub, value);
+    active.release(hub);
+    sent
+}
+
+/// Answers a request with its own number, if there is one.
+pub fn serve(hub: &mut Service, server: &Server<u64>) -> Result<bool, ReceiveError>
+    requires server { Names hub.old server.now kind.Server }
+    requires numbers { 1 < numbers_left hub.old }
+    ensures keeps { Keeps [] hub.old hub.new }
+    ensures numbers { numbers_left hub.old ≤ numbers_left hub.new + 2 }
+{
+    let Some(active) = server.receive(hub)? else {
+        return Ok(false);
+    };
+    let asked = *active.payload(hub);
+    Ok(answer(hub, active, asked).is_ok())
+}
+
+/// Asks, serves and takes.
+pub fn exchange(
+    hub: &mut Service,
+    client: &Client<u64>,
+    server: &Server<u64>,
+    value: u64,
+) -> Result<Option<u64>, RequestSendError>
+    requires client { Names hub.old client.now kind.Client }
+    requires server { Names hub.old server.now kind.Server }
+    requires numbers { 2 < numbers_left hub.old }
+    ensures keeps { Keeps [] hub.old hub.new }
+    ensures numbers { numbers_left hub.old ≤ numbers_left hub.new + 3 }
+{
+    let pending = ask(hub, client, value)?;
+    let _ = serve(hub, server);
+    Ok(take(hub, pending))
+}
+
+/// Takes a loan, and returns the handle that it becomes.
+pub fn send_written(
+    hub: &mut Service,
+    request: RequestMutUninit<u64>,
+    value: u64,
+) -> Result<PendingResponse<u64>, RequestSendError>
+    requires { Names hub.old request kind.RequestMutUninit }
+    ensures free { IfOk result (λ pending. IsFree (request ∷ []) hub.old pending) }
+    ensures kind { IfOk result (λ pending. Names hub.new pending kind.PendingResponse) }
+    ensures keeps { Keeps (request ∷ []) hub.old hub.new }
+{
+    let request = request.write_payload(hub, value);
+    request.send(hub)
+}
+
+/// Creates two clients, and releases both.
+pub fn meet(hub: &mut Service) -> Result<bool, ClientCreateError>
+    ensures { Keeps [] hub.old hub.new }
+{
+    let one = hub.client_builder().create(hub)?;
+    let two = match hub.client_builder().create(hub) {
+        Ok(two) => two,
+        Err(error) => {
+            one.release(hub);
+            return Err(error);
+        }
+    };
+    let differ = one.id() != two.id();
+    one.release(hub);
+    two.release(hub);
+    Ok(differ)
+}
+
+/// Releases a received request, and returns the next one.
+pub fn next(
+    hub: &mut Service,
+    server: &Server<u64>,
+    last: ActiveRequest<u64>,
+) -> Result<Option<ActiveRequest<u64>>, ReceiveError>
+    requires server { Names hub.old server.now kind.Server }
+    requires last { Names hub.old last kind.ActiveRequest }
+    requires number { 0 < numbers_left hub.old }
+    ensures kind { IfOk result (λ next. IfSome next (λ active. Names hub.new active kind.ActiveRequest)) }
+    ensures keeps { Keeps (last ∷ []) hub.old hub.new }
+{
+    last.release(hub);
+    server.receive(hub)
+}

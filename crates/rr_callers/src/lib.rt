@@ -1,0 +1,8 @@
+//! What callers of `rr_ports` can promise and prove: one function for each form, found without a file of proofs.
+#![tactic(auto)]
+
+pub mod chains;
+pub mod frames;
+pub mod pools;
+pub mod slices;
+pub mod values;

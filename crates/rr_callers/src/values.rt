@@ -1,0 +1,142 @@
+//! What callers prove of values: what was written is what is read.
+#![tactic(auto, using(rr_ports::proofs::Frames::callers), unfolding(rr_ports::specs::Facts::Keeps, rr_ports::specs::Facts::IsFree))]
+
+ghost use Rattle.std.specs.Prelude.{◌≡◌, ◌≢◌, ◌<◌, ◌≤◌, ◌+◌, ◌∷◌, [], IfOk};
+ghost use Rattle.rr_protocol.specs.declared.kind.Kind.TheVariants as kind;
+ghost use Rattle.rr_ports.specs.Facts.{Answers, Asks, Has, IsFree, Keeps, Names, numbers_left};
+
+use crate::frames::Service;
+use rr_ports::typed::{
+    ActiveRequest, Client, PendingResponse, RequestMut, RequestMutUninit, ResponseMut,
+};
+use rr_ports::{LoanError, RequestSendError};
+
+/// Writes a request, reads it, and releases it.
+pub fn read_back(hub: &mut Service, client: &Client<u64>, value: u64) -> Result<u64, LoanError>
+    requires client { Names hub.old client.now kind.Client }
+    requires number { 0 < numbers_left hub.old }
+    ensures value { IfOk result (λ read. read ≡ value) }
+    ensures keeps { Keeps [] hub.old hub.new }
+{
+    let request = client.loan_uninit(hub)?;
+    let request = request.write_payload(hub, value);
+    let read = *request.payload(hub);
+    request.release(hub);
+    Ok(read)
+}
+
+/// Returns a written request, and promises what it says.
+pub fn written(
+    hub: &mut Service,
+    client: &Client<u64>,
+    value: u64,
+) -> Result<RequestMut<u64>, LoanError>
+    requires client { Names hub.old client.now kind.Client }
+    requires number { 0 < numbers_left hub.old }
+    ensures free { IfOk result (λ request. IsFree [] hub.old request) }
+    ensures kind { IfOk result (λ request. Names hub.new request kind.RequestMut) }
+    ensures says { IfOk result (λ request. Has hub.new request (Asks (value ∷ []))) }
+    ensures keeps { Keeps [] hub.old hub.new }
+    ensures numbers { numbers_left hub.old ≤ numbers_left hub.new + 1 }
+{
+    let request = client.loan_uninit(hub)?;
+    Ok(request.write_payload(hub, value))
+}
+
+/// Writes a second request and releases it, and then reads the first.
+pub fn first_of_two(
+    hub: &mut Service,
+    client: &Client<u64>,
+    value: u64,
+    other: u64,
+) -> Result<u64, LoanError>
+    requires client { Names hub.old client.now kind.Client }
+    requires numbers { 1 < numbers_left hub.old }
+    ensures value { IfOk result (λ read. read ≡ value) }
+    ensures keeps { Keeps [] hub.old hub.new }
+{
+    let one = written(hub, client, value)?;
+    if let Ok(two) = written(hub, client, other) {
+        two.release(hub);
+    }
+    let read = *one.payload(hub);
+    one.release(hub);
+    Ok(read)
+}
+
+/// Writes two requests that came by value, and reads the first after the second is gone.
+pub fn second_kept(
+    hub: &mut Service,
+    one: RequestMutUninit<u64>,
+    two: RequestMutUninit<u64>,
+    value: u64,
+    other: u64,
+) -> u64
+    requires one { Names hub.old one kind.RequestMutUninit }
+    requires two { Names hub.old two kind.RequestMutUninit }
+    requires differ { one ≢ two }
+    ensures value { result ≡ value }
+    ensures keeps { Keeps (one ∷ two ∷ []) hub.old hub.new }
+{
+    let one = one.write_payload(hub, value);
+    let two = two.write_payload(hub, other);
+    two.release(hub);
+    let read = *one.payload(hub);
+    one.release(hub);
+    read
+}
+
+/// Sends a request, and reads what its pending response says.
+pub fn sent(
+    hub: &mut Service,
+    client: &Client<u64>,
+    value: u64,
+) -> Result<(PendingResponse<u64>, u64), RequestSendError>
+    requires client { Names hub.old client.now kind.Client }
+    requires number { 0 < numbers_left hub.old }
+    ensures value { IfOk result (λ sent. sent.1 ≡ value) }
+    ensures says { IfOk result (λ sent. Has hub.new sent.0 (Asks (value ∷ []))) }
+    ensures keeps { Keeps [] hub.old hub.new }
+{
+    let request = written(hub, client, value)?;
+    let pending = request.send(hub)?;
+    let read = *pending.payload(hub);
+    Ok((pending, read))
+}
+
+/// Loans and writes a response, and promises what it says.
+pub fn answer_written(
+    hub: &mut Service,
+    active: &ActiveRequest<u64>,
+    value: u64,
+) -> Result<ResponseMut<u64>, LoanError>
+    requires active { Names hub.old active.now kind.ActiveRequest }
+    requires number { 0 < numbers_left hub.old }
+    ensures free { IfOk result (λ response. IsFree [] hub.old response) }
+    ensures kind { IfOk result (λ response. Names hub.new response kind.ResponseMut) }
+    ensures says { IfOk result (λ response. Has hub.new response (Answers (value ∷ []))) }
+    ensures keeps { Keeps [] hub.old hub.new }
+{
+    let response = active.loan_uninit(hub)?;
+    Ok(response.write_payload(hub, value))
+}
+
+/// Writes a response to a request, and reads both.
+pub fn read_both(
+    hub: &mut Service,
+    active: &ActiveRequest<u64>,
+    asked: u64,
+    value: u64,
+) -> Result<(u64, u64), LoanError>
+    requires active { Names hub.old active.now kind.ActiveRequest }
+    requires asks { Has hub.old active.now (Asks (asked ∷ [])) }
+    requires number { 0 < numbers_left hub.old }
+    ensures question { IfOk result (λ read. read.0 ≡ asked) }
+    ensures answer { IfOk result (λ read. read.1 ≡ value) }
+    ensures keeps { Keeps [] hub.old hub.new }
+{
+    let response = answer_written(hub, active, value)?;
+    let read = (*active.payload(hub), *response.payload(hub));
+    response.release(hub);
+    Ok(read)
+}
