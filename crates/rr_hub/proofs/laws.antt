@@ -1,1 +1,2 @@
 pub mod NextNumber
+pub mod OneChannel

@@ -1,6 +1,8 @@
 -- Which facts hold of numbers after loans and receives.
 use Rattle.std.proofs.Common.{◌≡◌, ◌≢◌, ℕ, ◌+◌, ◌-◌, ◌^◌, ◌≤◌, true, false, cond, List, [], ◌∷◌, map, Option, Some, None, refl, sym, ap, ◌∙◌, arith, Result, Ok, Err}
-use Rattle.std.specs.Prelude.{◌&&◌, ◌||◌, ◌==◌, IfOk, IfSome}
+use Rattle.std.specs.Prelude.{◌&&◌, ◌||◌, ◌==◌, IfOk, IfSome, option_and_then}
+use Rattle.std.proofs.lemmas.Bool.{eqb-true}
+use Rattle.rr_map_laws.proofs.ListFacts.{passes_found}
 use Rattle.std.specs.List.{list_any}
 use Rattle.std.specs.FinMap as fin_map
 use Rattle.rr_protocol.specs.declared.kind.Kind.{Kind}
@@ -13,13 +15,20 @@ use Rattle.rr_protocol.specs.State.{State, client_at, pending_at, is_client_valu
 use Rattle.rr_protocol.specs.Queries.{kind_of, kind_at}
 use Rattle.rr_protocol.specs.Loans.{LoansRequest, LoansResponse, with_loan_counted, empty_content}
 use Rattle.rr_protocol.specs.Receives.{ReceivesRequest, ReceivesResponse, TakesRequest, Skims}
+use Rattle.rr_laws.specs.Apart.{ChannelsApart}
+use Rattle.rr_laws.specs.Reached.{IsReached}
+use Rattle.rr_laws.specs.Roles.{roles_of}
 use Rattle.rr_laws.specs.Unreduced.{ClientHasPool, ServerHasPool}
 use Rattle.rr_laws.proofs.Opening.{some_and, open_active}
 use Rattle.rr_laws.proofs.Lasting.{Lasts}
 use Rattle.rr_laws.proofs.LastingSteps.{loans_request, loans_response, receives_request, receives_response}
-use Rattle.rr_ports.specs.Facts.{Asks, Answers, AskedLen, WholePool, Has, Names, Keeps, IsFree, shown_of, shown_at, numbers_left}
-use Rattle.rr_ports.proofs.FactLaws.{if_ok, if_some, asks, asks_for, answers, is_free, keeps_new, keeps_each, keeps_same, other_shown, own_shown, own_kind, client_has_pool, server_has_pool, active_pool}
-use Rattle.rr_ports.proofs.NameLaws.{SamePorts, free_no_port}
+use Rattle.rr_ports.specs.Facts.{Asks, Answers, AskedLen, Of, WholePool, Has, Names, Keeps, IsFree, of_in, shown_of, shown_at, numbers_left}
+use Rattle.rr_ports.specs.Queues.{Awaits, AwaitsNothing, Hears, HearsNothing, KeepsAwaited, KeepsHeard}
+use Rattle.rr_ports.proofs.QueueLaws.{QueuesStay, Stays, heard_stays, queues_same, queues_stay, stays_each, stays_new, awaited_stays}
+use Rattle.rr_ports.proofs.HeardLaws.{hears_asks, hears_missed, hears_of, hears_quiet, received_heard, received_responses}
+use Rattle.rr_ports.proofs.AwaitedLaws.{awaits_answers, awaits_done, awaits_later, awaits_missed, came_requests, others_await, response_of}
+use Rattle.rr_ports.proofs.FactLaws.{handle_shows, if_ok, if_some, asks, asks_for, answers, is_free, keeps_new, keeps_each, keeps_same, other_shown, own_shown, own_kind, client_has_pool, server_has_pool, active_pool}
+use Rattle.rr_ports.proofs.NameLaws.{SamePorts, free_no_port, handle_no_port}
 use Rattle.rr_ports.proofs.ReleaseLaws.{SameNames, names_then, names_equal, names_ports, names_each}
 
 -- a client's value lives as before, once a loan was counted
@@ -55,6 +64,9 @@ module _ {Q QH P PH K : Type 0} where
   pub gains_shows : (k : ℕ) (kind : Kind) (old new : State Q QH P PH K) (g : Gains k kind old new) → kind_at old k ≡ None
       → shown_at new k ≡ Some (shown_of g.handle)
   gains_shows k kind old new g free = own_shown old new g.ports k g.handle g.handles (free_no_port old k free)
+
+  pub gains_stays : (k : ℕ) (kind : Kind) (old new : State Q QH P PH K) → Gains k kind old new → kind_at old k ≡ None → Stays [] old new
+  gains_stays k kind old new g free = stays_new k old new free (other_shown old new g.ports k g.handle g.handles)
 
   -- numbers left where one was given, or none was
   one_fewer : (old new : State Q QH P PH K) → new.next ≡ old.next + 1 → numbers_left old ≤ numbers_left new + 1
@@ -112,6 +124,25 @@ module _ {Q QH P PH K : Type 0} where
         (asks new k _ shows [] refl, asks_for new k _ shows len refl)
     loan_says (Err e) loans free = tt
 
+    -- it is the client's
+    loan_of : (result : Result ℕ LoanError) → LoansRequest IsDefault old n len result new → IfOk result (λ k. kind_at old k ≡ None)
+        → IfOk result (λ k. Has new k (Of n k))
+    unfolding loan_gains Has
+    loan_of (Ok k) loans free =
+        let l = some_and (client_at old n) _ loans in
+        ap (option_and_then of_in) (gains_shows k Kind.RequestMutUninit old new (loan_gains k loans) free)
+        ∙ ap (λ i. Some (i, old.next)) (eqb-true l.0.id n (passes_found (λ (c : Client K). c.id == n) old.clients l.0 l.1))
+        ∙ ap (λ i. Some (n, i)) (sym l.2.1)
+    loan_of (Err e) loans free = tt
+
+    -- what is queued stays
+    loan_queues : (result : Result ℕ LoanError) → LoansRequest IsDefault old n len result new → IfOk result (λ k. kind_at old k ≡ None)
+        → QueuesStay [] old new
+    loan_queues (Ok k) loans free =
+        let e = (some_and (client_at old n) _ loans).2.2.4 in
+        queues_stay [] old new (gains_stays k Kind.RequestMutUninit old new (loan_gains k loans) free) (ap (λ t. t.requests) e) (ap (λ t. t.responses) e)
+    loan_queues (Err e) loans free = queues_same old new (loan_refused e loans)
+
     -- a loan from a whole pool finds a slot
     loan_found : (result : Result ℕ LoanError) → (ClientHasPool old.limits old n len → result ≢ Err LoanError.OutOfMemory)
         → Names old n Kind.Client → (room : ℕ) → len ≤ room → Has old n (WholePool room) → result ≢ Err LoanError.OutOfMemory
@@ -133,6 +164,9 @@ module _ {Q QH P PH K : Type 0} where
         asked : IfOk result (λ k. Has new k (AskedLen len));
         keeps : Keeps [] old new;
         numbers : numbers_left old ≤ numbers_left new + 1;
+        of : IfOk result (λ k. Has new k (Of n k));
+        heard : KeepsHeard [] old new;
+        awaited : KeepsAwaited [] old new;
       }
       request_loaned = record {
         loans = told.loans;
@@ -144,6 +178,9 @@ module _ {Q QH P PH K : Type 0} where
         asked = if_ok result (loan_says result told.loans told.unnamed) (λ k h. h.1);
         keeps = loan_keeps result told.loans told.unnamed;
         numbers = loan_numbers result told.loans;
+        of = loan_of result told.loans told.unnamed;
+        heard = (loan_queues result told.loans told.unnamed).0;
+        awaited = (loan_queues result told.loans told.unnamed).1;
       }
 
   -- loans of responses
@@ -193,6 +230,23 @@ module _ {Q QH P PH K : Type 0} where
         (answers new k _ shows [] refl, asks_for new k _ shows len refl)
     response_loan_says (Err e) loans free = tt
 
+    -- it belongs where the active request does
+    response_loan_of : Names old n Kind.ActiveRequest → (result : Result ℕ LoanError) → LoansResponse IsDefault old n len result new
+        → IfOk result (λ k. kind_at old k ≡ None) → (port request : ℕ) → Has old n (Of port request) → IfOk result (λ k. Has new k (Of port request))
+    unfolding response_loan_gains Has
+    response_loan_of is (Ok k) loans free port request has =
+        let o = open_active old n _ loans in
+        ap (option_and_then of_in) (gains_shows k Kind.ResponseMutUninit old new (response_loan_gains k loans) free)
+        ∙ sym (ap (option_and_then of_in) (handle_shows old n (ActiveRequest o.1) (handle_no_port old n Kind.ActiveRequest (λ e. cc) (λ e. cc) is).0 o.2)) ∙ has
+    response_loan_of is (Err e) loans free port request has = tt
+
+    response_loan_queues : (result : Result ℕ LoanError) → LoansResponse IsDefault old n len result new → IfOk result (λ k. kind_at old k ≡ None)
+        → QueuesStay [] old new
+    response_loan_queues (Ok k) loans free =
+        let e = (open_active old n _ loans).4.2.2 in
+        queues_stay [] old new (gains_stays k Kind.ResponseMutUninit old new (response_loan_gains k loans) free) (ap (λ t. t.requests) e) (ap (λ t. t.responses) e)
+    response_loan_queues (Err e) loans free = queues_same old new (response_loan_refused e loans)
+
     -- a loan from a whole pool finds a slot
     response_loan_found : (result : Result ℕ LoanError) → (ServerHasPool old.limits old n len → result ≢ Err LoanError.OutOfMemory)
         → Names old n Kind.ActiveRequest → (room : ℕ) → len ≤ room → Has old n (WholePool room) → result ≢ Err LoanError.OutOfMemory
@@ -214,6 +268,9 @@ module _ {Q QH P PH K : Type 0} where
         asked : IfOk result (λ k. Has new k (AskedLen len));
         keeps : Keeps [] old new;
         numbers : numbers_left old ≤ numbers_left new + 1;
+        of : (port request : ℕ) → Has old n (Of port request) → IfOk result (λ k. Has new k (Of port request));
+        heard : KeepsHeard [] old new;
+        awaited : KeepsAwaited [] old new;
       }
       response_loaned = record {
         loans = told.loans;
@@ -225,6 +282,9 @@ module _ {Q QH P PH K : Type 0} where
         asked = if_ok result (response_loan_says result told.loans told.unnamed) (λ k h. h.1);
         keeps = response_loan_keeps result told.loans told.unnamed;
         numbers = response_loan_numbers result told.loans;
+        of = response_loan_of is result told.loans told.unnamed;
+        heard = (response_loan_queues result told.loans told.unnamed).0;
+        awaited = (response_loan_queues result told.loans told.unnamed).1;
       }
 
 -- receives
@@ -293,6 +353,13 @@ module _ {Q QH P PH K : Type 0} where
     received_numbers (Ok None) receives = none_fewer old new (none_names receives).next
     received_numbers (Err e) receives = none_fewer old new (refused_names e receives).next
 
+    -- other numbers show what they showed
+    received_stays : (result : Result (Option ℕ) ReceiveError) → ReceivesRequest old server result new
+        → IfOk result (λ o. IfSome o (λ k. kind_at old k ≡ None)) → Stays [] old new
+    received_stays (Ok (Some k)) receives free = gains_stays k Kind.ActiveRequest old new (received_gains k receives) free
+    received_stays (Ok None) receives free = stays_each old new (names_each old new (none_names receives)).shown
+    received_stays (Err e) receives free = stays_each old new (names_each old new (refused_names e receives)).shown
+
     -- an active request loans from its server's pool
     received_pool : Names old server Kind.Server → (result : Result (Option ℕ) ReceiveError) → ReceivesRequest old server result new
         → IfOk result (λ o. IfSome o (λ k. kind_at old k ≡ None)) → (room : ℕ) → Has old server (WholePool room)
@@ -316,6 +383,12 @@ module _ {Q QH P PH K : Type 0} where
           pool : (room : ℕ) → Has old server (WholePool room) → IfOk result (λ o. IfSome o (λ k. Has new k (WholePool room)));
           keeps : Keeps [] old new;
           numbers : numbers_left old ≤ numbers_left new + 1;
+          of : (p : ℕ) → Hears old server p → IfOk result (λ o. IfSome o (λ k. Has new k (Of server p)));
+          asks : (p : ℕ) (xs : List Q) → Hears old server p → Has old p (Asks xs) → IfOk result (λ o. IfSome o (λ k. Has new k (Asks xs)));
+          missed : (p : ℕ) → Hears old server p → result ≢ Ok None;
+          quiet : (p : ℕ) → Hears old server p → IfOk result (λ o. HearsNothing new server);
+          heard : KeepsHeard (server ∷ []) old new;
+          awaited : KeepsAwaited [] old new;
         }
     request_received result is told = record {
       receives = told.receives;
@@ -324,6 +397,12 @@ module _ {Q QH P PH K : Type 0} where
       pool = received_pool is result told.receives told.unnamed;
       keeps = received_keeps result told.receives told.unnamed;
       numbers = received_numbers result told.receives;
+      of = λ p hears. hears_of old new server p hears result told.receives (received_names result told.receives told.unnamed);
+      asks = λ p xs hears has. hears_asks old new server p hears xs has result told.receives (received_names result told.receives told.unnamed);
+      missed = λ p hears. hears_missed old new server p hears result told.receives;
+      quiet = λ p hears. hears_quiet old new server p hears result told.receives;
+      heard = received_heard old new server result told.receives (received_stays result told.receives told.unnamed);
+      awaited = awaited_stays [] old new (received_stays result told.receives told.unnamed) (received_responses old new server result told.receives);
     }
 
   -- receives of responses
@@ -372,22 +451,47 @@ module _ {Q QH P PH K : Type 0} where
     came_numbers (Ok None) receives = ap numbers_left (no_response receives)
     came_numbers (Err e) receives = ap numbers_left (response_refused e receives)
 
+    named_kind : Names old n Kind.PendingResponse → kind_at old n ≡ Some Kind.PendingResponse
+    unfolding Has
+    named_kind is = is
+
+    came_stays : (result : Result (Option ℕ) ReceiveError) → ReceivesResponse old n result new
+        → IfOk result (λ o. IfSome o (λ k. kind_at old k ≡ None)) → Stays [] old new
+    came_stays (Ok (Some k)) receives free = gains_stays k Kind.Response old new (came_gains k receives) free
+    came_stays (Ok None) receives free = stays_each old new (λ i. ap (λ t. shown_at t i) (no_response receives))
+    came_stays (Err e) receives free = stays_each old new (λ i. ap (λ t. shown_at t i) (response_refused e receives))
+
     -- what the call of a pending response tells of it
-    pub response_received : (result : Result (Option ℕ) ReceiveError) → record {
-      receives : ReceivesResponse old n result new;
-      unnamed : IfOk result (λ o. IfSome o (λ k. kind_at old k ≡ None));
-    }
+    pub response_received : (result : Result (Option ℕ) ReceiveError) → Names old n Kind.PendingResponse → IsReached old
+        → ChannelsApart (roles_of old.handles) → record {
+          receives : ReceivesResponse old n result new;
+          unnamed : IfOk result (λ o. IfSome o (λ k. kind_at old k ≡ None));
+        }
         → record {
           receives : ReceivesResponse old n result new;
           free : IfOk result (λ o. IfSome o (λ k. IsFree [] old k));
           kind : IfOk result (λ o. IfSome o (λ k. Names new k Kind.Response));
           keeps : Keeps [] old new;
           numbers : numbers_left new ≡ numbers_left old;
+          answers : (server : ℕ) (xs : List P) (later : List (List P)) → Awaits old n server (xs ∷ later) → IfOk result (λ o. IfSome o (λ k. Has new k (Answers xs)));
+          missed : (server : ℕ) (xs : List P) (later : List (List P)) → Awaits old n server (xs ∷ later) → result ≢ Ok None;
+          later : (server : ℕ) (xs : List P) (later : List (List P)) → Awaits old n server (xs ∷ later) → IfOk result (λ o. Awaits new n server later);
+          done : (server : ℕ) (xs : List P) → Awaits old n server (xs ∷ []) → IfOk result (λ o. AwaitsNothing new n);
+          of : (port request : ℕ) → Has old n (Of port request) → IfOk result (λ o. IfSome o (λ k. Has new k (Of port request)));
+          heard : KeepsHeard [] old new;
+          awaited : KeepsAwaited (n ∷ []) old new;
         }
-    response_received result told = record {
+    response_received result is reached channels told = record {
       receives = told.receives;
       free = if_ok result told.unnamed (λ o h. if_some o h (λ k. is_free [] old k));
       kind = came_names result told.receives told.unnamed;
       keeps = came_keeps result told.receives told.unnamed;
       numbers = came_numbers result told.receives;
+      answers = λ server xs later awaits. awaits_answers old new n server xs later awaits result told.receives (came_names result told.receives told.unnamed);
+      missed = λ server xs later awaits. awaits_missed old new n server xs later awaits result told.receives;
+      later = λ server xs later awaits. awaits_later old new n server xs later awaits (came_stays result told.receives told.unnamed) result told.receives;
+      done = λ server xs awaits. awaits_done old new n server xs [] awaits refl (came_stays result told.receives told.unnamed) result told.receives;
+      of = response_of old new n (named_kind is) reached channels result told.receives (came_names result told.receives told.unnamed);
+      heard = heard_stays [] old new (came_stays result told.receives told.unnamed) (came_requests old new n (named_kind is) result told.receives);
+      awaited = others_await old new n (named_kind is) channels result told.receives (came_stays result told.receives told.unnamed);
     }

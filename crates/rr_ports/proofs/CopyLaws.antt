@@ -1,12 +1,13 @@
 -- Loans that are written at once, and those that are sent at once.
-use Rattle.std.proofs.Common.{◌≡◌, ℕ, List, [], ◌∷◌, sym, ap, ◌∙◌, subst, inr, Result, Ok, Err}
+use Rattle.std.proofs.Common.{◌≡◌, ℕ, List, sym, ap, ◌∙◌, subst, inr, Result, Ok, Err}
 use Rattle.rr_protocol.specs.declared.error.RequestSendError.{RequestSendError}
 use Rattle.rr_protocol.specs.declared.error.SendError.{SendError}
 use Rattle.rr_protocol.specs.declared.settings.BackpressureAction.{BackpressureAction}
 use Rattle.rr_protocol.specs.Loans.{LoansRequest, LoansResponse}
 use Rattle.rr_protocol.specs.Sends.{SendsRequest, SendsResponse}
 use Rattle.rr_protocol.specs.State.{State}
-use Rattle.rr_ports.specs.Loaning.{with_complete_request, with_complete_response, LoansComplete, LoansResponseComplete, SendsCopy, SendsResponseCopy}
+use Rattle.rr_laws.proofs.LastingSteps.{loans_response}
+use Rattle.rr_ports.specs.Loaning.{with_complete_request, with_complete_response, LoansComplete, LoansResponseComplete, SendsElements, SendsResponseElements}
 use Rattle.rr_ports.specs.Sending.{SendsPending}
 
 module _ {Q QH P PH K : Type 0} (old mid new : State Q QH P PH K) (n k : ℕ) where
@@ -18,17 +19,17 @@ module _ {Q QH P PH K : Type 0} (old mid new : State Q QH P PH K) (n k : ℕ) wh
         (mid, elements, subst (λ i. LoansRequest IsDefault old n len (Ok i) mid) (sym same) loans, are, e ∙ ap (λ i. with_complete_request mid i elements) (sym same))
 
     -- and so has the sent one
-    module _ (action : K → ℕ → ℕ → BackpressureAction) (value : Q) (loans : LoansRequest IsDefault old n 1 (Ok k) mid)
-        (written : State Q QH P PH K) (is_written : written ≡ with_complete_request mid k (value ∷ [])) (given : ℕ) (same : given ≡ k) where
+    module _ (action : K → ℕ → ℕ → BackpressureAction) (len : ℕ) (elements : List Q) (loans : LoansRequest IsDefault old n len (Ok k) mid)
+        (written : State Q QH P PH K) (is_written : written ≡ with_complete_request mid k elements) (given : ℕ) (same : given ≡ k) where
       pub request_copied : (result : Result ℕ RequestSendError) → SendsPending action written given result new
-          → SendsCopy IsDefault action old n value result new
+          → SendsElements IsDefault action old n len elements result new
       request_copied (Ok pending) sends =
           let is : pending ≡ k = sends.0 ∙ same in (
             mid,
-            subst (λ i. LoansRequest IsDefault old n 1 (Ok i) mid) (sym is) loans,
+            subst (λ i. LoansRequest IsDefault old n len (Ok i) mid) (sym is) loans,
             (
               sends.1.0,
-              subst (λ s. SendsRequest action s pending (Ok sends.1.0) new) (is_written ∙ ap (λ i. with_complete_request mid i (value ∷ [])) (sym is))
+              subst (λ s. SendsRequest action s pending (Ok sends.1.0) new) (is_written ∙ ap (λ i. with_complete_request mid i elements) (sym is))
                   (subst (λ i. SendsRequest action written i (Ok sends.1.0) new) (sym sends.0) sends.1.1),
             ),
           )
@@ -41,11 +42,17 @@ module _ {Q QH P PH K : Type 0} (old mid new : State Q QH P PH K) (n k : ℕ) wh
     response_completed Are len elements given same loans are e =
         (mid, elements, subst (λ i. LoansResponse IsDefault old n len (Ok i) mid) (sym same) loans, are, e ∙ ap (λ i. with_complete_response mid i elements) (sym same))
 
-    module _ {U : Type 0} (action : K → ℕ → ℕ → BackpressureAction) (value : P) (loans : LoansResponse IsDefault old n 1 (Ok k) mid)
-        (written : State Q QH P PH K) (is_written : written ≡ with_complete_response mid k (value ∷ [])) (given : ℕ) (same : given ≡ k) where
+    module _ {U : Type 0} (action : K → ℕ → ℕ → BackpressureAction) (len : ℕ) (elements : List P) (loans : LoansResponse IsDefault old n len (Ok k) mid)
+        (written : State Q QH P PH K) (is_written : written ≡ with_complete_response mid k elements) (given : ℕ) (same : given ≡ k) where
       pub response_copied : (result : Result U SendError) → SendsResponse action written given result new
-          → SendsResponseCopy IsDefault action old n value result new
+          → SendsResponseElements IsDefault action old n len elements result new
       response_copied (Ok unit) sends =
           (mid, k, loans, subst (λ s. SendsResponse {U = U} action s k (Ok unit) new) is_written (subst (λ i. SendsResponse {U = U} action written i (Ok unit) new) same sends))
       response_copied (Err error) sends =
           inr (mid, k, loans, subst (λ s. SendsResponse {U = U} action s k (Err error) new) is_written (subst (λ i. SendsResponse {U = U} action written i (Err error) new) same sends))
+
+-- a loan that is written leaves the limits
+pub copied_limits : {Q QH P PH K : Type 0} (old mid new : State Q QH P PH K) (n k len : ℕ) (IsDefault : PH → Type 0) → LoansResponse IsDefault old n len (Ok k) mid
+    → (elements : List P) → new ≡ with_complete_response mid k elements → new.limits ≡ old.limits
+copied_limits old mid new n k len IsDefault loans elements e =
+    ap (λ t. t.limits) e ∙ (loans_response IsDefault old n len (Ok k) mid loans).limits

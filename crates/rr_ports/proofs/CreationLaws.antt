@@ -24,6 +24,7 @@ use Rattle.rr_ports.specs.Facts.{WholePool, PortHasPool, Has, Names, Keeps, numb
 use Rattle.rr_ports.specs.Factories.{IsChosen, LeavesWhole, counted}
 use Rattle.rr_ports.proofs.FactLaws.{keeps_new, keeps_same}
 use Rattle.rr_ports.proofs.NameLaws.{handle_kind, same_at, free_no_port}
+use Rattle.rr_ports.proofs.QueueLaws.{QueuesStay, queues_same, queues_stay, stays_new}
 
 or_false : (b : Bool) → (b || false) ≡ b
 or_false true = refl
@@ -67,6 +68,14 @@ module _ {Q QH P PH K : Type 0} (old new : State Q QH P PH K) where
       keeps_new k old new lasts free (λ n other. same_at (shown_port Kind.Client) (shown_port Kind.Server) shown_of old new n (clients n other)
       (servers n other) (ap (λ h. option_map shown_of (get h n)) handles))
 
+  -- and what is queued stays
+  ports_queues : (k : ℕ) → kind_at old k ≡ None → ((n : ℕ) → n ≢ k → is_client_value new n ≡ is_client_value old n)
+      → ((n : ℕ) → n ≢ k → is_server_value new n ≡ is_server_value old n) → new.handles ≡ old.handles → new.requests ≡ old.requests
+      → new.responses ≡ old.responses → QueuesStay [] old new
+  ports_queues k free clients servers handles =
+      queues_stay [] old new (stays_new k old new free (λ n other. same_at (shown_port Kind.Client) (shown_port Kind.Server) shown_of old new n (clients n other)
+      (servers n other) (ap (λ h. option_map shown_of (get h n)) handles)))
+
   module _ (settings : ClientSettings K) (k : ℕ) (creates : CreatesClient old settings (Ok k) new) (free : kind_at old k ≡ None) where
     client_value : (n : ℕ) → is_client_value new n ≡ (is_client_value old n || (old.next == n && true))
     client_value n = ap (λ t. is_client_value t n) creates.2 ∙ any_append (λ (c : Client K). c.id == n && c.has_value) old.clients _
@@ -83,9 +92,14 @@ module _ {Q QH P PH K : Type 0} (old new : State Q QH P PH K) where
         ∙ ap (λ b. cond b (Some Kind.Client) (cond (is_server_value new old.next) (Some Kind.Server) (handle_kind new old.next)))
         (itself_now old.next k creates.1 (is_client_value old) (is_client_value new) client_value)
 
-    -- both
-    client_comes : Names new k Kind.Client × Keeps [] old new
-    client_comes = (client_names, client_keeps)
+    client_queues : QueuesStay [] old new
+    client_queues =
+        ports_queues k free (others_still old.next k creates.1 (is_client_value old) (is_client_value new) client_value)
+        (λ n other. ap (λ t. is_server_value t n) creates.2) (ap (λ t. t.handles) creates.2) (ap (λ t. t.requests) creates.2) (ap (λ t. t.responses) creates.2)
+
+    -- all of it
+    client_comes : Names new k Kind.Client × Keeps [] old new × QueuesStay [] old new
+    client_comes = (client_names, client_keeps, client_queues)
 
   module _ (settings : ServerSettings K) (k : ℕ) (creates : CreatesServer old settings (Ok k) new) (free : kind_at old k ≡ None) where
     server_value : (n : ℕ) → is_server_value new n ≡ (is_server_value old n || (old.next == n && true))
@@ -106,9 +120,15 @@ module _ {Q QH P PH K : Type 0} (old new : State Q QH P PH K) where
         ∙ ap (λ b. cond b (Some Kind.Server) (handle_kind new old.next))
         (itself_now old.next k creates.1 (is_server_value old) (is_server_value new) server_value)
 
-    -- both
-    server_comes : Names new k Kind.Server × Keeps [] old new
-    server_comes = (server_names, server_keeps)
+    server_queues : QueuesStay [] old new
+    server_queues =
+        ports_queues k free (λ n other. ap (λ t. is_client_value t n) creates.2)
+        (others_still old.next k creates.1 (is_server_value old) (is_server_value new) server_value)
+        (ap (λ t. t.handles) creates.2) (ap (λ t. t.requests) creates.2) (ap (λ t. t.responses) creates.2)
+
+    -- all of it
+    server_comes : Names new k Kind.Server × Keeps [] old new × QueuesStay [] old new
+    server_comes = (server_names, server_keeps, server_queues)
 
   -- what a creation tells of what numbers name
   abbrev pub TellsCreated : {E : Type 0} → Result ℕ E → Kind → Type 0
@@ -116,20 +136,21 @@ module _ {Q QH P PH K : Type 0} (old new : State Q QH P PH K) where
     kind : IfOk result (λ k. Names new k kind);
     keeps : Keeps [] old new;
     numbers : numbers_left old ≤ numbers_left new + 1;
+    queues : QueuesStay [] old new;
   }
 
   -- whatever it returned
   module _ {E : Type 0} (kind : Kind) (Creates : Result ℕ E → Type 0)
-      (gives : (k : ℕ) → Creates (Ok k) → kind_at old k ≡ None → Names new k kind × Keeps [] old new)
+      (gives : (k : ℕ) → Creates (Ok k) → kind_at old k ≡ None → Names new k kind × Keeps [] old new × QueuesStay [] old new)
       (next : (k : ℕ) → Creates (Ok k) → new.next ≡ old.next + 1) (refused : (e : E) → Creates (Err e) → new ≡ old) where
     created : (result : Result ℕ E) → Creates result → IfOk result (λ k. kind_at old k ≡ None) → TellsCreated result kind
     unfolding numbers_left
     created (Ok k) creates free =
         let names = gives k creates free in
-        let e = next k creates in record { kind = names.0; keeps = names.1; numbers = omega arith }
+        let e = next k creates in record { kind = names.0; keeps = names.1; numbers = omega arith; queues = names.2 }
     created (Err error) creates free =
         let same = refused error creates in
-        let e : new.next ≡ old.next = ap (λ t. t.next) same in record { kind = tt; keeps = keeps_same old new same; numbers = omega arith }
+        let e : new.next ≡ old.next = ap (λ t. t.next) same in record { kind = tt; keeps = keeps_same old new same; numbers = omega arith; queues = queues_same old new same }
 
   -- of a client, and of a server
   pub created_client : (settings : ClientSettings K) (result : Result ℕ ClientCreateError) → CreatesClient old settings result new
@@ -166,7 +187,7 @@ module _ {Q QH P PH K : Type 0} (old new : State Q QH P PH K) (k : ℕ) (free : 
       let value = ap (is_client_value new) creates.1
       ∙ itself_now old.next k creates.1 (is_client_value old) (is_client_value new) (client_value old new settings k creates free) in
       let shows = ap (λ b. cond b (Some (shown_port Kind.Client k)) (cond (is_server_value new k) (Some (shown_port Kind.Server k)) (option_map shown_of (handle_at new k)))) value in
-      subst (λ o. IsSomeAnd o (λ x. (x.port < new.next) × PortHasPool new x.kind x.port settings.initial_max_slice_len)) (sym shows) (
+      subst (λ o. IsSomeAnd o (λ x. (x.origin.port < new.next) × PortHasPool new x.kind x.origin.port settings.initial_max_slice_len)) (sym shows) (
         (let a = creates.1 in let b = ap (λ t. t.next) creates.2 in omega arith),
         (λ client found. ⊎_elim
             (λ before. absurd (let e : None ≡ Some client = sym unmade ∙ before in cc))
@@ -187,7 +208,7 @@ module _ {Q QH P PH K : Type 0} (old new : State Q QH P PH K) (k : ℕ) (free : 
       ∙ itself_now old.next k creates.1 (is_server_value old) (is_server_value new) (server_value old new settings k creates free) in
       let shows = ap (λ b. cond b (Some (shown_port Kind.Client k)) (cond (is_server_value new k) (Some (shown_port Kind.Server k)) (option_map shown_of (handle_at new k)))) client
       ∙ ap (λ b. cond b (Some (shown_port Kind.Server k)) (option_map shown_of (handle_at new k))) value in
-      subst (λ o. IsSomeAnd o (λ x. (x.port < new.next) × PortHasPool new x.kind x.port settings.initial_max_slice_len)) (sym shows) (
+      subst (λ o. IsSomeAnd o (λ x. (x.origin.port < new.next) × PortHasPool new x.kind x.origin.port settings.initial_max_slice_len)) (sym shows) (
         (let a = creates.1 in let b = ap (λ t. t.next) creates.2 in omega arith),
         (λ server found. ⊎_elim
             (λ before. absurd (let e : None ≡ Some server = sym unmade ∙ before in cc))

@@ -10,7 +10,7 @@ use Rattle.rr_protocol.specs.Ports.{Client, Server}
 use Rattle.rr_protocol.specs.State.{State, client_at, server_at, handle_at, is_client_value, is_server_value}
 use Rattle.rr_laws.specs.Unreduced.{HasClientPool, HasServerPool, ClientHasPool, ServerHasPool}
 use Rattle.rr_laws.proofs.Lasting.{Lasts}
-use Rattle.rr_ports.specs.Facts.{Fact, Said, said_of, IsA, Asks, Answers, AskedLen, WholePool, PortHasPool, Shown, shown_port, shown_of, shown_at, asked_in, Has, Names, IsThere, Keeps, IsFree}
+use Rattle.rr_ports.specs.Facts.{Fact, Said, said_of, IsA, Asks, Answers, AskedLen, WholePool, Of, PortHasPool, Shown, shown_port, shown_of, shown_at, asked_in, of_in, Has, Names, IsThere, Keeps, IsFree}
 use Rattle.rr_ports.proofs.NameLaws.{SamePorts, each_handle, handle_no_port, some_handle, IsNoPort, read_handle, same_read, own_read, other_read}
 
 -- what follows from a result, and from what came
@@ -21,6 +21,10 @@ if_ok (Err e) p f = tt
 pub if_some : {A : Type 0} {P R : A → Type 0} (o : Option A) → IfSome o P → ((a : A) → P a → R a) → IfSome o R
 if_some (Some a) p f = f a p
 if_some None p f = tt
+
+-- two pairs that are told
+pub some_both : (x y : ℕ × ℕ) → Some x ≡ Some y → x ≡ y
+some_both x y e = cc
 
 module _ {Q QH P PH K : Type 0} where
   -- the kind is a part of what a number shows
@@ -35,7 +39,7 @@ module _ {Q QH P PH K : Type 0} where
       go false false (Some h) = refl
 
   -- what names nothing shows nothing
-  silent : (s : State Q QH P PH K) (n : ℕ) → kind_at s n ≡ None → shown_at s n ≡ None
+  pub silent : (s : State Q QH P PH K) (n : ℕ) → kind_at s n ≡ None → shown_at s n ≡ None
   silent s n none = go (shown_at s n) (sym (kind_shown s n) ∙ none)
     where
       go : (o : Option (Shown Q P)) → option_map (λ (x : Shown Q P). x.kind) o ≡ None → o ≡ None
@@ -89,13 +93,14 @@ module _ {Q QH P PH K : Type 0} where
   fact_same old new lasts n e (Answers xs) has =
       ap (λ o. option_map (λ (c : Said P). c.elements) (option_and_then (λ (x : Shown Q P). x.response) o)) e ∙ has
   fact_same old new lasts n e (AskedLen len) has = ap (option_and_then asked_in) e ∙ has
+  fact_same old new lasts n e (Of port request) has = ap (option_and_then of_in) e ∙ has
   fact_same old new lasts n e (WholePool room) has = go (shown_at old n) (shown_at new n) e has
     where
-      go : (a b : Option (Shown Q P)) → b ≡ a → IsSomeAnd a (λ x. (x.port < old.next) × PortHasPool old x.kind x.port room)
-          → IsSomeAnd b (λ x. (x.port < new.next) × PortHasPool new x.kind x.port room)
+      go : (a b : Option (Shown Q P)) → b ≡ a → IsSomeAnd a (λ x. (x.origin.port < old.next) × PortHasPool old x.kind x.origin.port room)
+          → IsSomeAnd b (λ x. (x.origin.port < new.next) × PortHasPool new x.kind x.origin.port room)
       go None b e h = absurd h
-      go (Some x) b e h = subst (λ o. IsSomeAnd o (λ x. (x.port < new.next) × PortHasPool new x.kind x.port room)) (sym e)
-          (let a = lasts.next in let b = h.0 in omega arith, pool_lasts old new lasts x.kind x.port room h.0 h.1)
+      go (Some x) b e h = subst (λ o. IsSomeAnd o (λ x. (x.origin.port < new.next) × PortHasPool new x.kind x.origin.port room)) (sym e)
+          (let a = lasts.next in let b = h.0 in omega arith, pool_lasts old new lasts x.kind x.origin.port room h.0 h.1)
 
   -- of a number that names nothing no fact holds
   no_fact : (s : State Q QH P PH K) (n : ℕ) → kind_at s n ≡ None → (fact : Fact Q P) → Has s n fact → ⊥
@@ -105,8 +110,10 @@ module _ {Q QH P PH K : Type 0} where
   no_fact s n none (Answers xs) has = absurd (let e : None ≡ Some xs = sym (ap (λ o. option_map (λ (c : Said P). c.elements) (option_and_then (λ (x : Shown Q P). x.response) o)) (silent s n none)) ∙ has in cc)
   no_fact s n none (AskedLen len) has =
       absurd (let e : None ≡ Some len = sym (ap (option_and_then asked_in) (silent s n none)) ∙ has in cc)
+  no_fact s n none (Of port request) has =
+      absurd (let e : None ≡ Some (port, request) = sym (ap (option_and_then of_in) (silent s n none)) ∙ has in cc)
   no_fact s n none (WholePool room) has =
-      subst (λ o. IsSomeAnd o (λ x. (x.port < s.next) × PortHasPool s x.kind x.port room)) (silent s n none) has
+      subst (λ o. IsSomeAnd o (λ x. (x.origin.port < s.next) × PortHasPool s x.kind x.origin.port room)) (silent s n none) has
 
   pub is_free : (handed : List ℕ) (s : State Q QH P PH K) (n : ℕ) → kind_at s n ≡ None → IsFree handed s n
   unfolding IsFree IsThere
@@ -254,7 +261,7 @@ module _ {Q QH P PH K : Type 0} (s : State Q QH P PH K) (n room len : ℕ) where
     where
       go : (a b : Bool) (o : Option (Handle Q QH P PH)) → cond a (Some Kind.Client) (cond b (Some Kind.Server) (option_map kind_of o)) ≡ Some Kind.Client
           → IsSomeAnd (cond a (Some (shown_port Kind.Client n)) (cond b (Some (shown_port Kind.Server n)) (option_map shown_of o)))
-          (λ x. (x.port < s.next) × PortHasPool s x.kind x.port room) → ClientHasPool s.limits s n len
+          (λ x. (x.origin.port < s.next) × PortHasPool s x.kind x.origin.port room) → ClientHasPool s.limits s n len
       go true b o e h client found = let p = h.1 client found in record { whole = p.whole; short = let q = p.short in omega (arith, short) }
       go false true o e h client found = absurd (let f : Some Kind.Server ≡ Some Kind.Client = e in cc)
       go false false None e h client found = absurd (let f : None ≡ Some Kind.Client = e in cc)
@@ -269,7 +276,7 @@ module _ {Q QH P PH K : Type 0} (s : State Q QH P PH K) (n room len : ℕ) where
     where
       go : (a b : Bool) (o : Option (Handle Q QH P PH)) → cond a (Some Kind.Client) (cond b (Some Kind.Server) (option_map kind_of o)) ≡ Some Kind.ActiveRequest
           → IsSomeAnd (cond a (Some (shown_port Kind.Client n)) (cond b (Some (shown_port Kind.Server n)) (option_map shown_of o)))
-          (λ x. (x.port < s.next) × PortHasPool s x.kind x.port room) → option_and_then as_active o ≡ Some active
+          (λ x. (x.origin.port < s.next) × PortHasPool s x.kind x.origin.port room) → option_and_then as_active o ≡ Some active
           → HasServerPool s.limits server len
       go true b o e h t = absurd (let f : Some Kind.Client ≡ Some Kind.ActiveRequest = e in cc)
       go false true o e h t = absurd (let f : Some Kind.Server ≡ Some Kind.ActiveRequest = e in cc)
@@ -287,7 +294,7 @@ module _ {Q QH P PH K : Type 0} (s : State Q QH P PH K) (n room len : ℕ) where
 
 -- an active request of a server loans from the same pool
 pub active_pool : {Q QH P PH K : Type 0} (old new : State Q QH P PH K) → Lasts old new → (server k : ℕ) → Names old server Kind.Server
-    → (x : Shown Q P) → shown_at new k ≡ Some x → x.kind ≡ Kind.ActiveRequest → x.port ≡ server → (room : ℕ) → Has old server (WholePool room)
+    → (x : Shown Q P) → shown_at new k ≡ Some x → x.kind ≡ Kind.ActiveRequest → x.origin.port ≡ server → (room : ℕ) → Has old server (WholePool room)
     → Has new k (WholePool room)
 unfolding Has
 active_pool {Q} {QH} {P} {PH} old new lasts server k is x shows kind port room has =
@@ -295,13 +302,13 @@ active_pool {Q} {QH} {P} {PH} old new lasts server k is x shows kind port room h
   where
     go : (a b : Bool) (o : Option (Handle Q QH P PH)) → cond a (Some Kind.Client) (cond b (Some Kind.Server) (option_map kind_of o)) ≡ Some Kind.Server
         → IsSomeAnd (cond a (Some (shown_port Kind.Client server)) (cond b (Some (shown_port Kind.Server server)) (option_map shown_of o)))
-        (λ y. (y.port < old.next) × PortHasPool old y.kind y.port room)
-        → IsSomeAnd (shown_at new k) (λ y. (y.port < new.next) × PortHasPool new y.kind y.port room)
+        (λ y. (y.origin.port < old.next) × PortHasPool old y.kind y.origin.port room)
+        → IsSomeAnd (shown_at new k) (λ y. (y.origin.port < new.next) × PortHasPool new y.kind y.origin.port room)
     go true b o e h = absurd (let f : Some Kind.Client ≡ Some Kind.Server = e in cc)
     go false true o e h =
-        subst (λ s. IsSomeAnd s (λ y. (y.port < new.next) × PortHasPool new y.kind y.port room)) (sym shows) (
+        subst (λ s. IsSomeAnd s (λ y. (y.origin.port < new.next) × PortHasPool new y.kind y.origin.port room)) (sym shows) (
           subst (λ n. n < new.next) (sym port) (let a = h.0 in let b = lasts.next in omega arith),
-          subst (λ j. PortHasPool new j x.port room) (sym kind) (subst (λ n. PortHasPool new Kind.ActiveRequest n room) (sym port)
+          subst (λ j. PortHasPool new j x.origin.port room) (sym kind) (subst (λ n. PortHasPool new Kind.ActiveRequest n room) (sym port)
               (pool_lasts old new lasts Kind.Server server room h.0 h.1)),
         )
     go false false None e h = absurd (let f : None ≡ Some Kind.Server = e in cc)

@@ -1,5 +1,5 @@
 -- What callers rest on: which facts hold of numbers after a call.
-use Rattle.std.proofs.Common.{◌≡◌, ◌≢◌, ℕ, Bool, true, false, List, Some, refl, sym, ap, ◌∙◌}
+use Rattle.std.proofs.Common.{◌≡◌, ◌≢◌, ℕ, Bool, true, false, List, [], Some, refl, sym, ap, ◌∙◌}
 use Rattle.std.specs.Prelude.{◌==◌}
 use Rattle.std.proofs.lemmas.Bool.{eq-eqb}
 use Rattle.rr_protocol.specs.declared.kind.Kind.{Kind}
@@ -7,6 +7,7 @@ use Rattle.rr_protocol.specs.Queries.{kind_at}
 use Rattle.rr_protocol.specs.State.{State}
 use Rattle.rr_ports.proofs.LendLaws.{lends}
 use Rattle.rr_ports.specs.Facts.{Fact, IsA, IsNone, Has, IsThere, Keeps, IsFree}
+use Rattle.rr_ports.specs.Queues.{Awaits, AwaitsNothing, Hears, HearsNothing, KeepsAwaited, KeepsHeard}
 
 -- kinds by number, by which they are told apart
 abbrev kind_number : Kind → ℕ
@@ -57,8 +58,61 @@ module _ {Q QH P PH K : Type 0} where
           let g : is_kind k k ≡ true = eq-eqb (kind_number k) (kind_number k) refl in
           absurd (let h : true ≡ false = sym g ∙ f in cc)
 
+  -- what a server hears, and what a request awaits, after a call that leaves the queue
+  pub nothing_heard : (but : List ℕ) (old new : State Q QH P PH K) (server : ℕ) → KeepsHeard but old new → HearsNothing old server
+      → HearsNothing new server
+  unfolding KeepsHeard
+  nothing_heard but old new server keeps nothing = keeps.0 server nothing
+
+  pub heard_kept : (but : List ℕ) (old new : State Q QH P PH K) (server pending : ℕ) → KeepsHeard but old new → IsNone but server
+      → IsNone but pending → Hears old server pending → Hears new server pending
+  unfolding KeepsHeard
+  heard_kept but old new server pending keeps other apart hears = keeps.1 server pending other apart hears
+
+  pub awaited_kept : (but : List ℕ) (old new : State Q QH P PH K) (pending server : ℕ) (answers : List (List P)) → KeepsAwaited but old new
+      → IsNone but pending → Awaits old pending server answers → Awaits new pending server answers
+  unfolding KeepsAwaited
+  awaited_kept but old new pending server answers keeps apart awaits = keeps pending server answers apart awaits
+
+  pub nothing_awaited : (but : List ℕ) (old new : State Q QH P PH K) (pending : ℕ) → KeepsAwaited but old new → IsNone but pending
+      → AwaitsNothing old pending → AwaitsNothing new pending
+  unfolding KeepsAwaited AwaitsNothing
+  nothing_awaited but old new pending keeps apart nothing server = keeps pending server [] apart (nothing server)
+
+  -- who hears, and for whom, is there, and so is who awaits
+  pub hearing_there : (s : State Q QH P PH K) (server pending : ℕ) → Hears s server pending → IsThere s server
+  unfolding Hears IsThere
+  hearing_there s server pending hears = (IsA Kind.Server, hears.0)
+
+  pub heard_there : (s : State Q QH P PH K) (server pending : ℕ) → Hears s server pending → IsThere s pending
+  unfolding Hears IsThere
+  heard_there s server pending hears = (IsA Kind.PendingResponse, hears.1)
+
+  pub awaiting_there : (s : State Q QH P PH K) (pending server : ℕ) (answers : List (List P)) → Awaits s pending server answers → IsThere s pending
+  unfolding Awaits IsThere
+  awaiting_there s pending server answers awaits = (IsA Kind.PendingResponse, awaits.0)
+
+  -- where nothing is awaited, no server's response is
+  pub none_awaited : (s : State Q QH P PH K) (pending server : ℕ) → AwaitsNothing s pending → Awaits s pending server []
+  unfolding AwaitsNothing
+  none_awaited s pending server nothing = nothing server
+
 -- what callers rest on
-pub ruleset callers = (kept, there_kept, is_there, not_there, of_two_kinds)
+pub ruleset callers = (
+  kept,
+  there_kept,
+  is_there,
+  not_there,
+  of_two_kinds,
+  nothing_heard,
+  heard_kept,
+  nothing_awaited,
+  awaited_kept,
+  hearing_there,
+  heard_there,
+  awaiting_there,
+  none_awaited,
+)
 
 -- what callers rest on that write through what was lent
 pub ruleset borrowers = (callers, lends)

@@ -13,3 +13,9 @@ pub mod FamilyLaws
 pub mod LendLaws
 pub mod FillLaws
 pub mod Fillings
+pub mod QueueLaws
+pub mod PutLaws
+pub mod HeardLaws
+pub mod AwaitedLaws
+pub mod HandleReleases
+pub mod ResponseSends

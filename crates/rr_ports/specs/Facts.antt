@@ -8,6 +8,7 @@ use Rattle.rr_protocol.specs.Ports.{Client, Server}
 use Rattle.rr_protocol.specs.Queries.{kind_at, kind_of}
 use Rattle.rr_protocol.specs.State as state
 use Rattle.rr_protocol.specs.State.{State, client_at, server_at, handle_at, is_client_value, is_server_value}
+use Rattle.rr_laws.specs.Roles.{Question, role_of, subject_of}
 use Rattle.rr_laws.specs.Unreduced.{HasClientPool, HasServerPool}
 
 -- what callers know of what a message says: for how many elements it asks, and those so far
@@ -18,40 +19,57 @@ pub record Said (T : Type 0) : Type 0 where
 abbrev pub said_of : {T H : Type 0} → Content T H → Said T
 said_of c = record { asked_len = c.asked_len; elements = c.elements }
 
--- what a number shows: of which kind it is, whose port it is, and what its request or its response says
+-- whose handle it is, and which request it is about
+pub record Origin : Type 0 where
+  pub port : ℕ
+  pub about : Option Question
+
+abbrev pub origin_of : {Q QH P PH : Type 0} → Handle Q QH P PH → Origin
+origin_of h = record { port = port_of h; about = Some (subject_of (role_of h)) }
+
+abbrev pub of_origin : Origin → Option (ℕ × ℕ)
+of_origin origin = option_map (λ (q : Question). (origin.port, q.number)) origin.about
+
+-- what a number shows: of which kind it is, where it belongs, and what its request or its response says
 pub record Shown (Q P : Type 0) : Type 0 where
   pub kind : Kind
-  pub port : ℕ
+  pub origin : Origin
   pub request : Option (Said Q)
   pub response : Option (Said P)
 
 module _ {Q P : Type 0} where
   -- what a port shows
   abbrev pub shown_port : Kind → ℕ → Shown Q P
-  shown_port k n = record { kind = k; port = n; request = None; response = None }
+  shown_port k n = record { kind = k; origin = record { port = n; about = None }; request = None; response = None }
 
   -- what a handle shows
   abbrev pub shown_of : {QH PH : Type 0} → Handle Q QH P PH → Shown Q P
   shown_of h =
       record {
         kind = kind_of h;
-        port = port_of h;
+        origin = origin_of h;
         request = option_map (λ m. said_of m.content) (request_in h);
         response = option_map (λ m. said_of m.content) (response_in h);
       }
+
+  -- the port and the request to which something belongs
+  abbrev pub of_in : Shown Q P → Option (ℕ × ℕ)
+  of_in shown = of_origin shown.origin
 
   -- for how many elements a message asks
   abbrev pub asked_in : Shown Q P → Option ℕ
   asked_in shown = option_map_or (λ c. Some c.asked_len) shown.request (option_map (λ c. c.asked_len) shown.response)
 
 -- what can hold of a number: it names something of a kind; its request has these elements; its response has these; its message asks for so
--- many; or what it loans comes from a pool of the worst-case size, whose slots have room for so many from the start
+-- many; what it loans comes from a pool of the worst-case size, whose slots have room for so many from the start; or it is a handle of this
+-- port, about the request under this number
 pub data Fact (Q P : Type 0) : Type 0 where
   IsA : Kind → Fact Q P
   Asks : List Q → Fact Q P
   Answers : List P → Fact Q P
   AskedLen : ℕ → Fact Q P
   WholePool : ℕ → Fact Q P
+  Of : ℕ → ℕ → Fact Q P
 
 -- a number is none of these
 abbrev pub IsNone : List ℕ → ℕ → Type 0
@@ -73,6 +91,10 @@ module _ {Q QH P PH K : Type 0} where
   abbrev pub response_shown : State Q QH P PH K → ℕ → Option (Said P)
   response_shown s n = option_and_then (λ shown. shown.response) (shown_at s n)
 
+  -- the request that a number is about
+  abbrev pub about_at : State Q QH P PH K → ℕ → Option Question
+  about_at s n = option_and_then (λ shown. shown.origin.about) (shown_at s n)
+
   -- a port from which something of a kind loans has a pool of the worst-case size, whose slots have room for so many elements
   abbrev pub PortHasPool : State Q QH P PH K → Kind → ℕ → ℕ → Type 0
   PortHasPool s kind.Client port room = (client : Client K) → client_at s port ≡ Some client → HasClientPool s.limits client room
@@ -86,7 +108,8 @@ module _ {Q QH P PH K : Type 0} where
   Has s n (Asks xs) = option_map (λ c. c.elements) (request_shown s n) ≡ Some xs
   Has s n (Answers xs) = option_map (λ c. c.elements) (response_shown s n) ≡ Some xs
   Has s n (AskedLen len) = option_and_then asked_in (shown_at s n) ≡ Some len
-  Has s n (WholePool room) = IsSomeAnd (shown_at s n) (λ shown. (shown.port < s.next) × PortHasPool s shown.kind shown.port room)
+  Has s n (WholePool room) = IsSomeAnd (shown_at s n) (λ shown. (shown.origin.port < s.next) × PortHasPool s shown.kind shown.origin.port room)
+  Has s n (Of port request) = option_and_then of_in (shown_at s n) ≡ Some (port, request)
 
   -- a number names a client or a server whose value lives, or a handle, of this kind
   abbrev pub Names : State Q QH P PH K → ℕ → Kind → Type 0

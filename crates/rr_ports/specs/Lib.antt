@@ -1,4 +1,5 @@
 pub mod Facts
+pub mod Queues
 pub mod Sending
 pub mod Loaning
 pub mod Factories

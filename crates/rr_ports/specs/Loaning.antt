@@ -40,22 +40,38 @@ module _ {Q QH P PH K : Type 0} where
       × (new ≡ with_complete_response mid number elements)
   LoansResponseComplete IsDefault Are old n len (Err error) new = LoansResponse IsDefault old n len (Err error) new
 
-  -- a client loans a request of one element, which is written and sent; or the loan is refused; or the send is, and the request is gone
-  abbrev pub SendsCopy : (QH → Type 0) → (K → ℕ → ℕ → BackpressureAction) → State Q QH P PH K → ℕ → Q → Result ℕ RequestSendError → State Q QH P PH K → Type 0
-  SendsCopy IsDefault action old n value (Ok pending) new =
-      (mid : State Q QH P PH K) × LoansRequest IsDefault old n 1 (Ok pending) mid
-      × ((connections : ℕ) × SendsRequest action (with_complete_request mid pending (value ∷ [])) pending (Ok connections) new)
-  SendsCopy IsDefault action old n value (Err error) new =
-      ((loan : LoanError) × (error ≡ RequestSendError.SendError (SendError.LoanError loan)) × LoansRequest IsDefault old n 1 (Err loan) new)
-      ⊎ ((mid : State Q QH P PH K) × (number : ℕ) × LoansRequest IsDefault old n 1 (Ok number) mid
-      × SendsRequest action (with_complete_request mid number (value ∷ [])) number (Err error) new)
+  -- a client loans a request of so many elements, which are written and sent; or the loan is refused; or the send is, and the request is gone
+  abbrev pub SendsElements : (QH → Type 0) → (K → ℕ → ℕ → BackpressureAction) → State Q QH P PH K → ℕ → ℕ → List Q → Result ℕ RequestSendError → State Q QH P PH K → Type 0
+  SendsElements IsDefault action old n len elements (Ok pending) new =
+      (mid : State Q QH P PH K) × LoansRequest IsDefault old n len (Ok pending) mid
+      × ((connections : ℕ) × SendsRequest action (with_complete_request mid pending elements) pending (Ok connections) new)
+  SendsElements IsDefault action old n len elements (Err error) new =
+      ((loan : LoanError) × (error ≡ RequestSendError.SendError (SendError.LoanError loan)) × LoansRequest IsDefault old n len (Err loan) new)
+      ⊎ ((mid : State Q QH P PH K) × (number : ℕ) × LoansRequest IsDefault old n len (Ok number) mid
+      × SendsRequest action (with_complete_request mid number elements) number (Err error) new)
 
-  -- an active request loans a response of one element, and so on
+  -- and so of one element
+  abbrev pub SendsCopy : (QH → Type 0) → (K → ℕ → ℕ → BackpressureAction) → State Q QH P PH K → ℕ → Q → Result ℕ RequestSendError → State Q QH P PH K → Type 0
+  SendsCopy IsDefault action old n value result new = SendsElements IsDefault action old n 1 (value ∷ []) result new
+
+  -- and of a slice
+  abbrev pub SendsSlice : (QH → Type 0) → (K → ℕ → ℕ → BackpressureAction) → State Q QH P PH K → ℕ → List Q → Result ℕ RequestSendError → State Q QH P PH K → Type 0
+  SendsSlice IsDefault action old n elements result new = SendsElements IsDefault action old n (length elements) elements result new
+
+  -- an active request loans a response of so many elements, and so on
+  abbrev pub SendsResponseElements : {U : Type 0} → (PH → Type 0) → (K → ℕ → ℕ → BackpressureAction) → State Q QH P PH K → ℕ → ℕ → List P → Result U SendError → State Q QH P PH K → Type 0
+  SendsResponseElements IsDefault action old n len elements (Ok unit) new =
+      (mid : State Q QH P PH K) × (number : ℕ) × LoansResponse IsDefault old n len (Ok number) mid
+      × SendsResponse action (with_complete_response mid number elements) number (Ok unit) new
+  SendsResponseElements {U} IsDefault action old n len elements (Err error) new =
+      ((loan : LoanError) × (error ≡ SendError.LoanError loan) × LoansResponse IsDefault old n len (Err loan) new)
+      ⊎ ((mid : State Q QH P PH K) × (number : ℕ) × LoansResponse IsDefault old n len (Ok number) mid
+      × SendsResponse {U = U} action (with_complete_response mid number elements) number (Err error) new)
+
+  -- and so of one element
   abbrev pub SendsResponseCopy : {U : Type 0} → (PH → Type 0) → (K → ℕ → ℕ → BackpressureAction) → State Q QH P PH K → ℕ → P → Result U SendError → State Q QH P PH K → Type 0
-  SendsResponseCopy IsDefault action old n value (Ok unit) new =
-      (mid : State Q QH P PH K) × (number : ℕ) × LoansResponse IsDefault old n 1 (Ok number) mid
-      × SendsResponse action (with_complete_response mid number (value ∷ [])) number (Ok unit) new
-  SendsResponseCopy {U} IsDefault action old n value (Err error) new =
-      ((loan : LoanError) × (error ≡ SendError.LoanError loan) × LoansResponse IsDefault old n 1 (Err loan) new)
-      ⊎ ((mid : State Q QH P PH K) × (number : ℕ) × LoansResponse IsDefault old n 1 (Ok number) mid
-      × SendsResponse {U = U} action (with_complete_response mid number (value ∷ [])) number (Err error) new)
+  SendsResponseCopy IsDefault action old n value result new = SendsResponseElements IsDefault action old n 1 (value ∷ []) result new
+
+  -- and of a slice
+  abbrev pub SendsResponseSlice : {U : Type 0} → (PH → Type 0) → (K → ℕ → ℕ → BackpressureAction) → State Q QH P PH K → ℕ → List P → Result U SendError → State Q QH P PH K → Type 0
+  SendsResponseSlice IsDefault action old n elements result new = SendsResponseElements IsDefault action old n (length elements) elements result new

@@ -3,6 +3,7 @@
 
 mod active_request;
 mod client;
+mod error;
 mod handle;
 mod hub;
 mod lend;
@@ -20,6 +21,7 @@ mod update_connections;
 
 pub use active_request::ActiveRequest;
 pub use client::Client;
+pub use error::Error;
 pub use handle::Handle;
 pub use hub::Hub;
 pub use pending_response::PendingResponse;

@@ -1,9 +1,10 @@
 //! A request that was sent, and whose responses are received.
 #![tactic(auto, using(crate::proofs::Asking::asks), unfolding(crate::specs::Facts::Has, crate::specs::Facts::numbers_left))]
 
-ghost use Rattle.std.specs.Prelude.{◌↔◌, ◌≡◌, IfOk, IfSome, IsSomeAnd, IsTrue, option_and_then, length, nat_lt, ◌∷◌, []};
+ghost use Rattle.std.specs.Prelude.{◌↔◌, ◌≡◌, IfOk, IfSome, IsSomeAnd, IsTrue, option_and_then, length, nat_lt, ◌∷◌, [], ℕ, List, Ok, None, ◌≢◌};
 ghost use Rattle.rr_protocol.specs.declared.kind.Kind.TheVariants as kind;
-ghost use Rattle.rr_ports.specs.Facts.{Has, IsFree, Keeps, Names, numbers_left};
+ghost use Rattle.rr_ports.specs.Facts.{Has, IsFree, Keeps, Names, numbers_left, Of, Answers};
+ghost use Rattle.rr_ports.specs.Queues.{Awaits, AwaitsNothing, KeepsAwaited, KeepsHeard};
 ghost use Rattle.rr_protocol.specs.Messages.{request_in, with_hint};
 ghost use Rattle.rr_protocol.specs.Queries.{request_header, HasResponse};
 ghost use Rattle.rr_protocol.specs.Receives.{ReceivesResponse};
@@ -90,6 +91,8 @@ impl<QB: Body> PendingResponse<QB> {
         ensures hinted { hub.new ≡ with_changed hub.old self.now with_hint }
         ensures keeps { Keeps [] hub.old hub.new }
         ensures numbers { numbers_left hub.new ≡ numbers_left hub.old }
+        ensures heard { KeepsHeard [] hub.old hub.new }
+        ensures awaited { KeepsAwaited [] hub.old hub.new }
     {
         hub.core.set_disconnect_hint(&self.id);
     }
@@ -150,7 +153,15 @@ impl<QB: Body> PendingResponse<QB> {
         ensures kind { IfOk result (λ received. IfSome received (λ response. Names hub.new response kind.Response)) }
         ensures keeps { Keeps [] hub.old hub.new }
         ensures numbers { numbers_left hub.new ≡ numbers_left hub.old }
+        ensures answers { (server : ℕ) (xs : List PB.Item) (later : List (List PB.Item)) → Awaits hub.old self.now server (xs ∷ later) → IfOk result (λ received. IfSome received (λ response. Has hub.new response (Answers xs))) }
+        ensures missed { (server : ℕ) (xs : List PB.Item) (later : List (List PB.Item)) → Awaits hub.old self.now server (xs ∷ later) → result ≢ Ok None }
+        ensures later { (server : ℕ) (xs : List PB.Item) (later : List (List PB.Item)) → Awaits hub.old self.now server (xs ∷ later) → IfOk result (λ received. Awaits hub.new self.now server later) }
+        ensures done { (server : ℕ) (xs : List PB.Item) → Awaits hub.old self.now server (xs ∷ []) → IfOk result (λ received. AwaitsNothing hub.new self.now) }
+        ensures of { (port request : ℕ) → Has hub.old self.now (Of port request) → IfOk result (λ received. IfSome received (λ response. Has hub.new response (Of port request))) }
+        ensures heard { KeepsHeard [] hub.old hub.new }
+        ensures awaited { KeepsAwaited (self.now ∷ []) hub.old hub.new }
     {
+        hub.core.reached();
         response::received(hub.core.receive_response(&self.id))
     }
 
@@ -165,8 +176,11 @@ impl<QB: Body> PendingResponse<QB> {
         ensures released { hub.new ≡ after_release hub.old self }
         ensures keeps { Keeps (self ∷ []) hub.old hub.new }
         ensures numbers { numbers_left hub.new ≡ numbers_left hub.old }
+        ensures heard { (port request : ℕ) → Has hub.old self (Of port request) → Names hub.old port kind.Client → KeepsHeard (self ∷ []) hub.old hub.new }
+        ensures awaited { (port request : ℕ) → Has hub.old self (Of port request) → Names hub.old port kind.Client → KeepsAwaited (self ∷ []) hub.old hub.new }
     {
         let PendingResponse { id, of: _ } = self;
+        hub.core.reached();
         hub.core.release_pending(&id);
     }
 }

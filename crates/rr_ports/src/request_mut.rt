@@ -1,9 +1,10 @@
 //! A loaned request that can be sent.
 #![tactic(auto, using(crate::proofs::Asking::asks), unfolding(crate::specs::Facts::Has, crate::specs::Facts::numbers_left))]
 
-ghost use Rattle.std.specs.Prelude.{◌≡◌, IfOk, IsSomeAnd, option_and_then, ◌∷◌, [], List};
+ghost use Rattle.std.specs.Prelude.{◌≡◌, IfOk, IsSomeAnd, option_and_then, ◌∷◌, [], List, ℕ};
 ghost use Rattle.rr_protocol.specs.declared.kind.Kind.TheVariants as kind;
-ghost use Rattle.rr_ports.specs.Facts.{Has, Keeps, Names, numbers_left, Asks};
+ghost use Rattle.rr_ports.specs.Facts.{Has, Keeps, Names, numbers_left, Asks, Of};
+ghost use Rattle.rr_ports.specs.Queues.{AwaitsNothing, Hears, HearsNothing, KeepsAwaited, KeepsHeard};
 ghost use Rattle.rr_ports.specs.Sending.{SendsPending};
 ghost use Rattle.rr_protocol.specs.Messages.{request_in};
 ghost use Rattle.rr_protocol.specs.Queries.{request_header};
@@ -88,8 +89,13 @@ impl<QB: Body> RequestMut<QB> {
         ensures says { IfOk result (λ pending. (xs : List QB.Item) → Has hub.old self (Asks xs) → Has hub.new pending (Asks xs)) }
         ensures keeps { Keeps (self ∷ []) hub.old hub.new }
         ensures numbers { numbers_left hub.new ≡ numbers_left hub.old }
+        ensures of { (port request : ℕ) → Has hub.old self (Of port request) → IfOk result (λ pending. Has hub.new pending (Of port pending)) }
+        ensures hears { (server : ℕ) → Names hub.old server kind.Server → HearsNothing hub.old server → IfOk result (λ pending. Hears hub.new server pending) }
+        ensures awaits { IfOk result (λ pending. AwaitsNothing hub.new pending) }
+        ensures awaited { (port request : ℕ) → Has hub.old self (Of port request) → Names hub.old port kind.Client → KeepsAwaited (self ∷ []) hub.old hub.new }
     {
         let RequestMut { id, of: _ } = self;
+        hub.core.reached();
         let _connections = hub.core.send_request(&id)?;
         Ok(PendingResponse {
             id,
@@ -107,6 +113,8 @@ impl<QB: Body> RequestMut<QB> {
         ensures released { hub.new ≡ after_release hub.old self }
         ensures keeps { Keeps (self ∷ []) hub.old hub.new }
         ensures numbers { numbers_left hub.new ≡ numbers_left hub.old }
+        ensures heard { (port request : ℕ) → Has hub.old self (Of port request) → Names hub.old port kind.Client → KeepsHeard (self ∷ []) hub.old hub.new }
+        ensures awaited { (port request : ℕ) → Has hub.old self (Of port request) → Names hub.old port kind.Client → KeepsAwaited (self ∷ []) hub.old hub.new }
     {
         let RequestMut { id, of: _ } = self;
         hub.core.release_request(&id);

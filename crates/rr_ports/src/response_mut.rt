@@ -1,9 +1,10 @@
 //! A loaned response that can be sent.
 #![tactic(auto, using(crate::proofs::Asking::asks), unfolding(crate::specs::Facts::Has, crate::specs::Facts::numbers_left))]
 
-ghost use Rattle.std.specs.Prelude.{◌≡◌, IsSomeAnd, option_and_then, ◌∷◌, []};
+ghost use Rattle.std.specs.Prelude.{◌≡◌, IsSomeAnd, option_and_then, ◌∷◌, [], ℕ, List, OnOk, length, ◌<◌, ◌++◌};
 ghost use Rattle.rr_protocol.specs.declared.kind.Kind.TheVariants as kind;
-ghost use Rattle.rr_ports.specs.Facts.{Has, Keeps, Names, numbers_left};
+ghost use Rattle.rr_ports.specs.Facts.{Has, Keeps, Names, numbers_left, Of, Answers};
+ghost use Rattle.rr_ports.specs.Queues.{Awaits, AwaitsNothing, KeepsAwaited, KeepsHeard};
 ghost use Rattle.rr_protocol.specs.Messages.{response_in};
 ghost use Rattle.rr_protocol.specs.Queries.{response_header};
 ghost use Rattle.rr_protocol.specs.Releases.{after_release};
@@ -68,8 +69,9 @@ impl<PB: Body> ResponseMut<PB> {
         hub.core.is_response_deliverable(&self.id)
     }
 
-    /// Sends the response to its request, if that is still a pending response of a connected client, and else releases it. Takes
-    /// no memory. After iceoryx2's `ResponseMut::send`.
+    /// Sends the response to its request, if that is still a pending response of a connected client, and else releases it. A full
+    /// queue is passed over with `DiscardData`: a stream in which nothing may be missed wants `RetryUntilDelivered`. Takes no memory.
+    /// After iceoryx2's `ResponseMut::send`.
     ///
     /// # Errors
     ///
@@ -84,8 +86,12 @@ impl<PB: Body> ResponseMut<PB> {
         ensures sends { SendsResponse K.action hub.old self result hub.new }
         ensures keeps { Keeps (self ∷ []) hub.old hub.new }
         ensures numbers { numbers_left hub.new ≡ numbers_left hub.old }
+        ensures first { (server pending : ℕ) (xs : List PB.Item) → Has hub.old self (Of server pending) → Names hub.old server kind.Server → Has hub.old self (Answers xs) → AwaitsNothing hub.old pending → OnOk result (Awaits hub.new pending server (xs ∷ [])) }
+        ensures next { (server pending : ℕ) (answers : List (List PB.Item)) (xs : List PB.Item) → Has hub.old self (Of server pending) → Names hub.old server kind.Server → Has hub.old self (Answers xs) → Awaits hub.old pending server answers → length answers < hub.old.limits.max_response_buffer_size → OnOk result (Awaits hub.new pending server (answers ++ xs ∷ [])) }
+        ensures heard { (port request : ℕ) → Has hub.old self (Of port request) → Names hub.old port kind.Server → KeepsHeard (self ∷ []) hub.old hub.new }
     {
         let ResponseMut { id, of: _ } = self;
+        hub.core.reached();
         hub.core.send_response(&id)
     }
 
@@ -99,6 +105,8 @@ impl<PB: Body> ResponseMut<PB> {
         ensures released { hub.new ≡ after_release hub.old self }
         ensures keeps { Keeps (self ∷ []) hub.old hub.new }
         ensures numbers { numbers_left hub.new ≡ numbers_left hub.old }
+        ensures heard { (port request : ℕ) → Has hub.old self (Of port request) → Names hub.old port kind.Server → KeepsHeard (self ∷ []) hub.old hub.new }
+        ensures awaited { (port request : ℕ) → Has hub.old self (Of port request) → Names hub.old port kind.Server → KeepsAwaited (self ∷ []) hub.old hub.new }
     {
         let ResponseMut { id, of: _ } = self;
         hub.core.release_response_loan(&id);

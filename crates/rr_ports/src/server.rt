@@ -1,9 +1,10 @@
 //! Servers.
 #![tactic(auto, using(crate::proofs::Asking::asks), unfolding(crate::specs::Facts::Has, crate::specs::Facts::numbers_left))]
 
-ghost use Rattle.std.specs.Prelude.{◌↔◌, ◌+◌, ◌≤◌, ◌<◌, ◌≡◌, IfOk, IfSome, IsOk, IsSomeAnd, IsTrue, ◌∷◌, [], ℕ};
+ghost use Rattle.std.specs.Prelude.{◌↔◌, ◌+◌, ◌≤◌, ◌<◌, ◌≡◌, IfOk, IfSome, IsOk, IsSomeAnd, IsTrue, ◌∷◌, [], ℕ, List, Ok, None, ◌≢◌};
 ghost use Rattle.rr_protocol.specs.declared.kind.Kind.TheVariants as kind;
-ghost use Rattle.rr_ports.specs.Facts.{Has, IsFree, Keeps, Names, numbers_left, WholePool};
+ghost use Rattle.rr_ports.specs.Facts.{Has, IsFree, Keeps, Names, numbers_left, WholePool, Asks, Of};
+ghost use Rattle.rr_ports.specs.Queues.{Hears, HearsNothing, KeepsAwaited, KeepsHeard};
 ghost use Rattle.rr_protocol.specs.Queries.{HasRequests};
 ghost use Rattle.rr_protocol.specs.Receives.{ReceivesRequest};
 ghost use Rattle.rr_protocol.specs.Releases.{after_release};
@@ -133,6 +134,12 @@ impl<PB: Body> Server<PB> {
         ensures pool { (room : ℕ) → Has hub.old self.now (WholePool room) → IfOk result (λ received. IfSome received (λ active. Has hub.new active (WholePool room))) }
         ensures keeps { Keeps [] hub.old hub.new }
         ensures numbers { numbers_left hub.old ≤ numbers_left hub.new + 1 }
+        ensures of { (pending : ℕ) → Hears hub.old self.now pending → IfOk result (λ received. IfSome received (λ active. Has hub.new active (Of self.now pending))) }
+        ensures asks { (pending : ℕ) (xs : List QB.Item) → Hears hub.old self.now pending → Has hub.old pending (Asks xs) → IfOk result (λ received. IfSome received (λ active. Has hub.new active (Asks xs))) }
+        ensures missed { (pending : ℕ) → Hears hub.old self.now pending → result ≢ Ok None }
+        ensures quiet { (pending : ℕ) → Hears hub.old self.now pending → IfOk result (λ received. HearsNothing hub.new self.now) }
+        ensures heard { KeepsHeard (self.now ∷ []) hub.old hub.new }
+        ensures awaited { KeepsAwaited [] hub.old hub.new }
     {
         active_request::received(hub.core.receive_request(self.number))
     }

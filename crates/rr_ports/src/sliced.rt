@@ -5,11 +5,8 @@ use rr_slots::{Body, SliceBody};
 
 mod active_request;
 mod client;
-mod pending_response;
-mod request_mut;
+mod payload;
 mod request_mut_uninit;
-mod response;
-mod response_mut;
 mod response_mut_uninit;
 mod server;
 

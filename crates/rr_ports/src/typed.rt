@@ -3,11 +3,9 @@ ghost use Rattle.std.specs.Prelude.{◌≡◌, IsSome, Some};
 
 mod active_request;
 mod client;
+mod payload;
 mod pending_response;
-mod request_mut;
 mod request_mut_uninit;
-mod response;
-mod response_mut;
 mod response_mut_uninit;
 mod server;
 

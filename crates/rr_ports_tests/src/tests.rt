@@ -1,10 +1,13 @@
-//! What a user of the ports sees: exchanges, loans, pools, slices, what builders set, and what is written in place.
+//! What a user of the ports sees: exchanges, loans, pools, slices, what builders set, what is written in place, calls and their answers, and errors.
+mod calling;
+mod errors;
 mod exchanges;
 mod fixtures;
 mod handlers;
 mod hubs;
 mod loans;
 mod pools;
+mod sent_slices;
 mod settings;
 mod slice_fixtures;
 mod slices;

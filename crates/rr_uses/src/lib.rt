@@ -2,6 +2,7 @@
 #![tactic(auto)]
 
 pub mod asking;
+pub mod calling;
 pub mod parameter;
 pub mod serving;
 pub mod slices;

@@ -7,6 +7,7 @@ ghost use Rattle.rr_protocol.specs.declared.kind.Kind.TheVariants as kind;
 ghost use Rattle.rr_protocol.specs.Limits.{worst_case_requests};
 ghost use Rattle.rr_ports.specs.Factories.{client_defaults, CreatesClientBy, LeavesWhole};
 ghost use Rattle.rr_ports.specs.Facts.{Has, IsFree, Keeps, Names, WholePool, numbers_left};
+ghost use Rattle.rr_ports.specs.Queues.{KeepsAwaited, KeepsHeard};
 
 use super::{chosen, request_slots};
 use crate::client;
@@ -60,8 +61,9 @@ impl<QB: Body, K: BackpressureFn> PortFactoryClient<QB, K> {
 }
 
 impl<QB: Body, K: BackpressureFn, F: Drop> PortFactoryClient<QB, K, F> {
-    /// Sets what the client's sends do at a full queue that may not overflow. After iceoryx2's
-    /// `PortFactoryClient::backpressure_strategy`.
+    /// Sets what the client's sends do at a full queue that may not overflow. `DiscardData`, the default, passes the server over, and
+    /// the send is `Ok`: `number_of_server_connections` returns how many took the request. `RetryUntilDelivered` refuses the send with
+    /// `UnableToDeliver`. After iceoryx2's `PortFactoryClient::backpressure_strategy`.
     pub fn backpressure_strategy(mut self, value: BackpressureStrategy) -> Self
         ensures { result ≡ record self { settings = record self.settings { strategy = value } } }
     {
@@ -118,6 +120,8 @@ impl<QB: Body, K: BackpressureFn, F: Drop> PortFactoryClient<QB, K, F> {
         ensures pool { LeavesWhole F.post (worst_case_requests hub.old.limits) self.preallocation → IfOk result (λ client. Has hub.new client (WholePool self.settings.initial_max_slice_len)) }
         ensures keeps { Keeps [] hub.old hub.new }
         ensures numbers { numbers_left hub.old ≤ numbers_left hub.new + 1 }
+        ensures heard { KeepsHeard [] hub.old hub.new }
+        ensures awaited { KeepsAwaited [] hub.old hub.new }
     {
         let PortFactoryClient {
             settings,

@@ -8,6 +8,7 @@ ghost use Rattle.rr_protocol.specs.Creation.{loans_of};
 ghost use Rattle.rr_protocol.specs.Limits.{worst_case_responses};
 ghost use Rattle.rr_ports.specs.Factories.{server_defaults, CreatesServerBy, LeavesWhole};
 ghost use Rattle.rr_ports.specs.Facts.{Has, IsFree, Keeps, Names, WholePool, numbers_left};
+ghost use Rattle.rr_ports.specs.Queues.{HearsNothing, KeepsAwaited, KeepsHeard};
 
 use super::{chosen, response_slots};
 use crate::hub::Hub;
@@ -69,8 +70,9 @@ impl<PB: Body, K: BackpressureFn> PortFactoryServer<PB, K> {
 }
 
 impl<PB: Body, K: BackpressureFn, F: Drop> PortFactoryServer<PB, K, F> {
-    /// Sets what the server's sends do at a full queue that may not overflow. After iceoryx2's
-    /// `PortFactoryServer::backpressure_strategy`.
+    /// Sets what the server's sends do at a full queue that may not overflow. `DiscardData`, the default, passes the client over, and
+    /// the send is `Ok`, so that a stream has gaps; `RetryUntilDelivered` refuses the send with `UnableToDeliver`, so that none is
+    /// missed. After iceoryx2's `PortFactoryServer::backpressure_strategy`.
     pub fn backpressure_strategy(mut self, value: BackpressureStrategy) -> Self
         ensures { result ≡ record self { settings = record self.settings { strategy = value } } }
     {
@@ -136,12 +138,16 @@ impl<PB: Body, K: BackpressureFn, F: Drop> PortFactoryServer<PB, K, F> {
         ensures pool { LeavesWhole F.post (worst_case_responses hub.old.limits (loans_of self.settings)) self.preallocation → IfOk result (λ server. Has hub.new server (WholePool self.settings.initial_max_slice_len)) }
         ensures keeps { Keeps [] hub.old hub.new }
         ensures numbers { numbers_left hub.old ≤ numbers_left hub.new + 1 }
+        ensures hears { IfOk result (λ server. HearsNothing hub.new server) }
+        ensures heard { KeepsHeard [] hub.old hub.new }
+        ensures awaited { KeepsAwaited [] hub.old hub.new }
     {
         let PortFactoryServer {
             settings,
             preallocation,
             of: _,
         } = self;
+        hub.core.reached();
         let limits = hub.core.limits();
         let pool = chosen(preallocation, response_slots(&limits, loans(&settings)));
         server::created(hub.core.create_server(ServerSettings { pool, ..settings }))

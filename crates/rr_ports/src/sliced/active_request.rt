@@ -1,40 +1,21 @@
-//! What a request of the sliced family says, and sliced responses to it.
+//! Sliced responses to a request.
 #![tactic(auto, using(crate::proofs::Asking::asks), unfolding(crate::specs::Facts::Has, crate::specs::Facts::numbers_left))]
 
-ghost use Rattle.std.specs.Prelude.{◌+◌, ◌≤◌, ◌<◌, ◌≢◌, ◌≡◌, Err, IfOk, IsSomeAnd, option_and_then, true, [], ℕ, List};
+ghost use Rattle.std.specs.Prelude.{◌+◌, ◌≤◌, ◌<◌, ◌≢◌, ◌≡◌, Err, IfOk, [], ◌∷◌, ◌++◌, ℕ, List, OnOk, length};
 ghost use Rattle.rr_protocol.specs.declared.kind.Kind.TheVariants as kind;
 ghost use Rattle.rr_laws.specs.Unreduced.{ServerHasPool};
-ghost use Rattle.rr_ports.specs.Facts.{AskedLen, Answers, Has, IsFree, Keeps, Names, WholePool, numbers_left, Asks};
-ghost use Rattle.rr_ports.specs.Loaning.{AreDefaults, LoansResponseComplete};
+ghost use Rattle.rr_ports.specs.Facts.{AskedLen, Answers, Has, IsFree, Keeps, Names, WholePool, numbers_left, Of};
+ghost use Rattle.rr_ports.specs.Queues.{Awaits, AwaitsNothing, KeepsAwaited, KeepsHeard};
+ghost use Rattle.rr_ports.specs.Loaning.{AreDefaults, LoansResponseComplete, SendsResponseSlice};
 ghost use Rattle.rr_protocol.specs.Loans.{LoansResponse};
-ghost use Rattle.rr_protocol.specs.Messages.{request_in};
-ghost use Rattle.rr_protocol.specs.State.{handle_at};
-ghost use Rattle.rr_protocol.specs.Writing.{is_complete};
 
 use crate::active_request::ActiveRequest;
 use crate::hub::Hub;
 use crate::response_mut::ResponseMut;
 use crate::response_mut_uninit;
 use crate::response_mut_uninit::ResponseMutUninit;
-use rr_hub::{BackpressureFn, LoanError};
+use rr_hub::{BackpressureFn, LoanError, SendError};
 use rr_slots::{Body, SliceBody};
-
-impl<T: Drop> ActiveRequest<SliceBody<T>> {
-    /// Returns the payload of the request. After iceoryx2's `ActiveRequest::payload`.
-    #[inline(always)]
-    pub fn payload<'a, QH: Default + Drop, PB: Body, PH: Default + Drop, K: BackpressureFn>(
-        &self,
-        hub: &'a Hub<SliceBody<T>, QH, PB, PH, K>,
-    ) -> &'a [T]
-        requires { Names hub.now self.now kind.ActiveRequest }
-        ensures elements { IsSomeAnd (option_and_then request_in (handle_at hub.now self.now)) (λ m. m.content.elements ≡ result.now) }
-        ensures says { Has hub.now self.now (Asks result.now) }
-        ensures reads { (xs : List T) → Has hub.now self.now (Asks xs) → result.now ≡ xs }
-        ensures complete { IsSomeAnd (option_and_then request_in (handle_at hub.now self.now)) (λ m. is_complete m.content ≡ true) }
-    {
-        hub.core.request_body(&self.id).as_slice()
-    }
-}
 
 impl<QB: Body> ActiveRequest<QB> {
     /// Loans a response of `len` elements, which are to be written, under the next number, of which one is left. Takes no memory up to
@@ -64,6 +45,9 @@ impl<QB: Body> ActiveRequest<QB> {
         ensures asked { IfOk result (λ response. Has hub.new response (AskedLen len)) }
         ensures keeps { Keeps [] hub.old hub.new }
         ensures numbers { numbers_left hub.old ≤ numbers_left hub.new + 1 }
+        ensures of { (port request : ℕ) → Has hub.old self.now (Of port request) → IfOk result (λ response. Has hub.new response (Of port request)) }
+        ensures heard { KeepsHeard [] hub.old hub.new }
+        ensures awaited { KeepsAwaited [] hub.old hub.new }
     {
         response_mut_uninit::loaned(hub.core.loan_response(&self.id, len))
     }
@@ -93,5 +77,34 @@ impl<QB: Body> ActiveRequest<QB> {
     {
         let response = self.loan_slice_uninit(hub, len)?;
         Ok(response.write_from_fn(hub, |_| T::default()))
+    }
+    /// Loans a response of as many elements as these, writes copies of them and sends it. Takes no memory up to the initial slice
+    /// length. Not in iceoryx2: `loan_slice_uninit`, `write_from_slice` and `send`.
+    ///
+    /// # Errors
+    ///
+    /// - `LoanError(..)` as `loan_slice_uninit`: up to the initial slice length a pool of the worst-case size never returns
+    ///   `OutOfMemory`. The hub stays as it was.
+    /// - `UnableToDeliver` as `ResponseMut::send`. The response is gone, and the queue stays.
+    #[inline(always)]
+    pub fn send_slice<QH: Default + Drop, T: Copy, PH: Default + Drop, K: BackpressureFn>(
+        &self,
+        hub: &mut Hub<QB, QH, SliceBody<T>, PH, K>,
+        elements: &[T],
+    ) -> Result<(), SendError>
+        requires kind { Names hub.old self.now kind.ActiveRequest }
+        requires number { 0 < numbers_left hub.old }
+        ensures sends { SendsResponseSlice PH.is_default K.action hub.old self.now elements.now result hub.new }
+        ensures unreduced { ServerHasPool hub.old.limits hub.old self.now (length elements.now) → result ≢ Err (SendError.LoanError LoanError.OutOfMemory) }
+        ensures whole { (room : ℕ) → length elements.now ≤ room → Has hub.old self.now (WholePool room) → result ≢ Err (SendError.LoanError LoanError.OutOfMemory) }
+        ensures keeps { Keeps [] hub.old hub.new }
+        ensures numbers { numbers_left hub.old ≤ numbers_left hub.new + 1 }
+        ensures first { (server pending : ℕ) → Has hub.old self.now (Of server pending) → Names hub.old server kind.Server → AwaitsNothing hub.old pending → OnOk result (Awaits hub.new pending server (elements.now ∷ [])) }
+        ensures next { (server pending : ℕ) (answers : List (List T)) → Has hub.old self.now (Of server pending) → Names hub.old server kind.Server → Awaits hub.old pending server answers → length answers < hub.old.limits.max_response_buffer_size → OnOk result (Awaits hub.new pending server (answers ++ elements.now ∷ [])) }
+        ensures heard { (port request : ℕ) → Has hub.old self.now (Of port request) → Names hub.old port kind.Server → KeepsHeard [] hub.old hub.new }
+    {
+        let response = self.loan_slice_uninit(hub, elements.len())?;
+        let response = response.write_from_slice(hub, elements);
+        response.send(hub)
     }
 }

@@ -1,20 +1,23 @@
-//! What a client of the sliced family loans.
+//! What a client of the sliced family loans and sends.
 #![tactic(auto, using(crate::proofs::Asking::asks), unfolding(crate::specs::Facts::Has, crate::specs::Facts::numbers_left))]
 
-ghost use Rattle.std.specs.Prelude.{◌+◌, ◌≤◌, ◌<◌, ◌≢◌, ◌≡◌, Err, IfOk, IsSomeAnd, [], ℕ};
+ghost use Rattle.std.specs.Prelude.{◌+◌, ◌≤◌, ◌<◌, ◌≢◌, ◌≡◌, Err, IfOk, IsSomeAnd, [], ℕ, length};
 ghost use Rattle.rr_protocol.specs.declared.kind.Kind.TheVariants as kind;
 ghost use Rattle.rr_laws.specs.Unreduced.{ClientHasPool};
-ghost use Rattle.rr_ports.specs.Facts.{AskedLen, Asks, Has, IsFree, Keeps, Names, WholePool, numbers_left};
-ghost use Rattle.rr_ports.specs.Loaning.{AreDefaults, LoansComplete};
+ghost use Rattle.rr_ports.specs.Facts.{AskedLen, Asks, Has, IsFree, Keeps, Names, WholePool, numbers_left, Of};
+ghost use Rattle.rr_ports.specs.Queues.{AwaitsNothing, Hears, HearsNothing, KeepsAwaited, KeepsHeard};
+ghost use Rattle.rr_ports.specs.Loaning.{AreDefaults, LoansComplete, SendsSlice};
+ghost use Rattle.rr_protocol.specs.declared.error.SendError.TheVariants as send;
 ghost use Rattle.rr_protocol.specs.Loans.{LoansRequest};
 ghost use Rattle.rr_protocol.specs.State.{client_at};
 
 use crate::client::Client;
 use crate::hub::Hub;
+use crate::pending_response::PendingResponse;
 use crate::request_mut::RequestMut;
 use crate::request_mut_uninit;
 use crate::request_mut_uninit::RequestMutUninit;
-use rr_hub::{BackpressureFn, LoanError};
+use rr_hub::{BackpressureFn, LoanError, RequestSendError};
 use rr_slots::{Body, SliceBody};
 
 impl<T: Drop> Client<SliceBody<T>> {
@@ -45,6 +48,9 @@ impl<T: Drop> Client<SliceBody<T>> {
         ensures asked { IfOk result (λ request. Has hub.new request (AskedLen len)) }
         ensures keeps { Keeps [] hub.old hub.new }
         ensures numbers { numbers_left hub.old ≤ numbers_left hub.new + 1 }
+        ensures of { IfOk result (λ request. Has hub.new request (Of self.now request)) }
+        ensures heard { KeepsHeard [] hub.old hub.new }
+        ensures awaited { KeepsAwaited [] hub.old hub.new }
     {
         request_mut_uninit::loaned(hub.core.loan_request(self.number, len))
     }
@@ -90,5 +96,41 @@ impl<T: Default + Drop> Client<SliceBody<T>> {
     {
         let request = self.loan_slice_uninit(hub, len)?;
         Ok(request.write_from_fn(hub, |_| T::default()))
+    }
+}
+
+impl<T: Copy> Client<SliceBody<T>> {
+    /// Loans a request of as many elements as these, writes copies of them and sends it. Takes no memory up to the initial slice
+    /// length. Not in iceoryx2: `loan_slice_uninit`, `write_from_slice` and `send`.
+    ///
+    /// # Errors
+    ///
+    /// - `SendError(LoanError(..))` as `loan_slice_uninit`: up to the initial slice length a pool of the worst-case size never
+    ///   returns `OutOfMemory`. The hub stays as it was.
+    /// - `ExceedsMaxActiveRequests` and `SendError(UnableToDeliver)` as `RequestMut::send`. The request is gone.
+    #[inline(always)]
+    pub fn send_slice<QH: Default + Drop, PB: Body, PH: Default + Drop, K: BackpressureFn>(
+        &self,
+        hub: &mut Hub<SliceBody<T>, QH, PB, PH, K>,
+        elements: &[T],
+    ) -> Result<PendingResponse<SliceBody<T>>, RequestSendError>
+        requires kind { Names hub.old self.now kind.Client }
+        requires number { 0 < numbers_left hub.old }
+        ensures sends { SendsSlice QH.is_default K.action hub.old self.now elements.now result hub.new }
+        ensures unreduced { ClientHasPool hub.old.limits hub.old self.now (length elements.now) → result ≢ Err (RequestSendError.SendError (send.LoanError LoanError.OutOfMemory)) }
+        ensures whole { (room : ℕ) → length elements.now ≤ room → Has hub.old self.now (WholePool room) → result ≢ Err (RequestSendError.SendError (send.LoanError LoanError.OutOfMemory)) }
+        ensures free { IfOk result (λ pending. IsFree [] hub.old pending) }
+        ensures kind { IfOk result (λ pending. Names hub.new pending kind.PendingResponse) }
+        ensures says { IfOk result (λ pending. Has hub.new pending (Asks elements.now)) }
+        ensures keeps { Keeps [] hub.old hub.new }
+        ensures numbers { numbers_left hub.old ≤ numbers_left hub.new + 1 }
+        ensures of { IfOk result (λ pending. Has hub.new pending (Of self.now pending)) }
+        ensures hears { (server : ℕ) → Names hub.old server kind.Server → HearsNothing hub.old server → IfOk result (λ pending. Hears hub.new server pending) }
+        ensures awaits { IfOk result (λ pending. AwaitsNothing hub.new pending) }
+        ensures awaited { KeepsAwaited [] hub.old hub.new }
+    {
+        let request = self.loan_slice_uninit(hub, elements.len())?;
+        let request = request.write_from_slice(hub, elements);
+        request.send(hub)
     }
 }

@@ -4,7 +4,8 @@
 ghost use Rattle.std.specs.Prelude.{◌≡◌, ℕ, IsSomeAnd, option_and_then, false, length, ◌∷◌, [], List, ◌++◌, replicate};
 ghost use Rattle.rr_protocol.specs.declared.kind.Kind.TheVariants as kind;
 ghost use Rattle.rr_ports.specs.Filling.{CallableInOrder, CompletesResponse, FillsResponse, with_response_element, ReturnsInOrder};
-ghost use Rattle.rr_ports.specs.Facts.{AskedLen, Has, Keeps, Names, numbers_left, Answers};
+ghost use Rattle.rr_ports.specs.Facts.{AskedLen, Has, Keeps, Names, numbers_left, Answers, Of};
+ghost use Rattle.rr_ports.specs.Queues.{KeepsAwaited, KeepsHeard};
 ghost use Rattle.rr_ports.specs.Loaning.{with_complete_response};
 ghost use Rattle.rr_protocol.specs.Messages.{response_in};
 ghost use Rattle.rr_protocol.specs.State.{handle_at, with_changed};
@@ -78,6 +79,9 @@ impl<T: Drop> ResponseMutUninit<SliceBody<T>> {
         ensures asked { (len : ℕ) → Has hub.old self.now (AskedLen len) → Has hub.new self.now (AskedLen len) }
         ensures keeps { Keeps (self.now ∷ []) hub.old hub.new }
         ensures numbers { numbers_left hub.new ≡ numbers_left hub.old }
+        ensures of { (port request : ℕ) → Has hub.old self.now (Of port request) → Has hub.new self.now (Of port request) }
+        ensures heard { KeepsHeard (self.now ∷ []) hub.old hub.new }
+        ensures awaited { KeepsAwaited (self.now ∷ []) hub.old hub.new }
     {
         hub.core.push_response(&self.id, element);
     }
@@ -150,6 +154,9 @@ impl<T: Copy> ResponseMutUninit<SliceBody<T>> {
         ensures says { (len : ℕ) → Has hub.old self (AskedLen len) → Has hub.new result (Answers (replicate len element)) }
         ensures keeps { Keeps (self ∷ []) hub.old hub.new }
         ensures numbers { numbers_left hub.new ≡ numbers_left hub.old }
+        ensures of { (port request : ℕ) → Has hub.old self (Of port request) → Has hub.new result (Of port request) }
+        ensures heard { KeepsHeard (self ∷ []) hub.old hub.new }
+        ensures awaited { KeepsAwaited (self ∷ []) hub.old hub.new }
     {
         let ResponseMutUninit { id, of: _ } = self;
         hub.core.fill_response(&id, element);
@@ -176,6 +183,9 @@ impl<T: Copy> ResponseMutUninit<SliceBody<T>> {
         ensures says { Has hub.new result (Answers elements.now) }
         ensures keeps { Keeps (self ∷ []) hub.old hub.new }
         ensures numbers { numbers_left hub.new ≡ numbers_left hub.old }
+        ensures of { (port request : ℕ) → Has hub.old self (Of port request) → Has hub.new result (Of port request) }
+        ensures heard { KeepsHeard (self ∷ []) hub.old hub.new }
+        ensures awaited { KeepsAwaited (self ∷ []) hub.old hub.new }
     {
         let ResponseMutUninit { id, of: _ } = self;
         complete_response(hub, &id, elements);

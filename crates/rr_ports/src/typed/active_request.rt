@@ -1,39 +1,21 @@
-//! What a request of the typed family says, and typed responses to it.
+//! Typed responses to a request.
 #![tactic(auto, using(crate::proofs::Asking::asks), unfolding(crate::specs::Facts::Has, crate::specs::Facts::numbers_left))]
 
-ghost use Rattle.std.specs.Prelude.{◌∷◌, ◌+◌, ◌≤◌, ◌<◌, ◌≢◌, ◌≡◌, Err, IfOk, IsSomeAnd, option_and_then, [], ℕ};
+ghost use Rattle.std.specs.Prelude.{◌∷◌, ◌+◌, ◌≤◌, ◌<◌, ◌≢◌, ◌≡◌, Err, IfOk, [], ℕ, List, OnOk, length, ◌++◌};
 ghost use Rattle.rr_protocol.specs.declared.kind.Kind.TheVariants as kind;
 ghost use Rattle.rr_laws.specs.Unreduced.{ServerHasPool};
-ghost use Rattle.rr_ports.specs.Facts.{AskedLen, Answers, Has, IsFree, Keeps, Names, WholePool, numbers_left, Asks};
+ghost use Rattle.rr_ports.specs.Facts.{AskedLen, Answers, Has, IsFree, Keeps, Names, WholePool, numbers_left, Of};
+ghost use Rattle.rr_ports.specs.Queues.{Awaits, AwaitsNothing, KeepsAwaited, KeepsHeard};
 ghost use Rattle.rr_ports.specs.Loaning.{SendsResponseCopy, LoansResponseComplete, IsOneDefault};
 ghost use Rattle.rr_protocol.specs.Loans.{LoansResponse};
-ghost use Rattle.rr_protocol.specs.Messages.{request_in};
-ghost use Rattle.rr_protocol.specs.State.{handle_at};
 
 use crate::active_request::ActiveRequest;
 use crate::hub::Hub;
 use crate::response_mut::ResponseMut;
 use crate::response_mut_uninit;
 use crate::response_mut_uninit::ResponseMutUninit;
-use crate::typed::payload_of;
 use rr_hub::{BackpressureFn, LoanError, SendError};
 use rr_slots::Body;
-
-impl<T: Drop> ActiveRequest<Option<T>> {
-    /// Returns the payload of the request. After iceoryx2's `ActiveRequest::payload`.
-    #[inline(always)]
-    pub fn payload<'a, QH: Default + Drop, PB: Body, PH: Default + Drop, K: BackpressureFn>(
-        &self,
-        hub: &'a Hub<Option<T>, QH, PB, PH, K>,
-    ) -> &'a T
-        requires { Names hub.now self.now kind.ActiveRequest }
-        ensures value { IsSomeAnd (option_and_then request_in (handle_at hub.now self.now)) (λ m. m.content.elements ≡ result.now ∷ []) }
-        ensures says { Has hub.now self.now (Asks (result.now ∷ [])) }
-        ensures reads { (x : T) → Has hub.now self.now (Asks (x ∷ [])) → result.now ≡ x }
-    {
-        payload_of(hub.core.request_body(&self.id))
-    }
-}
 
 impl<QB: Body> ActiveRequest<QB> {
     /// Loans a response whose payload is to be written, under the next number, of which one is left. Takes no memory. After
@@ -60,6 +42,9 @@ impl<QB: Body> ActiveRequest<QB> {
         ensures asked { IfOk result (λ response. Has hub.new response (AskedLen 1)) }
         ensures keeps { Keeps [] hub.old hub.new }
         ensures numbers { numbers_left hub.old ≤ numbers_left hub.new + 1 }
+        ensures of { (port request : ℕ) → Has hub.old self.now (Of port request) → IfOk result (λ response. Has hub.new response (Of port request)) }
+        ensures heard { KeepsHeard [] hub.old hub.new }
+        ensures awaited { KeepsAwaited [] hub.old hub.new }
     {
         response_mut_uninit::loaned(hub.core.loan_response(&self.id, 1))
     }
@@ -88,7 +73,9 @@ impl<QB: Body> ActiveRequest<QB> {
         Ok(response.write_payload(hub, T::default()))
     }
 
-    /// Loans a response, writes a value and sends it. Takes no memory. After iceoryx2's `ActiveRequest::send_copy`.
+    /// Loans a response, writes a value and sends it. `Ok` doesn't say that a queue took it: with `DiscardData` a full one is passed
+    /// over, and a response to a request that nobody waits for any more goes nowhere. Takes no memory. After iceoryx2's
+    /// `ActiveRequest::send_copy`.
     ///
     /// # Errors
     ///
@@ -108,6 +95,9 @@ impl<QB: Body> ActiveRequest<QB> {
         ensures whole { (room : ℕ) → 1 ≤ room → Has hub.old self.now (WholePool room) → result ≢ Err (SendError.LoanError LoanError.OutOfMemory) }
         ensures keeps { Keeps [] hub.old hub.new }
         ensures numbers { numbers_left hub.old ≤ numbers_left hub.new + 1 }
+        ensures first { (server pending : ℕ) → Has hub.old self.now (Of server pending) → Names hub.old server kind.Server → AwaitsNothing hub.old pending → OnOk result (Awaits hub.new pending server ((value ∷ []) ∷ [])) }
+        ensures next { (server pending : ℕ) (answers : List (List T)) → Has hub.old self.now (Of server pending) → Names hub.old server kind.Server → Awaits hub.old pending server answers → length answers < hub.old.limits.max_response_buffer_size → OnOk result (Awaits hub.new pending server (answers ++ (value ∷ []) ∷ [])) }
+        ensures heard { (port request : ℕ) → Has hub.old self.now (Of port request) → Names hub.old port kind.Server → KeepsHeard [] hub.old hub.new }
     {
         let response = self.loan_uninit(hub)?;
         let response = response.write_payload(hub, value);

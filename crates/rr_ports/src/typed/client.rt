@@ -4,7 +4,8 @@
 ghost use Rattle.std.specs.Prelude.{◌+◌, ◌≤◌, ◌<◌, ◌≢◌, Err, IfOk, [], ℕ, ◌∷◌};
 ghost use Rattle.rr_protocol.specs.declared.kind.Kind.TheVariants as kind;
 ghost use Rattle.rr_laws.specs.Unreduced.{ClientHasPool};
-ghost use Rattle.rr_ports.specs.Facts.{AskedLen, Asks, Has, IsFree, Keeps, Names, WholePool, numbers_left};
+ghost use Rattle.rr_ports.specs.Facts.{AskedLen, Asks, Has, IsFree, Keeps, Names, WholePool, numbers_left, Of};
+ghost use Rattle.rr_ports.specs.Queues.{AwaitsNothing, Hears, HearsNothing, KeepsAwaited, KeepsHeard};
 ghost use Rattle.rr_ports.specs.Shortcuts.{TellsCopy};
 ghost use Rattle.rr_ports.specs.Loaning.{SendsCopy, LoansComplete, IsOneDefault};
 ghost use Rattle.rr_protocol.specs.declared.error.SendError.TheVariants as send;
@@ -44,6 +45,9 @@ impl<T: Drop> Client<Option<T>> {
         ensures asked { IfOk result (λ request. Has hub.new request (AskedLen 1)) }
         ensures keeps { Keeps [] hub.old hub.new }
         ensures numbers { numbers_left hub.old ≤ numbers_left hub.new + 1 }
+        ensures of { IfOk result (λ request. Has hub.new request (Of self.now request)) }
+        ensures heard { KeepsHeard [] hub.old hub.new }
+        ensures awaited { KeepsAwaited [] hub.old hub.new }
     {
         request_mut_uninit::loaned(hub.core.loan_request(self.number, 1))
     }
@@ -74,7 +78,8 @@ impl<T: Drop> Client<Option<T>> {
         Ok(request.write_payload(hub, T::default()))
     }
 
-    /// Loans a request, writes a value and sends it. Takes no memory. After iceoryx2's `Client::send_copy`.
+    /// Loans a request, writes a value and sends it. With `DiscardData` full queues are passed over, and the send is `Ok`. Takes no
+    /// memory. After iceoryx2's `Client::send_copy`.
     ///
     /// # Errors
     ///
@@ -97,6 +102,10 @@ impl<T: Drop> Client<Option<T>> {
         ensures says { IfOk result (λ pending. Has hub.new pending (Asks (value ∷ []))) }
         ensures keeps { Keeps [] hub.old hub.new }
         ensures numbers { numbers_left hub.old ≤ numbers_left hub.new + 1 }
+        ensures of { IfOk result (λ pending. Has hub.new pending (Of self.now pending)) }
+        ensures hears { (server : ℕ) → Names hub.old server kind.Server → HearsNothing hub.old server → IfOk result (λ pending. Hears hub.new server pending) }
+        ensures awaits { IfOk result (λ pending. AwaitsNothing hub.new pending) }
+        ensures awaited { KeepsAwaited [] hub.old hub.new }
     {
         let request = self.loan_uninit(hub)?;
         let request = request.write_payload(hub, value);

@@ -1,9 +1,10 @@
 //! Writing the payload of a typed request.
 #![tactic(auto, using(crate::proofs::Asking::asks), unfolding(crate::specs::Facts::Has, crate::specs::Facts::numbers_left))]
 
-ghost use Rattle.std.specs.Prelude.{◌∷◌, ◌≡◌, IsSomeAnd, option_and_then, []};
+ghost use Rattle.std.specs.Prelude.{◌∷◌, ◌≡◌, IsSomeAnd, option_and_then, [], ℕ};
 ghost use Rattle.rr_protocol.specs.declared.kind.Kind.TheVariants as kind;
-ghost use Rattle.rr_ports.specs.Facts.{Has, Keeps, Names, numbers_left, Asks};
+ghost use Rattle.rr_ports.specs.Facts.{Has, Keeps, Names, numbers_left, Asks, Of};
+ghost use Rattle.rr_ports.specs.Queues.{KeepsAwaited, KeepsHeard};
 ghost use Rattle.rr_protocol.specs.Messages.{request_in};
 ghost use Rattle.rr_protocol.specs.State.{handle_at, with_changed};
 ghost use Rattle.rr_protocol.specs.Writing.{after_init, with_elements, with_request_content};
@@ -45,6 +46,9 @@ impl<T: Drop> RequestMutUninit<Option<T>> {
         ensures says { Has hub.new result (Asks (value ∷ [])) }
         ensures keeps { Keeps (self ∷ []) hub.old hub.new }
         ensures numbers { numbers_left hub.new ≡ numbers_left hub.old }
+        ensures of { (port request : ℕ) → Has hub.old self (Of port request) → Has hub.new result (Of port request) }
+        ensures heard { KeepsHeard (self ∷ []) hub.old hub.new }
+        ensures awaited { KeepsAwaited (self ∷ []) hub.old hub.new }
     {
         let RequestMutUninit { id, of: _ } = self;
         // Its clause says that one element is asked for, as of every typed body.

@@ -1,6 +1,12 @@
 use Rattle.rr_ports.specs.Facts.{Has}
 use Rattle.rr_ports.proofs.ReleaseLaws.{released_keeps, released_numbers}
 use Rattle.rr_ports.proofs.SendLaws.{unsent, sent_names, sent_asks, sent_but}
+use Rattle.rr_ports.proofs.AwaitedLaws.{sent_awaits}
+use Rattle.rr_ports.proofs.HandleReleases.{client_used, released_awaited}
+use Rattle.rr_ports.proofs.HeardLaws.{sent_hears, sent_of, sent_responses, sent_stays}
+use Rattle.rr_ports.proofs.QueueLaws.{awaited_stays}
+use Rattle.rr_protocol.specs.declared.kind.Kind.{Kind}
+use Rattle.std.proofs.Common.{[], ◌∷◌}
 use Rattle.rr_ports.proofs.request_mut.RequestMut.send.Goals as goal
 
 pub returns-in_err-_connections-clause-keeps : goal.returns-in_err-_connections-clause-keeps
@@ -29,3 +35,38 @@ pub returns-clause-keeps : goal.returns-clause-keeps
 returns-clause-keeps g c =
     rw (← c.hub.view_is, ← c.self.view_is) (sent_but g.K.BackpressureFn.action c.hub.inside.core c.send_request.new.self c.self.inside.id
     c.in_ok-_connections._connections c.in_ok-_connections.ensures)
+
+pub returns-in_err-_connections-clause-awaited : goal.returns-in_err-_connections-clause-awaited
+unfolding Has
+returns-in_err-_connections-clause-awaited g c port request of lives =
+    rw (← c.hub.view_is, ← c.self.view_is) (released_awaited c.hub.inside.core c.send_request.new.self c.self.inside.id
+    (unsent g.K.BackpressureFn.action c.hub.inside.core c.send_request.new.self c.self.inside.id c.in_err-_connections.field-0.0 c.in_err-_connections.ensures) Kind.RequestMut (λ e. cc) (λ e. cc)
+    (rw (← c.hub.view_is, ← c.self.view_is) at c.requires) port request (rw (← c.hub.view_is, ← c.self.view_is) at of)
+    (client_used c.hub.inside.core port (rw (← c.hub.view_is) at lives)) (λ e. cc))
+
+pub returns-clause-of : goal.returns-clause-of
+unfolding Has
+returns-clause-of g c port request of =
+    sent_of g.K.BackpressureFn.action c.hub.inside.core c.send_request.new.self c.self.inside.id c.in_ok-_connections._connections c.in_ok-_connections.ensures
+    (rw (← c.hub.view_is, ← c.self.view_is) at c.requires) c.reached.ensures.reached c.reached.ensures.servers port request
+    (rw (← c.hub.view_is, ← c.self.view_is) at of)
+
+pub returns-clause-hears : goal.returns-clause-hears
+unfolding Has
+returns-clause-hears g c server lives nothing =
+    sent_hears g.K.BackpressureFn.action c.hub.inside.core c.send_request.new.self c.self.inside.id c.in_ok-_connections._connections c.in_ok-_connections.ensures
+    (rw (← c.hub.view_is, ← c.self.view_is) at c.requires) c.reached.ensures.reached c.reached.ensures.servers server
+    (rw (← c.hub.view_is) at lives) (rw (← c.hub.view_is) at nothing)
+
+pub returns-clause-awaits : goal.returns-clause-awaits
+unfolding Has
+returns-clause-awaits g c =
+    sent_awaits g.K.BackpressureFn.action c.hub.inside.core c.send_request.new.self c.self.inside.id c.in_ok-_connections._connections c.in_ok-_connections.ensures
+    (rw (← c.hub.view_is, ← c.self.view_is) at c.requires) c.reached.ensures.reached c.reached.ensures.channels
+
+pub returns-clause-awaited : goal.returns-clause-awaited
+unfolding Has
+returns-clause-awaited g c port request of lives =
+    rw (← c.hub.view_is, ← c.self.view_is) (awaited_stays (c.self.inside.id ∷ []) c.hub.inside.core c.send_request.new.self
+    (sent_stays g.K.BackpressureFn.action c.hub.inside.core c.send_request.new.self c.self.inside.id c.in_ok-_connections._connections c.in_ok-_connections.ensures (rw (← c.hub.view_is, ← c.self.view_is) at c.requires))
+    (sent_responses g.K.BackpressureFn.action c.hub.inside.core c.send_request.new.self c.self.inside.id c.in_ok-_connections._connections c.in_ok-_connections.ensures (rw (← c.hub.view_is, ← c.self.view_is) at c.requires)))

@@ -1,3 +1,5 @@
+use Rattle.rr_ports.specs.Facts.{Has}
+use Rattle.rr_ports.proofs.ResponseSends.{response_first, response_heard, response_next}
 use Rattle.rr_ports.proofs.SendLaws.{answered_but, answered_numbers}
 use Rattle.rr_ports.proofs.response_mut.ResponseMut.send.Goals as goal
 
@@ -10,3 +12,22 @@ pub returns-clause-numbers : goal.returns-clause-numbers
 returns-clause-numbers g c =
     rw (← c.hub.view_is) (answered_numbers g.K.BackpressureFn.action c.hub.inside.core c.send_response.new.self c.self.inside.id
     c.send_response.result c.send_response.ensures)
+
+pub returns-clause-first : goal.returns-clause-first
+unfolding Has
+returns-clause-first g c server pending xs of lives says nothing =
+    response_first g.K.BackpressureFn.action c.hub.inside.core c.send_response.new.self c.self.inside.id (rw (← c.hub.view_is, ← c.self.view_is) at c.requires) c.reached.ensures.reached server pending (rw (← c.hub.view_is, ← c.self.view_is) at of) (rw (← c.hub.view_is) at lives)
+    c.send_response.result c.send_response.ensures xs (rw (← c.hub.view_is, ← c.self.view_is) at says) (rw (← c.hub.view_is) at nothing)
+
+pub returns-clause-next : goal.returns-clause-next
+unfolding Has
+returns-clause-next g c server pending answers xs of lives says awaits room =
+    response_next g.K.BackpressureFn.action c.hub.inside.core c.send_response.new.self c.self.inside.id (rw (← c.hub.view_is, ← c.self.view_is) at c.requires) c.reached.ensures.reached server pending (rw (← c.hub.view_is, ← c.self.view_is) at of) (rw (← c.hub.view_is) at lives)
+    c.send_response.result c.send_response.ensures answers xs (rw (← c.hub.view_is, ← c.self.view_is) at says) (rw (← c.hub.view_is) at awaits)
+    (rw (← c.hub.view_is) at room)
+
+pub returns-clause-heard : goal.returns-clause-heard
+unfolding Has
+returns-clause-heard g c port request of lives =
+    rw (← c.hub.view_is, ← c.self.view_is) (response_heard g.K.BackpressureFn.action c.hub.inside.core c.send_response.new.self c.self.inside.id (rw (← c.hub.view_is, ← c.self.view_is) at c.requires) c.reached.ensures.reached port request (rw (← c.hub.view_is, ← c.self.view_is) at of)
+    (rw (← c.hub.view_is) at lives) c.send_response.result c.send_response.ensures)

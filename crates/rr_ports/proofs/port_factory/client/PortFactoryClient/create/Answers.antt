@@ -26,3 +26,13 @@ pub returns-clause-pool : goal.returns-clause-pool
 returns-clause-pool g c whole =
     rw (c.created.ensures, ← c.self.view_is) (client_told c.create_client.new.self c.hub.view_is _ c.self.inside.preallocation c.limits-limits.ensures.limits c.limits-limits.ensures.makes_hub
     _ _ c.create_client.ensures.creates c.create_client.ensures.unnamed c.create_client.ensures.unmade c.request_slots.ensures c.chosen-pool.ensures (rw (← c.self.view_is) at whole))
+
+pub returns-clause-heard : goal.returns-clause-heard
+returns-clause-heard g c =
+    rw (← c.hub.view_is) (created_client c.hub.inside.core c.create_client.new.self _ _
+    c.create_client.ensures.creates c.create_client.ensures.unnamed).queues.0
+
+pub returns-clause-awaited : goal.returns-clause-awaited
+returns-clause-awaited g c =
+    rw (← c.hub.view_is) (created_client c.hub.inside.core c.create_client.new.self _ _
+    c.create_client.ensures.creates c.create_client.ensures.unnamed).queues.1

@@ -1,0 +1,213 @@
+//! A remote procedure call: what a server answers to a question is what the client receives.
+#![tactic(auto, using(rr_ports::proofs::Frames::callers), unfolding(rr_ports::specs::Facts::Keeps, rr_ports::specs::Facts::IsFree, rr_ports::specs::Queues::KeepsHeard))]
+
+ghost use Rattle.std.specs.Prelude.{◌+◌, ◌≤◌, ◌<◌, ◌≡◌, ◌≢◌, ◌∷◌, [], IfOk};
+ghost use Rattle.rr_protocol.specs.declared.kind.Kind.TheVariants as kind;
+ghost use Rattle.rr_ports.specs.Facts.{Asks, Has, Keeps, Names, Of, numbers_left};
+ghost use Rattle.rr_ports.specs.Queues.{Awaits, AwaitsNothing, Hears, HearsNothing, KeepsHeard};
+
+use rr_ports::typed::{Client, Hub, PendingResponse, Server};
+use rr_ports::{ReceiveError, RequestSendError, SendError};
+use thiserror::Error;
+
+/// A service that answers numbers with numbers.
+type Service = Hub<u64, u64, u64, u64>;
+
+/// Why a call returned no answer.
+#[derive(Clone, Copy, Debug, PartialEq, Eq, Error)]
+pub enum CallError {
+    /// The question was not sent.
+    #[error("not asked: {0}")]
+    NotAsked(RequestSendError),
+    /// The server didn't receive the question.
+    #[error("not heard: {0}")]
+    NotHeard(ReceiveError),
+    /// The answer was not sent.
+    #[error("not answered: {0}")]
+    NotAnswered(SendError),
+    /// The client didn't receive the answer.
+    #[error("not received: {0}")]
+    NotReceived(ReceiveError),
+}
+
+/// Answers the one question that is queued for a server, as `answer_by` says. Returns the answer.
+///
+/// # Errors
+///
+/// `NotHeard` as `Server::receive`, `NotAnswered` as `ActiveRequest::send_copy`.
+pub fn answer<F: FnOnce(u64) -> u64>(
+    hub: &mut Service,
+    server: &Server<u64>,
+    pending: &PendingResponse<u64>,
+    question: u64,
+    answer_by: F,
+) -> Result<u64, CallError>
+    requires server { Names hub.old server.now kind.Server }
+    requires asks { Has hub.old pending.now (Asks (question ∷ [])) }
+    requires hears { Hears hub.old server.now pending.now }
+    requires awaits { AwaitsNothing hub.old pending.now }
+    requires numbers { 1 < numbers_left hub.old }
+    requires callable { F.pre answer_by question }
+    ensures answers { IfOk result (λ answer. F.post answer_by question answer) }
+    ensures awaits { IfOk result (λ answer. Awaits hub.new pending.now server.now ((answer ∷ []) ∷ [])) }
+    ensures quiet { IfOk result (λ answer. HearsNothing hub.new server.now) }
+    ensures heard { KeepsHeard (server.now ∷ []) hub.old hub.new }
+    ensures keeps { Keeps [] hub.old hub.new }
+    ensures numbers { numbers_left hub.old ≤ numbers_left hub.new + 2 }
+{
+    match server.receive(hub) {
+        Ok(Some(active)) => {
+            let asked = *active.payload(hub);
+            let answer = answer_by(asked);
+            match active.send_copy(hub, answer) {
+                Ok(()) => {
+                    active.release(hub);
+                    Ok(answer)
+                }
+                Err(error) => {
+                    active.release(hub);
+                    Err(CallError::NotAnswered(error))
+                }
+            }
+        }
+        Ok(None) => unreachable!(),
+        Err(error) => Err(CallError::NotHeard(error)),
+    }
+}
+
+/// Receives the one answer that is queued for a question. No answer is queued then.
+///
+/// # Errors
+///
+/// `NotReceived` as `PendingResponse::receive`.
+pub fn received(
+    hub: &mut Service,
+    client: &Client<u64>,
+    server: &Server<u64>,
+    pending: &PendingResponse<u64>,
+    answer: u64,
+) -> Result<u64, CallError>
+    requires client { Names hub.old client.now kind.Client }
+    requires pending { Names hub.old pending.now kind.PendingResponse }
+    requires of { Has hub.old pending.now (Of client.now pending.now) }
+    requires awaits { Awaits hub.old pending.now server.now ((answer ∷ []) ∷ []) }
+    ensures answers { IfOk result (λ received. received ≡ answer) }
+    ensures done { IfOk result (λ received. AwaitsNothing hub.new pending.now) }
+    ensures heard { KeepsHeard [] hub.old hub.new }
+    ensures keeps { Keeps [] hub.old hub.new }
+    ensures numbers { numbers_left hub.new ≡ numbers_left hub.old }
+{
+    match pending.receive_copy(hub) {
+        Ok(Some(value)) => Ok(value),
+        Ok(None) => unreachable!(),
+        Err(error) => Err(CallError::NotReceived(error)),
+    }
+}
+
+/// Lets a server answer a question that was sent, and returns what the client receives.
+///
+/// # Errors
+///
+/// As `answer` and `received`.
+pub fn exchange<F: FnOnce(u64) -> u64>(
+    hub: &mut Service,
+    client: &Client<u64>,
+    server: &Server<u64>,
+    pending: &PendingResponse<u64>,
+    question: u64,
+    answer_by: F,
+) -> Result<u64, CallError>
+    requires client { Names hub.old client.now kind.Client }
+    requires server { Names hub.old server.now kind.Server }
+    requires pending { Names hub.old pending.now kind.PendingResponse }
+    requires of { Has hub.old pending.now (Of client.now pending.now) }
+    requires asks { Has hub.old pending.now (Asks (question ∷ [])) }
+    requires hears { Hears hub.old server.now pending.now }
+    requires awaits { AwaitsNothing hub.old pending.now }
+    requires numbers { 1 < numbers_left hub.old }
+    requires callable { F.pre answer_by question }
+    ensures answers { IfOk result (λ answer. F.post answer_by question answer) }
+    ensures quiet { IfOk result (λ answer. HearsNothing hub.new server.now) }
+    ensures done { IfOk result (λ answer. AwaitsNothing hub.new pending.now) }
+    ensures heard { KeepsHeard (server.now ∷ []) hub.old hub.new }
+    ensures keeps { Keeps [] hub.old hub.new }
+    ensures numbers { numbers_left hub.old ≤ numbers_left hub.new + 2 }
+{
+    match answer(hub, server, pending, question, answer_by) {
+        Ok(answer) => received(hub, client, server, pending, answer),
+        Err(error) => Err(error),
+    }
+}
+
+/// Sends a question, lets the server answer it as `answer_by` says, and returns what the client receives: the answer to this
+/// question.
+///
+/// # Errors
+///
+/// Each variant of `CallError` says when it comes.
+pub fn call<F: FnOnce(u64) -> u64>(
+    hub: &mut Service,
+    client: &Client<u64>,
+    server: &Server<u64>,
+    question: u64,
+    answer_by: F,
+) -> Result<u64, CallError>
+    requires client { Names hub.old client.now kind.Client }
+    requires server { Names hub.old server.now kind.Server }
+    requires quiet { HearsNothing hub.old server.now }
+    requires numbers { 2 < numbers_left hub.old }
+    requires callable { F.pre answer_by question }
+    ensures answers { IfOk result (λ answer. F.post answer_by question answer) }
+    ensures quiet { IfOk result (λ answer. HearsNothing hub.new server.now) }
+    ensures keeps { Keeps [] hub.old hub.new }
+{
+    let pending = client
+        .send_copy(hub, question)
+        .map_err(CallError::NotAsked)?;
+    let result = exchange(hub, client, server, &pending, question, answer_by);
+    pending.release(hub);
+    result
+}
+
+/// Sends a question to two servers, lets each answer it, and returns what the client receives: the first server's answer to this
+/// question, and the second one's.
+///
+/// # Errors
+///
+/// Each variant of `CallError` says when it comes.
+pub fn call_both<F: FnOnce(u64) -> u64, G: FnOnce(u64) -> u64>(
+    hub: &mut Service,
+    client: &Client<u64>,
+    first: &Server<u64>,
+    second: &Server<u64>,
+    question: u64,
+    first_answers: F,
+    second_answers: G,
+) -> Result<(u64, u64), CallError>
+    requires client { Names hub.old client.now kind.Client }
+    requires first { Names hub.old first.now kind.Server }
+    requires second { Names hub.old second.now kind.Server }
+    requires differ { second.now ≢ first.now }
+    requires first_quiet { HearsNothing hub.old first.now }
+    requires second_quiet { HearsNothing hub.old second.now }
+    requires numbers { 4 < numbers_left hub.old }
+    requires first_callable { F.pre first_answers question }
+    requires second_callable { G.pre second_answers question }
+    ensures first { IfOk result (λ answers. F.post first_answers question answers.0) }
+    ensures second { IfOk result (λ answers. G.post second_answers question answers.1) }
+    ensures keeps { Keeps [] hub.old hub.new }
+{
+    let pending = client
+        .send_copy(hub, question)
+        .map_err(CallError::NotAsked)?;
+    let one = exchange(hub, client, first, &pending, question, first_answers);
+    let result = match one {
+        Ok(one) => match exchange(hub, client, second, &pending, question, second_answers) {
+            Ok(two) => Ok((one, two)),
+            Err(error) => Err(error),
+        },
+        Err(error) => Err(error),
+    };
+    pending.release(hub);
+    result
+}
