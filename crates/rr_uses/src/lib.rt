@@ -3,6 +3,7 @@
 
 pub mod asking;
 pub mod calling;
+pub mod counting;
 pub mod parameter;
 pub mod serving;
 pub mod slices;

@@ -2,11 +2,16 @@
 #![tactic(auto, using(rr_ports::proofs::Frames::callers), unfolding(rr_ports::specs::Facts::Keeps, rr_ports::specs::Facts::IsFree))]
 
 ghost use Rattle.std.specs.Prelude.{◌<◌, []};
+ghost use Rattle.rr_protocol.specs.declared.kind.Kind.TheVariants as kind;
+ghost use Rattle.rr_ports.specs.Facts.{Has, Keeps, Names, Of, numbers_left};
+ghost use Rattle.rr_ports.specs.Queues.{AwaitsNothing, Hears, HearsNothing};
 
 use super::LIMITS;
 use rr_ports::UniqueNodeId;
-use rr_ports::typed::Hub;
+use rr_ports::typed::{Client, Hub, PendingResponse, Server};
 use rr_uses::calling::{call, call_both};
+use rr_uses::counting::{count, received};
+use std::alloc::Global;
 
 /// A service that answers numbers with numbers.
 type Service = Hub<u64, u64, u64, u64>;
@@ -64,4 +69,75 @@ fn a_call_of_two_returns_both_answers(rt: HostRuntime) {
     first.release(&mut hub);
     second.release(&mut hub);
     assert_eq!(rt; answers, Ok((21, 40)));
+}
+
+/// Has the server answer with a stream of two numbers. Returns those that came.
+fn taken(
+    alloc: Global,
+    hub: &mut Service,
+    client: &Client<u64>,
+    server: &Server<u64>,
+    pending: &PendingResponse<u64>,
+) -> Option<Vec<u64>>
+    requires client { Names hub.old client.now kind.Client }
+    requires server { Names hub.old server.now kind.Server }
+    requires pending { Names hub.old pending.now kind.PendingResponse }
+    requires of { Has hub.old pending.now (Of client.now pending.now) }
+    requires hears { Hears hub.old server.now pending.now }
+    requires awaits { AwaitsNothing hub.old pending.now }
+    requires number { 0 < numbers_left hub.old }
+    ensures { Keeps [] hub.old hub.new }
+{
+    let Ok(Some(active)) = server.receive(hub) else {
+        return None;
+    };
+    match count(hub, server, pending, &active, 2) {
+        Ok(sent) => {
+            let came = received(alloc, hub, client, server, pending, sent);
+            active.release(hub);
+            came.ok()
+        }
+        Err(_) => {
+            active.release(hub);
+            None
+        }
+    }
+}
+
+/// Asks for a stream of two numbers. Returns those that came.
+fn counted(
+    alloc: Global,
+    hub: &mut Service,
+    client: &Client<u64>,
+    server: &Server<u64>,
+) -> Option<Vec<u64>>
+    requires client { Names hub.old client.now kind.Client }
+    requires server { Names hub.old server.now kind.Server }
+    requires quiet { HearsNothing hub.old server.now }
+    requires numbers { 1 < numbers_left hub.old }
+    ensures { Keeps [] hub.old hub.new }
+{
+    let pending = client.send_copy(hub, 0).ok()?;
+    let came = taken(alloc, hub, client, server, &pending);
+    pending.release(hub);
+    came
+}
+
+/// A stream is received in the order in which it was sent.
+#[test]
+fn a_stream_comes_in_order(rt: HostRuntime) {
+    let mut hub = Service::new(rt.alloc(), LIMITS, UniqueNodeId(7)).expect(&rt, "a hub");
+    let client = hub
+        .client_builder()
+        .create(&mut hub)
+        .expect(&rt, "a client");
+    let server = hub
+        .server_builder()
+        .create(&mut hub)
+        .expect(&rt, "a server");
+    let came = counted(rt.alloc(), &mut hub, &client, &server);
+    client.release(&mut hub);
+    server.release(&mut hub);
+    let came = came.expect(&rt, "a stream");
+    assert_eq!(rt; came.as_slice(), [0, 1].as_slice());
 }
