@@ -125,6 +125,7 @@ pub fn meet(hub: &mut Service) -> Result<bool, ClientCreateError>
 }
 
 /// Releases a received request, and returns the next one.
+#[tactic(auto, using(rr_ports::proofs::Frames::callers, rr_ports::proofs::Frames::free_before), unfolding(rr_ports::specs::Facts::Keeps))]
 pub fn next(
     hub: &mut Service,
     server: &Server<u64>,
@@ -134,8 +135,12 @@ pub fn next(
     requires last { Names hub.old last kind.ActiveRequest }
     requires number { 0 < numbers_left hub.old }
     ensures kind { IfOk result (λ next. IfSome next (λ active. Names hub.new active kind.ActiveRequest)) }
+    ensures free { IfOk result (λ next. IfSome next (λ active. IsFree (last ∷ []) hub.old active)) }
     ensures keeps { Keeps (last ∷ []) hub.old hub.new }
 {
     last.release(hub);
-    server.receive(hub)
+    let Some(active) = server.receive(hub)? else {
+        return Ok(None);
+    };
+    Ok(Some(active))
 }

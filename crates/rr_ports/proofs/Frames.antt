@@ -47,6 +47,12 @@ module _ {Q QH P PH K : Type 0} where
   unfolding IsFree
   not_there handed s n free other there = free other there
 
+  -- a number that was free after calls that took some handles was free before them, or is one of those. It stands outside `callers`: a
+  -- caller that takes a handle and returns a new one lists it, and leaves `IsFree` folded
+  pub free_before : (handed : List ℕ) (old new : State Q QH P PH K) (n : ℕ) → Keeps handed old new → IsFree [] new n → IsFree handed old n
+  unfolding IsFree
+  free_before handed old new n keeps free = λ other there. not_there [] new n free tt (there_kept handed old new n keeps other there)
+
   -- numbers of two kinds differ
   pub of_two_kinds : (s : State Q QH P PH K) (n m : ℕ) (j k : Kind) → Has s n (IsA j) → Has s m (IsA k) → is_kind j k ≡ false → n ≢ m
   unfolding Has
