@@ -36,6 +36,33 @@ pub struct Limits {
 impl Limits {
     ghost use Rattle.rr_protocol.specs.Limits.{has_zero_limit, worst_case_requests, worst_case_responses, hub_refusal};
 
+    /// The smallest limits of a hub: one of everything, queues that refuse, no fire-and-forget, and nothing kept of ports that
+    /// left. Not in iceoryx2, whose limits have defaults.
+    ///
+    /// # Examples
+    ///
+    /// Two clients of one server, which sees one request of each:
+    ///
+    /// ```
+    /// const LIMITS: Limits = Limits {
+    ///     max_clients: 2,
+    ///     ..Limits::SMALLEST
+    /// };
+    /// ```
+    pub const SMALLEST: Limits = Limits {
+        max_clients: 1,
+        max_servers: 1,
+        max_loaned_requests: 1,
+        max_active_requests_per_client: 1,
+        max_response_buffer_size: 1,
+        max_borrowed_responses_per_pending_response: 1,
+        enable_safe_overflow_for_requests: false,
+        enable_safe_overflow_for_responses: false,
+        enable_fire_and_forget_requests: false,
+        client_expired_connection_buffer: 0,
+        server_expired_connection_buffer: 0,
+    };
+
     /// Whether a limit is below its least value.
     pub fn has_zero_limit(&self) -> bool
         ensures { result ≡ has_zero_limit self.now }
