@@ -17,19 +17,7 @@ use std::thread::Threads;
 use std::time::{Clock, Instant};
 
 /// The limits of one client and one server.
-pub const LIMITS: Limits = Limits {
-    max_clients: 1,
-    max_servers: 1,
-    max_loaned_requests: 1,
-    max_active_requests_per_client: 1,
-    max_response_buffer_size: 1,
-    max_borrowed_responses_per_pending_response: 1,
-    enable_safe_overflow_for_requests: false,
-    enable_safe_overflow_for_responses: false,
-    enable_fire_and_forget_requests: false,
-    client_expired_connection_buffer: 0,
-    server_expired_connection_buffer: 0,
-};
+pub const LIMITS: Limits = Limits::SMALLEST;
 
 /// The calls of a sample of a book, and the turns of one of a lock.
 const CALLS: u64 = 100_000;

@@ -5,25 +5,11 @@ ghost use Rattle.std.specs.Prelude.{◌<◌, []};
 ghost use Rattle.rr_protocol.specs.declared.kind.Kind.TheVariants as kind;
 ghost use Rattle.rr_ports.specs.Facts.{Keeps, Names, numbers_left};
 
-use rr_ports::typed::{Client, Hub, PendingResponse, Server};
+use rr_ports::typed::{Client, Hub, Server};
 use rr_ports::{Limits, UniqueNodeId};
 
 /// Numbers with numbers as user headers, both ways.
 type Service = Hub<u64, u64, u64, u64>;
-
-const LIMITS: Limits = Limits {
-    max_clients: 1,
-    max_servers: 1,
-    max_loaned_requests: 1,
-    max_active_requests_per_client: 1,
-    max_response_buffer_size: 1,
-    max_borrowed_responses_per_pending_response: 1,
-    enable_safe_overflow_for_requests: false,
-    enable_safe_overflow_for_responses: false,
-    enable_fire_and_forget_requests: false,
-    client_expired_connection_buffer: 0,
-    server_expired_connection_buffer: 0,
-};
 
 /// Answers a request with twice its number.
 fn answer(hub: &mut Service, server: &Server<u64>)
@@ -38,32 +24,6 @@ fn answer(hub: &mut Service, server: &Server<u64>)
     }
 }
 
-/// Reads a response, if one is queued.
-fn read(hub: &mut Service, pending: &PendingResponse<u64>) -> Option<u64>
-    requires { Names hub.old pending.now kind.PendingResponse }
-    ensures { Keeps [] hub.old hub.new }
-{
-    match pending.receive(hub) {
-        Ok(Some(response)) => {
-            let value = *response.payload(hub);
-            response.release(hub);
-            Some(value)
-        }
-        _ => None,
-    }
-}
-
-/// Answers a request, and reads the response.
-fn exchange(hub: &mut Service, server: &Server<u64>, pending: &PendingResponse<u64>) -> Option<u64>
-    requires server { Names hub.old server.now kind.Server }
-    requires pending { Names hub.old pending.now kind.PendingResponse }
-    requires numbers { 1 < numbers_left hub.old }
-    ensures { Keeps [] hub.old hub.new }
-{
-    answer(hub, server);
-    read(hub, pending)
-}
-
 /// Asks for the double of a number.
 fn double(hub: &mut Service, client: &Client<u64>, server: &Server<u64>, value: u64) -> Option<u64>
     requires client { Names hub.old client.now kind.Client }
@@ -74,13 +34,14 @@ fn double(hub: &mut Service, client: &Client<u64>, server: &Server<u64>, value: 
     let Ok(pending) = client.send_copy(hub, value) else {
         return None;
     };
-    let doubled = exchange(hub, server, &pending);
+    answer(hub, server);
+    let doubled = pending.receive_copy(hub);
     pending.release(hub);
-    doubled
+    doubled.unwrap_or(None)
 }
 
 fn main(rt: HostRuntime) -> anyhow::Result<()> {
-    let mut hub: Service = Hub::new(rt.alloc(), LIMITS, UniqueNodeId(0))?;
+    let mut hub: Service = Hub::new(rt.alloc(), Limits::SMALLEST, UniqueNodeId(0))?;
     let client = hub.client_builder().create(&mut hub)?;
     let doubled = match hub.server_builder().create(&mut hub) {
         Ok(server) => {

@@ -27,17 +27,9 @@ pub const TURNS: u64 = 1_000_000_000;
 
 /// One client, and a server for each worker; as many requests wait as two hands of jobs have.
 const LIMITS: Limits = Limits {
-    max_clients: 1,
     max_servers: WORKERS as usize,
-    max_loaned_requests: 1,
     max_active_requests_per_client: 2 * WORKERS as usize,
-    max_response_buffer_size: 1,
-    max_borrowed_responses_per_pending_response: 1,
-    enable_safe_overflow_for_requests: false,
-    enable_safe_overflow_for_responses: false,
-    enable_fire_and_forget_requests: false,
-    client_expired_connection_buffer: 0,
-    server_expired_connection_buffer: 0,
+    ..Limits::SMALLEST
 };
 
 /// Creates the client.

@@ -27,7 +27,9 @@ pub struct UniqueServerId(pub u64);
 pub struct UniqueNodeId(pub u64);
 
 prints_its_number!(UniqueClientId);
+
 prints_its_number!(UniqueServerId);
+
 prints_its_number!(UniqueNodeId);
 
 impl From<u64> for UniqueClientId {

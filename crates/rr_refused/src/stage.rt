@@ -10,12 +10,9 @@ pub(crate) const LIMITS: Limits = Limits {
     max_loaned_requests: 3,
     max_active_requests_per_client: 3,
     max_response_buffer_size: 3,
-    max_borrowed_responses_per_pending_response: 1,
-    enable_safe_overflow_for_requests: false,
-    enable_safe_overflow_for_responses: false,
-    enable_fire_and_forget_requests: false,
     client_expired_connection_buffer: 1,
     server_expired_connection_buffer: 1,
+    ..Limits::SMALLEST
 };
 
 /// What is written to, and the group and name of the one story that is told, if not all are.

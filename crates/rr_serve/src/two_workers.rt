@@ -18,16 +18,12 @@ use std::thread::Threads;
 /// The limits of the hub: two clients, one server, two loaned and two active requests, two queued and one borrowed response.
 const LIMITS: Limits = Limits {
     max_clients: 2,
-    max_servers: 1,
     max_loaned_requests: 2,
     max_active_requests_per_client: 2,
     max_response_buffer_size: 2,
-    max_borrowed_responses_per_pending_response: 1,
-    enable_safe_overflow_for_requests: false,
-    enable_safe_overflow_for_responses: false,
-    enable_fire_and_forget_requests: false,
     client_expired_connection_buffer: 1,
     server_expired_connection_buffer: 1,
+    ..Limits::SMALLEST
 };
 
 /// Makes a hub with a client and a server, and lets a worker of each send and answer requests, each in its own thread. Returns the

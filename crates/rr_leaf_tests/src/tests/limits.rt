@@ -6,16 +6,12 @@ use rr_protocol::{HubCreateError, Limits};
 /// Two clients and one server; two loans, two active requests, two queued and one borrowed response.
 const TWO_CLIENTS: Limits = Limits {
     max_clients: 2,
-    max_servers: 1,
     max_loaned_requests: 2,
     max_active_requests_per_client: 2,
     max_response_buffer_size: 2,
-    max_borrowed_responses_per_pending_response: 1,
-    enable_safe_overflow_for_requests: false,
-    enable_safe_overflow_for_responses: false,
-    enable_fire_and_forget_requests: false,
     client_expired_connection_buffer: 1,
     server_expired_connection_buffer: 1,
+    ..Limits::SMALLEST
 };
 
 #[test]
@@ -45,17 +41,8 @@ fn one_of_each(max_loaned_requests: usize) -> Limits
     ensures { 0 < result.max_active_requests_per_client }
 {
     Limits {
-        max_clients: 1,
-        max_servers: 1,
         max_loaned_requests,
-        max_active_requests_per_client: 1,
-        max_response_buffer_size: 1,
-        max_borrowed_responses_per_pending_response: 1,
-        enable_safe_overflow_for_requests: false,
-        enable_safe_overflow_for_responses: false,
-        enable_fire_and_forget_requests: false,
-        client_expired_connection_buffer: 0,
-        server_expired_connection_buffer: 0,
+        ..Limits::SMALLEST
     }
 }
 

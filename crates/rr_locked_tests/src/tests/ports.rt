@@ -8,16 +8,12 @@ use std::sync::ledger::Ledger;
 pub fn limits(max_clients: usize) -> Limits {
     Limits {
         max_clients,
-        max_servers: 1,
         max_loaned_requests: 2,
         max_active_requests_per_client: 2,
         max_response_buffer_size: 2,
-        max_borrowed_responses_per_pending_response: 1,
-        enable_safe_overflow_for_requests: false,
-        enable_safe_overflow_for_responses: false,
-        enable_fire_and_forget_requests: false,
         client_expired_connection_buffer: 1,
         server_expired_connection_buffer: 1,
+        ..Limits::SMALLEST
     }
 }
 

@@ -46,11 +46,6 @@ init 2 -> refused WrongKind
     },
 ];
 
-#[test]
-fn a_message_of_default_elements_can_be_sent_at_once(rt: HostRuntime) {
-    assert_eq!(rt; failing(rt.alloc(), &WRITTEN), Ok(None));
-}
-
 /// Loans that are refused.
 pub(super) const REFUSED: [Row; 4] = [
     Row {
@@ -114,11 +109,6 @@ default 3 1 -> loaned 5
     },
 ];
 
-#[test]
-fn a_loan_of_default_elements_can_be_refused(rt: HostRuntime) {
-    assert_eq!(rt; failing(rt.alloc(), &REFUSED), Ok(None));
-}
-
 /// Slices of default elements, of none, and of more than memory holds.
 pub(super) const SLICES: [Row; 3] = [
     Row {
@@ -160,6 +150,16 @@ default 0 3 -> loaned 2
 ",
     },
 ];
+
+#[test]
+fn a_message_of_default_elements_can_be_sent_at_once(rt: HostRuntime) {
+    assert_eq!(rt; failing(rt.alloc(), &WRITTEN), Ok(None));
+}
+
+#[test]
+fn a_loan_of_default_elements_can_be_refused(rt: HostRuntime) {
+    assert_eq!(rt; failing(rt.alloc(), &REFUSED), Ok(None));
+}
 
 #[test]
 fn slices_of_default_elements_are_loaned(rt: HostRuntime) {

@@ -85,11 +85,6 @@ client discard 1 static - -> created 5
     },
 ];
 
-#[test]
-fn a_port_leaves_with_its_last_handle(rt: HostRuntime) {
-    assert_eq!(rt; failing(rt.alloc(), &PLACES), Ok(None));
-}
-
 /// Servers that left, whose responses were not received.
 pub(super) const SERVERS: [Row; 8] = [
     Row {
@@ -253,11 +248,6 @@ recv 5 -> none
     },
 ];
 
-#[test]
-fn responses_of_a_server_that_left_are_kept_to_a_length(rt: HostRuntime) {
-    assert_eq!(rt; failing(rt.alloc(), &SERVERS), Ok(None));
-}
-
 /// Clients that left, whose requests were not received.
 pub(super) const CLIENTS: [Row; 6] = [
     Row {
@@ -358,6 +348,16 @@ data 5 -> data 7
 ",
     },
 ];
+
+#[test]
+fn a_port_leaves_with_its_last_handle(rt: HostRuntime) {
+    assert_eq!(rt; failing(rt.alloc(), &PLACES), Ok(None));
+}
+
+#[test]
+fn responses_of_a_server_that_left_are_kept_to_a_length(rt: HostRuntime) {
+    assert_eq!(rt; failing(rt.alloc(), &SERVERS), Ok(None));
+}
 
 #[test]
 fn requests_of_a_client_that_left_are_kept_with_fire_and_forget(rt: HostRuntime) {

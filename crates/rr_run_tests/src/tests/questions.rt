@@ -154,11 +154,6 @@ update 9 -> refused Unknown
     },
 ];
 
-#[test]
-fn a_handle_is_asked(rt: HostRuntime) {
-    assert_eq!(rt; failing(rt.alloc(), &HANDLES), Ok(None));
-}
-
 /// Questions of ports and of queues.
 pub(super) const QUEUES: [Row; 5] = [
     Row {
@@ -248,6 +243,11 @@ recv 5 -> none
 ",
     },
 ];
+
+#[test]
+fn a_handle_is_asked(rt: HostRuntime) {
+    assert_eq!(rt; failing(rt.alloc(), &HANDLES), Ok(None));
+}
 
 #[test]
 fn a_port_and_its_queues_are_asked(rt: HostRuntime) {

@@ -108,11 +108,6 @@ data 4 -> data 1
     },
 ];
 
-#[test]
-fn a_full_queue_gives_way_or_refuses(rt: HostRuntime) {
-    assert_eq!(rt; failing(rt.alloc(), &FULL_QUEUES), Ok(None));
-}
-
 /// Answers to requests that were released, or whose active request was.
 pub(super) const LATE_ANSWERS: [Row; 5] = [
     Row {
@@ -237,6 +232,11 @@ data 13 -> data 14
 ",
     },
 ];
+
+#[test]
+fn a_full_queue_gives_way_or_refuses(rt: HostRuntime) {
+    assert_eq!(rt; failing(rt.alloc(), &FULL_QUEUES), Ok(None));
+}
 
 #[test]
 fn a_late_answer_reaches_no_other_request(rt: HostRuntime) {

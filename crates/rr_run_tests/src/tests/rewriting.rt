@@ -50,11 +50,6 @@ set 4 0 458 -> refused WrongKind
     },
 ];
 
-#[test]
-fn an_element_is_replaced(rt: HostRuntime) {
-    assert_eq!(rt; failing(rt.alloc(), &ELEMENTS), Ok(None));
-}
-
 /// User headers that are replaced.
 pub(super) const HEADERS: [Row; 3] = [
     Row {
@@ -121,11 +116,6 @@ data 2 -> data
 ];
 
 #[test]
-fn a_user_header_is_replaced(rt: HostRuntime) {
-    assert_eq!(rt; failing(rt.alloc(), &HEADERS), Ok(None));
-}
-
-#[test]
 fn a_port_or_nothing_is_not_written(rt: HostRuntime) {
     let strangers = Row {
         name: "a port, a pending response and nothing",
@@ -143,4 +133,14 @@ uset 9 1 -> refused Unknown
 ",
     };
     assert_eq!(rt; failing(rt.alloc(), &[strangers]), Ok(None));
+}
+
+#[test]
+fn an_element_is_replaced(rt: HostRuntime) {
+    assert_eq!(rt; failing(rt.alloc(), &ELEMENTS), Ok(None));
+}
+
+#[test]
+fn a_user_header_is_replaced(rt: HostRuntime) {
+    assert_eq!(rt; failing(rt.alloc(), &HEADERS), Ok(None));
 }

@@ -87,11 +87,6 @@ data 3 -> data 7
     },
 ];
 
-#[test]
-fn a_request_is_received_and_answered(rt: HostRuntime) {
-    assert_eq!(rt; failing(rt.alloc(), &REQUESTS), Ok(None));
-}
-
 /// Messages that are written before they are sent.
 pub(super) const WRITING: [Row; 3] = [
     Row {
@@ -153,11 +148,6 @@ data 4 -> data 5
 ",
     },
 ];
-
-#[test]
-fn a_message_is_sent_once_it_is_written(rt: HostRuntime) {
-    assert_eq!(rt; failing(rt.alloc(), &WRITING), Ok(None));
-}
 
 /// Limits on what is on loan, waited for, or borrowed.
 pub(super) const LIMITS: [Row; 6] = [
@@ -246,11 +236,6 @@ loan 2 1 -> loaned 3
     },
 ];
 
-#[test]
-fn what_is_above_a_limit_is_refused(rt: HostRuntime) {
-    assert_eq!(rt; failing(rt.alloc(), &LIMITS), Ok(None));
-}
-
 /// What is refused before a command acts.
 pub(super) const STRANGERS: [Row; 3] = [
     Row {
@@ -300,11 +285,6 @@ loan 0 2 -> refused WrongKind
     },
 ];
 
-#[test]
-fn strangers_are_refused(rt: HostRuntime) {
-    assert_eq!(rt; failing(rt.alloc(), &STRANGERS), Ok(None));
-}
-
 /// Limits that make no hub.
 pub(super) const NO_HUBS: [Row; 2] = [
     Row {
@@ -328,4 +308,24 @@ fn limits_make_no_hub(rt: HostRuntime) {
             row.name
         );
     }
+}
+
+#[test]
+fn a_request_is_received_and_answered(rt: HostRuntime) {
+    assert_eq!(rt; failing(rt.alloc(), &REQUESTS), Ok(None));
+}
+
+#[test]
+fn a_message_is_sent_once_it_is_written(rt: HostRuntime) {
+    assert_eq!(rt; failing(rt.alloc(), &WRITING), Ok(None));
+}
+
+#[test]
+fn what_is_above_a_limit_is_refused(rt: HostRuntime) {
+    assert_eq!(rt; failing(rt.alloc(), &LIMITS), Ok(None));
+}
+
+#[test]
+fn strangers_are_refused(rt: HostRuntime) {
+    assert_eq!(rt; failing(rt.alloc(), &STRANGERS), Ok(None));
 }
