@@ -3,17 +3,6 @@ ghost use Rattle.std.specs.Prelude.{◌≡◌};
 
 use std::fmt;
 
-/// Prints the number of an id.
-macro_rules! prints_its_number {
-    ($name:ident) => {
-        impl fmt::Display for $name {
-            fn fmt<W: fmt::Write>(&self, f: &mut fmt::Formatter<W>) -> fmt::Result {
-                self.0.fmt(f)
-            }
-        }
-    };
-}
-
 /// The number that the hub gave to a client. It is printed as its number.
 #[derive(Clone, Copy, Debug, PartialEq, Eq, PartialOrd, Ord, Hash)]
 pub struct UniqueClientId(pub u64);
@@ -26,11 +15,11 @@ pub struct UniqueServerId(pub u64);
 #[derive(Clone, Copy, Debug, PartialEq, Eq, PartialOrd, Ord, Hash)]
 pub struct UniqueNodeId(pub u64);
 
-prints_its_number!(UniqueClientId);
-
-prints_its_number!(UniqueServerId);
-
-prints_its_number!(UniqueNodeId);
+impl fmt::Display for UniqueClientId {
+    fn fmt<W: fmt::Write>(&self, f: &mut fmt::Formatter<W>) -> fmt::Result {
+        self.0.fmt(f)
+    }
+}
 
 impl From<u64> for UniqueClientId {
     ghost from_gives = { λ number id. id.0 ≡ number };
@@ -40,11 +29,23 @@ impl From<u64> for UniqueClientId {
     }
 }
 
+impl fmt::Display for UniqueServerId {
+    fn fmt<W: fmt::Write>(&self, f: &mut fmt::Formatter<W>) -> fmt::Result {
+        self.0.fmt(f)
+    }
+}
+
 impl From<u64> for UniqueServerId {
     ghost from_gives = { λ number id. id.0 ≡ number };
 
     fn from(number: u64) -> Self {
         UniqueServerId(number)
+    }
+}
+
+impl fmt::Display for UniqueNodeId {
+    fn fmt<W: fmt::Write>(&self, f: &mut fmt::Formatter<W>) -> fmt::Result {
+        self.0.fmt(f)
     }
 }
 
