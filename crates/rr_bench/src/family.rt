@@ -8,7 +8,7 @@ ghost use Rattle.rr_ports.specs.Facts.{IsFree, Keeps, Names, numbers_left};
 use crate::payload::Payload;
 use rr_ports::{
     ActiveRequest, BackpressureStrategy, Client, ClientCreateError, LoanError, NoHandler,
-    RequestMut, Response, ResponseMut, Server, ServerCreateError,
+    PendingResponse, RequestMut, RequestSendError, Response, SendError, Server, ServerCreateError,
 };
 use rr_slots::{Body, SliceBody};
 
@@ -47,17 +47,29 @@ pub trait Family: Body {
     fn word_asked(hub: &Hub<Self>, active: &ActiveRequest<Self>) -> Option<u64>
         requires { Names hub.now active.now kind.ActiveRequest };
 
-    /// Loans a response, and fills it with a word.
-    fn response(
+    /// Sends a request that is filled with a word.
+    fn ask(
+        hub: &mut Hub<Self>,
+        client: &Client<Self>,
+        len: usize,
+        word: u64,
+    ) -> Result<PendingResponse<Self>, RequestSendError>
+        requires client { Names hub.old client.now kind.Client }
+        requires numbers { 0 < numbers_left hub.old }
+        ensures free { IfOk result (λ pending. IsFree [] hub.old pending) }
+        ensures kind { IfOk result (λ pending. Names hub.new pending kind.PendingResponse) }
+        ensures keeps { Keeps [] hub.old hub.new }
+        ensures numbers { numbers_left hub.old ≤ numbers_left hub.new + 1 };
+
+    /// Sends a response that is filled with a word.
+    fn respond(
         hub: &mut Hub<Self>,
         active: &ActiveRequest<Self>,
         len: usize,
         word: u64,
-    ) -> Result<ResponseMut<Self>, LoanError>
+    ) -> Result<(), SendError>
         requires active { Names hub.old active.now kind.ActiveRequest }
         requires numbers { 0 < numbers_left hub.old }
-        ensures free { IfOk result (λ response. IsFree [] hub.old response) }
-        ensures kind { IfOk result (λ response. Names hub.new response kind.ResponseMut) }
         ensures keeps { Keeps [] hub.old hub.new }
         ensures numbers { numbers_left hub.old ≤ numbers_left hub.new + 1 };
 
@@ -96,14 +108,23 @@ impl<T: Payload> Family for Option<T> {
     }
 
     #[inline(always)]
-    fn response(
+    fn ask(
+        hub: &mut Hub<Self>,
+        client: &Client<Self>,
+        _len: usize,
+        word: u64,
+    ) -> Result<PendingResponse<Self>, RequestSendError> {
+        client.send_copy(hub, T::filled(word))
+    }
+
+    #[inline(always)]
+    fn respond(
         hub: &mut Hub<Self>,
         active: &ActiveRequest<Self>,
         _len: usize,
         word: u64,
-    ) -> Result<ResponseMut<Self>, LoanError> {
-        let response = active.loan_uninit(hub)?;
-        Ok(response.write_payload(hub, T::filled(word)))
+    ) -> Result<(), SendError> {
+        active.send_copy(hub, T::filled(word))
     }
 
     #[inline(always)]
@@ -144,14 +165,26 @@ impl<T: Payload + Copy> Family for SliceBody<T> {
     }
 
     #[inline(always)]
-    fn response(
+    fn ask(
+        hub: &mut Hub<Self>,
+        client: &Client<Self>,
+        len: usize,
+        word: u64,
+    ) -> Result<PendingResponse<Self>, RequestSendError> {
+        let request = Self::request(hub, client, len, word)?;
+        request.send(hub)
+    }
+
+    #[inline(always)]
+    fn respond(
         hub: &mut Hub<Self>,
         active: &ActiveRequest<Self>,
         len: usize,
         word: u64,
-    ) -> Result<ResponseMut<Self>, LoanError> {
+    ) -> Result<(), SendError> {
         let response = active.loan_slice_uninit(hub, len)?;
-        Ok(response.fill(hub, T::filled(word)))
+        let response = response.fill(hub, T::filled(word));
+        response.send(hub)
     }
 
     #[inline(always)]

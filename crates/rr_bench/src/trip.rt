@@ -1,33 +1,14 @@
 //! One round trip.
 #![tactic(auto, using(rr_ports::proofs::Frames::callers, crate::proofs::Frames::servers), unfolding(rr_ports::specs::Facts::Keeps, rr_ports::specs::Facts::IsFree))]
 
-ghost use Rattle.std.specs.Prelude.{◌≡◌, ◌<◌, ◌≤◌, ◌+◌, IfOk, []};
+ghost use Rattle.std.specs.Prelude.{◌≡◌, ◌<◌, ◌≤◌, ◌+◌, []};
 ghost use Rattle.rr_protocol.specs.declared.kind.Kind.TheVariants as kind;
-ghost use Rattle.rr_ports.specs.Facts.{IsFree, Keeps, Names, numbers_left};
+ghost use Rattle.rr_ports.specs.Facts.{Keeps, Names, numbers_left};
 ghost use Rattle.rr_bench.specs.Onlookers.{AreServers};
 
 use crate::family::{Family, Hub};
 use crate::trip_error::TripError;
 use rr_ports::{ActiveRequest, Client, PendingResponse, Server};
-
-/// Sends a request that is filled with a word.
-#[inline(always)]
-fn ask<B: Family>(
-    hub: &mut Hub<B>,
-    client: &Client<B>,
-    len: usize,
-    word: u64,
-) -> Result<PendingResponse<B>, TripError>
-    requires client { Names hub.old client.now kind.Client }
-    requires numbers { 0 < numbers_left hub.old }
-    ensures free { IfOk result (λ pending. IsFree [] hub.old pending) }
-    ensures kind { IfOk result (λ pending. Names hub.new pending kind.PendingResponse) }
-    ensures keeps { Keeps [] hub.old hub.new }
-    ensures numbers { numbers_left hub.old ≤ numbers_left hub.new + 1 }
-{
-    let request = B::request(hub, client, len, word)?;
-    Ok(request.send(hub)?)
-}
 
 /// Sends a response that is filled with one more than the word that came.
 #[inline(always)]
@@ -42,8 +23,7 @@ fn respond<B: Family>(
     ensures numbers { numbers_left hub.old ≤ numbers_left hub.new + 1 }
 {
     let word = B::word_asked(hub, active).ok_or(TripError::NoElements)?;
-    let response = B::response(hub, active, len, word.wrapping_add(1))?;
-    Ok(response.send(hub)?)
+    Ok(B::respond(hub, active, len, word.wrapping_add(1))?)
 }
 
 /// Receives a request and responds to it.
@@ -111,7 +91,7 @@ fn round_trip<B: Family>(
     requires numbers { 2 < numbers_left hub.old }
     ensures { Keeps [] hub.old hub.new }
 {
-    let pending = ask(hub, client, len, word)?;
+    let pending = B::ask(hub, client, len, word)?;
     match exchange(hub, server, &pending, len) {
         Ok(word) => {
             pending.release(hub);

@@ -1,13 +1,10 @@
 //! Why a round trip failed.
-use rr_ports::{LoanError, ReceiveError, RequestSendError, SendError};
+use rr_ports::{ReceiveError, RequestSendError, SendError};
 use thiserror::Error;
 
 /// Why a round trip failed.
 #[derive(Debug, Drop, Error)]
 pub enum TripError {
-    /// A loan was refused.
-    #[error("{0}")]
-    Loan(#[from] LoanError),
     /// A message has no elements.
     #[error("a message has no elements")]
     NoElements,

@@ -1,6 +1,7 @@
 //! What callers of `rr_ports` can promise and prove: one function for each form, found without a file of proofs.
 #![tactic(auto)]
 
+pub mod calls;
 pub mod chains;
 pub mod frames;
 pub mod pools;

@@ -1,9 +1,9 @@
 //! What callers prove of values: what was written is what is read.
 #![tactic(auto, using(rr_ports::proofs::Frames::callers), unfolding(rr_ports::specs::Facts::Keeps, rr_ports::specs::Facts::IsFree))]
 
-ghost use Rattle.std.specs.Prelude.{◌≡◌, ◌≢◌, ◌<◌, ◌≤◌, ◌+◌, ◌∷◌, [], IfOk};
+ghost use Rattle.std.specs.Prelude.{◌≡◌, ◌≢◌, ◌<◌, ◌≤◌, ◌+◌, ◌∷◌, [], IfOk, ℕ};
 ghost use Rattle.rr_protocol.specs.declared.kind.Kind.TheVariants as kind;
-ghost use Rattle.rr_ports.specs.Facts.{Answers, Asks, Has, IsFree, Keeps, Names, numbers_left};
+ghost use Rattle.rr_ports.specs.Facts.{Answers, Asks, Has, IsFree, Keeps, Names, Of, numbers_left};
 
 use crate::frames::Service;
 use rr_ports::typed::{
@@ -139,4 +139,27 @@ pub fn read_both(
     let read = (*active.payload(hub), *response.payload(hub));
     response.release(hub);
     Ok(read)
+}
+
+/// Writes a number into a request through a `&mut`, and promises what the request says.
+#[tactic(auto, using(rr_ports::proofs::Frames::borrowers), unfolding(rr_ports::specs::Facts::Keeps, rr_ports::specs::Facts::IsFree))]
+pub fn rewritten(hub: &mut Service, request: &RequestMut<u64>, value: u64)
+    requires { Names hub.old request.now kind.RequestMut }
+    ensures kind { Names hub.new request.now kind.RequestMut }
+    ensures says { Has hub.new request.now (Asks (value ∷ [])) }
+    ensures of { (port pending : ℕ) → Has hub.old request.now (Of port pending) → Has hub.new request.now (Of port pending) }
+    ensures keeps { Keeps (request.now ∷ []) hub.old hub.new }
+{
+    *RequestMut::payload_mut(hub, request) = value;
+}
+
+/// Has a function replace a number in place, and promises what the request says.
+pub fn replaced(hub: &mut Service, request: &RequestMut<u64>, old: u64)
+    requires request { Names hub.old request.now kind.RequestMut }
+    requires asks { Has hub.old request.now (Asks (old ∷ [])) }
+    ensures kind { Names hub.new request.now kind.RequestMut }
+    ensures says { Has hub.new request.now (Asks (7 ∷ [])) }
+    ensures keeps { Keeps (request.now ∷ []) hub.old hub.new }
+{
+    request.update(hub, |value: &mut u64| *value = 7);
 }

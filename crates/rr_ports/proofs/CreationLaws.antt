@@ -20,9 +20,9 @@ use Rattle.rr_protocol.specs.State.{State, client_at, server_at, handle_at, is_c
 use Rattle.rr_protocol.specs.Queries.{kind_at}
 use Rattle.rr_laws.proofs.Lasting.{Lasts}
 use Rattle.rr_laws.proofs.LastingSteps.{creates_client, creates_server}
-use Rattle.rr_ports.specs.Facts.{WholePool, PortHasPool, Has, Names, Keeps, numbers_left, shown_port, shown_of}
+use Rattle.rr_ports.specs.Facts.{Buffers, WholePool, PortHasPool, Has, Names, Keeps, numbers_left, shown_port, shown_of}
 use Rattle.rr_ports.specs.Factories.{IsChosen, LeavesWhole, counted}
-use Rattle.rr_ports.proofs.FactLaws.{keeps_new, keeps_same}
+use Rattle.rr_ports.proofs.FactLaws.{buffers, keeps_new, keeps_same}
 use Rattle.rr_ports.proofs.NameLaws.{handle_kind, same_at, free_no_port}
 use Rattle.rr_ports.proofs.QueueLaws.{QueuesStay, queues_same, queues_stay, stays_new}
 
@@ -137,32 +137,42 @@ module _ {Q QH P PH K : Type 0} (old new : State Q QH P PH K) where
     keeps : Keeps [] old new;
     numbers : numbers_left old ≤ numbers_left new + 1;
     queues : QueuesStay [] old new;
+    buffers : (room : ℕ) → room ≤ old.limits.max_response_buffer_size → IfOk result (λ k. Has new k (Buffers room));
   }
 
   -- whatever it returned
   module _ {E : Type 0} (kind : Kind) (Creates : Result ℕ E → Type 0)
       (gives : (k : ℕ) → Creates (Ok k) → kind_at old k ≡ None → Names new k kind × Keeps [] old new × QueuesStay [] old new)
-      (next : (k : ℕ) → Creates (Ok k) → new.next ≡ old.next + 1) (refused : (e : E) → Creates (Err e) → new ≡ old) where
+      (given : (k : ℕ) → Creates (Ok k) → (new.next ≡ old.next + 1) × (new.limits ≡ old.limits))
+      (refused : (e : E) → Creates (Err e) → new ≡ old) where
     created : (result : Result ℕ E) → Creates result → IfOk result (λ k. kind_at old k ≡ None) → TellsCreated result kind
     unfolding numbers_left
     created (Ok k) creates free =
         let names = gives k creates free in
-        let e = next k creates in record { kind = names.0; keeps = names.1; numbers = omega arith; queues = names.2 }
+        let e = (given k creates).0 in record {
+          kind = names.0;
+          keeps = names.1;
+          numbers = omega arith;
+          queues = names.2;
+          buffers = λ room within. buffers new k kind names.0 room (subst (λ l. room ≤ l.max_response_buffer_size) (sym (given k creates).1) within);
+        }
     created (Err error) creates free =
         let same = refused error creates in
-        let e : new.next ≡ old.next = ap (λ t. t.next) same in record { kind = tt; keeps = keeps_same old new same; numbers = omega arith; queues = queues_same old new same }
+        let e : new.next ≡ old.next = ap (λ t. t.next) same in record { kind = tt; keeps = keeps_same old new same; numbers = omega arith; queues = queues_same old new same; buffers = λ room within. tt }
 
   -- of a client, and of a server
   pub created_client : (settings : ClientSettings K) (result : Result ℕ ClientCreateError) → CreatesClient old settings result new
       → IfOk result (λ k. kind_at old k ≡ None) → TellsCreated result Kind.Client
   created_client settings =
-      created Kind.Client (λ r. CreatesClient old settings r new) (client_comes settings) (λ k creates. ap (λ t. t.next) creates.2)
+      created Kind.Client (λ r. CreatesClient old settings r new) (client_comes settings)
+      (λ k creates. (ap (λ t. t.next) creates.2, ap (λ t. t.limits) creates.2))
       (λ e creates. creates.1)
 
   pub created_server : (settings : ServerSettings K) (result : Result ℕ ServerCreateError) → CreatesServer old settings result new
       → IfOk result (λ k. kind_at old k ≡ None) → TellsCreated result Kind.Server
   created_server settings =
-      created Kind.Server (λ r. CreatesServer old settings r new) (server_comes settings) (λ k creates. ap (λ t. t.next) creates.2)
+      created Kind.Server (λ r. CreatesServer old settings r new) (server_comes settings)
+      (λ k creates. (ap (λ t. t.next) creates.2, ap (λ t. t.limits) creates.2))
       (λ e creates. creates.1)
 
 -- the size of a pool that no override reduces

@@ -1,6 +1,6 @@
 -- Which facts hold of a number, by what it shows.
 use Rattle.std.proofs.Common.{◌≡◌, ◌≢◌, ℕ, Bool, true, false, cond, List, [], ◌∷◌, Option, Some, None, option_map, refl, sym, ap, ◌∙◌, subst, ⊎_elim, ◌<◌, ◌≤◌, arith, Result, Ok, Err}
-use Rattle.std.specs.Prelude.{IfOk, IfSome, IsSomeAnd, option_and_then}
+use Rattle.std.specs.Prelude.{IfErr, IfOk, IfSome, IsSomeAnd, option_and_then}
 use Rattle.std.specs.FinMap as fin_map
 use Rattle.rr_protocol.specs.declared.kind.Kind.{Kind}
 use Rattle.rr_protocol.specs.Messages.{Handle, RequestMessage, ResponseMessage, request_in, response_in, Active, RequestMutUninit, RequestMut, PendingResponse, ActiveRequest, ResponseMutUninit, ResponseMut, Response, as_active}
@@ -10,7 +10,7 @@ use Rattle.rr_protocol.specs.Ports.{Client, Server}
 use Rattle.rr_protocol.specs.State.{State, client_at, server_at, handle_at, is_client_value, is_server_value}
 use Rattle.rr_laws.specs.Unreduced.{HasClientPool, HasServerPool, ClientHasPool, ServerHasPool}
 use Rattle.rr_laws.proofs.Lasting.{Lasts}
-use Rattle.rr_ports.specs.Facts.{Fact, Said, said_of, IsA, Asks, Answers, AskedLen, WholePool, Of, PortHasPool, Shown, shown_port, shown_of, shown_at, asked_in, of_in, Has, Names, IsThere, Keeps, IsFree}
+use Rattle.rr_ports.specs.Facts.{Fact, Said, said_of, IsA, Asks, Answers, AskedLen, WholePool, Of, Buffers, PortHasPool, Shown, shown_port, shown_of, shown_at, asked_in, of_in, Has, Names, IsThere, Keeps, IsFree}
 use Rattle.rr_ports.proofs.NameLaws.{SamePorts, each_handle, handle_no_port, some_handle, IsNoPort, read_handle, same_read, own_read, other_read}
 
 -- what follows from a result, and from what came
@@ -21,6 +21,10 @@ if_ok (Err e) p f = tt
 pub if_some : {A : Type 0} {P R : A → Type 0} (o : Option A) → IfSome o P → ((a : A) → P a → R a) → IfSome o R
 if_some (Some a) p f = f a p
 if_some None p f = tt
+
+pub if_refused : {A E R : Type 0} (result : Result A E) → R → IfErr result (λ e. R)
+if_refused (Ok a) r = tt
+if_refused (Err e) r = r
 
 -- two pairs that are told
 pub some_both : (x y : ℕ × ℕ) → Some x ≡ Some y → x ≡ y
@@ -101,6 +105,9 @@ module _ {Q QH P PH K : Type 0} where
       go None b e h = absurd h
       go (Some x) b e h = subst (λ o. IsSomeAnd o (λ x. (x.origin.port < new.next) × PortHasPool new x.kind x.origin.port room)) (sym e)
           (let a = lasts.next in let b = h.0 in omega arith, pool_lasts old new lasts x.kind x.origin.port room h.0 h.1)
+  fact_same old new lasts n e (Buffers room) has =
+      subst (λ o. IsSomeAnd o (λ x. room ≤ new.limits.max_response_buffer_size)) (sym e)
+      (subst (λ l. IsSomeAnd (shown_at old n) (λ x. room ≤ l.max_response_buffer_size)) (sym lasts.limits) has)
 
   -- of a number that names nothing no fact holds
   no_fact : (s : State Q QH P PH K) (n : ℕ) → kind_at s n ≡ None → (fact : Fact Q P) → Has s n fact → ⊥
@@ -112,8 +119,31 @@ module _ {Q QH P PH K : Type 0} where
       absurd (let e : None ≡ Some len = sym (ap (option_and_then asked_in) (silent s n none)) ∙ has in cc)
   no_fact s n none (Of port request) has =
       absurd (let e : None ≡ Some (port, request) = sym (ap (option_and_then of_in) (silent s n none)) ∙ has in cc)
+  no_fact s n none (Buffers room) has = subst (λ o. IsSomeAnd o (λ x. room ≤ s.limits.max_response_buffer_size)) (silent s n none) has
   no_fact s n none (WholePool room) has =
       subst (λ o. IsSomeAnd o (λ x. (x.origin.port < s.next) × PortHasPool s x.kind x.origin.port room)) (silent s n none) has
+
+  -- what names something is there
+  pub buffers : (s : State Q QH P PH K) (n : ℕ) (k : Kind) → Names s n k → (room : ℕ) → room ≤ s.limits.max_response_buffer_size
+      → Has s n (Buffers room)
+  unfolding Has
+  buffers s n k is room within = go (shown_at s n) (sym (kind_shown s n) ∙ is)
+    where
+      go : (o : Option (Shown Q P)) → option_map (λ (x : Shown Q P). x.kind) o ≡ Some k → IsSomeAnd o (λ x. room ≤ s.limits.max_response_buffer_size)
+      go None e = absurd (let f : None ≡ Some k = e in cc)
+      go (Some x) e = within
+
+  -- response queues hold so many
+  pub buffers_within : (s : State Q QH P PH K) (n room : ℕ) → Has s n (Buffers room) → room ≤ s.limits.max_response_buffer_size
+  unfolding Has
+  buffers_within s n room has = go (shown_at s n) has
+    where
+      go : (o : Option (Shown Q P)) → IsSomeAnd o (λ x. room ≤ s.limits.max_response_buffer_size) → room ≤ s.limits.max_response_buffer_size
+      go None h = absurd h
+      go (Some x) h = h
+
+  pub buffered : (s : State Q QH P PH K) (n room k : ℕ) → Has s n (Buffers room) → k < room → k < s.limits.max_response_buffer_size
+  buffered s n room k has below = let h = buffers_within s n room has in omega (arith, h, below)
 
   pub is_free : (handed : List ℕ) (s : State Q QH P PH K) (n : ℕ) → kind_at s n ≡ None → IsFree handed s n
   unfolding IsFree IsThere

@@ -5,6 +5,7 @@ use Rattle.std.proofs.lemmas.Bool.{eq-eqb}
 use Rattle.rr_protocol.specs.declared.kind.Kind.{Kind}
 use Rattle.rr_protocol.specs.Queries.{kind_at}
 use Rattle.rr_protocol.specs.State.{State}
+use Rattle.rr_ports.proofs.FactLaws.{buffered, buffers}
 use Rattle.rr_ports.proofs.LendLaws.{lends}
 use Rattle.rr_ports.specs.Facts.{Fact, IsA, IsNone, Has, IsThere, Keeps, IsFree}
 use Rattle.rr_ports.specs.Queues.{Awaits, AwaitsNothing, Hears, HearsNothing, KeepsAwaited, KeepsHeard}
@@ -118,6 +119,8 @@ pub ruleset callers = (
   heard_there,
   awaiting_there,
   none_awaited,
+  buffers,
+  buffered,
 )
 
 -- what callers rest on that write through what was lent

@@ -4,7 +4,9 @@ pub mod FactLaws
 pub mod Asking
 pub mod Payloads
 pub mod ReleaseLaws
-pub mod CallLaws
+pub mod GainLaws
+pub mod LoanLaws
+pub mod ReceiveLaws
 pub mod SendLaws
 pub mod WriteLaws
 pub mod CreationLaws
@@ -16,6 +18,10 @@ pub mod Fillings
 pub mod QueueLaws
 pub mod PutLaws
 pub mod HeardLaws
+pub mod HeardReceives
 pub mod AwaitedLaws
+pub mod AwaitedSends
+pub mod AwaitedReceives
 pub mod HandleReleases
 pub mod ResponseSends
+pub mod SentLaws

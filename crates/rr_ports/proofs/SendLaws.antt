@@ -1,8 +1,9 @@
 -- Which facts hold of numbers after sends.
-use Rattle.std.proofs.Common.{◌≡◌, ℕ, List, [], ◌∷◌, Some, refl, ap, ◌∙◌, Result, Ok, Err}
+use Rattle.std.proofs.Common.{◌≡◌, ◌≤◌, ℕ, List, [], ◌∷◌, Some, refl, sym, ap, ◌∙◌, subst, Result, Ok, Err}
 use Rattle.rr_protocol.specs.declared.kind.Kind.{Kind}
 use Rattle.rr_protocol.specs.declared.error.RequestSendError.{RequestSendError}
 use Rattle.rr_protocol.specs.declared.error.SendError.{SendError}
+use Rattle.rr_protocol.specs.declared.limits.Limits.{Limits}
 use Rattle.rr_protocol.specs.declared.settings.BackpressureAction.{BackpressureAction}
 use Rattle.rr_protocol.specs.State.{State, is_client_value, is_server_value}
 use Rattle.rr_protocol.specs.Messages.{RequestMut}
@@ -11,10 +12,10 @@ use Rattle.rr_protocol.specs.Sends.{SendsRequest, SendsResponse, with_response_p
 use Rattle.rr_protocol.specs.Releases.{after_release}
 use Rattle.rr_laws.proofs.Opening.{open_request_mut, open_response_mut}
 use Rattle.rr_laws.proofs.LastingSteps.{sends_request}
-use Rattle.rr_ports.specs.Facts.{Asks, Has, Names, Keeps, numbers_left}
-use Rattle.rr_ports.proofs.FactLaws.{keeps_but, other_shown, own_shown, own_kind, asks, asked, handle_shows}
+use Rattle.rr_ports.specs.Facts.{Asks, Buffers, Has, Names, Keeps, numbers_left}
+use Rattle.rr_ports.proofs.FactLaws.{buffers, buffers_within, keeps_but, other_shown, own_shown, own_kind, asks, asked, handle_shows}
 use Rattle.rr_ports.proofs.NameLaws.{handle_no_port}
-use Rattle.rr_ports.proofs.CallLaws.{Gains}
+use Rattle.rr_ports.proofs.GainLaws.{Gains}
 use Rattle.rr_ports.proofs.ReleaseLaws.{released_keeps, released_numbers}
 
 module _ {Q QH P PH K : Type 0} (action : K → ℕ → ℕ → BackpressureAction) (old new : State Q QH P PH K) (n : ℕ) where
@@ -48,6 +49,12 @@ module _ {Q QH P PH K : Type 0} (action : K → ℕ → ℕ → BackpressureActi
         let o = open_request_mut old n _ sent in
         let none = (handle_no_port old n Kind.RequestMut (λ e. cc) (λ e. cc) is).0 in
         asks new n _ (own_shown old new g.ports n g.handle g.handles none) xs (asked old n _ (handle_shows old n (RequestMut o.1) none o.2) xs has)
+
+    -- and in a hub with queues of the same size
+    pub sent_buffers : kind_at old n ≡ Some Kind.RequestMut → (port room : ℕ) → Has old port (Buffers room) → Has new n (Buffers room)
+    sent_buffers is port room has =
+        buffers new n Kind.PendingResponse (sent_names is) room
+        (subst (λ (l : Limits). room ≤ l.max_response_buffer_size) (sym (ap (λ t. t.limits) (open_request_mut old n _ sent).4.2)) (buffers_within old port room has))
 
     pub sent_next : new.next ≡ old.next
     sent_next = ap (λ t. t.next) (open_request_mut old n _ sent).4.2

@@ -158,15 +158,27 @@ module _ {Q QH P PH K : Type 0} (old new : State Q QH P PH K) (n : ℕ) where
   hint_queues = each_queues with_hint hint_shows
 
   -- a user header changes, of which no fact tells
+  request_header_shows : (header : QH) (h : Handle Q QH P PH) → shown_of (with_request_content (with_user_header header) h) ≡ shown_of h
+  request_header_shows header =
+      each_handle (λ h. shown_of (with_request_content (with_user_header header) h) ≡ shown_of h)
+      (λ m. refl) (λ m. refl) (λ p. refl) (λ a. refl) (λ m. refl) (λ m. refl) (λ m. refl)
+
+  response_header_shows : (header : PH) (h : Handle Q QH P PH) → shown_of (with_response_content (with_user_header header) h) ≡ shown_of h
+  response_header_shows header =
+      each_handle (λ h. shown_of (with_response_content (with_user_header header) h) ≡ shown_of h)
+      (λ m. refl) (λ m. refl) (λ p. refl) (λ a. refl) (λ m. refl) (λ m. refl) (λ m. refl)
+
   pub request_header_keeps : (header : QH) → new ≡ with_changed old n (with_request_content (with_user_header header)) → Keeps [] old new
-  request_header_keeps header = change_each (with_request_content (with_user_header header))
-      (each_handle (λ h. shown_of (with_request_content (with_user_header header) h) ≡ shown_of h)
-      (λ m. refl) (λ m. refl) (λ p. refl) (λ a. refl) (λ m. refl) (λ m. refl) (λ m. refl))
+  request_header_keeps header = change_each (with_request_content (with_user_header header)) (request_header_shows header)
+
+  pub request_header_queues : (header : QH) → new ≡ with_changed old n (with_request_content (with_user_header header)) → QueuesStay [] old new
+  request_header_queues header = each_queues (with_request_content (with_user_header header)) (request_header_shows header)
 
   pub response_header_keeps : (header : PH) → new ≡ with_changed old n (with_response_content (with_user_header header)) → Keeps [] old new
-  response_header_keeps header = change_each (with_response_content (with_user_header header))
-      (each_handle (λ h. shown_of (with_response_content (with_user_header header) h) ≡ shown_of h)
-      (λ m. refl) (λ m. refl) (λ p. refl) (λ a. refl) (λ m. refl) (λ m. refl) (λ m. refl))
+  response_header_keeps header = change_each (with_response_content (with_user_header header)) (response_header_shows header)
+
+  pub response_header_queues : (header : PH) → new ≡ with_changed old n (with_response_content (with_user_header header)) → QueuesStay [] old new
+  response_header_queues header = each_queues (with_response_content (with_user_header header)) (response_header_shows header)
 
   -- a message that is being written
   module _ {T H : Type 0} (d : Direction Q QH P PH K T H) (is : Names old n d.before) where

@@ -1,5 +1,5 @@
 -- What callers know of numbers, and what a call keeps of it.
-use Rattle.std.specs.Prelude.{◌≡◌, ◌≢◌, ℕ, ◌<◌, IsSomeAnd, if◌then◌else◌, List, [], ◌∷◌, Option, Some, None, option_map, option_and_then}
+use Rattle.std.specs.Prelude.{◌≡◌, ◌≢◌, ℕ, ◌<◌, ◌≤◌, IsSomeAnd, if◌then◌else◌, List, [], ◌∷◌, Option, Some, None, option_map, option_and_then}
 use Rattle.std.specs.Option.{option_map_or}
 use Rattle.rr_protocol.specs.declared.kind.Kind.{Kind}
 use Rattle.rr_protocol.specs.declared.kind.Kind.TheVariants as kind
@@ -61,8 +61,8 @@ module _ {Q P : Type 0} where
   asked_in shown = option_map_or (λ c. Some c.asked_len) shown.request (option_map (λ c. c.asked_len) shown.response)
 
 -- what can hold of a number: it names something of a kind; its request has these elements; its response has these; its message asks for so
--- many; what it loans comes from a pool of the worst-case size, whose slots have room for so many from the start; or it is a handle of this
--- port, about the request under this number
+-- many; what it loans comes from a pool of the worst-case size, whose slots have room for so many from the start; it is a handle of this
+-- port, about the request under this number; or it is there, in a hub whose response queues hold at least so many
 pub data Fact (Q P : Type 0) : Type 0 where
   IsA : Kind → Fact Q P
   Asks : List Q → Fact Q P
@@ -70,6 +70,7 @@ pub data Fact (Q P : Type 0) : Type 0 where
   AskedLen : ℕ → Fact Q P
   WholePool : ℕ → Fact Q P
   Of : ℕ → ℕ → Fact Q P
+  Buffers : ℕ → Fact Q P
 
 -- a number is none of these
 abbrev pub IsNone : List ℕ → ℕ → Type 0
@@ -110,6 +111,7 @@ module _ {Q QH P PH K : Type 0} where
   Has s n (AskedLen len) = option_and_then asked_in (shown_at s n) ≡ Some len
   Has s n (WholePool room) = IsSomeAnd (shown_at s n) (λ shown. (shown.origin.port < s.next) × PortHasPool s shown.kind shown.origin.port room)
   Has s n (Of port request) = option_and_then of_in (shown_at s n) ≡ Some (port, request)
+  Has s n (Buffers room) = IsSomeAnd (shown_at s n) (λ shown. room ≤ s.limits.max_response_buffer_size)
 
   -- a number names a client or a server whose value lives, or a handle, of this kind
   abbrev pub Names : State Q QH P PH K → ℕ → Kind → Type 0

@@ -7,6 +7,7 @@ ghost use Rattle.std.specs.Fn.{FnOnceReturnsAtMut, FnOnceTakesAtMut};
 ghost use Rattle.rr_protocol.specs.declared.kind.Kind.TheVariants as kind;
 ghost use Rattle.rr_ports.specs.Facts.{Has, Keeps, Names, numbers_left};
 ghost use Rattle.rr_ports.specs.Lends.{lends_request, lends_response};
+ghost use Rattle.rr_ports.specs.Queues.{KeepsAwaited, KeepsHeard};
 ghost use Rattle.rr_ports.specs.Updates.{UpdatesRequest, UpdatesResponse};
 ghost use Rattle.rr_protocol.specs.Messages.{request_in, response_in};
 ghost use Rattle.rr_protocol.specs.State.{handle_at};
@@ -51,6 +52,8 @@ impl<QB: Body> RequestMutUninit<QB> {
         ensures updated { UpdatesRequest (λ c header. c.user_header ≡ header) with_user_header (FnOnceReturnsAtMut F.FnOnce f) hub.old hub.new self.now }
         ensures keeps { Keeps [] hub.old hub.new }
         ensures numbers { numbers_left hub.new ≡ numbers_left hub.old }
+        ensures heard { KeepsHeard [] hub.old hub.new }
+        ensures awaited { KeepsAwaited [] hub.old hub.new }
     {
         f(Self::user_header_mut(hub, self))
     }
@@ -84,6 +87,8 @@ impl<QB: Body> RequestMut<QB> {
         ensures updated { UpdatesRequest (λ c header. c.user_header ≡ header) with_user_header (FnOnceReturnsAtMut F.FnOnce f) hub.old hub.new self.now }
         ensures keeps { Keeps [] hub.old hub.new }
         ensures numbers { numbers_left hub.new ≡ numbers_left hub.old }
+        ensures heard { KeepsHeard [] hub.old hub.new }
+        ensures awaited { KeepsAwaited [] hub.old hub.new }
     {
         f(Self::user_header_mut(hub, self))
     }
@@ -117,6 +122,8 @@ impl<PB: Body> ResponseMutUninit<PB> {
         ensures updated { UpdatesResponse (λ c header. c.user_header ≡ header) with_user_header (FnOnceReturnsAtMut F.FnOnce f) hub.old hub.new self.now }
         ensures keeps { Keeps [] hub.old hub.new }
         ensures numbers { numbers_left hub.new ≡ numbers_left hub.old }
+        ensures heard { KeepsHeard [] hub.old hub.new }
+        ensures awaited { KeepsAwaited [] hub.old hub.new }
     {
         f(Self::user_header_mut(hub, self))
     }
@@ -150,6 +157,8 @@ impl<PB: Body> ResponseMut<PB> {
         ensures updated { UpdatesResponse (λ c header. c.user_header ≡ header) with_user_header (FnOnceReturnsAtMut F.FnOnce f) hub.old hub.new self.now }
         ensures keeps { Keeps [] hub.old hub.new }
         ensures numbers { numbers_left hub.new ≡ numbers_left hub.old }
+        ensures heard { KeepsHeard [] hub.old hub.new }
+        ensures awaited { KeepsAwaited [] hub.old hub.new }
     {
         f(Self::user_header_mut(hub, self))
     }

@@ -1,9 +1,9 @@
 //! A loaned request that can be sent.
 #![tactic(auto, using(crate::proofs::Asking::asks), unfolding(crate::specs::Facts::Has, crate::specs::Facts::numbers_left))]
 
-ghost use Rattle.std.specs.Prelude.{◌≡◌, IfOk, IsSomeAnd, option_and_then, ◌∷◌, [], List, ℕ};
+ghost use Rattle.std.specs.Prelude.{◌≡◌, IfErr, IfOk, IsSomeAnd, option_and_then, ◌∷◌, [], List, ℕ};
 ghost use Rattle.rr_protocol.specs.declared.kind.Kind.TheVariants as kind;
-ghost use Rattle.rr_ports.specs.Facts.{Has, Keeps, Names, numbers_left, Asks, Of};
+ghost use Rattle.rr_ports.specs.Facts.{Asks, Buffers, Has, Keeps, Names, Of, numbers_left};
 ghost use Rattle.rr_ports.specs.Queues.{AwaitsNothing, Hears, HearsNothing, KeepsAwaited, KeepsHeard};
 ghost use Rattle.rr_ports.specs.Sending.{SendsPending};
 ghost use Rattle.rr_protocol.specs.Messages.{request_in};
@@ -93,6 +93,8 @@ impl<QB: Body> RequestMut<QB> {
         ensures hears { (server : ℕ) → Names hub.old server kind.Server → HearsNothing hub.old server → IfOk result (λ pending. Hears hub.new server pending) }
         ensures awaits { IfOk result (λ pending. AwaitsNothing hub.new pending) }
         ensures awaited { (port request : ℕ) → Has hub.old self (Of port request) → Names hub.old port kind.Client → KeepsAwaited (self ∷ []) hub.old hub.new }
+        ensures refused { (port request : ℕ) → Has hub.old self (Of port request) → Names hub.old port kind.Client → IfErr result (λ error. KeepsHeard (self ∷ []) hub.old hub.new) }
+        ensures buffers { (port room : ℕ) → Has hub.old port (Buffers room) → IfOk result (λ pending. Has hub.new pending (Buffers room)) }
     {
         let RequestMut { id, of: _ } = self;
         hub.core.reached();

@@ -1,7 +1,7 @@
 //! A loaned response that can be sent.
 #![tactic(auto, using(crate::proofs::Asking::asks), unfolding(crate::specs::Facts::Has, crate::specs::Facts::numbers_left))]
 
-ghost use Rattle.std.specs.Prelude.{◌≡◌, IsSomeAnd, option_and_then, ◌∷◌, [], ℕ, List, OnOk, length, ◌<◌, ◌++◌};
+ghost use Rattle.std.specs.Prelude.{◌≡◌, IfErr, IsOk, IsSomeAnd, option_and_then, ◌∷◌, [], ℕ, List, OnOk, length, ◌<◌, ◌++◌};
 ghost use Rattle.rr_protocol.specs.declared.kind.Kind.TheVariants as kind;
 ghost use Rattle.rr_ports.specs.Facts.{Has, Keeps, Names, numbers_left, Of, Answers};
 ghost use Rattle.rr_ports.specs.Queues.{Awaits, AwaitsNothing, KeepsAwaited, KeepsHeard};
@@ -89,6 +89,10 @@ impl<PB: Body> ResponseMut<PB> {
         ensures first { (server pending : ℕ) (xs : List PB.Item) → Has hub.old self (Of server pending) → Names hub.old server kind.Server → Has hub.old self (Answers xs) → AwaitsNothing hub.old pending → OnOk result (Awaits hub.new pending server (xs ∷ [])) }
         ensures next { (server pending : ℕ) (answers : List (List PB.Item)) (xs : List PB.Item) → Has hub.old self (Of server pending) → Names hub.old server kind.Server → Has hub.old self (Answers xs) → Awaits hub.old pending server answers → length answers < hub.old.limits.max_response_buffer_size → OnOk result (Awaits hub.new pending server (answers ++ xs ∷ [])) }
         ensures heard { (port request : ℕ) → Has hub.old self (Of port request) → Names hub.old port kind.Server → KeepsHeard (self ∷ []) hub.old hub.new }
+        ensures awaited { (server pending : ℕ) → Has hub.old self (Of server pending) → Names hub.old server kind.Server → KeepsAwaited (self ∷ pending ∷ []) hub.old hub.new }
+        ensures refused { (server pending : ℕ) → Has hub.old self (Of server pending) → Names hub.old server kind.Server → IfErr result (λ error. KeepsAwaited (self ∷ []) hub.old hub.new) }
+        ensures delivered { (server pending : ℕ) → Has hub.old self (Of server pending) → AwaitsNothing hub.old pending → IsOk result }
+        ensures room { (server pending : ℕ) (answers : List (List PB.Item)) → Has hub.old self (Of server pending) → Awaits hub.old pending server answers → length answers < hub.old.limits.max_response_buffer_size → IsOk result }
     {
         let ResponseMut { id, of: _ } = self;
         hub.core.reached();

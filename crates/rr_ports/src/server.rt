@@ -137,6 +137,7 @@ impl<PB: Body> Server<PB> {
         ensures of { (pending : ℕ) → Hears hub.old self.now pending → IfOk result (λ received. IfSome received (λ active. Has hub.new active (Of self.now pending))) }
         ensures asks { (pending : ℕ) (xs : List QB.Item) → Hears hub.old self.now pending → Has hub.old pending (Asks xs) → IfOk result (λ received. IfSome received (λ active. Has hub.new active (Asks xs))) }
         ensures missed { (pending : ℕ) → Hears hub.old self.now pending → result ≢ Ok None }
+        ensures port { IfOk result (λ received. IfSome received (λ active. (request : ℕ) × Has hub.new active (Of self.now request))) }
         ensures quiet { (pending : ℕ) → Hears hub.old self.now pending → IfOk result (λ received. HearsNothing hub.new self.now) }
         ensures heard { KeepsHeard (self.now ∷ []) hub.old hub.new }
         ensures awaited { KeepsAwaited [] hub.old hub.new }

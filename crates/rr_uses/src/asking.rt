@@ -71,15 +71,7 @@ pub fn receive(hub: &mut Service, pending: &PendingResponse<u64>) -> Result<Opti
     requires { Names hub.old pending.now kind.PendingResponse }
     ensures { Keeps [] hub.old hub.new }
 {
-    match pending.receive(hub) {
-        Ok(Some(response)) => {
-            let value = *response.payload(hub);
-            response.release(hub);
-            Ok(Some(value))
-        }
-        Ok(None) => Ok(None),
-        Err(error) => Err(not_received(error)),
-    }
+    pending.receive_copy(hub).map_err(not_received)
 }
 
 /// Asks a server for the double of a number. Returns `None` if no answer comes. Each path releases what it was handed.

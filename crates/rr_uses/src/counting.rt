@@ -1,10 +1,10 @@
 //! A stream of answers to one question, which the client receives in the order in which the server sent them.
 #![tactic(auto, using(rr_ports::proofs::Frames::callers), unfolding(rr_ports::specs::Facts::Keeps, rr_ports::specs::Facts::IsFree))]
 
-ghost use Rattle.std.specs.Prelude.{◌<◌, ◌≤◌, ◌≡◌, [], IfOk};
+ghost use Rattle.std.specs.Prelude.{◌≤◌, ◌≡◌, ◌≢◌, [], Err, IfOk, OnOk};
 ghost use Rattle.std.specs.List.{range_with_len};
 ghost use Rattle.rr_protocol.specs.declared.kind.Kind.TheVariants as kind;
-ghost use Rattle.rr_ports.specs.Facts.{Has, Keeps, Names, Of, numbers_left};
+ghost use Rattle.rr_ports.specs.Facts.{Buffers, Has, Keeps, Names, Of, numbers_left};
 ghost use Rattle.rr_ports.specs.Queues.{Awaits, AwaitsNothing};
 ghost use Rattle.rr_uses.specs.Singles.{singles};
 
@@ -27,34 +27,32 @@ pub enum CountError {
     OutOfMemory,
 }
 
-/// Sends the numbers from 0 on as responses, up to `most` of them, while the client's queue has room and a number is left. Returns
-/// how many were sent.
+/// Sends the numbers from 0 on as responses, `count` of them, all of which the client's queue has room for.
 ///
 /// # Errors
 ///
-/// As `ActiveRequest::send_copy`. Responses that were sent before stay queued.
+/// `LoanError(..)` as `ActiveRequest::send_copy`. Responses that were sent before stay queued.
 pub fn count(
     hub: &mut Service,
     server: &Server<u64>,
     pending: &PendingResponse<u64>,
     active: &ActiveRequest<u64>,
-    most: u64,
-) -> Result<u64, SendError>
+    count: u64,
+) -> Result<(), SendError>
     requires server { Names hub.old server.now kind.Server }
     requires active { Names hub.old active.now kind.ActiveRequest }
     requires of { Has hub.old active.now (Of server.now pending.now) }
     requires awaits { AwaitsNothing hub.old pending.now }
-    ensures awaits { IfOk result (λ sent. Awaits hub.new pending.now server.now (singles 0 sent)) }
-    ensures most { IfOk result (λ sent. sent ≤ most) }
+    requires room { Has hub.old pending.now (Buffers count) }
+    requires numbers { count ≤ numbers_left hub.old }
+    ensures awaits { OnOk result (Awaits hub.new pending.now server.now (singles 0 count)) }
+    ensures delivered { result ≢ Err SendError.UnableToDeliver }
     ensures keeps { Keeps [] hub.old hub.new }
 {
-    for value in 0..most {
-        if hub.numbers_left() == 0 || value >= hub.limits().max_response_buffer_size as u64 {
-            return Ok(value);
-        }
+    for value in 0..count {
         active.send_copy(hub, value)?;
     }
-    Ok(most)
+    Ok(())
 }
 
 /// Receives as many responses of a stream that counts from 0 on, and returns their numbers: 0, 1, 2 and so on.

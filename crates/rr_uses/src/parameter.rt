@@ -17,14 +17,7 @@ fn received(hub: &mut Service, pending: &PendingResponse<u64>) -> Option<u64>
     ensures keeps { Keeps [] hub.old hub.new }
     ensures numbers { numbers_left hub.new ≡ numbers_left hub.old }
 {
-    match pending.receive(hub) {
-        Ok(Some(response)) => {
-            let value = *response.payload(hub);
-            response.release(hub);
-            Some(value)
-        }
-        _ => None,
-    }
+    pending.receive_copy(hub).unwrap_or(None)
 }
 
 /// Answers the oldest request, if there is one, with the parameter as it was. Returns the number that came with the request, which the

@@ -42,13 +42,7 @@ fn is_received(hub: &mut Service, pending: &PendingResponse<u64>) -> bool
     requires { Names hub.old pending.now kind.PendingResponse }
     ensures { Keeps [] hub.old hub.new }
 {
-    match pending.receive(hub) {
-        Ok(Some(response)) => {
-            response.release(hub);
-            true
-        }
-        _ => false,
-    }
+    matches!(pending.receive_copy(hub), Ok(Some(_)))
 }
 
 /// Receives responses until none is queued, or the client has as many as it wants, and sets its hint in that case. Returns how many

@@ -1,14 +1,16 @@
 //! Lending the elements of a sliced message for writing.
 #![tactic(auto, using(crate::proofs::Asking::asks), unfolding(crate::specs::Facts::Has, crate::specs::Facts::numbers_left, crate::specs::Lends::with_request_changed, crate::specs::Lends::with_response_changed))]
 
-ghost use Rattle.std.specs.Prelude.{◌≡◌, IsSomeAnd, option_and_then, [], ◌∷◌};
+ghost use Rattle.std.specs.Prelude.{◌≡◌, IsSomeAnd, List, length, option_and_then, [], ◌∷◌, ℕ};
+ghost use Rattle.std.specs.List.{refill};
 ghost use Rattle.std.specs.Borrow.{sem, Array};
 ghost use Rattle.std.specs.Fn.{FnOnceReturnsAtMut, FnOnceTakesAtMut};
 ghost use Rattle.rr_slots.specs.contracts.slice_body.SliceBody.{the_row as slice_row};
 ghost use Rattle.rr_hub.specs.CoreLends.{refilled};
 ghost use Rattle.rr_protocol.specs.declared.kind.Kind.TheVariants as kind;
-ghost use Rattle.rr_ports.specs.Facts.{Has, Keeps, Names, numbers_left};
+ghost use Rattle.rr_ports.specs.Facts.{Answers, AskedLen, Asks, Has, Keeps, Names, Of, numbers_left};
 ghost use Rattle.rr_ports.specs.Lends.{lends_request, lends_response};
+ghost use Rattle.rr_ports.specs.Queues.{KeepsAwaited, KeepsHeard};
 ghost use Rattle.rr_ports.specs.Updates.{UpdatesRequest, UpdatesResponse};
 ghost use Rattle.rr_protocol.specs.Messages.{request_in, response_in};
 ghost use Rattle.rr_protocol.specs.State.{handle_at};
@@ -51,6 +53,11 @@ impl<T: Drop> RequestMutUninit<SliceBody<T>> {
         ensures kind { Names hub.new self.now kind.RequestMutUninit }
         ensures keeps { Keeps (self.now ∷ []) hub.old hub.new }
         ensures numbers { numbers_left hub.new ≡ numbers_left hub.old }
+        ensures says { (items : List T) → Has hub.old self.now (Asks items) → (after : List T) × FnOnceReturnsAtMut F.FnOnce f items tt after × Has hub.new self.now (Asks (refill (length items) items after)) }
+        ensures asked { (len : ℕ) → Has hub.old self.now (AskedLen len) → Has hub.new self.now (AskedLen len) }
+        ensures of { (port request : ℕ) → Has hub.old self.now (Of port request) → Has hub.new self.now (Of port request) }
+        ensures heard { KeepsHeard (self.now ∷ []) hub.old hub.new }
+        ensures awaited { KeepsAwaited (self.now ∷ []) hub.old hub.new }
     {
         f(Self::payload_mut(hub, self))
     }
@@ -85,6 +92,11 @@ impl<T: Drop> RequestMut<SliceBody<T>> {
         ensures kind { Names hub.new self.now kind.RequestMut }
         ensures keeps { Keeps (self.now ∷ []) hub.old hub.new }
         ensures numbers { numbers_left hub.new ≡ numbers_left hub.old }
+        ensures says { (items : List T) → Has hub.old self.now (Asks items) → (after : List T) × FnOnceReturnsAtMut F.FnOnce f items tt after × Has hub.new self.now (Asks (refill (length items) items after)) }
+        ensures asked { (len : ℕ) → Has hub.old self.now (AskedLen len) → Has hub.new self.now (AskedLen len) }
+        ensures of { (port request : ℕ) → Has hub.old self.now (Of port request) → Has hub.new self.now (Of port request) }
+        ensures heard { KeepsHeard (self.now ∷ []) hub.old hub.new }
+        ensures awaited { KeepsAwaited (self.now ∷ []) hub.old hub.new }
     {
         f(Self::payload_mut(hub, self))
     }
@@ -120,6 +132,11 @@ impl<T: Drop> ResponseMutUninit<SliceBody<T>> {
         ensures kind { Names hub.new self.now kind.ResponseMutUninit }
         ensures keeps { Keeps (self.now ∷ []) hub.old hub.new }
         ensures numbers { numbers_left hub.new ≡ numbers_left hub.old }
+        ensures says { (items : List T) → Has hub.old self.now (Answers items) → (after : List T) × FnOnceReturnsAtMut F.FnOnce f items tt after × Has hub.new self.now (Answers (refill (length items) items after)) }
+        ensures asked { (len : ℕ) → Has hub.old self.now (AskedLen len) → Has hub.new self.now (AskedLen len) }
+        ensures of { (port request : ℕ) → Has hub.old self.now (Of port request) → Has hub.new self.now (Of port request) }
+        ensures heard { KeepsHeard (self.now ∷ []) hub.old hub.new }
+        ensures awaited { KeepsAwaited (self.now ∷ []) hub.old hub.new }
     {
         f(Self::payload_mut(hub, self))
     }
@@ -154,6 +171,11 @@ impl<T: Drop> ResponseMut<SliceBody<T>> {
         ensures kind { Names hub.new self.now kind.ResponseMut }
         ensures keeps { Keeps (self.now ∷ []) hub.old hub.new }
         ensures numbers { numbers_left hub.new ≡ numbers_left hub.old }
+        ensures says { (items : List T) → Has hub.old self.now (Answers items) → (after : List T) × FnOnceReturnsAtMut F.FnOnce f items tt after × Has hub.new self.now (Answers (refill (length items) items after)) }
+        ensures asked { (len : ℕ) → Has hub.old self.now (AskedLen len) → Has hub.new self.now (AskedLen len) }
+        ensures of { (port request : ℕ) → Has hub.old self.now (Of port request) → Has hub.new self.now (Of port request) }
+        ensures heard { KeepsHeard (self.now ∷ []) hub.old hub.new }
+        ensures awaited { KeepsAwaited (self.now ∷ []) hub.old hub.new }
     {
         f(Self::payload_mut(hub, self))
     }

@@ -1,14 +1,15 @@
 //! Lending the payload of a typed message for writing.
 #![tactic(auto, using(crate::proofs::Asking::asks), unfolding(crate::specs::Facts::Has, crate::specs::Facts::numbers_left, crate::specs::Lends::with_request_changed, crate::specs::Lends::with_response_changed))]
 
-ghost use Rattle.std.specs.Prelude.{◌∷◌, ◌≡◌, IsSomeAnd, option_and_then, []};
+ghost use Rattle.std.specs.Prelude.{◌∷◌, ◌≡◌, IsSomeAnd, Option, option_and_then, [], ℕ};
 ghost use Rattle.std.specs.Borrow.{sem};
 ghost use Rattle.std.specs.Fn.{FnOnceReturnsAtMut, FnOnceTakesAtMut};
 ghost use Rattle.std.specs.contracts.option.Option.{the_row as option_row};
 ghost use Rattle.rr_slots.specs.Elements.{option_elements};
 ghost use Rattle.rr_protocol.specs.declared.kind.Kind.TheVariants as kind;
-ghost use Rattle.rr_ports.specs.Facts.{Has, Keeps, Names, numbers_left};
+ghost use Rattle.rr_ports.specs.Facts.{Answers, AskedLen, Asks, Has, Keeps, Names, Of, numbers_left};
 ghost use Rattle.rr_ports.specs.Lends.{lends_request, lends_response};
+ghost use Rattle.rr_ports.specs.Queues.{KeepsAwaited, KeepsHeard};
 ghost use Rattle.rr_ports.specs.Updates.{UpdatesRequest, UpdatesResponse};
 ghost use Rattle.rr_protocol.specs.Messages.{request_in, response_in};
 ghost use Rattle.rr_protocol.specs.State.{handle_at};
@@ -52,6 +53,11 @@ impl<T: Drop> RequestMutUninit<Option<T>> {
         ensures kind { Names hub.new self.now kind.RequestMutUninit }
         ensures keeps { Keeps (self.now ∷ []) hub.old hub.new }
         ensures numbers { numbers_left hub.new ≡ numbers_left hub.old }
+        ensures says { (item : Option T) → Has hub.old self.now (Asks (option_elements item)) → (after : Option T) × FnOnceReturnsAtMut F.FnOnce f item tt after × Has hub.new self.now (Asks (option_elements after)) }
+        ensures asked { (len : ℕ) → Has hub.old self.now (AskedLen len) → Has hub.new self.now (AskedLen len) }
+        ensures of { (port request : ℕ) → Has hub.old self.now (Of port request) → Has hub.new self.now (Of port request) }
+        ensures heard { KeepsHeard (self.now ∷ []) hub.old hub.new }
+        ensures awaited { KeepsAwaited (self.now ∷ []) hub.old hub.new }
     {
         f(Self::payload_mut(hub, self))
     }
@@ -88,6 +94,11 @@ impl<T: Drop> RequestMut<Option<T>> {
         ensures kind { Names hub.new self.now kind.RequestMut }
         ensures keeps { Keeps (self.now ∷ []) hub.old hub.new }
         ensures numbers { numbers_left hub.new ≡ numbers_left hub.old }
+        ensures says { (value : T) → Has hub.old self.now (Asks (value ∷ [])) → (after : T) × FnOnceReturnsAtMut F.FnOnce f value tt after × Has hub.new self.now (Asks (after ∷ [])) }
+        ensures asked { (len : ℕ) → Has hub.old self.now (AskedLen len) → Has hub.new self.now (AskedLen len) }
+        ensures of { (port request : ℕ) → Has hub.old self.now (Of port request) → Has hub.new self.now (Of port request) }
+        ensures heard { KeepsHeard (self.now ∷ []) hub.old hub.new }
+        ensures awaited { KeepsAwaited (self.now ∷ []) hub.old hub.new }
     {
         f(Self::payload_mut(hub, self))
     }
@@ -123,6 +134,11 @@ impl<T: Drop> ResponseMutUninit<Option<T>> {
         ensures kind { Names hub.new self.now kind.ResponseMutUninit }
         ensures keeps { Keeps (self.now ∷ []) hub.old hub.new }
         ensures numbers { numbers_left hub.new ≡ numbers_left hub.old }
+        ensures says { (item : Option T) → Has hub.old self.now (Answers (option_elements item)) → (after : Option T) × FnOnceReturnsAtMut F.FnOnce f item tt after × Has hub.new self.now (Answers (option_elements after)) }
+        ensures asked { (len : ℕ) → Has hub.old self.now (AskedLen len) → Has hub.new self.now (AskedLen len) }
+        ensures of { (port request : ℕ) → Has hub.old self.now (Of port request) → Has hub.new self.now (Of port request) }
+        ensures heard { KeepsHeard (self.now ∷ []) hub.old hub.new }
+        ensures awaited { KeepsAwaited (self.now ∷ []) hub.old hub.new }
     {
         f(Self::payload_mut(hub, self))
     }
@@ -159,6 +175,11 @@ impl<T: Drop> ResponseMut<Option<T>> {
         ensures kind { Names hub.new self.now kind.ResponseMut }
         ensures keeps { Keeps (self.now ∷ []) hub.old hub.new }
         ensures numbers { numbers_left hub.new ≡ numbers_left hub.old }
+        ensures says { (value : T) → Has hub.old self.now (Answers (value ∷ [])) → (after : T) × FnOnceReturnsAtMut F.FnOnce f value tt after × Has hub.new self.now (Answers (after ∷ [])) }
+        ensures asked { (len : ℕ) → Has hub.old self.now (AskedLen len) → Has hub.new self.now (AskedLen len) }
+        ensures of { (port request : ℕ) → Has hub.old self.now (Of port request) → Has hub.new self.now (Of port request) }
+        ensures heard { KeepsHeard (self.now ∷ []) hub.old hub.new }
+        ensures awaited { KeepsAwaited (self.now ∷ []) hub.old hub.new }
     {
         f(Self::payload_mut(hub, self))
     }

@@ -1,12 +1,12 @@
 //! How a client is created.
 #![tactic(auto, using(crate::proofs::FamilyLaws::takes_one), unfolding(crate::specs::Facts::Has, crate::specs::Facts::numbers_left))]
 
-ghost use Rattle.std.specs.Prelude.{◌≡◌, ◌+◌, ◌≤◌, None, Some, IfOk, []};
+ghost use Rattle.std.specs.Prelude.{◌≡◌, ◌+◌, ◌≤◌, None, Some, IfOk, [], ℕ};
 ghost use Rattle.std.specs.Option.{ForSome};
 ghost use Rattle.rr_protocol.specs.declared.kind.Kind.TheVariants as kind;
 ghost use Rattle.rr_protocol.specs.Limits.{worst_case_requests};
 ghost use Rattle.rr_ports.specs.Factories.{client_defaults, CreatesClientBy, LeavesWhole};
-ghost use Rattle.rr_ports.specs.Facts.{Has, IsFree, Keeps, Names, WholePool, numbers_left};
+ghost use Rattle.rr_ports.specs.Facts.{Buffers, Has, IsFree, Keeps, Names, WholePool, numbers_left};
 ghost use Rattle.rr_ports.specs.Queues.{KeepsAwaited, KeepsHeard};
 
 use super::{chosen, request_slots};
@@ -118,6 +118,7 @@ impl<QB: Body, K: BackpressureFn, F: Drop> PortFactoryClient<QB, K, F> {
         ensures free { IfOk result (λ client. IsFree [] hub.old client) }
         ensures kind { IfOk result (λ client. Names hub.new client kind.Client) }
         ensures pool { LeavesWhole F.post (worst_case_requests hub.old.limits) self.preallocation → IfOk result (λ client. Has hub.new client (WholePool self.settings.initial_max_slice_len)) }
+        ensures buffers { (room : ℕ) → room ≤ hub.old.limits.max_response_buffer_size → IfOk result (λ client. Has hub.new client (Buffers room)) }
         ensures keeps { Keeps [] hub.old hub.new }
         ensures numbers { numbers_left hub.old ≤ numbers_left hub.new + 1 }
         ensures heard { KeepsHeard [] hub.old hub.new }

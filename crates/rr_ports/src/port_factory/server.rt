@@ -1,13 +1,13 @@
 //! How a server is created.
 #![tactic(auto, using(crate::proofs::FamilyLaws::takes_one), unfolding(crate::specs::Facts::Has, crate::specs::Facts::numbers_left))]
 
-ghost use Rattle.std.specs.Prelude.{◌≡◌, ◌+◌, ◌≤◌, None, Some, IfOk, []};
+ghost use Rattle.std.specs.Prelude.{◌≡◌, ◌+◌, ◌≤◌, None, Some, IfOk, [], ℕ};
 ghost use Rattle.std.specs.Option.{ForSome};
 ghost use Rattle.rr_protocol.specs.declared.kind.Kind.TheVariants as kind;
 ghost use Rattle.rr_protocol.specs.Creation.{loans_of};
 ghost use Rattle.rr_protocol.specs.Limits.{worst_case_responses};
 ghost use Rattle.rr_ports.specs.Factories.{server_defaults, CreatesServerBy, LeavesWhole};
-ghost use Rattle.rr_ports.specs.Facts.{Has, IsFree, Keeps, Names, WholePool, numbers_left};
+ghost use Rattle.rr_ports.specs.Facts.{Buffers, Has, IsFree, Keeps, Names, WholePool, numbers_left};
 ghost use Rattle.rr_ports.specs.Queues.{HearsNothing, KeepsAwaited, KeepsHeard};
 
 use super::{chosen, response_slots};
@@ -136,6 +136,7 @@ impl<PB: Body, K: BackpressureFn, F: Drop> PortFactoryServer<PB, K, F> {
         ensures free { IfOk result (λ server. IsFree [] hub.old server) }
         ensures kind { IfOk result (λ server. Names hub.new server kind.Server) }
         ensures pool { LeavesWhole F.post (worst_case_responses hub.old.limits (loans_of self.settings)) self.preallocation → IfOk result (λ server. Has hub.new server (WholePool self.settings.initial_max_slice_len)) }
+        ensures buffers { (room : ℕ) → room ≤ hub.old.limits.max_response_buffer_size → IfOk result (λ server. Has hub.new server (Buffers room)) }
         ensures keeps { Keeps [] hub.old hub.new }
         ensures numbers { numbers_left hub.old ≤ numbers_left hub.new + 1 }
         ensures hears { IfOk result (λ server. HearsNothing hub.new server) }

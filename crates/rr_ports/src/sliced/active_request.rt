@@ -1,7 +1,7 @@
 //! Sliced responses to a request.
 #![tactic(auto, using(crate::proofs::Asking::asks), unfolding(crate::specs::Facts::Has, crate::specs::Facts::numbers_left))]
 
-ghost use Rattle.std.specs.Prelude.{◌+◌, ◌≤◌, ◌<◌, ◌≢◌, ◌≡◌, Err, IfOk, [], ◌∷◌, ◌++◌, ℕ, List, OnOk, length};
+ghost use Rattle.std.specs.Prelude.{◌+◌, ◌≤◌, ◌<◌, ◌≢◌, ◌≡◌, Err, IfErr, IfOk, [], ◌∷◌, ◌++◌, ℕ, List, OnOk, length};
 ghost use Rattle.rr_protocol.specs.declared.kind.Kind.TheVariants as kind;
 ghost use Rattle.rr_laws.specs.Unreduced.{ServerHasPool};
 ghost use Rattle.rr_ports.specs.Facts.{AskedLen, Answers, Has, IsFree, Keeps, Names, WholePool, numbers_left, Of};
@@ -72,8 +72,12 @@ impl<QB: Body> ActiveRequest<QB> {
         ensures whole { (room : ℕ) → len ≤ room → Has hub.old self.now (WholePool room) → result ≢ Err LoanError.OutOfMemory }
         ensures free { IfOk result (λ response. IsFree [] hub.old response) }
         ensures kind { IfOk result (λ response. Names hub.new response kind.ResponseMut) }
+        ensures says { IfOk result (λ response. (elements : List T) × AreDefaults T.is_default len elements × Has hub.new response (Answers elements)) }
         ensures keeps { Keeps [] hub.old hub.new }
         ensures numbers { numbers_left hub.old ≤ numbers_left hub.new + 1 }
+        ensures of { (port request : ℕ) → Has hub.old self.now (Of port request) → IfOk result (λ response. Has hub.new response (Of port request)) }
+        ensures heard { KeepsHeard [] hub.old hub.new }
+        ensures awaited { KeepsAwaited [] hub.old hub.new }
     {
         let response = self.loan_slice_uninit(hub, len)?;
         Ok(response.write_from_fn(hub, |_| T::default()))
@@ -102,6 +106,10 @@ impl<QB: Body> ActiveRequest<QB> {
         ensures first { (server pending : ℕ) → Has hub.old self.now (Of server pending) → Names hub.old server kind.Server → AwaitsNothing hub.old pending → OnOk result (Awaits hub.new pending server (elements.now ∷ [])) }
         ensures next { (server pending : ℕ) (answers : List (List T)) → Has hub.old self.now (Of server pending) → Names hub.old server kind.Server → Awaits hub.old pending server answers → length answers < hub.old.limits.max_response_buffer_size → OnOk result (Awaits hub.new pending server (answers ++ elements.now ∷ [])) }
         ensures heard { (port request : ℕ) → Has hub.old self.now (Of port request) → Names hub.old port kind.Server → KeepsHeard [] hub.old hub.new }
+        ensures awaited { (server pending : ℕ) → Has hub.old self.now (Of server pending) → Names hub.old server kind.Server → KeepsAwaited (pending ∷ []) hub.old hub.new }
+        ensures refused { (server pending : ℕ) → Has hub.old self.now (Of server pending) → Names hub.old server kind.Server → IfErr result (λ error. KeepsAwaited [] hub.old hub.new) }
+        ensures delivered { (server pending : ℕ) → Has hub.old self.now (Of server pending) → AwaitsNothing hub.old pending → result ≢ Err SendError.UnableToDeliver }
+        ensures room { (server pending : ℕ) (answers : List (List T)) → Has hub.old self.now (Of server pending) → Awaits hub.old pending server answers → length answers < hub.old.limits.max_response_buffer_size → result ≢ Err SendError.UnableToDeliver }
     {
         let response = self.loan_slice_uninit(hub, elements.len())?;
         let response = response.write_from_slice(hub, elements);

@@ -1,10 +1,10 @@
 //! What a client of the sliced family loans and sends.
 #![tactic(auto, using(crate::proofs::Asking::asks), unfolding(crate::specs::Facts::Has, crate::specs::Facts::numbers_left))]
 
-ghost use Rattle.std.specs.Prelude.{◌+◌, ◌≤◌, ◌<◌, ◌≢◌, ◌≡◌, Err, IfOk, IsSomeAnd, [], ℕ, length};
+ghost use Rattle.std.specs.Prelude.{◌+◌, ◌≤◌, ◌<◌, ◌≢◌, ◌≡◌, Err, IfErr, IfOk, IsSomeAnd, List, [], ℕ, length};
 ghost use Rattle.rr_protocol.specs.declared.kind.Kind.TheVariants as kind;
 ghost use Rattle.rr_laws.specs.Unreduced.{ClientHasPool};
-ghost use Rattle.rr_ports.specs.Facts.{AskedLen, Asks, Has, IsFree, Keeps, Names, WholePool, numbers_left, Of};
+ghost use Rattle.rr_ports.specs.Facts.{AskedLen, Asks, Buffers, Has, IsFree, Keeps, Names, WholePool, numbers_left, Of};
 ghost use Rattle.rr_ports.specs.Queues.{AwaitsNothing, Hears, HearsNothing, KeepsAwaited, KeepsHeard};
 ghost use Rattle.rr_ports.specs.Loaning.{AreDefaults, LoansComplete, SendsSlice};
 ghost use Rattle.rr_protocol.specs.declared.error.SendError.TheVariants as send;
@@ -91,8 +91,12 @@ impl<T: Default + Drop> Client<SliceBody<T>> {
         ensures whole { (room : ℕ) → len ≤ room → Has hub.old self.now (WholePool room) → result ≢ Err LoanError.OutOfMemory }
         ensures free { IfOk result (λ request. IsFree [] hub.old request) }
         ensures kind { IfOk result (λ request. Names hub.new request kind.RequestMut) }
+        ensures says { IfOk result (λ request. (elements : List T) × AreDefaults T.is_default len elements × Has hub.new request (Asks elements)) }
         ensures keeps { Keeps [] hub.old hub.new }
         ensures numbers { numbers_left hub.old ≤ numbers_left hub.new + 1 }
+        ensures of { IfOk result (λ request. Has hub.new request (Of self.now request)) }
+        ensures heard { KeepsHeard [] hub.old hub.new }
+        ensures awaited { KeepsAwaited [] hub.old hub.new }
     {
         let request = self.loan_slice_uninit(hub, len)?;
         Ok(request.write_from_fn(hub, |_| T::default()))
@@ -128,6 +132,8 @@ impl<T: Copy> Client<SliceBody<T>> {
         ensures hears { (server : ℕ) → Names hub.old server kind.Server → HearsNothing hub.old server → IfOk result (λ pending. Hears hub.new server pending) }
         ensures awaits { IfOk result (λ pending. AwaitsNothing hub.new pending) }
         ensures awaited { KeepsAwaited [] hub.old hub.new }
+        ensures refused { IfErr result (λ error. KeepsHeard [] hub.old hub.new) }
+        ensures buffers { (port room : ℕ) → Has hub.old port (Buffers room) → IfOk result (λ pending. Has hub.new pending (Buffers room)) }
     {
         let request = self.loan_slice_uninit(hub, elements.len())?;
         let request = request.write_from_slice(hub, elements);

@@ -106,6 +106,9 @@ impl<T: Drop> ResponseMutUninit<SliceBody<T>> {
         ensures says { (elements : List T) × (last : F) × ReturnsInOrder F.step f 0 elements last × Has hub.new result (Answers elements) }
         ensures keeps { Keeps (self ∷ []) hub.old hub.new }
         ensures numbers { numbers_left hub.new ≡ numbers_left hub.old }
+        ensures of { (port request : ℕ) → Has hub.old self (Of port request) → Has hub.new result (Of port request) }
+        ensures heard { KeepsHeard (self ∷ []) hub.old hub.new }
+        ensures awaited { KeepsAwaited (self ∷ []) hub.old hub.new }
     {
         let ResponseMutUninit { id, of: _ } = self;
         let (asked, written) = lens(hub.core.response_body(&id));

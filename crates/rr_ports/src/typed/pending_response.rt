@@ -4,7 +4,7 @@
 ghost use Rattle.std.specs.Prelude.{◌∷◌, ◌≡◌, [], List, IfOk, ℕ, Some};
 ghost use Rattle.rr_protocol.specs.declared.kind.Kind.TheVariants as kind;
 ghost use Rattle.rr_ports.specs.Facts.{Has, Keeps, Names, Of, numbers_left};
-ghost use Rattle.rr_ports.specs.Queues.{Awaits, AwaitsNothing, KeepsHeard};
+ghost use Rattle.rr_ports.specs.Queues.{Awaits, AwaitsNothing, KeepsAwaited, KeepsHeard};
 ghost use Rattle.rr_ports.specs.Shortcuts.{ReceivesCopy};
 
 use crate::hub::Hub;
@@ -32,6 +32,7 @@ impl<QB: Body> PendingResponse<QB> {
         ensures later { (client request server : ℕ) (xs : List T) (later : List (List T)) → Has hub.old self.now (Of client request) → Names hub.old client kind.Client → Awaits hub.old self.now server (xs ∷ later) → IfOk result (λ received. Awaits hub.new self.now server later) }
         ensures done { (client request server : ℕ) (xs : List T) → Has hub.old self.now (Of client request) → Names hub.old client kind.Client → Awaits hub.old self.now server (xs ∷ []) → IfOk result (λ received. AwaitsNothing hub.new self.now) }
         ensures heard { (client request : ℕ) → Has hub.old self.now (Of client request) → Names hub.old client kind.Client → KeepsHeard [] hub.old hub.new }
+        ensures awaited { (client request : ℕ) → Has hub.old self.now (Of client request) → Names hub.old client kind.Client → KeepsAwaited (self.now ∷ []) hub.old hub.new }
     {
         match self.receive(hub) {
             Ok(Some(response)) => {

@@ -1,9 +1,10 @@
 //! What a server of the typed family receives at once.
 #![tactic(auto, using(crate::proofs::Asking::asks), unfolding(crate::specs::Facts::Has, crate::specs::Facts::numbers_left))]
 
-ghost use Rattle.std.specs.Prelude.{◌+◌, ◌≤◌, ◌<◌, []};
+ghost use Rattle.std.specs.Prelude.{◌∷◌, ◌≡◌, ◌+◌, ◌≤◌, ◌<◌, [], IfOk, Some, ℕ};
 ghost use Rattle.rr_protocol.specs.declared.kind.Kind.TheVariants as kind;
-ghost use Rattle.rr_ports.specs.Facts.{Keeps, Names, numbers_left};
+ghost use Rattle.rr_ports.specs.Facts.{Asks, Has, Keeps, Names, numbers_left};
+ghost use Rattle.rr_ports.specs.Queues.{Hears, HearsNothing, KeepsAwaited, KeepsHeard};
 ghost use Rattle.rr_ports.specs.Shortcuts.{HearsCopy};
 
 use crate::hub::Hub;
@@ -29,6 +30,10 @@ impl<PB: Body> Server<PB> {
         ensures receives { HearsCopy hub.old self.now result hub.new }
         ensures keeps { Keeps [] hub.old hub.new }
         ensures numbers { numbers_left hub.old ≤ numbers_left hub.new + 1 }
+        ensures asks { (pending : ℕ) (value : T) → Hears hub.old self.now pending → Has hub.old pending (Asks (value ∷ [])) → IfOk result (λ received. received ≡ Some value) }
+        ensures quiet { (pending : ℕ) → Hears hub.old self.now pending → IfOk result (λ received. HearsNothing hub.new self.now) }
+        ensures heard { KeepsHeard (self.now ∷ []) hub.old hub.new }
+        ensures awaited { KeepsAwaited [] hub.old hub.new }
     {
         match self.receive(hub) {
             Ok(Some(active)) => {

@@ -3,7 +3,7 @@
 
 ghost use Rattle.std.specs.Prelude.{◌<◌, []};
 ghost use Rattle.rr_protocol.specs.declared.kind.Kind.TheVariants as kind;
-ghost use Rattle.rr_ports.specs.Facts.{Has, Keeps, Names, Of, numbers_left};
+ghost use Rattle.rr_ports.specs.Facts.{Buffers, Has, Keeps, Names, Of, numbers_left};
 ghost use Rattle.rr_ports.specs.Queues.{AwaitsNothing, Hears, HearsNothing};
 
 use super::LIMITS;
@@ -85,15 +85,16 @@ fn taken(
     requires of { Has hub.old pending.now (Of client.now pending.now) }
     requires hears { Hears hub.old server.now pending.now }
     requires awaits { AwaitsNothing hub.old pending.now }
-    requires number { 0 < numbers_left hub.old }
+    requires room { Has hub.old pending.now (Buffers 2) }
+    requires numbers { 2 < numbers_left hub.old }
     ensures { Keeps [] hub.old hub.new }
 {
     let Ok(Some(active)) = server.receive(hub) else {
         return None;
     };
     match count(hub, server, pending, &active, 2) {
-        Ok(sent) => {
-            let came = received(alloc, hub, client, server, pending, sent);
+        Ok(()) => {
+            let came = received(alloc, hub, client, server, pending, 2);
             active.release(hub);
             came.ok()
         }
@@ -114,7 +115,8 @@ fn counted(
     requires client { Names hub.old client.now kind.Client }
     requires server { Names hub.old server.now kind.Server }
     requires quiet { HearsNothing hub.old server.now }
-    requires numbers { 1 < numbers_left hub.old }
+    requires room { Has hub.old client.now (Buffers 2) }
+    requires numbers { 3 < numbers_left hub.old }
     ensures { Keeps [] hub.old hub.new }
 {
     let pending = client.send_copy(hub, 0).ok()?;

@@ -1,4 +1,4 @@
-use Rattle.rr_ports.proofs.CallLaws.{response_loaned}
+use Rattle.rr_ports.proofs.LoanLaws.{response_loaned}
 use Rattle.rr_ports.proofs.active_request.ActiveRequest.loan_uninit.Goals as goal
 
 pub returns : goal.returns

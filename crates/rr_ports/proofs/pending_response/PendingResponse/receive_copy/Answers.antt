@@ -3,7 +3,7 @@ use Rattle.rr_protocol.specs.declared.kind.Kind.{Kind}
 use Rattle.rr_ports.specs.Facts.{IsA}
 use Rattle.rr_ports.proofs.FactLaws.{keeps_through}
 use Rattle.rr_ports.proofs.Frames.{kept}
-use Rattle.rr_ports.proofs.QueueLaws.{awaited_beside, heard_through, nothing_beside}
+use Rattle.rr_ports.proofs.QueueLaws.{awaited_through, awaited_beside, awaited_more, heard_through, nothing_beside}
 use Rattle.rr_ports.proofs.pending_response.PendingResponse.receive_copy.Goals as goal
 
 pub returns-in-Ok-Some-clause-receives : goal.returns-in-Ok-Some-clause-receives
@@ -36,10 +36,18 @@ returns-in-Ok-Some-clause-done g c client request server xs of lives awaits =
 
 pub returns-in-Ok-Some-clause-heard : goal.returns-in-Ok-Some-clause-heard
 returns-in-Ok-Some-clause-heard g c client request of lives =
-    heard_through c.args.hub.now c.receive.new.hub c.release.new.hub c.in-Ok-Some.response
+    heard_through [] c.args.hub.now c.receive.new.hub c.release.new.hub c.in-Ok-Some.response
     (rw c.in-Ok-Some.field-0-is at c.in-Ok-Some.ensures.free) c.in-Ok-Some.ensures.heard
     (c.release.ensures.heard client request ((rw c.in-Ok-Some.field-0-is at c.in-Ok-Some.ensures.of) client request of)
     (kept [] c.args.hub.now c.receive.new.hub client (IsA Kind.Client) c.in-Ok-Some.ensures.keeps tt lives))
+
+pub returns-in-Ok-Some-clause-awaited : goal.returns-in-Ok-Some-clause-awaited
+returns-in-Ok-Some-clause-awaited g c client request of lives =
+    awaited_through (c.args.self.now ∷ []) c.args.hub.now c.receive.new.hub c.release.new.hub c.in-Ok-Some.response
+    (rw c.in-Ok-Some.field-0-is at c.in-Ok-Some.ensures.free) c.in-Ok-Some.ensures.awaited
+    (awaited_more c.receive.new.hub c.release.new.hub c.in-Ok-Some.response c.args.self.now
+    (c.release.ensures.awaited client request ((rw c.in-Ok-Some.field-0-is at c.in-Ok-Some.ensures.of) client request of)
+    (kept [] c.args.hub.now c.receive.new.hub client (IsA Kind.Client) c.in-Ok-Some.ensures.keeps tt lives)))
 
 pub returns-in-Ok-None-clause-answers : goal.returns-in-Ok-None-clause-answers
 returns-in-Ok-None-clause-answers g c server value later awaits =

@@ -1,8 +1,9 @@
 use Rattle.rr_ports.specs.Facts.{Has}
+use Rattle.rr_ports.proofs.FactLaws.{if_refused}
 use Rattle.rr_ports.proofs.ReleaseLaws.{released_keeps, released_numbers}
-use Rattle.rr_ports.proofs.SendLaws.{unsent, sent_names, sent_asks, sent_but}
-use Rattle.rr_ports.proofs.AwaitedLaws.{sent_awaits}
-use Rattle.rr_ports.proofs.HandleReleases.{client_used, released_awaited}
+use Rattle.rr_ports.proofs.SendLaws.{unsent, sent_names, sent_asks, sent_buffers, sent_but}
+use Rattle.rr_ports.proofs.AwaitedSends.{sent_awaits}
+use Rattle.rr_ports.proofs.HandleReleases.{client_used, released_awaited, released_heard}
 use Rattle.rr_ports.proofs.HeardLaws.{sent_hears, sent_of, sent_responses, sent_stays}
 use Rattle.rr_ports.proofs.QueueLaws.{awaited_stays}
 use Rattle.rr_protocol.specs.declared.kind.Kind.{Kind}
@@ -44,6 +45,14 @@ returns-in_err-_connections-clause-awaited g c port request of lives =
     (rw (← c.hub.view_is, ← c.self.view_is) at c.requires) port request (rw (← c.hub.view_is, ← c.self.view_is) at of)
     (client_used c.hub.inside.core port (rw (← c.hub.view_is) at lives)) (λ e. cc))
 
+pub returns-in_err-_connections-clause-refused : goal.returns-in_err-_connections-clause-refused
+unfolding Has
+returns-in_err-_connections-clause-refused g c port request of lives =
+    if_refused c.from_residual.result (rw (← c.hub.view_is, ← c.self.view_is) (released_heard c.hub.inside.core c.send_request.new.self c.self.inside.id
+    (unsent g.K.BackpressureFn.action c.hub.inside.core c.send_request.new.self c.self.inside.id c.in_err-_connections.field-0.0 c.in_err-_connections.ensures) Kind.RequestMut (λ e. cc) (λ e. cc)
+    (rw (← c.hub.view_is, ← c.self.view_is) at c.requires) port request (rw (← c.hub.view_is, ← c.self.view_is) at of)
+    (client_used c.hub.inside.core port (rw (← c.hub.view_is) at lives))))
+
 pub returns-clause-of : goal.returns-clause-of
 unfolding Has
 returns-clause-of g c port request of =
@@ -70,3 +79,9 @@ returns-clause-awaited g c port request of lives =
     rw (← c.hub.view_is, ← c.self.view_is) (awaited_stays (c.self.inside.id ∷ []) c.hub.inside.core c.send_request.new.self
     (sent_stays g.K.BackpressureFn.action c.hub.inside.core c.send_request.new.self c.self.inside.id c.in_ok-_connections._connections c.in_ok-_connections.ensures (rw (← c.hub.view_is, ← c.self.view_is) at c.requires))
     (sent_responses g.K.BackpressureFn.action c.hub.inside.core c.send_request.new.self c.self.inside.id c.in_ok-_connections._connections c.in_ok-_connections.ensures (rw (← c.hub.view_is, ← c.self.view_is) at c.requires)))
+
+pub returns-clause-buffers : goal.returns-clause-buffers
+unfolding Has
+returns-clause-buffers g c port room has =
+    sent_buffers g.K.BackpressureFn.action c.hub.inside.core c.send_request.new.self c.self.inside.id c.in_ok-_connections._connections c.in_ok-_connections.ensures
+    (rw (← c.hub.view_is, ← c.self.view_is) at c.requires) port room (rw (← c.hub.view_is) at has)

@@ -1,5 +1,5 @@
 use Rattle.rr_ports.specs.Facts.{Has}
-use Rattle.rr_ports.proofs.ResponseSends.{response_first, response_heard, response_next}
+use Rattle.rr_ports.proofs.ResponseSends.{response_beside, response_delivered, response_first, response_heard, response_next, response_refused, response_room}
 use Rattle.rr_ports.proofs.SendLaws.{answered_but, answered_numbers}
 use Rattle.rr_ports.proofs.response_mut.ResponseMut.send.Goals as goal
 
@@ -31,3 +31,27 @@ unfolding Has
 returns-clause-heard g c port request of lives =
     rw (← c.hub.view_is, ← c.self.view_is) (response_heard g.K.BackpressureFn.action c.hub.inside.core c.send_response.new.self c.self.inside.id (rw (← c.hub.view_is, ← c.self.view_is) at c.requires) c.reached.ensures.reached port request (rw (← c.hub.view_is, ← c.self.view_is) at of)
     (rw (← c.hub.view_is) at lives) c.send_response.result c.send_response.ensures)
+
+pub returns-clause-awaited : goal.returns-clause-awaited
+unfolding Has
+returns-clause-awaited g c server pending of lives =
+    rw (← c.hub.view_is, ← c.self.view_is) (response_beside g.K.BackpressureFn.action c.hub.inside.core c.send_response.new.self c.self.inside.id (rw (← c.hub.view_is, ← c.self.view_is) at c.requires) c.reached.ensures.reached server pending (rw (← c.hub.view_is, ← c.self.view_is) at of)
+    (rw (← c.hub.view_is) at lives) c.reached.ensures.channels c.send_response.result c.send_response.ensures)
+
+pub returns-clause-refused : goal.returns-clause-refused
+unfolding Has
+returns-clause-refused g c server pending of lives =
+    rw (← c.hub.view_is, ← c.self.view_is) (response_refused g.K.BackpressureFn.action c.hub.inside.core c.send_response.new.self c.self.inside.id (rw (← c.hub.view_is, ← c.self.view_is) at c.requires) c.reached.ensures.reached server pending (rw (← c.hub.view_is, ← c.self.view_is) at of)
+    (rw (← c.hub.view_is) at lives) c.send_response.result c.send_response.ensures)
+
+pub returns-clause-delivered : goal.returns-clause-delivered
+unfolding Has
+returns-clause-delivered g c server pending of nothing =
+    response_delivered g.K.BackpressureFn.action c.hub.inside.core c.send_response.new.self c.self.inside.id (rw (← c.hub.view_is, ← c.self.view_is) at c.requires) c.reached.ensures.reached server pending (rw (← c.hub.view_is, ← c.self.view_is) at of)
+    c.send_response.result c.send_response.ensures (rw (← c.hub.view_is) at nothing)
+
+pub returns-clause-room : goal.returns-clause-room
+unfolding Has
+returns-clause-room g c server pending answers of awaits room =
+    response_room g.K.BackpressureFn.action c.hub.inside.core c.send_response.new.self c.self.inside.id (rw (← c.hub.view_is, ← c.self.view_is) at c.requires) c.reached.ensures.reached server pending (rw (← c.hub.view_is, ← c.self.view_is) at of)
+    c.send_response.result c.send_response.ensures answers (rw (← c.hub.view_is) at awaits) (rw (← c.hub.view_is) at room)

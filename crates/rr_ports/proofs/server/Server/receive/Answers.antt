@@ -1,4 +1,4 @@
-use Rattle.rr_ports.proofs.CallLaws.{request_received}
+use Rattle.rr_ports.proofs.ReceiveLaws.{request_received}
 use Rattle.rr_ports.proofs.server.Server.receive.Goals as goal
 
 pub returns : goal.returns

@@ -36,3 +36,8 @@ pub returns-clause-awaited : goal.returns-clause-awaited
 returns-clause-awaited g c =
     rw (← c.hub.view_is) (created_client c.hub.inside.core c.create_client.new.self _ _
     c.create_client.ensures.creates c.create_client.ensures.unnamed).queues.1
+
+pub returns-clause-buffers : goal.returns-clause-buffers
+returns-clause-buffers g c =
+    rw (c.created.ensures, ← c.hub.view_is) (created_client c.hub.inside.core c.create_client.new.self _ _
+    c.create_client.ensures.creates c.create_client.ensures.unnamed).buffers

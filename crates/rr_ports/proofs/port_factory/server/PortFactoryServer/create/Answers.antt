@@ -43,3 +43,8 @@ returns-clause-awaited g c =
 pub returns-clause-hears : goal.returns-clause-hears
 returns-clause-hears g c =
     rw c.created.ensures (server_hears c.hub.inside.core c.create_server.new.self c.reached.ensures.reached _ _ c.create_server.ensures.creates)
+
+pub returns-clause-buffers : goal.returns-clause-buffers
+returns-clause-buffers g c =
+    rw (c.created.ensures, ← c.hub.view_is) (created_server c.hub.inside.core c.create_server.new.self _ _
+    c.create_server.ensures.creates c.create_server.ensures.unnamed).buffers

@@ -1,4 +1,4 @@
-use Rattle.rr_ports.proofs.CallLaws.{request_loaned}
+use Rattle.rr_ports.proofs.LoanLaws.{request_loaned}
 use Rattle.rr_ports.proofs.sliced.client.Client+SliceBody+T.loan_slice_uninit.Goals as goal
 
 pub returns : goal.returns

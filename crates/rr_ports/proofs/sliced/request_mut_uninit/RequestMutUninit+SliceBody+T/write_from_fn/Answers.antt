@@ -84,3 +84,18 @@ pub returns-clause-keeps : goal.returns-clause-keeps
 returns-clause-keeps g c =
     let f = returns-clause-written g c in
     (written c.args.hub.now c.assume_init.new.self c.args.self requests c.requires.kind f.elements f.written).keeps
+
+pub returns-clause-of : goal.returns-clause-of
+returns-clause-of g c port request has =
+    let f = returns-clause-written g c in
+    rw c.self.view_is ((written c.args.hub.now c.assume_init.new.self c.args.self requests c.requires.kind f.elements f.written).of port request has)
+
+pub returns-clause-heard : goal.returns-clause-heard
+returns-clause-heard g c =
+    let f = returns-clause-written g c in
+    (written c.args.hub.now c.assume_init.new.self c.args.self requests c.requires.kind f.elements f.written).heard
+
+pub returns-clause-awaited : goal.returns-clause-awaited
+returns-clause-awaited g c =
+    let f = returns-clause-written g c in
+    (written c.args.hub.now c.assume_init.new.self c.args.self requests c.requires.kind f.elements f.written).awaited
