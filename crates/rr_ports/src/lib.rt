@@ -3,6 +3,7 @@
 
 mod active_request;
 mod client;
+mod debug;
 mod error;
 mod handle;
 mod hub;

@@ -1,1 +1,2 @@
+pub mod Crowd
 pub mod Singles

@@ -4,6 +4,7 @@
 pub mod asking;
 pub mod calling;
 pub mod counting;
+pub mod crowd;
 pub mod parameter;
 pub mod serving;
 pub mod slices;

@@ -11,7 +11,9 @@ use rr_ports::UniqueNodeId;
 use rr_ports::typed::{Client, Hub, PendingResponse, Server};
 use rr_uses::calling::{call, call_both};
 use rr_uses::counting::{count, received};
+use rr_uses::crowd::call_all;
 use std::alloc::Global;
+use std::slice;
 
 /// A service that answers numbers with numbers.
 type Service = Hub<u64, u64, u64, u64>;
@@ -69,6 +71,34 @@ fn a_call_of_two_returns_both_answers(rt: HostRuntime) {
     first.release(&mut hub);
     second.release(&mut hub);
     assert_eq!(rt; answers, Ok((21, 40)));
+}
+
+/// A question to all servers, of which there is one, returns its answer.
+#[tactic(auto, using(rr_ports::proofs::Frames::callers, rr_uses::proofs::Hearing::crowds), unfolding(rr_ports::specs::Facts::Keeps, rr_ports::specs::Facts::IsFree))]
+#[test]
+fn a_question_to_all_returns_all_answers(rt: HostRuntime) {
+    let mut hub = Service::new(rt.alloc(), LIMITS, UniqueNodeId(7)).expect(&rt, "a hub");
+    let client = hub
+        .client_builder()
+        .create(&mut hub)
+        .expect(&rt, "a client");
+    let server = hub
+        .server_builder()
+        .create(&mut hub)
+        .expect(&rt, "a server");
+    let servers = slice::from_ref(&server);
+    let answers = call_all(
+        rt.alloc(),
+        &mut hub,
+        &client,
+        servers,
+        20,
+        &|asked: u64| asked.wrapping_add(1),
+    );
+    client.release(&mut hub);
+    server.release(&mut hub);
+    let answers = answers.expect(&rt, "all answers");
+    assert_eq!(rt; answers.as_slice(), [21].as_slice());
 }
 
 /// Has the server answer with a stream of two numbers. Returns those that came.

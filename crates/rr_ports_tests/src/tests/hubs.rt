@@ -40,6 +40,16 @@ fn a_hub_holds_its_own_ports(rt: HostRuntime) {
     );
 }
 
+/// A port is printed by its type and number, and so is its id.
+#[test]
+fn a_port_is_printed_by_its_number(rt: HostRuntime) {
+    let connected = connect(&rt, rt.alloc(), SETUP);
+    let shown = format!(in rt.alloc(); "{:?} {}", connected.server, connected.server.id());
+    connected.end();
+    let shown = shown.expect(&rt, "a text");
+    assert_eq!(rt; shown.as_str(), "Server(1) 1");
+}
+
 /// A hub can be moved into a thread.
 #[test]
 fn a_hub_goes_to_another_thread(rt: HostRuntime) {
