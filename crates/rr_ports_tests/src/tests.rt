@@ -1,4 +1,4 @@
-//! What a user of the ports sees: exchanges, loans, pools, slices, what builders set, what is written in place, calls and their answers, and errors.
+//! What a user of the ports sees: exchanges, loans, pools, handlers, hubs, calls and their answers, and errors.
 mod calling;
 mod errors;
 mod exchanges;
@@ -7,10 +7,6 @@ mod handlers;
 mod hubs;
 mod loans;
 mod pools;
-mod sent_slices;
-mod settings;
-mod slice_fixtures;
-mod slices;
 
 use rr_ports::Limits;
 

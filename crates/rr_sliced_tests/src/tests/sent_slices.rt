@@ -5,7 +5,7 @@ ghost use Rattle.std.specs.Prelude.{◌<◌, []};
 ghost use Rattle.rr_protocol.specs.declared.kind.Kind.TheVariants as kind;
 ghost use Rattle.rr_ports.specs.Facts.{Keeps, Names, numbers_left};
 
-use super::slice_fixtures::{Service, connect};
+use super::fixtures::{Service, connect};
 use rr_ports::sliced::{Client, PendingResponse, Server};
 use rr_ports::{AllocationStrategy, Error, ReceiveError};
 

@@ -5,7 +5,7 @@ ghost use Rattle.std.specs.Prelude.{◌≡◌, ◌<◌, ◌≤◌, ◌+◌, IfOk
 ghost use Rattle.rr_protocol.specs.declared.kind.Kind.TheVariants as kind;
 ghost use Rattle.rr_ports.specs.Facts.{IsFree, Keeps, Names, numbers_left};
 
-use super::slice_fixtures::{Service, connect};
+use super::fixtures::{Service, connect};
 use rr_ports::sliced::{ActiveRequest, Client, PendingResponse, RequestMutUninit, Server};
 use rr_ports::{AllocationStrategy, LoanError, ReceiveError, RequestSendError, SendError};
 

@@ -5,9 +5,8 @@ ghost use Rattle.std.specs.Prelude.{◌<◌};
 ghost use Rattle.rr_protocol.specs.declared.kind.Kind.TheVariants as kind;
 ghost use Rattle.rr_ports.specs.Facts.{Names, numbers_left};
 
-use super::LIMITS;
 use rr_ports::sliced::{Client, Hub, Server};
-use rr_ports::{AllocationStrategy, UniqueNodeId};
+use rr_ports::{AllocationStrategy, Limits, UniqueNodeId};
 use std::alloc::Global;
 use std::process::Abort;
 
@@ -20,6 +19,17 @@ pub struct Connected {
     pub client: Client<u64>,
     pub server: Server<u64>,
 }
+
+/// Limits of two of everything and one loaned request, with queues that refuse.
+const LIMITS: Limits = Limits {
+    max_clients: 2,
+    max_servers: 2,
+    max_active_requests_per_client: 2,
+    max_response_buffer_size: 2,
+    client_expired_connection_buffer: 1,
+    server_expired_connection_buffer: 1,
+    ..Limits::SMALLEST
+};
 
 /// Makes a hub.
 pub fn service(rt: &impl Abort, alloc: Global) -> Service

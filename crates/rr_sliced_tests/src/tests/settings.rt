@@ -5,7 +5,7 @@ ghost use Rattle.std.specs.Prelude.{◌≡◌, ◌<◌, ◌≤◌, ◌+◌, None
 ghost use Rattle.rr_protocol.specs.declared.kind.Kind.TheVariants as kind;
 ghost use Rattle.rr_ports.specs.Facts.{Keeps, Names, numbers_left};
 
-use super::slice_fixtures::{Service, service};
+use super::fixtures::{Service, service};
 use rr_ports::sliced::{Client, PortFactoryClient, PortFactoryServer};
 use rr_ports::{
     AllocationStrategy, BackpressureStrategy, ClientCreateError, LoanError, NoHandler,
