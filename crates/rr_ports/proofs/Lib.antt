@@ -3,6 +3,7 @@ pub mod NameLaws
 pub mod FactLaws
 pub mod Asking
 pub mod Payloads
+pub mod PortReleases
 pub mod ReleaseLaws
 pub mod GainLaws
 pub mod LoanLaws

@@ -156,8 +156,10 @@ impl<PB: Body> Server<PB> {
         ensures released { hub.new ≡ after_release hub.old self }
         ensures keeps { Keeps (self ∷ []) hub.old hub.new }
         ensures numbers { numbers_left hub.new ≡ numbers_left hub.old }
+        ensures heard { KeepsHeard (self ∷ []) hub.old hub.new }
     {
         let Server { number, of: _ } = self;
+        hub.core.reached();
         hub.core.release_server(number);
     }
 }

@@ -1,13 +1,15 @@
--- A channel is held by one request that is on loan or waits for answers, and a number by one server.
-use Rattle.std.proofs.Common.{◌≡◌, ◌<◌, ℕ, true, Option, Some, None, length, option_map, refl, sym, ap, ◌∙◌}
-use Rattle.std.specs.Prelude.{option_and_then, slice_get}
+-- A channel is held by one request that is on loan or waits for answers, and a number by one server or one client.
+use Rattle.std.proofs.Common.{suc, ◌≡◌, ◌<◌, ℕ, cond, List, [], ◌∷◌, Bool, true, false, Option, Some, None, length, option_map, refl, sym, ap, ◌∙◌}
+use Rattle.std.specs.Prelude.{◌==◌, find, is_some, option_and_then, slice_get}
 use Rattle.std.specs.FinMap as fin_map
 use Rattle.rr_map_laws.proofs.MapLaws.{get-map_values}
 use Rattle.rr_table.specs.TableView.{TableEntry}
-use Rattle.rr_protocol.specs.Ports.{Server}
+use Rattle.std.proofs.lemmas.Bool.{eqb-true}
+use Rattle.rr_protocol.specs.Ports.{Client, Server}
 use Rattle.rr_protocol.specs.State.{State}
 use Rattle.rr_laws.specs.Apart.{ChannelsApart}
-use Rattle.rr_laws.specs.Reached.{IsReached}
+use Rattle.rr_laws.specs.Reached.{IsReached, has_client, has_server}
+use Rattle.rr_laws.proofs.Connected.{not_both}
 use Rattle.rr_laws.specs.Roles.{Question, Role, LoanedRequest, SentRequest, ReceivedRequest, LoanedResponse, ReceivedResponse, question_of, role_of, roles_of, asking, asking_at}
 use Rattle.rr_laws.proofs.RoleLaws.{get-roles}
 use Rattle.rr_store.specs.declared.handle_entry.HandleEntry.{HandleEntry}
@@ -15,12 +17,24 @@ use Rattle.rr_store.specs.declared.handle_entry.Stage.{Stage}
 use Rattle.rr_store.specs.declared.handle_entry.Stage.TheVariants as stage
 use Rattle.rr_store.specs.Parts.{Parts, ServerPart}
 use Rattle.rr_store.specs.Sound.{IsSoundStore, empty_hand, is_of_request}
-use Rattle.rr_store.specs.Views.{handle_in, handle_of, request_at, sender_of, server_of, state_of}
+use Rattle.rr_store.specs.Views.{client_of, handle_in, handle_of, request_at, sender_of, server_of, state_of}
 use Rattle.rr_store.proofs.base.hands.Stages.{handle_uses_request}
 use Rattle.rr_store.proofs.base.lists.Adding.{mapped}
 use Rattle.rr_store.proofs.base.lists.Rising.{rising_once}
 use Rattle.rr_store.proofs.base.senders.Owners.{servers_rise}
 use Rattle.rr_store.proofs.base.views.Agreeing.{request_sender}
+
+-- what has a number among others stands somewhere
+numbered : {X : Type 0} (id : X → ℕ) (xs : List X) (n : ℕ) → is_some (find (λ x. id x == n) xs) ≡ true
+    → (i : ℕ) × (x : X) × (slice_get xs i ≡ Some x) × (id x ≡ n)
+numbered id [] n e = absurd (let f : false ≡ true = e in cc)
+numbered {X} id (x ∷ xs) n e = go (numbered id xs n) (id x == n) refl e
+  where
+    go : (is_some (find (λ x. id x == n) xs) ≡ true → (i : ℕ) × (y : X) × (slice_get xs i ≡ Some y) × (id y ≡ n)) → (b : Bool)
+        → (id x == n) ≡ b → is_some (cond b (Some x) (find (λ x. id x == n) xs)) ≡ true
+        → (i : ℕ) × (y : X) × (slice_get (x ∷ xs) i ≡ Some y) × (id y ≡ n)
+    go behind true is e = (0, x, refl, eqb-true (id x) n is)
+    go behind false is e = let r = behind e in (suc r.0, r.1, r.2, r.3)
 
 -- a request that is on loan or waits for answers stands under its number
 pub own_number : {Q QH P PH K : Type 0} (s : State Q QH P PH K) → IsReached s → (n : ℕ) (q : Question)
@@ -102,3 +116,14 @@ module _ {Q QH P PH K : Type 0} (p : Parts Q QH P PH K) (sound : IsSoundStore p 
       let b = mapped server_of p.servers j y there in
       rising_once (λ (s : ServerPart K). s.port.id) p.servers (servers_rise p empty_hand sound) i j a.0 b.0 a.1 b.1
       (ap (λ (c : Server K). c.id) a.2 ∙ same ∙ sym (ap (λ (c : Server K). c.id) b.2))
+
+  -- no client has a server's number
+  pub one_kind : (n : ℕ) → has_client (state_of p).clients n ≡ true → has_server (state_of p).servers n ≡ false
+  one_kind n client =
+      not_both (has_server (state_of p).servers n) (λ server.
+      let a = numbered (λ (c : Client K). c.id) (state_of p).clients n client in
+      let b = numbered (λ (c : Server K). c.id) (state_of p).servers n server in
+      let c = mapped client_of p.clients a.0 a.1 a.2 in
+      let s = mapped server_of p.servers b.0 b.1 b.2 in
+      sound.have_ports.apart a.0 b.0 c.0 s.0 c.1 s.1
+      (ap (λ (x : Client K). x.id) c.2 ∙ a.3 ∙ sym (ap (λ (x : Server K). x.id) s.2 ∙ b.3)))
