@@ -20,14 +20,12 @@ pub struct Connected {
     pub server: Server<u64>,
 }
 
-/// Limits of two of everything and one loaned request, with queues that refuse.
+/// Limits of two of everything and one loaned request, with queues that refuse; nothing is kept of ports that left.
 const LIMITS: Limits = Limits {
     max_clients: 2,
     max_servers: 2,
     max_active_requests_per_client: 2,
     max_response_buffer_size: 2,
-    client_expired_connection_buffer: 1,
-    server_expired_connection_buffer: 1,
     ..Limits::SMALLEST
 };
 
