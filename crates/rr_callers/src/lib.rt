@@ -5,5 +5,6 @@ pub mod calls;
 pub mod chains;
 pub mod frames;
 pub mod pools;
+pub mod refusals;
 pub mod slices;
 pub mod values;

@@ -7,8 +7,8 @@ ghost use Rattle.rr_protocol.specs.declared.error.LoanError.{LoanError};
 ghost use Rattle.rr_ports.specs.Facts.{Has, IsFree, Keeps, Names, WholePool, numbers_left};
 
 use crate::frames::{Service, serve};
-use rr_ports::typed::{Client, RequestMut, Server};
-use rr_ports::{ClientCreateError, LoanError};
+use rr_ports::typed::{Client, PortFactoryClient, RequestMut, Server};
+use rr_ports::{BackpressureStrategy, ClientCreateError, LoanError};
 
 /// Loans and writes a request. It never returns `OutOfMemory`.
 pub fn loan(
@@ -37,6 +37,21 @@ pub fn create(hub: &mut Service) -> Result<Client<u64>, ClientCreateError>
     ensures numbers { numbers_left hub.old ≤ numbers_left hub.new + 1 }
 {
     hub.client_builder().create(hub)
+}
+
+/// Returns a factory of clients whose sends are refused at full queues.
+fn patient(hub: &Service) -> PortFactoryClient<u64> {
+    hub.client_builder()
+        .backpressure_strategy(BackpressureStrategy::RetryUntilDelivered)
+}
+
+/// Creates a client with a whole pool by a factory of which no clause tells anything.
+pub fn create_patient(hub: &mut Service) -> Result<Client<u64>, ClientCreateError>
+    ensures kind { IfOk result (λ client. Names hub.new client kind.Client) }
+    ensures pool { IfOk result (λ client. Has hub.new client (WholePool 1)) }
+    ensures keeps { Keeps [] hub.old hub.new }
+{
+    patient(hub).create(hub)
 }
 
 /// Returns whether a loan is granted, and releases it. Another reason than want of a slot is the only one against it.

@@ -85,6 +85,7 @@ fn insert_client<QB: Body, QH: Default + Drop, PB: Body, PH: Default + Drop, K: 
     let limits = store.limits;
     let slots = pool_size(worst_case_requests(&limits), settings.pool);
     let receiver = store.clients.free_receiver(limits.max_clients);
+    store.response_turns.begin(alloc, receiver, slots)?;
     let client = client_store(alloc, &limits, slots, settings.initial_max_slice_len)?;
     match store.clients.idle_left() {
         Some(index) => append_client_again(store, alloc, settings, slots, receiver, index, client),

@@ -8,6 +8,7 @@ ghost use Rattle.rr_store.specs.Views.{state_of};
 ghost use Rattle.rr_store.specs.Start.{start_parts};
 
 use rr_protocol::{BackpressureFn, HubCreateError, Limits, UniqueNodeId};
+use rr_sender::Turns;
 use rr_slots::Body;
 use rr_store::{Side, Store};
 use rr_table::Table;
@@ -48,5 +49,7 @@ fn start<QB: Body, QH: Default + Drop, PB: Body, PH: Default + Drop, K: Backpres
         servers: Side::new(alloc),
         limits,
         node_id,
+        request_turns: Turns::new(alloc),
+        response_turns: Turns::new(alloc),
     }
 }

@@ -96,6 +96,7 @@ fn insert_server<QB: Body, QH: Default + Drop, PB: Body, PH: Default + Drop, K: 
     let loans = settings.loans.max(1);
     let slots = pool_size(worst_case_responses(&limits, loans), settings.pool);
     let receiver = store.servers.free_receiver(limits.max_servers);
+    store.request_turns.begin(alloc, receiver, 1)?;
     let messages = server_messages(alloc, &limits, slots, settings.initial_max_slice_len)?;
     match store.servers.idle_left() {
         Some(index) => append_server_again(

@@ -1,2 +1,3 @@
 pub mod NextNumber
 pub mod OneChannel
+pub mod OwnServer

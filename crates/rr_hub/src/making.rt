@@ -1,6 +1,6 @@
 //! Making a core, the numbers that it gives, and what holds of every one.
 ghost use Rattle.std.specs.Prelude.{◌≡◌, ℕ, None, Some, false, slice_get, true};
-ghost use Rattle.rr_laws.specs.Apart.{ChannelsApart};
+ghost use Rattle.rr_laws.specs.Apart.{ChannelsApart, LoansKeepServers};
 ghost use Rattle.rr_laws.specs.Reached.{IsReached, has_client, has_server};
 ghost use Rattle.rr_laws.specs.Roles.{roles_of};
 ghost use Rattle.rr_protocol.specs.Creation.{CreatesHub};
@@ -52,14 +52,15 @@ impl<QB: Body, QH: Default + Drop, PB: Body, PH: Default + Drop, K: Backpressure
     }
 
     /// Does nothing. Proofs above cite its clauses: what holds in every state that a run reaches, that no two requests of a client
-    /// that are on loan or wait for answers are on one channel, that no two servers have one number, and no client a server's. Not in
-    /// iceoryx2.
+    /// that are on loan or wait for answers are on one channel, that no two servers have one number, and no client a server's, and that
+    /// a response on loan is of the server that has its active request. Not in iceoryx2.
     #[inline(always)]
     pub fn reached(&self)
         ensures reached { IsReached self.now }
         ensures channels { ChannelsApart (roles_of self.now.handles) }
         ensures servers { (i j : ℕ) (x y : _) → slice_get self.now.servers i ≡ Some x → slice_get self.now.servers j ≡ Some y → x.id ≡ y.id → i ≡ j }
         ensures kinds { (n : ℕ) → has_client self.now.clients n ≡ true → has_server self.now.servers n ≡ false }
+        ensures loans { LoansKeepServers (roles_of self.now.handles) }
     {
         // Opens the value, so that its invariant is known.
         let _next = self.parts.next;

@@ -1,12 +1,12 @@
 //! What a core tells of queues: whether something waits in one, and whether one takes a message. No query changes it.
 ghost use Rattle.std.specs.Prelude.{◌≡◌, ◌↔◌, Some, None, IsSomeAnd, IsTrue};
 ghost use Rattle.rr_protocol.specs.Queries.{HasRequests, HasResponse, kind_at};
-ghost use Rattle.rr_protocol.specs.Sends.{is_request_deliverable, is_response_deliverable};
-ghost use Rattle.rr_protocol.specs.State.{handle_at, pending_at, request_at, response_at};
+ghost use Rattle.rr_protocol.specs.Sends.{is_request_deliverable, is_response_deliverable, is_response_refused, request_send_refusal};
+ghost use Rattle.rr_protocol.specs.State.{IsRequestMutAnd, IsResponseMutAnd, handle_at, pending_at, request_at, response_at};
 
 use crate::state::Core;
-use rr_protocol::{BackpressureFn, Kind};
-use rr_sending::{takes_request, takes_response};
+use rr_protocol::{BackpressureFn, Kind, RequestSendError};
+use rr_sending::{is_response_refused_at, request_refusal_at, takes_request, takes_response};
 use rr_slots::Body;
 use rr_store::HandleId;
 
@@ -70,5 +70,27 @@ impl<QB: Body, QH: Default + Drop, PB: Body, PH: Default + Drop, K: Backpressure
             .clients
             .reached_receiver(&self.parts.table, details);
         takes_response(&self.parts, entry.sender, details.channel, reach)
+    }
+
+    /// Returns the first reason against a send of a request that can be sent. Returns `None` if it would be sent. Looks at most
+    /// twice at each connected server. Not in iceoryx2.
+    #[inline(always)]
+    pub fn request_send_refusal(&self, id: &HandleId) -> Option<RequestSendError>
+        requires { kind_at self.now id.now ≡ Some Kind.RequestMut }
+        ensures { IsRequestMutAnd self.now id.now (λ client message. result ≡ request_send_refusal K.action self.now client message) }
+    {
+        let place = self.parts.locate(id);
+        request_refusal_at(&self.parts, id.number(), place)
+    }
+
+    /// Returns whether a send of a response that can be sent would be refused. Looks at the one place where its request's handle
+    /// can stand, and at one queue. Not in iceoryx2.
+    #[inline(always)]
+    pub fn is_response_refused(&self, id: &HandleId) -> bool
+        requires { kind_at self.now id.now ≡ Some Kind.ResponseMut }
+        ensures { IsResponseMutAnd self.now id.now (λ server message. result ≡ is_response_refused K.action self.now server message) }
+    {
+        let place = self.parts.locate(id);
+        is_response_refused_at(&self.parts, id.number(), place)
     }
 }

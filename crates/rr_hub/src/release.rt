@@ -1,5 +1,8 @@
 //! Releases of ports and of handles.
-ghost use Rattle.std.specs.Prelude.{◌≡◌, ◌⊎◌, IsSome, Some};
+ghost use Rattle.std.specs.Prelude.{◌≡◌, ◌⊎◌, IsSome, IsSomeAnd, Some, option_and_then};
+ghost use Rattle.rr_laws.specs.Complete.{HasComplete};
+ghost use Rattle.rr_protocol.specs.Messages.{response_in};
+ghost use Rattle.rr_slots.specs.Elements.{option_elements};
 ghost use Rattle.rr_protocol.specs.declared.kind.Kind.TheVariants as kind;
 ghost use Rattle.rr_protocol.specs.Queries.{kind_at};
 ghost use Rattle.rr_protocol.specs.Releases.{after_release};
@@ -9,7 +12,7 @@ use crate::state::Core;
 use rr_protocol::BackpressureFn;
 use rr_releasing::{
     release_active_at, release_at, release_client, release_pending_at, release_received_at,
-    release_request_at, release_response_loan_at, release_server,
+    release_request_at, release_response_loan_at, release_server, take_received_at,
 };
 use rr_slots::Body;
 use rr_store::HandleId;
@@ -128,5 +131,33 @@ impl<QB: Body, QH: Default + Drop, PB: Body, PH: Default + Drop, K: Backpressure
     {
         let place = self.parts.locate(id);
         release_response_loan_at(&mut self.parts, id.number(), place);
+    }
+}
+
+impl<QB: Body, QH: Default + Drop, T: Drop, PH: Default + Drop, K: BackpressureFn> Core<
+    QB,
+    QH,
+    Option<T>,
+    PH,
+    K,
+> {
+    /// Releases a response of one element that was received, as `release_response` does, and returns what it has. Not in iceoryx2.
+    #[inline(always)]
+    pub fn take_response(&mut self, id: &HandleId) -> Option<T>
+        requires { kind_at self.old id.now ≡ Some kind.Response }
+        ensures released { self.new ≡ after_release self.old id.now }
+        ensures asked { IsSomeAnd (option_and_then response_in (handle_at self.old id.now)) (λ m. 1 ≡ m.content.asked_len) }
+        ensures elements { IsSomeAnd (option_and_then response_in (handle_at self.old id.now)) (λ m. option_elements result ≡ m.content.elements) }
+
+        // What was received is complete.
+        ensures complete { IsSomeAnd (handle_at self.old id.now) HasComplete }
+    {
+        let place = id.place();
+        if self.parts.is_place_of(id.number(), place) {
+            take_received_at(&mut self.parts, id.number(), place)
+        } else {
+            let place = self.parts.locate(id);
+            take_received_at(&mut self.parts, id.number(), place)
+        }
     }
 }

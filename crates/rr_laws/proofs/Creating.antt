@@ -42,6 +42,7 @@ module _ {Q QH P PH K : Type 0} where
           client_numbers = tt;
           server_numbers = tt;
           client_pools = tt;
+          server_loans = tt;
         };
         handles = λ n role e. absurd (let none : get (empty {X = Role} {R = nat_cmp}) n ≡ None = get-empty nat_cmp n in cc);
         counts = record {
@@ -110,6 +111,7 @@ module _ {Q QH P PH K : Type 0} (s : State Q QH P PH K) (fits : IsReached s) whe
           server_numbers = ports.server_numbers;
           client_pools = all_append _ s.clients new ports.client_pools
               (pool_size_le _ settings.pool (positive s.limits fits.makes_hub).worst);
+          server_loans = ports.server_loans;
         };
         handles = λ n role e. role_stays (roles_of s.handles) (roles_of s.handles) s.next (s.next + 1) more
             (λ k p below e. e) s.limits s.servers (s.clients ++ new ∷ []) n role
@@ -183,6 +185,7 @@ module _ {Q QH P PH K : Type 0} (s : State Q QH P PH K) (fits : IsReached s) whe
           client_numbers = ports.client_numbers;
           server_numbers = all_append _ s.servers new ports.server_numbers (omega arith);
           client_pools = ports.client_pools;
+          server_loans = all_append _ s.servers new ports.server_loans (omega arith);
         };
         handles = λ n role e. role_stays (roles_of s.handles) (roles_of s.handles) s.next (s.next + 1) more
             (λ k p below e. e) s.limits (s.servers ++ new ∷ []) s.clients n role

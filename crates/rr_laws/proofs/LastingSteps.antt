@@ -1,4 +1,4 @@
--- Each step leaves the limits and every pool as they were.
+-- Each step leaves the limits as they were, and of each port its pool and what it does at a full queue.
 use Rattle.std.proofs.Common.{◌≡◌, ℕ, ◌+◌, Bool, true, false, cond, eqb, List, [], ◌∷◌, map, Option, Some, None, MatchOption, Result, Ok, Err, refl, sym, ◌∙◌, subst, ⊎_elim, arith}
 use Rattle.std.specs.Prelude.{fold, is_some}
 use Rattle.std.specs.Option.{option_map_or}
@@ -29,23 +29,23 @@ use Rattle.rr_commands.specs.Step.{client_settings, server_settings, with_comple
 use Rattle.rr_commands.specs.Run.{Run}
 use Rattle.rr_laws.proofs.Leaving.{without_value_id}
 use Rattle.rr_laws.proofs.Loaning.{counted_id}
-use Rattle.rr_laws.proofs.Lasting.{client_pool, server_pool, pools_same, pools_with_one, pools_changed, pools_without, Lasts, frame_of, lasts_with_more, lasts_by_frame, lasts_then}
+use Rattle.rr_laws.proofs.Lasting.{client_lasting, server_lasting, ports_same, ports_with_one, ports_changed, ports_without, Lasts, frame_of, lasts_with_more, lasts_by_frame, lasts_then}
 use Rattle.rr_laws.proofs.Opening.{some_and, open_request_mut, open_response_mut, open_active}
 
--- a loan that is counted leaves the pool
-counted_kept : {K : Type 0} (n : ℕ) (c : Client K) → client_pool (with_loan_counted n c) ≡ client_pool c
-counted_kept n c = elim (eqb c.id n) as (λ b. client_pool (cond b (record c { loans_made = c.loans_made + 1 }) c) ≡ client_pool c)
+-- a loan that is counted leaves what lasts
+counted_kept : {K : Type 0} (n : ℕ) (c : Client K) → client_lasting (with_loan_counted n c) ≡ client_lasting c
+counted_kept n c = elim (eqb c.id n) as (λ b. client_lasting (cond b (record c { loans_made = c.loans_made + 1 }) c) ≡ client_lasting c)
     [ true ↦ refl | false ↦ refl ]
 
 -- and so does a value that is gone
-client_kept : {K : Type 0} (n : ℕ) (c : Client K) → client_pool (record c { port = without_value n c.port }) ≡ client_pool c
+client_kept : {K : Type 0} (n : ℕ) (c : Client K) → client_lasting (record c { port = without_value n c.port }) ≡ client_lasting c
 client_kept n c = elim (eqb c.id n)
-    as (λ b. client_pool (record c { port = cond b (record c.port { has_value = false }) c.port }) ≡ client_pool c)
+    as (λ b. client_lasting (record c { port = cond b (record c.port { has_value = false }) c.port }) ≡ client_lasting c)
     [ true ↦ refl | false ↦ refl ]
 
-server_kept : {K : Type 0} (n : ℕ) (c : Server K) → server_pool (record c { port = without_value n c.port }) ≡ server_pool c
+server_kept : {K : Type 0} (n : ℕ) (c : Server K) → server_lasting (record c { port = without_value n c.port }) ≡ server_lasting c
 server_kept n c = elim (eqb c.id n)
-    as (λ b. server_pool (record c { port = cond b (record c.port { has_value = false }) c.port }) ≡ server_pool c)
+    as (λ b. server_lasting (record c { port = cond b (record c.port { has_value = false }) c.port }) ≡ server_lasting c)
     [ true ↦ refl | false ↦ refl ]
 
 module _ {Q QH P PH K : Type 0} where
@@ -84,8 +84,8 @@ module _ {Q QH P PH K : Type 0} where
       (record {
         limits = refl;
         next = omega arith;
-        clients = pools_without (λ (c : Client K). c.id) client_pool client left.clients left.next;
-        servers = pools_same (λ (c : Server K). c.id) server_pool left.servers left.next;
+        clients = ports_without (λ (c : Client K). c.id) client_lasting client left.clients left.next;
+        servers = ports_same (λ (c : Server K). c.id) server_lasting left.servers left.next;
       })
 
   server_left : (s : State Q QH P PH K) (server : ℕ) → Lasts s (after_server_left s server)
@@ -95,8 +95,8 @@ module _ {Q QH P PH K : Type 0} where
       (record {
         limits = refl;
         next = omega arith;
-        clients = pools_same (λ (c : Client K). c.id) client_pool left.clients left.next;
-        servers = pools_without (λ (c : Server K). c.id) server_pool server left.servers left.next;
+        clients = ports_same (λ (c : Client K). c.id) client_lasting left.clients left.next;
+        servers = ports_without (λ (c : Server K). c.id) server_lasting server left.servers left.next;
       })
 
   unused_port : (s : State Q QH P PH K) (port : ℕ) → Lasts s (without_unused_port s port)
@@ -110,9 +110,9 @@ module _ {Q QH P PH K : Type 0} where
       record {
         limits = refl;
         next = omega arith;
-        clients = pools_changed (λ (c : Client K). c.id) client_pool (λ (c : Client K). record c { port = without_value n c.port })
+        clients = ports_changed (λ (c : Client K). c.id) client_lasting (λ (c : Client K). record c { port = without_value n c.port })
             (λ c. without_value_id n c.port) (client_kept n) s.clients s.next;
-        servers = pools_changed (λ (c : Server K). c.id) server_pool (λ (c : Server K). record c { port = without_value n c.port })
+        servers = ports_changed (λ (c : Server K). c.id) server_lasting (λ (c : Server K). record c { port = without_value n c.port })
             (λ c. without_value_id n c.port) (server_kept n) s.servers s.next;
       }
 
@@ -143,8 +143,8 @@ module _ {Q QH P PH K : Type 0} where
       (record {
         limits = refl;
         next = omega arith;
-        clients = pools_with_one (λ (c : Client K). c.id) client_pool s.clients _;
-        servers = pools_same (λ (c : Server K). c.id) server_pool s.servers s.next;
+        clients = ports_with_one (λ (c : Client K). c.id) client_lasting s.clients _;
+        servers = ports_same (λ (c : Server K). c.id) server_lasting s.servers s.next;
       })
   creates_client s settings (Err error) new made = same new s s made.1 refl
 
@@ -154,8 +154,8 @@ module _ {Q QH P PH K : Type 0} where
       (record {
         limits = refl;
         next = omega arith;
-        clients = pools_same (λ (c : Client K). c.id) client_pool s.clients s.next;
-        servers = pools_with_one (λ (c : Server K). c.id) server_pool s.servers _;
+        clients = ports_same (λ (c : Client K). c.id) client_lasting s.clients s.next;
+        servers = ports_with_one (λ (c : Server K). c.id) server_lasting s.servers _;
       })
   creates_server s settings (Err error) new made = same new s s made.1 refl
 
@@ -168,9 +168,9 @@ module _ {Q QH P PH K : Type 0} where
       (record {
         limits = refl;
         next = omega arith;
-        clients = pools_changed (λ (c : Client K). c.id) client_pool (with_loan_counted client.id) (counted_id client.id)
+        clients = ports_changed (λ (c : Client K). c.id) client_lasting (with_loan_counted client.id) (counted_id client.id)
             (counted_kept client.id) s.clients s.next;
-        servers = pools_same (λ (c : Server K). c.id) server_pool s.servers s.next;
+        servers = ports_same (λ (c : Server K). c.id) server_lasting s.servers s.next;
       })
   loans_request IsDefault s n len (Err error) new loans = same new s s (some_and (client_at s n) _ loans).2.1 refl
 

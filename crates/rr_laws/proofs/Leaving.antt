@@ -88,6 +88,7 @@ module _ {Q QH P PH K : Type 0} where
           client_numbers = all_filter _ (λ c. not (eqb c.id client)) s.clients fits.ports.client_numbers;
           server_numbers = fits.ports.server_numbers;
           client_pools = all_filter _ (λ c. not (eqb c.id client)) s.clients fits.ports.client_pools;
+          server_loans = fits.ports.server_loans;
         };
         handles = handles_with_ports s.clients rest s.servers s.servers s.limits (roles_of s.handles) s.next (λ n role e.
             port_stays s.clients rest s.servers s.servers role
@@ -150,6 +151,7 @@ module _ {Q QH P PH K : Type 0} where
           client_numbers = fits.ports.client_numbers;
           server_numbers = all_filter _ (λ c. not (eqb c.id server)) s.servers fits.ports.server_numbers;
           client_pools = fits.ports.client_pools;
+          server_loans = all_filter _ (λ c. not (eqb c.id server)) s.servers fits.ports.server_loans;
         };
         handles = handles_with_ports s.clients s.clients s.servers rest s.limits (roles_of s.handles) s.next (λ n role e.
             port_stays s.clients s.clients s.servers rest role (λ h. h)
@@ -221,6 +223,7 @@ module _ {Q QH P PH K : Type 0} where
               fits.ports.server_numbers;
           client_pools = all_map (client_without n) _ _ (λ c h. omega (arith, without_value_pool n c.port, h)) s.clients
               fits.ports.client_pools;
+          server_loans = all_map (server_without n) _ _ (λ c h. h) s.servers fits.ports.server_loans;
         };
         handles = handles_with_ports s.clients clients s.servers servers s.limits (roles_of s.handles) s.next (λ k role e.
             port_stays s.clients clients s.servers servers role

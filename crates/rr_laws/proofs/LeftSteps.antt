@@ -105,7 +105,7 @@ module _ {Q QH P PH K : Type 0} where
       go false false e = server_left s port fits left below e
 
   -- the port of a handle has a number that was given
-  port_below : (s : State Q QH P PH K) → IsReached s → (n : ℕ) (h : Handle Q QH P PH) → handle_at s n ≡ Some h → port_of h < s.next
+  pub port_below : (s : State Q QH P PH K) → IsReached s → (n : ℕ) (h : Handle Q QH P PH) → handle_at s n ≡ Some h → port_of h < s.next
   port_below s fits n h e = subst (λ k. k < s.next) (sym (port_of-role h))
       (go (role_of h) (fits.handles n (role_of h) (role_at s.handles n h e)).connected)
     where

@@ -99,6 +99,7 @@ module _ {Q QH P PH K : Type 0} (limits : Limits) (clients : List (Client K)) (s
           client_numbers = all_map (with_loan_counted n) _ _ (λ c h. omega (arith, counted_id n c, h)) clients fits.ports.client_numbers;
           server_numbers = fits.ports.server_numbers;
           client_pools = all_map (with_loan_counted n) _ _ (λ c h. omega (arith, counted_pool n c, h)) clients fits.ports.client_pools;
+          server_loans = fits.ports.server_loans;
         };
         handles = handles_with_ports clients (map (with_loan_counted n) clients) servers servers limits roles next
             (λ k role e. port_stays clients (map (with_loan_counted n) clients) servers servers role

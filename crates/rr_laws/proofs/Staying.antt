@@ -154,4 +154,5 @@ ports_with_more limits clients servers next after more fits =
       client_numbers = all_each _ _ (λ c h. omega (arith, h)) clients fits.client_numbers;
       server_numbers = all_each _ _ (λ c h. omega (arith, h)) servers fits.server_numbers;
       client_pools = fits.client_pools;
+      server_loans = fits.server_loans;
     }

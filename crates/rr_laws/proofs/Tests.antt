@@ -29,6 +29,7 @@ pub record ArePositive (l : Limits) : Type 0 where
   pub loaned : 0 < l.max_loaned_requests
   pub active : 0 < l.max_active_requests_per_client
   pub buffer : 0 < l.max_response_buffer_size
+  pub borrowed : 0 < l.max_borrowed_responses_per_pending_response
   pub worst : 0 < worst_case_requests l
 
 -- limits that make a hub are above 0
@@ -46,6 +47,7 @@ positive l e =
       loaned = some;
       active = above_zero l.max_active_requests_per_client active.1;
       buffer = above_zero l.max_response_buffer_size buffer.1;
+      borrowed = above_zero l.max_borrowed_responses_per_pending_response borrowed.1;
       worst = sum_above_zero l.max_loaned_requests l.max_active_requests_per_client
           (l.max_servers * 2 * l.max_active_requests_per_client) some;
     }

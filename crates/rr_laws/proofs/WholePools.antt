@@ -25,7 +25,7 @@ use Rattle.rr_laws.proofs.ApartSteps.{empty_hub_apart, step_apart}
 use Rattle.rr_laws.proofs.Occurring.{false_is_true}
 use Rattle.rr_laws.proofs.FollowingSteps.{step_follows}
 use Rattle.rr_laws.proofs.Histories.{empty_follows, run_at, stands_from_empty}
-use Rattle.rr_laws.proofs.Lasting.{client_pool, server_pool, Lasts}
+use Rattle.rr_laws.proofs.Lasting.{client_lasting, server_lasting, Lasts}
 use Rattle.rr_laws.proofs.LastingSteps.{step_lasts, run_lasts}
 use Rattle.rr_laws.proofs.Memory.{finds_memory}
 use Rattle.rr_laws.proofs.Made.{IsMadeSo, last_or_before, made_more, event_makes_client, event_makes_server, event_receives, makes_or_receives}
@@ -57,20 +57,20 @@ module _ {T H K : Type 0} where
   old_number history next n server p numbers was high = false_is_true (sym ((numbers.unused n high).not_active server p) ∙ was)
 
 -- a pool like another one that is whole
-client_like : {K : Type 0} (limits : Limits) (len : ℕ) (c d : Client K) → client_pool c ≡ client_pool d → HasClientPool limits d len
+client_like : {K : Type 0} (limits : Limits) (len : ℕ) (c d : Client K) → client_lasting c ≡ client_lasting d → HasClientPool limits d len
     → HasClientPool limits c len
 client_like limits len c d e has =
     record {
-      whole = ap (λ (p : ℕ × ℕ). p.0) e ∙ has.whole;
-      short = subst (λ k. len ≤ k) (sym (ap (λ (p : ℕ × ℕ). p.1) e)) has.short;
+      whole = ap (λ p. p.0) e ∙ has.whole;
+      short = subst (λ k. len ≤ k) (sym (ap (λ p. p.1) e)) has.short;
     }
 
-server_like : {K : Type 0} (limits : Limits) (len : ℕ) (c d : Server K) → server_pool c ≡ server_pool d → HasServerPool limits d len
+server_like : {K : Type 0} (limits : Limits) (len : ℕ) (c d : Server K) → server_lasting c ≡ server_lasting d → HasServerPool limits d len
     → HasServerPool limits c len
 server_like limits len c d e has =
     record {
-      whole = ap (λ (p : ℕ × ℕ × ℕ). p.0) e ∙ has.whole ∙ sym (ap (λ (p : ℕ × ℕ × ℕ). worst_case_responses limits p.2) e);
-      short = subst (λ k. len ≤ k) (sym (ap (λ (p : ℕ × ℕ × ℕ). p.1) e)) has.short;
+      whole = ap (λ p. p.0) e ∙ has.whole ∙ sym (ap (λ p. worst_case_responses limits p.2) e);
+      short = subst (λ k. len ≤ k) (sym (ap (λ p. p.1) e)) has.short;
     }
 
 module _ {T H K : Type 0} (action : K → ℕ → ℕ → BackpressureAction) (IsDefaultElement : T → Type 0) (IsDefaultHeader : H → Type 0)

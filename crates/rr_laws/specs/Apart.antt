@@ -5,12 +5,18 @@ use Rattle.rr_protocol.specs.Lists.{Lists, at}
 use Rattle.rr_protocol.specs.Keys.{ResponseKey, response_key_cmp}
 use Rattle.rr_protocol.specs.Messages.{ResponseMessage}
 use Rattle.rr_protocol.specs.State.{State}
-use Rattle.rr_laws.specs.Roles.{Question, Roles, roles_of, asking_at}
+use Rattle.rr_laws.specs.Roles.{Answer, LoanedResponse, Question, ReceivedRequest, Roles, roles_of, asking_at}
 
 -- of the requests that a client has on loan or that wait for answers, no two are on one channel
 abbrev pub ChannelsApart : Roles → Type 0
 ChannelsApart roles =
     (n k : ℕ) (q p : Question) → asking_at roles n ≡ Some q → asking_at roles k ≡ Some p → q.client ≡ p.client → q.channel ≡ p.channel → n ≡ k
+
+-- a response on loan is of the server that has its active request
+abbrev pub LoansKeepServers : Roles → Type 0
+LoansKeepServers roles =
+    (n m server : ℕ) (q : Question) (a : Answer) → fin_map.get roles n ≡ Some (ReceivedRequest server q) → fin_map.get roles m ≡ Some (LoanedResponse a)
+    → a.active_request ≡ n → a.server ≡ server
 
 module _ {T H : Type 0} where
   -- how many entries of a list have this number

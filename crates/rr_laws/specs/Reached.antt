@@ -33,13 +33,14 @@ module _ {K : Type 0} where
   has_port clients servers (LoanedResponse a) = has_server servers a.server
   has_port clients servers (ReceivedResponse a) = has_client clients a.client
 
-  -- no more ports than there may be, under given numbers, and no pool of requests above the worst case
+  -- no more ports than there may be, under given numbers, no pool of requests above the worst case, and no server that may loan nothing
   pub record PortsFit (limits : Limits) (clients : List (Client K)) (servers : List (Server K)) (next : ℕ) : Type 0 where
     pub few_clients : length clients ≤ limits.max_clients
     pub few_servers : length servers ≤ limits.max_servers
     pub client_numbers : AllByRecursion (λ c. c.id < next) clients
     pub server_numbers : AllByRecursion (λ c. c.id < next) servers
     pub client_pools : AllByRecursion (λ c. c.pool_size ≤ worst_case_requests limits) clients
+    pub server_loans : AllByRecursion (λ c. 0 < c.max_loaned_responses_per_request) servers
 
 -- a request's number was given, and stands for this request alone, if its client still has it
 pub record IsKnown (roles : Roles) (next : ℕ) (q : Question) : Type 0 where

@@ -6,7 +6,7 @@ use Rattle.rr_protocol.specs.declared.settings.BackpressureAction.{BackpressureA
 use Rattle.rr_protocol.specs.Loans.{LoansRequest, LoansResponse}
 use Rattle.rr_protocol.specs.Sends.{SendsRequest, SendsResponse}
 use Rattle.rr_protocol.specs.State.{State}
-use Rattle.rr_laws.proofs.LastingSteps.{loans_response}
+use Rattle.rr_laws.proofs.LastingSteps.{loans_request, loans_response}
 use Rattle.rr_ports.specs.Loaning.{with_complete_request, with_complete_response, LoansComplete, LoansResponseComplete, SendsElements, SendsResponseElements}
 use Rattle.rr_ports.specs.Sending.{SendsPending}
 
@@ -56,3 +56,8 @@ pub copied_limits : {Q QH P PH K : Type 0} (old mid new : State Q QH P PH K) (n 
     → (elements : List P) → new ≡ with_complete_response mid k elements → new.limits ≡ old.limits
 copied_limits old mid new n k len IsDefault loans elements e =
     ap (λ t. t.limits) e ∙ (loans_response IsDefault old n len (Ok k) mid loans).limits
+
+pub copied_request_limits : {Q QH P PH K : Type 0} (old mid new : State Q QH P PH K) (n k len : ℕ) (IsDefault : QH → Type 0)
+    → LoansRequest IsDefault old n len (Ok k) mid → (elements : List Q) → new ≡ with_complete_request mid k elements → new.limits ≡ old.limits
+copied_request_limits old mid new n k len IsDefault loans elements e =
+    ap (λ t. t.limits) e ∙ (loans_request IsDefault old n len (Ok k) mid loans).limits

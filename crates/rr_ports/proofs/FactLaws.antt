@@ -10,7 +10,8 @@ use Rattle.rr_protocol.specs.Ports.{Client, Server}
 use Rattle.rr_protocol.specs.State.{State, client_at, server_at, handle_at, is_client_value, is_server_value}
 use Rattle.rr_laws.specs.Unreduced.{HasClientPool, HasServerPool, ClientHasPool, ServerHasPool}
 use Rattle.rr_laws.proofs.Lasting.{Lasts}
-use Rattle.rr_ports.specs.Facts.{Fact, Said, said_of, IsA, Asks, Answers, AskedLen, WholePool, Of, Buffers, PortHasPool, Shown, shown_port, shown_of, shown_at, asked_in, of_in, Has, Names, IsThere, Keeps, IsFree}
+use Rattle.rr_ports.specs.Facts.{Fact, Said, said_of, IsA, Asks, Answers, AskedLen, WholePool, Of, Buffers, Discards, PortDiscards, PortHasPool, Shown, shown_port, shown_of, shown_at, asked_in, of_in, Has, Names, IsThere, Keeps, IsFree}
+use Rattle.rr_ports.proofs.DiscardLaws.{discards_last}
 use Rattle.rr_ports.proofs.NameLaws.{SamePorts, each_handle, handle_no_port, some_handle, IsNoPort, read_handle, same_read, own_read, other_read}
 
 -- what follows from a result, and from what came
@@ -87,7 +88,15 @@ module _ {Q QH P PH K : Type 0} where
       go Kind.ResponseMut has = has
       go Kind.Response has = has
 
-  -- a number that shows the same, where ports keep their pools
+  -- what a port shows the same, of which this lasts
+  port_same : (old new : State Q QH P PH K) → Lasts old new → (R S : Kind → ℕ → Type 0) → ((k : Kind) (port : ℕ) → port < old.next → R k port → S k port)
+      → (a b : Option (Shown Q P)) → b ≡ a → IsSomeAnd a (λ x. (x.origin.port < old.next) × R x.kind x.origin.port)
+      → IsSomeAnd b (λ x. (x.origin.port < new.next) × S x.kind x.origin.port)
+  port_same old new lasts R S last None b e h = absurd h
+  port_same old new lasts R S last (Some x) b e h = subst (λ o. IsSomeAnd o (λ x. (x.origin.port < new.next) × S x.kind x.origin.port)) (sym e)
+      (let a = lasts.next in let b = h.0 in omega arith, last x.kind x.origin.port h.0 h.1)
+
+  -- a number that shows the same, where ports keep what they were made with
   pub fact_same : (old new : State Q QH P PH K) → Lasts old new → (n : ℕ) → shown_at new n ≡ shown_at old n → (fact : Fact Q P) → Has old n fact
       → Has new n fact
   unfolding Has
@@ -98,13 +107,11 @@ module _ {Q QH P PH K : Type 0} where
       ap (λ o. option_map (λ (c : Said P). c.elements) (option_and_then (λ (x : Shown Q P). x.response) o)) e ∙ has
   fact_same old new lasts n e (AskedLen len) has = ap (option_and_then asked_in) e ∙ has
   fact_same old new lasts n e (Of port request) has = ap (option_and_then of_in) e ∙ has
-  fact_same old new lasts n e (WholePool room) has = go (shown_at old n) (shown_at new n) e has
-    where
-      go : (a b : Option (Shown Q P)) → b ≡ a → IsSomeAnd a (λ x. (x.origin.port < old.next) × PortHasPool old x.kind x.origin.port room)
-          → IsSomeAnd b (λ x. (x.origin.port < new.next) × PortHasPool new x.kind x.origin.port room)
-      go None b e h = absurd h
-      go (Some x) b e h = subst (λ o. IsSomeAnd o (λ x. (x.origin.port < new.next) × PortHasPool new x.kind x.origin.port room)) (sym e)
-          (let a = lasts.next in let b = h.0 in omega arith, pool_lasts old new lasts x.kind x.origin.port room h.0 h.1)
+  fact_same old new lasts n e (WholePool room) has =
+      port_same old new lasts (λ k port. PortHasPool old k port room) (λ k port. PortHasPool new k port room)
+      (λ k port. pool_lasts old new lasts k port room) (shown_at old n) (shown_at new n) e has
+  fact_same old new lasts n e Discards has =
+      port_same old new lasts (PortDiscards old) (PortDiscards new) (discards_last old new lasts) (shown_at old n) (shown_at new n) e has
   fact_same old new lasts n e (Buffers room) has =
       subst (λ o. IsSomeAnd o (λ x. room ≤ new.limits.max_response_buffer_size)) (sym e)
       (subst (λ l. IsSomeAnd (shown_at old n) (λ x. room ≤ l.max_response_buffer_size)) (sym lasts.limits) has)
@@ -122,6 +129,7 @@ module _ {Q QH P PH K : Type 0} where
   no_fact s n none (Buffers room) has = subst (λ o. IsSomeAnd o (λ x. room ≤ s.limits.max_response_buffer_size)) (silent s n none) has
   no_fact s n none (WholePool room) has =
       subst (λ o. IsSomeAnd o (λ x. (x.origin.port < s.next) × PortHasPool s x.kind x.origin.port room)) (silent s n none) has
+  no_fact s n none Discards has = subst (λ o. IsSomeAnd o (λ x. (x.origin.port < s.next) × PortDiscards s x.kind x.origin.port)) (silent s n none) has
 
   -- what names something is there
   pub buffers : (s : State Q QH P PH K) (n : ℕ) (k : Kind) → Names s n k → (room : ℕ) → room ≤ s.limits.max_response_buffer_size

@@ -1,5 +1,5 @@
 -- What is queued stays as a handle goes whose port's value lives.
-use Rattle.std.proofs.Common.{◌≡◌, ◌≢◌, ℕ, Bool, true, false, cond, not, [], ◌∷◌, Some, None, map, refl, sym, ap, ◌∙◌, subst}
+use Rattle.std.proofs.Common.{◌≡◌, ◌≢◌, ℕ, suc, Bool, true, false, cond, not, [], ◌∷◌, Some, None, map, refl, ap, ◌∙◌, subst}
 use Rattle.std.specs.Prelude.{◌&&◌, ◌||◌, ◌==◌, option_and_then}
 use Rattle.std.specs.FinMap as fin_map
 use Rattle.std.proofs.lemmas.Bool.{and_parts, eqb-true}
@@ -13,12 +13,15 @@ use Rattle.rr_protocol.specs.Queries.{kind_at, kind_of}
 use Rattle.rr_protocol.specs.Releases.{after_handle_gone, after_release}
 use Rattle.rr_protocol.specs.State.{State, handle_at, is_client_value, is_server_value}
 use Rattle.rr_laws.specs.Apart.{ChannelsApart}
-use Rattle.rr_laws.specs.Roles.{Question, question_of, role_of, roles_of, subject_of}
-use Rattle.rr_ports.specs.Facts.{Has, Keeps, Names, Of, Shown, about_at, numbers_left, of_in, shown_at}
+use Rattle.rr_laws.specs.Roles.{Question, question_of, roles_of}
+use Rattle.rr_ports.specs.Facts.{Has, Keeps, Names, Of, Shown, about_at, numbers_left, shown_at}
+use Rattle.rr_ports.specs.Owning.{KeepsOwned, Owns}
+use Rattle.rr_ports.proofs.OwningLaws.{released_frees, released_owned}
 use Rattle.rr_ports.specs.Queues.{Awaits, KeepsAwaited, KeepsHeard, responses_to}
 use Rattle.rr_ports.proofs.Asking.{there}
 use Rattle.rr_ports.proofs.AwaitedLaws.{apart_channel, released_handle}
-use Rattle.rr_ports.proofs.FactLaws.{handle_shows, some_both}
+use Rattle.rr_ports.proofs.Belonging.{belongs}
+use Rattle.rr_ports.proofs.FactLaws.{handle_shows}
 use Rattle.rr_ports.proofs.HeardLaws.{client_lives, pending_there, server_lives}
 use Rattle.rr_ports.proofs.NameLaws.{each_handle, handle_no_port}
 use Rattle.rr_ports.proofs.QueueLaws.{Stays, awaited_stays, heard_stays, kind_stays, read_stays, stays_but}
@@ -55,11 +58,7 @@ module _ {Q QH P PH K : Type 0} (old new : State Q QH P PH K) (n : ℕ) (release
   stood = (there old n k client server is).1
 
   its_port : port_of handle ≡ port
-  unfolding Has
-  its_port =
-      let none = (handle_no_port old n k client server is).0 in
-      ap (λ (x : ℕ × ℕ). x.0) (some_both (port_of handle, (subject_of (role_of handle)).number) (port, request)
-      (sym (ap (option_and_then of_in) (handle_shows old n handle none stood)) ∙ of))
+  its_port = belongs old n k client server is handle stood port request of
 
   gone : State Q QH P PH K
   gone = record old { handles = fin_map.remove old.handles n }
@@ -101,11 +100,10 @@ module _ {Q QH P PH K : Type 0} (old new : State Q QH P PH K) (n : ℕ) (release
       (handle_shows old n (PendingResponse (pending_there old n is).0) (handle_no_port old n Kind.PendingResponse (λ e. cc) (λ e. cc) is).0 (pending_there old n is).1)
 
   its_client : pending.message.client ≡ port
-  unfolding Has pending
+  unfolding pending
   its_client =
       let p = pending_there old n is in
-      ap (λ (x : ℕ × ℕ). x.0) (some_both ((p.0).message.client, (p.0).message.number) (port, request)
-      (sym (ap (option_and_then of_in) (handle_shows old n (PendingResponse p.0) (handle_no_port old n Kind.PendingResponse (λ e. cc) (λ e. cc) is).0 p.1)) ∙ of))
+      belongs old n Kind.PendingResponse (λ e. cc) (λ e. cc) is (PendingResponse p.0) p.1 port request of
 
   emptied : (key : ResponseKey) → (key.client == pending.message.client && key.channel == pending.message.channel) ≡ false
       → at new.responses key ≡ at old.responses key
@@ -157,6 +155,8 @@ module _ {Q QH P PH K : Type 0} {core hub new : State Q QH P PH K} {id n : ℕ} 
         numbers : numbers_left new ≡ numbers_left hub;
         heard : (port request : ℕ) → Has hub n (Of port request) → Names hub port port_kind → KeepsHeard (n ∷ []) hub new;
         awaited : (port request : ℕ) → Has hub n (Of port request) → Names hub port port_kind → KeepsAwaited (n ∷ []) hub new;
+        owned : KeepsOwned [] hub new;
+        frees : (port request most : ℕ) → Has hub n (Of port request) → Owns hub port (suc most) → Owns new port most;
       }
   unfolding Has
   handle_release_tells k port_kind client server pending uses is =
@@ -166,6 +166,8 @@ module _ {Q QH P PH K : Type 0} {core hub new : State Q QH P PH K} {id n : ℕ} 
         numbers = tells.numbers;
         heard = λ port request of named. released_heard hub new n gone_is k client server is port request of (uses hub port named);
         awaited = λ port request of named. released_awaited hub new n gone_is k client server is port request of (uses hub port named) pending;
+        owned = released_owned hub new n gone_is;
+        frees = λ port request most of. released_frees hub new n gone_is k client server is port request of most;
       }
 
   -- of a pending response
@@ -175,6 +177,8 @@ module _ {Q QH P PH K : Type 0} {core hub new : State Q QH P PH K} {id n : ℕ} 
     numbers : numbers_left new ≡ numbers_left hub;
     heard : (port request : ℕ) → Has hub n (Of port request) → Names hub port Kind.Client → KeepsHeard (n ∷ []) hub new;
     awaited : (port request : ℕ) → Has hub n (Of port request) → Names hub port Kind.Client → KeepsAwaited (n ∷ []) hub new;
+    owned : KeepsOwned [] hub new;
+    frees : (port request most : ℕ) → Has hub n (Of port request) → Owns hub port (suc most) → Owns new port most;
   }
   unfolding Has
   pending_release_tells channels is =
@@ -185,4 +189,6 @@ module _ {Q QH P PH K : Type 0} {core hub new : State Q QH P PH K} {id n : ℕ} 
         heard = λ port request of named. released_heard hub new n gone_is Kind.PendingResponse (λ e. cc) (λ e. cc) is port request of (client_used hub port named);
         awaited = λ port request of named. pending_released hub new n gone_is is port request of (client_used hub port named)
             (subst (λ s. ChannelsApart (roles_of s.handles)) view channels);
+        owned = released_owned hub new n gone_is;
+        frees = λ port request most of. released_frees hub new n gone_is Kind.PendingResponse (λ e. cc) (λ e. cc) is port request of most;
       }

@@ -1,5 +1,16 @@
 pub mod Frames
 pub mod NameLaws
+pub mod OwningLaws
+pub mod OwningRefusals
+pub mod OwningResponses
+pub mod Sureties
+pub mod LoanTold
+pub mod OwningWrites
+pub mod OwningSends
+pub mod SkimLaws
+pub mod DiscardLaws
+pub mod DiscardSends
+pub mod Belonging
 pub mod FactLaws
 pub mod Asking
 pub mod Payloads
@@ -26,3 +37,6 @@ pub mod AwaitedReceives
 pub mod HandleReleases
 pub mod ResponseSends
 pub mod SentLaws
+pub mod Unchanged
+pub mod RespondLaws
+pub mod DrainLaws

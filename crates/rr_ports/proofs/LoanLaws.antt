@@ -1,22 +1,31 @@
 -- What the call of a port tells of a loan.
-use Rattle.std.proofs.Common.{true, false, cond, ◌≡◌, ◌≢◌, ℕ, ◌+◌, ◌≤◌, List, [], ◌∷◌, map, Some, None, refl, sym, ap, ◌∙◌, Result, Ok, Err}
-use Rattle.std.specs.Prelude.{◌&&◌, ◌||◌, ◌==◌, IfOk, option_and_then}
+use Rattle.std.proofs.Common.{true, false, cond, ◌≡◌, ◌≢◌, ℕ, suc, ◌+◌, ◌≤◌, List, [], ◌∷◌, map, Some, None, refl, sym, ap, ◌∙◌, arith, Result, Ok, Err}
+use Rattle.std.specs.Prelude.{◌&&◌, ◌||◌, ◌==◌, IfErr, IfOk, option_and_then}
 use Rattle.std.specs.List.{list_any}
 use Rattle.std.proofs.lemmas.Bool.{eqb-true}
 use Rattle.rr_map_laws.proofs.ListFacts.{passes_found}
 use Rattle.std.specs.FinMap as fin_map
 use Rattle.rr_protocol.specs.declared.kind.Kind.{Kind}
 use Rattle.rr_protocol.specs.declared.error.LoanError.{LoanError}
-use Rattle.rr_protocol.specs.Messages.{Handle, RequestMutUninit, ResponseMutUninit, ActiveRequest}
+use Rattle.rr_protocol.specs.Messages.{Handle, RequestMutUninit, ResponseMutUninit, ActiveRequest, port_of}
 use Rattle.rr_protocol.specs.Ports.{Client}
 use Rattle.rr_protocol.specs.State.{State, client_at, is_client_value, is_server_value}
 use Rattle.rr_protocol.specs.Queries.{kind_at}
 use Rattle.rr_protocol.specs.Loans.{LoansRequest, LoansResponse, empty_content, with_loan_counted}
+use Rattle.rr_laws.specs.Apart.{LoansKeepServers}
+use Rattle.rr_laws.specs.Reached.{IsReached}
+use Rattle.rr_laws.specs.Roles.{roles_of}
 use Rattle.rr_laws.specs.Unreduced.{ClientHasPool, ServerHasPool}
 use Rattle.rr_laws.proofs.Opening.{some_and, open_active}
 use Rattle.rr_laws.proofs.LastingSteps.{loans_request, loans_response}
 use Rattle.rr_ports.specs.Facts.{Asks, Answers, AskedLen, Of, WholePool, Has, Names, Keeps, IsFree, of_in, numbers_left}
+use Rattle.rr_ports.specs.Owning.{IsBelow, KeepsOwned, Owns}
 use Rattle.rr_ports.specs.Queues.{KeepsAwaited, KeepsHeard}
+use Rattle.rr_ports.proofs.Belonging.{belongs}
+use Rattle.rr_ports.proofs.OwningLaws.{gains_beside, gains_owns, owned_but, owned_equal}
+use Rattle.rr_ports.proofs.OwningRefusals.{loan_few}
+use Rattle.rr_ports.proofs.OwningResponses.{response_loan_few}
+use Rattle.rr_ports.proofs.Sureties.{loan_fits, loan_sure, response_loan_fits}
 use Rattle.rr_ports.proofs.QueueLaws.{QueuesStay, queues_same, queues_stay}
 use Rattle.rr_ports.proofs.FactLaws.{handle_shows, if_ok, asks, asks_for, answers, is_free, keeps_same, client_has_pool, server_has_pool}
 use Rattle.rr_ports.proofs.NameLaws.{handle_no_port}
@@ -108,8 +117,27 @@ module _ {Q QH P PH K : Type 0} where
         → Names old n Kind.Client → (room : ℕ) → len ≤ room → Has old n (WholePool room) → result ≢ Err LoanError.OutOfMemory
     loan_found result unreduced is room short has = unreduced (client_has_pool old n room len is short has)
 
+    -- it is one more of the client's handles
+    loan_port : (k : ℕ) (loans : LoansRequest IsDefault old n len (Ok k) new) → port_of (loan_gains k loans).handle ≡ n
+    unfolding loan_gains
+    loan_port k loans =
+        let l = some_and (client_at old n) _ loans in eqb-true l.0.id n (passes_found (λ (c : Client K). c.id == n) old.clients l.0 l.1)
+
+    loan_owned : (result : Result ℕ LoanError) → LoansRequest IsDefault old n len result new → KeepsOwned (n ∷ []) old new
+    loan_owned (Ok k) loans = gains_beside k Kind.RequestMutUninit old new (loan_gains k loans) n (loan_port k loans)
+    loan_owned (Err e) loans = owned_but (n ∷ []) old new (owned_equal old new (loan_refused e loans))
+
+    loan_owns : (result : Result ℕ LoanError) → LoansRequest IsDefault old n len result new → (most : ℕ) → Owns old n most
+        → IfOk result (λ k. Owns new n (suc most))
+    loan_owns (Ok k) loans most owns = gains_owns k Kind.RequestMutUninit old new (loan_gains k loans) n (loan_port k loans) most owns
+    loan_owns (Err e) loans most owns = tt
+
+    loan_owns_err : (result : Result ℕ LoanError) → LoansRequest IsDefault old n len result new → IfErr result (λ e. KeepsOwned [] old new)
+    loan_owns_err (Ok k) loans = tt
+    loan_owns_err (Err e) loans = owned_equal old new (loan_refused e loans)
+
     -- what the call of a port tells of the loan
-    module _ (result : Result ℕ LoanError) (is : Names old n Kind.Client) (told : record {
+    module _ (result : Result ℕ LoanError) (is : Names old n Kind.Client) (reached : IsReached old) (told : record {
       loans : LoansRequest IsDefault old n len result new;
       unnamed : IfOk result (λ k. kind_at old k ≡ None);
       unreduced : ClientHasPool old.limits old n len → result ≢ Err LoanError.OutOfMemory;
@@ -127,6 +155,11 @@ module _ {Q QH P PH K : Type 0} where
         of : IfOk result (λ k. Has new k (Of n k));
         heard : KeepsHeard [] old new;
         awaited : KeepsAwaited [] old new;
+        owned : KeepsOwned (n ∷ []) old new;
+        owns : (most : ℕ) → Owns old n most → IfOk result (λ k. Owns new n (suc most));
+        owns_err : IfErr result (λ e. KeepsOwned [] old new);
+        few_loans : (most : ℕ) → Owns old n most → IsBelow most old.limits.max_loaned_requests → result ≢ Err LoanError.ExceedsMaxLoans;
+        sure : (room : ℕ) → len ≤ room → Has old n (WholePool room) → Owns old n 0 → (error : LoanError) → result ≢ Err error;
       }
       request_loaned = record {
         loans = told.loans;
@@ -141,6 +174,13 @@ module _ {Q QH P PH K : Type 0} where
         of = loan_of result told.loans told.unnamed;
         heard = (loan_queues result told.loans told.unnamed).0;
         awaited = (loan_queues result told.loans told.unnamed).1;
+        owned = loan_owned result told.loans;
+        owns = loan_owns result told.loans;
+        owns_err = loan_owns_err result told.loans;
+        few_loans = λ most owns below. loan_few old new n reached IsDefault len most owns below result told.loans;
+        sure = λ room short has owns. loan_sure result (loan_found result told.unreduced is room short has)
+            (loan_few old new n reached IsDefault len 0 owns (omega arith) result told.loans)
+            (loan_fits old new n len IsDefault (client_has_pool old n room len is short has) result told.loans);
       }
 
   -- loans of responses
@@ -212,12 +252,36 @@ module _ {Q QH P PH K : Type 0} where
         → Names old n Kind.ActiveRequest → (room : ℕ) → len ≤ room → Has old n (WholePool room) → result ≢ Err LoanError.OutOfMemory
     response_loan_found result unreduced is room short has = unreduced (server_has_pool old n room len is short has)
 
+    -- it is one more of the server's handles
+    module _ (is : Names old n Kind.ActiveRequest) (port request : ℕ) (of : Has old n (Of port request)) where
+      response_loan_port : (k : ℕ) (loans : LoansResponse IsDefault old n len (Ok k) new) → port_of (response_loan_gains k loans).handle ≡ port
+      unfolding response_loan_gains Has
+      response_loan_port k loans =
+          let o = open_active old n _ loans in belongs old n Kind.ActiveRequest (λ e. cc) (λ e. cc) is (ActiveRequest o.1) o.2 port request of
+
+      response_loan_owned : (result : Result ℕ LoanError) → LoansResponse IsDefault old n len result new → KeepsOwned (port ∷ []) old new
+      response_loan_owned (Ok k) loans = gains_beside k Kind.ResponseMutUninit old new (response_loan_gains k loans) port (response_loan_port k loans)
+      response_loan_owned (Err e) loans = owned_but (port ∷ []) old new (owned_equal old new (response_loan_refused e loans))
+
+      response_loan_owns : (result : Result ℕ LoanError) → LoansResponse IsDefault old n len result new → (most : ℕ) → Owns old port most
+          → IfOk result (λ k. Owns new port (suc most))
+      response_loan_owns (Ok k) loans most owns = gains_owns k Kind.ResponseMutUninit old new (response_loan_gains k loans) port (response_loan_port k loans) most owns
+      response_loan_owns (Err e) loans most owns = tt
+
+    response_loan_owns_err : (result : Result ℕ LoanError) → LoansResponse IsDefault old n len result new → IfErr result (λ e. KeepsOwned [] old new)
+    response_loan_owns_err (Ok k) loans = tt
+    response_loan_owns_err (Err e) loans = owned_equal old new (response_loan_refused e loans)
+
     -- what the call of a port tells of the loan
-    module _ (result : Result ℕ LoanError) (is : Names old n Kind.ActiveRequest) (told : record {
+    module _ (result : Result ℕ LoanError) (is : Names old n Kind.ActiveRequest) (reached : IsReached old) (keep : LoansKeepServers (roles_of old.handles)) (told : record {
       loans : LoansResponse IsDefault old n len result new;
       unnamed : IfOk result (λ k. kind_at old k ≡ None);
       unreduced : ServerHasPool old.limits old n len → result ≢ Err LoanError.OutOfMemory;
     }) where
+      response_few : (port request : ℕ) → Has old n (Of port request) → Owns old port 1 → result ≢ Err LoanError.ExceedsMaxLoans
+      unfolding Has
+      response_few port request of owns = response_loan_few old new n reached IsDefault len is keep port request of owns result told.loans
+
       pub response_loaned : record {
         loans : LoansResponse IsDefault old n len result new;
         unreduced : ServerHasPool old.limits old n len → result ≢ Err LoanError.OutOfMemory;
@@ -231,6 +295,11 @@ module _ {Q QH P PH K : Type 0} where
         of : (port request : ℕ) → Has old n (Of port request) → IfOk result (λ k. Has new k (Of port request));
         heard : KeepsHeard [] old new;
         awaited : KeepsAwaited [] old new;
+        owned : (port request : ℕ) → Has old n (Of port request) → KeepsOwned (port ∷ []) old new;
+        owns : (port request most : ℕ) → Has old n (Of port request) → Owns old port most → IfOk result (λ k. Owns new port (suc most));
+        owns_err : IfErr result (λ e. KeepsOwned [] old new);
+        few_loans : (port request : ℕ) → Has old n (Of port request) → Owns old port 1 → result ≢ Err LoanError.ExceedsMaxLoans;
+        sure : (port request room : ℕ) → Has old n (Of port request) → len ≤ room → Has old n (WholePool room) → Owns old port 1 → (error : LoanError) → result ≢ Err error;
       }
       response_loaned = record {
         loans = told.loans;
@@ -245,4 +314,11 @@ module _ {Q QH P PH K : Type 0} where
         of = response_loan_of is result told.loans told.unnamed;
         heard = (response_loan_queues result told.loans told.unnamed).0;
         awaited = (response_loan_queues result told.loans told.unnamed).1;
+        owned = λ port request of. response_loan_owned is port request of result told.loans;
+        owns = λ port request most of. response_loan_owns is port request of result told.loans most;
+        owns_err = response_loan_owns_err result told.loans;
+        few_loans = λ port request of owns. response_few port request of owns;
+        sure = λ port request room of short has owns. loan_sure result (response_loan_found result told.unreduced is room short has)
+            (response_few port request of owns)
+            (response_loan_fits old new n len IsDefault (server_has_pool old n room len is short has) result told.loans);
       }

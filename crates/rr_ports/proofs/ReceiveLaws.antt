@@ -1,40 +1,37 @@
 -- What the call of a server, and of a pending response, tells of what it receives.
-use Rattle.std.proofs.Common.{◌≡◌, ◌≢◌, ℕ, ◌+◌, ◌-◌, ◌^◌, ◌≤◌, List, [], ◌∷◌, Option, Some, None, refl, sym, ap, ◌∙◌, Result, Ok, Err}
-use Rattle.std.specs.Prelude.{IfOk, IfSome, option_and_then}
+use Rattle.std.proofs.Common.{◌≡◌, ◌≢◌, ℕ, suc, ◌+◌, ◌-◌, ◌^◌, ◌≤◌, List, [], ◌∷◌, Option, Some, None, refl, sym, ap, ◌∙◌, subst, arith, Result, Ok, Err}
+use Rattle.std.specs.Prelude.{IfErr, IfOk, IfSome, option_and_then}
 use Rattle.std.specs.FinMap as fin_map
 use Rattle.rr_protocol.specs.declared.kind.Kind.{Kind}
 use Rattle.rr_protocol.specs.declared.error.ReceiveError.{ReceiveError}
-use Rattle.rr_protocol.specs.Keys.{RequestKey, request_key}
-use Rattle.rr_protocol.specs.Messages.{RequestMessage, Handle, ActiveRequest, Response}
+use Rattle.rr_protocol.specs.Keys.{request_key}
+use Rattle.rr_protocol.specs.Messages.{Handle, ActiveRequest, PendingResponse, Response, port_of, response_key}
 use Rattle.rr_protocol.specs.State.{State, pending_at, is_client_value, is_server_value}
 use Rattle.rr_protocol.specs.Queries.{kind_at}
-use Rattle.rr_protocol.specs.Receives.{ReceivesRequest, ReceivesResponse, TakesRequest, Skims}
+use Rattle.rr_protocol.specs.Receives.{ReceivesRequest, ReceivesResponse}
 use Rattle.rr_laws.specs.Apart.{ChannelsApart}
-use Rattle.rr_laws.specs.Reached.{IsReached}
+use Rattle.std.specs.List.{AllByRecursion}
+use Rattle.rr_laws.specs.Reached.{IsReached, ResponseFits}
 use Rattle.rr_laws.specs.Roles.{roles_of}
-use Rattle.rr_laws.proofs.Opening.{some_and}
+use Rattle.rr_laws.proofs.Opening.{from_pending, some_and}
+use Rattle.rr_ports.proofs.Belonging.{belongs}
 use Rattle.rr_laws.proofs.LastingSteps.{receives_request, receives_response}
 use Rattle.rr_ports.specs.Facts.{Asks, Answers, Of, WholePool, Has, Names, Keeps, IsFree, of_in, shown_at, numbers_left}
+use Rattle.rr_ports.specs.Owning.{IsBelow, KeepsOwned, Owns}
 use Rattle.rr_ports.specs.Queues.{Awaits, AwaitsNothing, Hears, HearsNothing, KeepsAwaited, KeepsHeard}
 use Rattle.rr_ports.proofs.QueueLaws.{Stays, heard_stays, stays_each, awaited_stays}
 use Rattle.rr_ports.proofs.HeardReceives.{hears_asks, hears_missed, hears_of, hears_quiet, received_heard, received_responses}
 use Rattle.rr_ports.proofs.AwaitedReceives.{awaits_answers, awaits_done, awaits_later, awaits_missed, came_requests, others_await, response_of}
 use Rattle.rr_ports.proofs.FactLaws.{if_ok, if_some, is_free, keeps_each, keeps_same, active_pool}
 use Rattle.rr_ports.proofs.ReleaseLaws.{SameNames, names_then, names_equal, names_ports, names_each}
+use Rattle.rr_ports.proofs.Sureties.{came_sure, receive_sure}
+use Rattle.rr_ports.proofs.SkimLaws.{skims_names, takes_names}
+use Rattle.rr_ports.proofs.OwningLaws.{gains_beside, gains_owns, owned_but, owned_equal, owned_same}
+use Rattle.rr_ports.proofs.OwningRefusals.{came_few, receive_few}
 use Rattle.rr_ports.proofs.GainLaws.{Gains, gains_names, gains_keeps, gains_shows, gains_stays, one_fewer, none_fewer}
 
 -- receives
 module _ {Q QH P PH K : Type 0} where
-  takes_names : (old new : State Q QH P PH K) (key : RequestKey) (m : RequestMessage Q QH) → TakesRequest old key m new → SameNames old new
-  takes_names old new key m takes =
-      let e = takes.1.2 in
-      record { clients = ap (λ t. t.clients) e; servers = ap (λ t. t.servers) e; handles = ap (λ t. t.handles) e; next = ap (λ t. t.next) e }
-
-  skims_names : (clients : List ℕ) (old new : State Q QH P PH K) (server : ℕ) → Skims old server clients new → SameNames old new
-  skims_names [] old new server same = names_equal old new same
-  skims_names (client ∷ clients) old new server skims =
-      names_then old skims.1 new (takes_names old skims.1 (request_key client server) skims.0 skims.3) (skims_names clients skims.1 new server skims.4)
-
   module _ (old new : State Q QH P PH K) (server : ℕ) where
     -- nothing was received
     none_names : ReceivesRequest old server (Ok None) new → SameNames old new
@@ -116,8 +113,26 @@ module _ {Q QH P PH K : Type 0} where
     received_port (Ok None) receives free = tt
     received_port (Err e) receives free = tt
 
+    -- it is one more of the server's handles
+    received_owned : (result : Result (Option ℕ) ReceiveError) → ReceivesRequest old server result new → KeepsOwned (server ∷ []) old new
+    unfolding received_gains
+    received_owned (Ok (Some k)) receives = gains_beside k Kind.ActiveRequest old new (received_gains k receives) server refl
+    received_owned (Ok None) receives = owned_but (server ∷ []) old new (owned_same old new (ap roles_of (none_names receives).handles))
+    received_owned (Err e) receives = owned_but (server ∷ []) old new (owned_same old new (ap roles_of (refused_names e receives).handles))
+
+    received_owns : (result : Result (Option ℕ) ReceiveError) → ReceivesRequest old server result new → (most : ℕ) → Owns old server most
+        → IfOk result (λ o. IfSome o (λ k. Owns new server (suc most)))
+    unfolding received_gains
+    received_owns (Ok (Some k)) receives most owns = gains_owns k Kind.ActiveRequest old new (received_gains k receives) server refl most owns
+    received_owns (Ok None) receives most owns = tt
+    received_owns (Err e) receives most owns = tt
+
+    received_owns_err : (result : Result (Option ℕ) ReceiveError) → ReceivesRequest old server result new → IfErr result (λ e. KeepsOwned [] old new)
+    received_owns_err (Ok o) receives = tt
+    received_owns_err (Err e) receives = owned_same old new (ap roles_of (refused_names e receives).handles)
+
     -- what the call of a server tells of it
-    pub request_received : (result : Result (Option ℕ) ReceiveError) → Names old server Kind.Server → record {
+    pub request_received : (result : Result (Option ℕ) ReceiveError) → Names old server Kind.Server → IsReached old → record {
       receives : ReceivesRequest old server result new;
       unnamed : IfOk result (λ o. IfSome o (λ k. kind_at old k ≡ None));
     }
@@ -135,8 +150,14 @@ module _ {Q QH P PH K : Type 0} where
           quiet : (p : ℕ) → Hears old server p → IfOk result (λ o. HearsNothing new server);
           heard : KeepsHeard (server ∷ []) old new;
           awaited : KeepsAwaited [] old new;
+          owned : KeepsOwned (server ∷ []) old new;
+          owns : (most : ℕ) → Owns old server most → IfOk result (λ o. IfSome o (λ k. Owns new server (suc most)));
+          owns_none : result ≡ Ok None → KeepsOwned [] old new;
+          owns_err : IfErr result (λ e. KeepsOwned [] old new);
+          few_borrows : (most : ℕ) → Owns old server most → IsBelow most old.limits.max_active_requests_per_client → result ≢ Err ReceiveError.ExceedsMaxBorrows;
+          sure : Owns old server 0 → (error : ReceiveError) → result ≢ Err error;
         }
-    request_received result is told = record {
+    request_received result is reached told = record {
       receives = told.receives;
       free = if_ok result told.unnamed (λ o h. if_some o h (λ k. is_free [] old k));
       kind = received_names result told.receives told.unnamed;
@@ -150,6 +171,12 @@ module _ {Q QH P PH K : Type 0} where
       quiet = λ p hears. hears_quiet old new server p hears result told.receives;
       heard = received_heard old new server result told.receives (received_stays result told.receives told.unnamed);
       awaited = awaited_stays [] old new (received_stays result told.receives told.unnamed) (received_responses old new server result told.receives);
+      owned = received_owned result told.receives;
+      owns = received_owns result told.receives;
+      owns_none = λ none. owned_same old new (ap roles_of (none_names (subst (λ r. ReceivesRequest old server r new) none told.receives)).handles);
+      owns_err = received_owns_err result told.receives;
+      few_borrows = λ most owns below. receive_few old new server reached most owns below result told.receives;
+      sure = λ owns. receive_sure old new server result (receive_few old new server reached 0 owns (omega arith) result told.receives) told.receives;
     }
 
   -- receives of responses
@@ -208,6 +235,31 @@ module _ {Q QH P PH K : Type 0} where
     came_stays (Ok None) receives free = stays_each old new (λ i. ap (λ t. shown_at t i) (no_response receives))
     came_stays (Err e) receives free = stays_each old new (λ i. ap (λ t. shown_at t i) (response_refused e receives))
 
+    -- it belongs to the client that asked
+    module _ (is : Names old n Kind.PendingResponse) (reached : IsReached old) (port request : ℕ) (of : Has old n (Of port request)) where
+      came_port : (k : ℕ) (receives : ReceivesResponse old n (Ok (Some k)) new) → port_of (came_gains k receives).handle ≡ port
+      unfolding came_gains
+      came_port k receives =
+          let p = some_and (pending_at old n) _ receives in
+          let key = response_key p.0 p.2.0 in
+          (subst (AllByRecursion (ResponseFits old.clients old.servers (roles_of old.handles) old.next key)) p.2.3.1.1 (reached.response_lists.each key)).0.client
+          ∙ belongs old n Kind.PendingResponse (λ e. cc) (λ e. cc) (named_kind is) (PendingResponse p.0) (from_pending _ p.0 p.1) port request of
+
+      came_owned : (result : Result (Option ℕ) ReceiveError) → ReceivesResponse old n result new → KeepsOwned (port ∷ []) old new
+      came_owned (Ok (Some k)) receives = gains_beside k Kind.Response old new (came_gains k receives) port (came_port k receives)
+      came_owned (Ok None) receives = owned_but (port ∷ []) old new (owned_equal old new (no_response receives))
+      came_owned (Err e) receives = owned_but (port ∷ []) old new (owned_equal old new (response_refused e receives))
+
+      came_owns : (result : Result (Option ℕ) ReceiveError) → ReceivesResponse old n result new → (most : ℕ) → Owns old port most
+          → IfOk result (λ o. IfSome o (λ k. Owns new port (suc most)))
+      came_owns (Ok (Some k)) receives most owns = gains_owns k Kind.Response old new (came_gains k receives) port (came_port k receives) most owns
+      came_owns (Ok None) receives most owns = tt
+      came_owns (Err e) receives most owns = tt
+
+    came_owns_err : (result : Result (Option ℕ) ReceiveError) → ReceivesResponse old n result new → IfErr result (λ e. KeepsOwned [] old new)
+    came_owns_err (Ok o) receives = tt
+    came_owns_err (Err e) receives = owned_equal old new (response_refused e receives)
+
     -- what the call of a pending response tells of it
     pub response_received : (result : Result (Option ℕ) ReceiveError) → Names old n Kind.PendingResponse → IsReached old
         → ChannelsApart (roles_of old.handles) → record {
@@ -227,6 +279,12 @@ module _ {Q QH P PH K : Type 0} where
           of : (port request : ℕ) → Has old n (Of port request) → IfOk result (λ o. IfSome o (λ k. Has new k (Of port request)));
           heard : KeepsHeard [] old new;
           awaited : KeepsAwaited (n ∷ []) old new;
+          owned : (port request : ℕ) → Has old n (Of port request) → KeepsOwned (port ∷ []) old new;
+          owns : (port request most : ℕ) → Has old n (Of port request) → Owns old port most → IfOk result (λ o. IfSome o (λ k. Owns new port (suc most)));
+          owns_none : result ≡ Ok None → KeepsOwned [] old new;
+          owns_err : IfErr result (λ e. KeepsOwned [] old new);
+          few_borrows : (port request most : ℕ) → Has old n (Of port request) → Owns old port (suc most) → IsBelow most old.limits.max_borrowed_responses_per_pending_response → result ≢ Err ReceiveError.ExceedsMaxBorrows;
+          sure : (port request : ℕ) → Has old n (Of port request) → Owns old port 1 → (error : ReceiveError) → result ≢ Err error;
         }
     response_received result is reached channels told = record {
       receives = told.receives;
@@ -241,4 +299,11 @@ module _ {Q QH P PH K : Type 0} where
       of = response_of old new n (named_kind is) reached channels result told.receives (came_names result told.receives told.unnamed);
       heard = heard_stays [] old new (came_stays result told.receives told.unnamed) (came_requests old new n (named_kind is) result told.receives);
       awaited = others_await old new n (named_kind is) channels result told.receives (came_stays result told.receives told.unnamed);
+      owned = λ port request of. came_owned is reached port request of result told.receives;
+      owns = λ port request most of. came_owns is reached port request of result told.receives most;
+      owns_none = λ none. owned_equal old new (no_response (subst (λ r. ReceivesResponse old n r new) none told.receives));
+      owns_err = came_owns_err result told.receives;
+      few_borrows = λ port request most of owns below. came_few old new n reached (named_kind is) port request most of owns below result told.receives;
+      sure = λ port request of owns. came_sure old new n result
+          (came_few old new n reached (named_kind is) port request 0 of owns (omega arith) result told.receives) told.receives;
     }

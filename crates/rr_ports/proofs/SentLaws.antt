@@ -1,5 +1,5 @@
 -- Loans that are written at once, and those that are sent at once.
-use Rattle.std.proofs.Common.{◌≡◌, ◌≢◌, ℕ, ◌+◌, ◌≤◌, ◌<◌, Bool, true, false, cond, List, [], ◌∷◌, ◌++◌, length, Some, None, sym, ◌∙◌, subst, arith, Result, Ok, Err}
+use Rattle.std.proofs.Common.{◌≡◌, ◌≢◌, ℕ, suc, ◌+◌, ◌≤◌, ◌<◌, Bool, true, false, cond, List, [], ◌∷◌, ◌++◌, length, Some, None, sym, ap, ◌∙◌, subst, arith, Result, Ok, Err}
 use Rattle.std.specs.Prelude.{IfErr, IfOk, IsOk, OnOk}
 use Rattle.rr_protocol.specs.declared.error.LoanError.{LoanError}
 use Rattle.rr_protocol.specs.declared.error.RequestSendError.{RequestSendError}
@@ -7,18 +7,20 @@ use Rattle.rr_protocol.specs.declared.error.SendError.{SendError}
 use Rattle.rr_protocol.specs.declared.kind.Kind.{Kind}
 use Rattle.rr_protocol.specs.declared.limits.Limits.{Limits}
 use Rattle.rr_protocol.specs.declared.settings.BackpressureAction.{BackpressureAction}
-use Rattle.rr_protocol.specs.Loans.{LoansRequest, LoansResponse}
 use Rattle.rr_protocol.specs.Sends.{SendsResponse}
 use Rattle.rr_protocol.specs.State.{State}
 use Rattle.rr_laws.specs.Unreduced.{ClientHasPool, ServerHasPool}
 use Rattle.rr_laws.proofs.Opening.{open_request_mut, open_response_mut}
-use Rattle.rr_ports.specs.Facts.{Answers, AskedLen, Asks, Buffers, Has, IsA, IsFree, Keeps, Names, Of, WholePool, numbers_left}
-use Rattle.rr_ports.specs.Loaning.{LoansComplete, LoansResponseComplete, SendsElements, SendsResponseElements, with_complete_request, with_complete_response}
+use Rattle.rr_ports.specs.Facts.{Answers, Asks, Buffers, Discards, Has, IsA, IsFree, Keeps, Names, Of, WholePool, numbers_left}
+use Rattle.rr_ports.specs.Loaning.{LoansComplete, LoansResponseComplete, SendsElements, SendsResponseElements}
+use Rattle.rr_ports.specs.Owning.{IsBelow, KeepsOwned, Owns}
+use Rattle.rr_ports.proofs.OwningLaws.{owned_but, owned_refused, owned_returned, owned_then}
 use Rattle.rr_ports.specs.Queues.{Awaits, AwaitsNothing, Hears, HearsNothing, KeepsAwaited, KeepsHeard}
 use Rattle.rr_ports.specs.Sending.{SendsPending}
-use Rattle.rr_ports.proofs.CopyLaws.{copied_limits, request_completed, request_copied, response_completed, response_copied}
+use Rattle.rr_ports.proofs.CopyLaws.{copied_limits, copied_request_limits, request_completed, request_copied, response_completed, response_copied}
 use Rattle.rr_ports.proofs.FactLaws.{if_ok, keeps_through}
-use Rattle.rr_ports.proofs.Frames.{awaited_kept, kept, nothing_awaited, nothing_heard}
+use Rattle.rr_ports.proofs.Frames.{awaited_kept, kept, nothing_awaited, nothing_heard, owned_kept}
+use Rattle.rr_ports.proofs.LoanTold.{RequestLoaned, RequestWritten, ResponseLoaned, ResponseWritten}
 use Rattle.rr_ports.proofs.QueueLaws.{awaited_all, awaited_through, heard_through}
 
 -- what follows from an error
@@ -26,73 +28,16 @@ if_err : {A E : Type 0} {P R : E → Type 0} (result : Result A E) → IfErr res
 if_err (Ok a) p f = tt
 if_err (Err e) p f = f e p
 
+ok_if : {A E R : Type 0} (result : Result A E) → R → IfOk result (λ a. R)
+ok_if (Ok a) r = r
+ok_if (Err e) r = tt
+
 ok_no_error : {A E : Type 0} (a : A) (e : E) → Ok a ≢ Err e
 ok_no_error a e same = absurd (let f : Ok a ≡ Err e = same in cc)
 
 is_no_error : {A E : Type 0} (result : Result A E) (e : E) → IsOk result → result ≢ Err e
 is_no_error (Ok a) e ok = ok_no_error a e
 is_no_error (Err f) e ok = absurd (let g : false ≡ true = ok in cc)
-
-module _ {Q QH P PH K : Type 0} where
-  -- what a call tells of the loan of a request, and of what is written into it
-  abbrev pub RequestLoaned : (QH → Type 0) → State Q QH P PH K → State Q QH P PH K → ℕ → ℕ → ℕ → Type 0
-  RequestLoaned IsDefault old new n len k = record {
-    loans : LoansRequest IsDefault old n len (Ok k) new;
-    unreduced : ClientHasPool old.limits old n len → Ok k ≢ Err LoanError.OutOfMemory;
-    whole : (room : ℕ) → len ≤ room → Has old n (WholePool room) → Ok k ≢ Err LoanError.OutOfMemory;
-    free : IsFree [] old k;
-    kind : Names new k Kind.RequestMutUninit;
-    says : Has new k (Asks []);
-    asked : Has new k (AskedLen len);
-    keeps : Keeps [] old new;
-    numbers : numbers_left old ≤ numbers_left new + 1;
-    of : Has new k (Of n k);
-    heard : KeepsHeard [] old new;
-    awaited : KeepsAwaited [] old new;
-  }
-
-  abbrev pub RequestWritten : State Q QH P PH K → State Q QH P PH K → ℕ → ℕ → List Q → Type 0
-  RequestWritten old new k given elements = record {
-    same : given ≡ k;
-    written : new ≡ with_complete_request old k elements;
-    kind : Names new given Kind.RequestMut;
-    says : Has new given (Asks elements);
-    keeps : Keeps (k ∷ []) old new;
-    numbers : numbers_left new ≡ numbers_left old;
-    of : (port request : ℕ) → Has old k (Of port request) → Has new given (Of port request);
-    heard : KeepsHeard (k ∷ []) old new;
-    awaited : KeepsAwaited (k ∷ []) old new;
-  }
-
-  -- and of a response
-  abbrev pub ResponseLoaned : (PH → Type 0) → State Q QH P PH K → State Q QH P PH K → ℕ → ℕ → ℕ → Type 0
-  ResponseLoaned IsDefault old new n len k = record {
-    loans : LoansResponse IsDefault old n len (Ok k) new;
-    unreduced : ServerHasPool old.limits old n len → Ok k ≢ Err LoanError.OutOfMemory;
-    whole : (room : ℕ) → len ≤ room → Has old n (WholePool room) → Ok k ≢ Err LoanError.OutOfMemory;
-    free : IsFree [] old k;
-    kind : Names new k Kind.ResponseMutUninit;
-    says : Has new k (Answers []);
-    asked : Has new k (AskedLen len);
-    keeps : Keeps [] old new;
-    numbers : numbers_left old ≤ numbers_left new + 1;
-    of : (port request : ℕ) → Has old n (Of port request) → Has new k (Of port request);
-    heard : KeepsHeard [] old new;
-    awaited : KeepsAwaited [] old new;
-  }
-
-  abbrev pub ResponseWritten : State Q QH P PH K → State Q QH P PH K → ℕ → ℕ → List P → Type 0
-  ResponseWritten old new k given elements = record {
-    same : given ≡ k;
-    written : new ≡ with_complete_response old k elements;
-    kind : Names new given Kind.ResponseMut;
-    says : Has new given (Answers elements);
-    keeps : Keeps (k ∷ []) old new;
-    numbers : numbers_left new ≡ numbers_left old;
-    of : (port request : ℕ) → Has old k (Of port request) → Has new given (Of port request);
-    heard : KeepsHeard (k ∷ []) old new;
-    awaited : KeepsAwaited (k ∷ []) old new;
-  }
 
 -- requests
 module _ {Q QH P PH K : Type 0} (IsDefault : QH → Type 0) (old loaned written : State Q QH P PH K) (n len k given : ℕ) (elements : List Q)
@@ -105,6 +50,12 @@ module _ {Q QH P PH K : Type 0} (IsDefault : QH → Type 0) (old loaned written 
 
   request_awaited : KeepsAwaited [] old written
   request_awaited = awaited_through [] old loaned written k loan.free loan.awaited write.awaited
+
+  request_owned : KeepsOwned (n ∷ []) old written
+  request_owned = owned_then (n ∷ []) old loaned written loan.owned (owned_but (n ∷ []) loaned written write.owned)
+
+  request_owns : (most : ℕ) → Owns old n most → Owns written n (suc most)
+  request_owns most owns = owned_kept [] loaned written n (suc most) write.owned tt (loan.owns most owns)
 
   -- that are written
   pub request_loaned_complete : (Are : List Q → Type 0) → Are elements → (Says : Type 0) → Says → record {
@@ -119,6 +70,11 @@ module _ {Q QH P PH K : Type 0} (IsDefault : QH → Type 0) (old loaned written 
     of : Has written given (Of n given);
     heard : KeepsHeard [] old written;
     awaited : KeepsAwaited [] old written;
+    owned : KeepsOwned (n ∷ []) old written;
+    owns : (most : ℕ) → Owns old n most → Owns written n (suc most);
+    owns_err : IfErr (Ok given) (λ (e : LoanError). KeepsOwned [] old written);
+    few_loans : (most : ℕ) → Owns old n most → IsBelow most old.limits.max_loaned_requests → Ok given ≢ Err LoanError.ExceedsMaxLoans;
+    sure : (room : ℕ) → len ≤ room → Has old n (WholePool room) → Owns old n 0 → (error : LoanError) → Ok given ≢ Err error;
   }
   request_loaned_complete Are are Says says = record {
     loans = request_completed old loaned written n k IsDefault Are len elements given write.same loan.loans are write.written;
@@ -132,6 +88,11 @@ module _ {Q QH P PH K : Type 0} (IsDefault : QH → Type 0) (old loaned written 
     of = subst (λ i. Has written given (Of n i)) (sym write.same) (write.of n k loan.of);
     heard = request_heard;
     awaited = request_awaited;
+    owned = request_owned;
+    owns = request_owns;
+    owns_err = tt;
+    few_loans = λ most owns below. ok_no_error given LoanError.ExceedsMaxLoans;
+    sure = λ room short has owns. ok_no_error given;
   }
 
   -- that are sent
@@ -147,6 +108,11 @@ module _ {Q QH P PH K : Type 0} (IsDefault : QH → Type 0) (old loaned written 
     awaited : (port request : ℕ) → Has written given (Of port request) → Names written port Kind.Client → KeepsAwaited (given ∷ []) written new;
     refused : (port request : ℕ) → Has written given (Of port request) → Names written port Kind.Client → IfErr result (λ error. KeepsHeard (given ∷ []) written new);
     buffers : (port room : ℕ) → Has written port (Buffers room) → IfOk result (λ pending. Has new pending (Buffers room));
+    discards : (port request : ℕ) → Has written given (Of port request) → Has written port Discards → result ≢ Err (RequestSendError.SendError SendError.UnableToDeliver);
+    owned : KeepsOwned [] written new;
+    frees : (port request most : ℕ) → Has written given (Of port request) → Owns written port (suc most) → IfErr result (λ error. Owns new port most);
+    few_active : (port request most : ℕ) → Has written given (Of port request) → Owns written port (suc most) → IsBelow most written.limits.max_active_requests_per_client → result ≢ Err RequestSendError.ExceedsMaxActiveRequests;
+    sure : (port request : ℕ) → Has written given (Of port request) → Has written port Discards → Owns written port 1 → (error : RequestSendError) → result ≢ Err error;
   }) where
     -- it has the number of the loan
     sent_free : (result : Result ℕ RequestSendError) → SendsPending action written given result new → IfOk result (λ pending. IsFree [] old pending)
@@ -183,6 +149,13 @@ module _ {Q QH P PH K : Type 0} (IsDefault : QH → Type 0) (old loaned written 
       awaited : KeepsAwaited [] old new;
       refused : IfErr result (λ error. KeepsHeard [] old new);
       buffers : (port room : ℕ) → Has old port (Buffers room) → IfOk result (λ pending. Has new pending (Buffers room));
+      discards : Has old n Discards → result ≢ Err (RequestSendError.SendError SendError.UnableToDeliver);
+      owned : KeepsOwned (n ∷ []) old new;
+      owns : (most : ℕ) → Owns old n most → IfOk result (λ pending. Owns new n (suc most));
+      owns_err : IfErr result (λ error. KeepsOwned [] old new);
+      few_loans : (most : ℕ) → Owns old n most → IsBelow most old.limits.max_loaned_requests → result ≢ Err (RequestSendError.SendError (SendError.LoanError LoanError.ExceedsMaxLoans));
+      few_active : (most : ℕ) → Owns old n most → IsBelow most old.limits.max_active_requests_per_client → result ≢ Err RequestSendError.ExceedsMaxActiveRequests;
+      sure : (room : ℕ) → len ≤ room → Has old n (WholePool room) → Has old n Discards → Owns old n 0 → (error : RequestSendError) → result ≢ Err error;
     }
     request_sent = record {
       sends = request_copied old loaned new n k IsDefault action len elements loan.loans written write.written given write.same result send.sends;
@@ -202,6 +175,16 @@ module _ {Q QH P PH K : Type 0} (IsDefault : QH → Type 0) (old loaned written 
       refused = if_err result (send.refused n k (write.of n k loan.of) lives)
           (λ error keeps. heard_through [] old written new k loan.free request_heard (subst (λ i. KeepsHeard (i ∷ []) written new) write.same keeps));
       buffers = λ port room has. send.buffers port room (kept [] old written port (Buffers room) request_keeps tt has);
+      discards = λ over. send.discards n k (write.of n k loan.of) (kept [] old written n Discards request_keeps tt over);
+      owned = owned_then (n ∷ []) old written new request_owned (owned_but (n ∷ []) written new send.owned);
+      owns = λ most owns. ok_if result (owned_kept [] written new n (suc most) send.owned tt (request_owns most owns));
+      owns_err = owned_refused old new n result (owned_then (n ∷ []) old written new request_owned (owned_but (n ∷ []) written new send.owned))
+          (λ most owns. send.frees n k most (write.of n k loan.of) (request_owns most owns));
+      few_loans = λ most owns below. never LoanError.ExceedsMaxLoans;
+      few_active = λ most owns below. send.few_active n k most (write.of n k loan.of) (request_owns most owns)
+          (subst (λ (l : Limits). IsBelow most l.max_active_requests_per_client)
+          (sym (copied_request_limits old loaned written n k len IsDefault loan.loans elements write.written)) below);
+      sure = λ room short has over owns. send.sure n k (write.of n k loan.of) (kept [] old written n Discards request_keeps tt over) (request_owns 0 owns);
     }
 
 -- responses
@@ -216,6 +199,13 @@ module _ {Q QH P PH K : Type 0} (IsDefault : PH → Type 0) (old loaned written 
   response_awaited : KeepsAwaited [] old written
   response_awaited = awaited_through [] old loaned written k loan.free loan.awaited write.awaited
 
+  response_owned : (port request : ℕ) → Has old n (Of port request) → KeepsOwned (port ∷ []) old written
+  response_owned port request of =
+      owned_then (port ∷ []) old loaned written (loan.owned port request of) (owned_but (port ∷ []) loaned written write.owned)
+
+  response_owns : (port request most : ℕ) → Has old n (Of port request) → Owns old port most → Owns written port (suc most)
+  response_owns port request most of owns = owned_kept [] loaned written port (suc most) write.owned tt (loan.owns port request most of owns)
+
   -- that are written
   pub response_loaned_complete : (Are : List P → Type 0) → Are elements → (Says : Type 0) → Says → record {
     loans : LoansResponseComplete IsDefault Are old n len (Ok given) written;
@@ -229,6 +219,11 @@ module _ {Q QH P PH K : Type 0} (IsDefault : PH → Type 0) (old loaned written 
     of : (port request : ℕ) → Has old n (Of port request) → Has written given (Of port request);
     heard : KeepsHeard [] old written;
     awaited : KeepsAwaited [] old written;
+    owned : (port request : ℕ) → Has old n (Of port request) → KeepsOwned (port ∷ []) old written;
+    owns : (port request most : ℕ) → Has old n (Of port request) → Owns old port most → Owns written port (suc most);
+    owns_err : IfErr (Ok given) (λ (e : LoanError). KeepsOwned [] old written);
+    few_loans : (port request : ℕ) → Has old n (Of port request) → Owns old port 1 → Ok given ≢ Err LoanError.ExceedsMaxLoans;
+    sure : (port request room : ℕ) → Has old n (Of port request) → len ≤ room → Has old n (WholePool room) → Owns old port 1 → (error : LoanError) → Ok given ≢ Err error;
   }
   response_loaned_complete Are are Says says = record {
     loans = response_completed old loaned written n k IsDefault Are len elements given write.same loan.loans are write.written;
@@ -242,6 +237,11 @@ module _ {Q QH P PH K : Type 0} (IsDefault : PH → Type 0) (old loaned written 
     of = λ port request has. write.of port request (loan.of port request has);
     heard = response_heard;
     awaited = response_awaited;
+    owned = response_owned;
+    owns = response_owns;
+    owns_err = tt;
+    few_loans = λ port request of owns. ok_no_error given LoanError.ExceedsMaxLoans;
+    sure = λ port request room of short has owns. ok_no_error given;
   }
 
   -- that are sent
@@ -256,11 +256,18 @@ module _ {Q QH P PH K : Type 0} (IsDefault : PH → Type 0) (old loaned written 
     refused : (server pending : ℕ) → Has written given (Of server pending) → Names written server Kind.Server → IfErr result (λ error. KeepsAwaited (given ∷ []) written new);
     delivered : (server pending : ℕ) → Has written given (Of server pending) → AwaitsNothing written pending → IsOk result;
     room : (server pending : ℕ) (answers : List (List P)) → Has written given (Of server pending) → Awaits written pending server answers → length answers < written.limits.max_response_buffer_size → IsOk result;
+    discards : (port request : ℕ) → Has written given (Of port request) → Has written port Discards → IsOk result;
+    owned : KeepsOwned [] written new;
+    frees : (port request most : ℕ) → Has written given (Of port request) → Owns written port (suc most) → Owns new port most;
   }) where
+    -- the send has one error of its own
+    own_error : (error : SendError) → SendsResponse {U = U} action written given (Err error) new → error ≡ SendError.UnableToDeliver
+    own_error error sends = (open_response_mut written given _ sends).4.1
+
     response_never : (loan : LoanError) → result ≢ Err (SendError.LoanError loan)
     response_never loan e =
-        let o = open_response_mut written given _ (subst (λ r. SendsResponse {U = U} action written given r new) e send.sends) in
-        absurd (let f : SendError.LoanError loan ≡ SendError.UnableToDeliver = o.4.1 in cc)
+        absurd (let f : SendError.LoanError loan ≡ SendError.UnableToDeliver =
+        own_error (SendError.LoanError loan) (subst (λ r. SendsResponse {U = U} action written given r new) e send.sends) in cc)
 
     stays_named : (server : ℕ) → Names old server Kind.Server → Names written server Kind.Server
     stays_named server named = kept [] old written server (IsA Kind.Server) response_keeps tt named
@@ -272,6 +279,18 @@ module _ {Q QH P PH K : Type 0} (IsDefault : PH → Type 0) (old loaned written 
 
     written_of : (server pending : ℕ) → Has old n (Of server pending) → Has written given (Of server pending)
     written_of server pending of = write.of server pending (loan.of server pending of)
+
+    -- which never comes at a port that passes full queues over, nor to a request that awaits nothing
+    passed : (port request : ℕ) → Has old n (Of port request) → Has old port Discards → result ≢ Err SendError.UnableToDeliver
+    passed port request of over =
+        is_no_error result SendError.UnableToDeliver (send.discards port request (written_of port request of) (kept [] old written port Discards response_keeps tt over))
+
+    taken : (port request : ℕ) → Has old n (Of port request) → AwaitsNothing old request → result ≢ Err SendError.UnableToDeliver
+    taken port request of nothing =
+        is_no_error result SendError.UnableToDeliver (send.delivered port request (written_of port request of) (nothing_awaited [] old written request response_awaited tt nothing))
+
+    response_sure : result ≢ Err SendError.UnableToDeliver → (error : SendError) → result ≢ Err error
+    response_sure never error e = never (e ∙ ap Err (own_error error (subst (λ r. SendsResponse {U = U} action written given r new) e send.sends)))
 
     pub response_sent : record {
       sends : SendsResponseElements IsDefault action old n len elements result new;
@@ -286,6 +305,11 @@ module _ {Q QH P PH K : Type 0} (IsDefault : PH → Type 0) (old loaned written 
       refused : (server pending : ℕ) → Has old n (Of server pending) → Names old server Kind.Server → IfErr result (λ error. KeepsAwaited [] old new);
       delivered : (server pending : ℕ) → Has old n (Of server pending) → AwaitsNothing old pending → result ≢ Err SendError.UnableToDeliver;
       room : (server pending : ℕ) (answers : List (List P)) → Has old n (Of server pending) → Awaits old pending server answers → length answers < old.limits.max_response_buffer_size → result ≢ Err SendError.UnableToDeliver;
+      discards : (port request : ℕ) → Has old n (Of port request) → Has old port Discards → result ≢ Err SendError.UnableToDeliver;
+      owned : (port request : ℕ) → Has old n (Of port request) → KeepsOwned [] old new;
+      few_loans : (port request : ℕ) → Has old n (Of port request) → Owns old port 1 → result ≢ Err (SendError.LoanError LoanError.ExceedsMaxLoans);
+      sure : (port request room : ℕ) → Has old n (Of port request) → len ≤ room → Has old n (WholePool room) → Owns old port 1 → Has old port Discards → (error : SendError) → result ≢ Err error;
+      sure_first : (port request room : ℕ) → Has old n (Of port request) → len ≤ room → Has old n (WholePool room) → Owns old port 1 → AwaitsNothing old request → (error : SendError) → result ≢ Err error;
     }
     response_sent = record {
       sends = response_copied old loaned new n k IsDefault action len elements loan.loans written write.written given write.same result send.sends;
@@ -304,8 +328,14 @@ module _ {Q QH P PH K : Type 0} (IsDefault : PH → Type 0) (old loaned written 
           (subst (λ i. KeepsAwaited (i ∷ pending ∷ []) written new) write.same (send.awaited server pending (written_of server pending of) (stays_named server named)));
       refused = λ server pending of named. if_err result (send.refused server pending (written_of server pending of) (stays_named server named))
           (λ error keeps. awaited_through [] old written new k loan.free response_awaited (subst (λ i. KeepsAwaited (i ∷ []) written new) write.same keeps));
-      delivered = λ server pending of nothing. is_no_error result SendError.UnableToDeliver (send.delivered server pending (written_of server pending of)
-          (nothing_awaited [] old written pending response_awaited tt nothing));
+      delivered = taken;
       room = λ server pending answers of awaits room. is_no_error result SendError.UnableToDeliver (send.room server pending answers (written_of server pending of)
           (awaited_kept [] old written pending server answers response_awaited tt awaits) (still_room answers room));
+      discards = passed;
+      owned = λ port request of. owned_returned old new port
+          (owned_then (port ∷ []) old written new (response_owned port request of) (owned_but (port ∷ []) written new send.owned))
+          (λ most owns. send.frees port request most (written_of port request of) (response_owns port request most of owns));
+      few_loans = λ port request of owns. response_never LoanError.ExceedsMaxLoans;
+      sure = λ port request room of short has owns over. response_sure (passed port request of over);
+      sure_first = λ port request room of short has owns nothing. response_sure (taken port request of nothing);
     }

@@ -1,6 +1,7 @@
 -- What contracts see of the factories of ports, and what they create.
 use Rattle.std.specs.Prelude.{◌≡◌, ℕ, ◌≤◌, if◌then◌else◌, Option, Some, None, Result}
-use Rattle.std.specs.Option.{ForSome}
+use Rattle.rr_slots.specs.declared.family.Family.{Family}
+use Rattle.rr_slots.specs.declared.family.Family.TheVariants.{Typed, Sliced}
 use Rattle.rr_protocol.specs.declared.settings.ClientSettings.{ClientSettings}
 use Rattle.rr_protocol.specs.declared.settings.ServerSettings.{ServerSettings}
 use Rattle.rr_protocol.specs.declared.settings.BackpressureStrategy.TheVariants.{DiscardData}
@@ -11,10 +12,10 @@ use Rattle.rr_protocol.specs.Limits.{worst_case_requests, worst_case_responses, 
 use Rattle.rr_protocol.specs.Creation.{CreatesClient, CreatesServer, loans_of}
 use Rattle.rr_protocol.specs.State.{State}
 
--- a factory: the settings, and the override of the pool's size, if there is one
-pub record Factory (Settings F : Type 0) : Type 0 where
+-- a factory: the settings, and what chooses the pool's size
+pub record Factory (Settings P : Type 0) : Type 0 where
   pub settings : Settings
-  pub preallocation : Option F
+  pub preallocation : P
 
 -- the settings of a client with which a factory starts
 abbrev pub client_defaults : {K : Type 0} → ClientSettings K
@@ -28,24 +29,29 @@ server_defaults = record { strategy = DiscardData; initial_max_slice_len = 1; al
 abbrev pub counted : ℕ → Option ℕ
 counted size = if is_too_large size then None else Some size
 
--- the pool's size as the override chooses it, which is called once, on the worst case; nobody is asked about one that is not counted
-abbrev pub IsChosen : {F : Type 0} → (F → ℕ → ℕ → Type 0) → Option ℕ → Option F → Option ℕ → Type 0
-IsChosen post (Some worst_case) (Some f) pool = (slots : ℕ) × post f worst_case slots × (pool ≡ Some slots)
-IsChosen post worst_case preallocation pool = pool ≡ None
+-- for how many elements a slot of a family has room from the start, by the setting
+abbrev pub room_of : Family → ℕ → ℕ
+room_of Typed len = 1
+room_of Sliced len = len
 
--- an override, if there is one, chooses at least the worst case
-abbrev pub LeavesWhole : {F : Type 0} → (F → ℕ → ℕ → Type 0) → ℕ → Option F → Type 0
-LeavesWhole post worst_case preallocation = ForSome preallocation (λ f. (slots : ℕ) → post f worst_case slots → worst_case ≤ slots)
+-- the pool's size as it is chosen, once, for the worst case; nothing is chosen for one that is not counted
+abbrev pub IsChosen : {P : Type 0} → (P → ℕ → ℕ → Type 0) → Option ℕ → P → Option ℕ → Type 0
+IsChosen chooses (Some worst_case) preallocation pool = (slots : ℕ) × chooses preallocation worst_case slots × (pool ≡ Some slots)
+IsChosen chooses None preallocation pool = pool ≡ None
 
-module _ {Q QH P PH K F : Type 0} where
-  -- a factory creates a client with its settings and the pool that the override chooses
-  abbrev pub CreatesClientBy : (F → ℕ → ℕ → Type 0) → State Q QH P PH K → Factory (ClientSettings K) F → Result ℕ ClientCreateError → State Q QH P PH K → Type 0
-  CreatesClientBy post old factory result new =
-      (pool : Option ℕ) × IsChosen post (counted (worst_case_requests old.limits)) factory.preallocation pool
+-- at least the worst case is chosen
+abbrev pub LeavesWhole : {P : Type 0} → (P → ℕ → ℕ → Type 0) → P → ℕ → Type 0
+LeavesWhole chooses preallocation worst_case = (slots : ℕ) → chooses preallocation worst_case slots → worst_case ≤ slots
+
+module _ {Q QH P PH K C : Type 0} where
+  -- a factory creates a client with its settings and the pool that is chosen
+  abbrev pub CreatesClientBy : (C → ℕ → ℕ → Type 0) → State Q QH P PH K → Factory (ClientSettings K) C → Result ℕ ClientCreateError → State Q QH P PH K → Type 0
+  CreatesClientBy chooses old factory result new =
+      (pool : Option ℕ) × IsChosen chooses (counted (worst_case_requests old.limits)) factory.preallocation pool
       × CreatesClient old (record factory.settings { pool = pool }) result new
 
   -- a factory creates a server, and so on
-  abbrev pub CreatesServerBy : (F → ℕ → ℕ → Type 0) → State Q QH P PH K → Factory (ServerSettings K) F → Result ℕ ServerCreateError → State Q QH P PH K → Type 0
-  CreatesServerBy post old factory result new =
-      (pool : Option ℕ) × IsChosen post (counted (worst_case_responses old.limits (loans_of factory.settings))) factory.preallocation pool
+  abbrev pub CreatesServerBy : (C → ℕ → ℕ → Type 0) → State Q QH P PH K → Factory (ServerSettings K) C → Result ℕ ServerCreateError → State Q QH P PH K → Type 0
+  CreatesServerBy chooses old factory result new =
+      (pool : Option ℕ) × IsChosen chooses (counted (worst_case_responses old.limits (loans_of factory.settings))) factory.preallocation pool
       × CreatesServer old (record factory.settings { pool = pool }) result new

@@ -1,5 +1,6 @@
 pub mod Facts
 pub mod Queues
+pub mod Owning
 pub mod Sending
 pub mod Loaning
 pub mod Factories
@@ -7,3 +8,5 @@ pub mod Lends
 pub mod Updates
 pub mod Filling
 pub mod Shortcuts
+pub mod Draining
+pub mod Responding

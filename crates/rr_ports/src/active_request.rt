@@ -1,9 +1,10 @@
 //! A request that a server received and may answer.
 #![tactic(auto, using(crate::proofs::Asking::asks), unfolding(crate::specs::Facts::Has, crate::specs::Facts::numbers_left))]
 
-ghost use Rattle.std.specs.Prelude.{◌≡◌, IsSomeAnd, option_and_then, ◌∷◌, [], ℕ};
+ghost use Rattle.std.specs.Prelude.{◌≡◌, IsSomeAnd, option_and_then, ◌∷◌, [], ℕ, suc};
 ghost use Rattle.rr_protocol.specs.declared.kind.Kind.TheVariants as kind;
 ghost use Rattle.rr_ports.specs.Facts.{Has, Keeps, Names, numbers_left, Of};
+ghost use Rattle.rr_ports.specs.Owning.{KeepsOwned, Owns};
 ghost use Rattle.rr_ports.specs.Queues.{KeepsAwaited, KeepsHeard};
 ghost use Rattle.rr_protocol.specs.Counts.{is_alive};
 ghost use Rattle.rr_protocol.specs.Messages.{request_in};
@@ -140,6 +141,8 @@ impl<QB: Body> ActiveRequest<QB> {
         ensures numbers { numbers_left hub.new ≡ numbers_left hub.old }
         ensures heard { (port request : ℕ) → Has hub.old self (Of port request) → Names hub.old port kind.Server → KeepsHeard (self ∷ []) hub.old hub.new }
         ensures awaited { (port request : ℕ) → Has hub.old self (Of port request) → Names hub.old port kind.Server → KeepsAwaited (self ∷ []) hub.old hub.new }
+        ensures owned { KeepsOwned [] hub.old hub.new }
+        ensures frees { (port request most : ℕ) → Has hub.old self (Of port request) → Owns hub.old port (suc most) → Owns hub.new port most }
     {
         let ActiveRequest { id, of: _ } = self;
         hub.core.release_active(&id);

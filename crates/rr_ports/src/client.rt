@@ -4,6 +4,7 @@
 ghost use Rattle.std.specs.Prelude.{◌≡◌, IsSomeAnd, ◌∷◌, []};
 ghost use Rattle.rr_protocol.specs.declared.kind.Kind.TheVariants as kind;
 ghost use Rattle.rr_ports.specs.Facts.{Has, Keeps, Names, numbers_left};
+ghost use Rattle.rr_ports.specs.Owning.{KeepsOwned};
 ghost use Rattle.rr_ports.specs.Queues.{KeepsAwaited};
 ghost use Rattle.rr_protocol.specs.Releases.{after_release};
 ghost use Rattle.rr_protocol.specs.State.{client_at};
@@ -98,6 +99,7 @@ impl<QB: Body> Client<QB> {
         ensures keeps { Keeps (self ∷ []) hub.old hub.new }
         ensures numbers { numbers_left hub.new ≡ numbers_left hub.old }
         ensures awaited { KeepsAwaited (self ∷ []) hub.old hub.new }
+        ensures owned { KeepsOwned [] hub.old hub.new }
     {
         let Client { number, of: _ } = self;
         hub.core.reached();

@@ -1,7 +1,7 @@
 //! What owns all ports of a service.
 #![tactic(auto, unfolding(crate::specs::Facts::numbers_left))]
 
-ghost use Rattle.std.specs.Prelude.{◌≡◌, ◌↔◌, None, IsTrue, IfOk, ◌^◌};
+ghost use Rattle.std.specs.Prelude.{◌≡◌, ◌↔◌, IsTrue, IfOk, ◌^◌};
 ghost use Rattle.rr_protocol.specs.Creation.{CreatesHub};
 ghost use Rattle.rr_ports.specs.Factories.{client_defaults, server_defaults};
 ghost use Rattle.rr_ports.specs.Facts.{Names, numbers_left};
@@ -85,14 +85,14 @@ impl<QB: Body, QH: Default + Drop, PB: Body, PH: Default + Drop, K: Backpressure
 
     /// Returns a factory of clients with the default settings. After iceoryx2's `PortFactory::client_builder`.
     pub fn client_builder(&self) -> PortFactoryClient<QB, K>
-        ensures { result ≡ record { settings = client_defaults; preallocation = None } }
+        ensures { result ≡ record { settings = client_defaults; preallocation = tt } }
     {
         PortFactoryClient::new()
     }
 
     /// Returns a factory of servers with the default settings. After iceoryx2's `PortFactory::server_builder`.
     pub fn server_builder(&self) -> PortFactoryServer<PB, K>
-        ensures { result ≡ record { settings = server_defaults; preallocation = None } }
+        ensures { result ≡ record { settings = server_defaults; preallocation = tt } }
     {
         PortFactoryServer::new()
     }

@@ -7,6 +7,7 @@ ghost use Rattle.std.specs.Fn.{FnOnceReturnsAtMut, FnOnceTakesAtMut};
 ghost use Rattle.rr_protocol.specs.declared.kind.Kind.TheVariants as kind;
 ghost use Rattle.rr_ports.specs.Facts.{Has, Keeps, Names, numbers_left};
 ghost use Rattle.rr_ports.specs.Lends.{lends_request, lends_response};
+ghost use Rattle.rr_ports.specs.Owning.{KeepsOwned};
 ghost use Rattle.rr_ports.specs.Queues.{KeepsAwaited, KeepsHeard};
 ghost use Rattle.rr_ports.specs.Updates.{UpdatesRequest, UpdatesResponse};
 ghost use Rattle.rr_protocol.specs.Messages.{request_in, response_in};
@@ -54,6 +55,7 @@ impl<QB: Body> RequestMutUninit<QB> {
         ensures numbers { numbers_left hub.new ≡ numbers_left hub.old }
         ensures heard { KeepsHeard [] hub.old hub.new }
         ensures awaited { KeepsAwaited [] hub.old hub.new }
+        ensures owned { KeepsOwned [] hub.old hub.new }
     {
         f(Self::user_header_mut(hub, self))
     }
@@ -89,6 +91,7 @@ impl<QB: Body> RequestMut<QB> {
         ensures numbers { numbers_left hub.new ≡ numbers_left hub.old }
         ensures heard { KeepsHeard [] hub.old hub.new }
         ensures awaited { KeepsAwaited [] hub.old hub.new }
+        ensures owned { KeepsOwned [] hub.old hub.new }
     {
         f(Self::user_header_mut(hub, self))
     }
@@ -124,6 +127,7 @@ impl<PB: Body> ResponseMutUninit<PB> {
         ensures numbers { numbers_left hub.new ≡ numbers_left hub.old }
         ensures heard { KeepsHeard [] hub.old hub.new }
         ensures awaited { KeepsAwaited [] hub.old hub.new }
+        ensures owned { KeepsOwned [] hub.old hub.new }
     {
         f(Self::user_header_mut(hub, self))
     }
@@ -159,6 +163,7 @@ impl<PB: Body> ResponseMut<PB> {
         ensures numbers { numbers_left hub.new ≡ numbers_left hub.old }
         ensures heard { KeepsHeard [] hub.old hub.new }
         ensures awaited { KeepsAwaited [] hub.old hub.new }
+        ensures owned { KeepsOwned [] hub.old hub.new }
     {
         f(Self::user_header_mut(hub, self))
     }

@@ -4,6 +4,7 @@
 mod active_request;
 mod client;
 mod debug;
+mod equal;
 mod error;
 mod handle;
 mod hub;
@@ -17,6 +18,7 @@ mod response_mut;
 mod response_mut_uninit;
 mod server;
 pub mod sliced;
+mod try_send;
 pub mod typed;
 mod update_connections;
 
@@ -26,7 +28,7 @@ pub use error::Error;
 pub use handle::Handle;
 pub use hub::Hub;
 pub use pending_response::PendingResponse;
-pub use port_factory::{PortFactoryClient, PortFactoryServer};
+pub use port_factory::{NoOverride, Override, PortFactoryClient, PortFactoryServer, Preallocation};
 pub use request_mut::RequestMut;
 pub use request_mut_uninit::RequestMutUninit;
 pub use response::Response;
@@ -40,4 +42,5 @@ pub use rr_hub::{
 };
 pub use rr_protocol::NoHandler;
 pub use server::Server;
+pub use try_send::Refused;
 pub use update_connections::UpdateConnections;

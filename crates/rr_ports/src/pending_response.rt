@@ -1,9 +1,10 @@
 //! A request that was sent, and whose responses are received.
 #![tactic(auto, using(crate::proofs::Asking::asks), unfolding(crate::specs::Facts::Has, crate::specs::Facts::numbers_left))]
 
-ghost use Rattle.std.specs.Prelude.{◌↔◌, ◌≡◌, IfOk, IfSome, IsSomeAnd, IsTrue, option_and_then, length, nat_lt, ◌∷◌, [], ℕ, List, Ok, None, ◌≢◌};
+ghost use Rattle.std.specs.Prelude.{◌↔◌, ◌≡◌, IfOk, IfSome, IsSomeAnd, IsTrue, option_and_then, length, nat_lt, ◌∷◌, [], ℕ, List, Ok, None, ◌≢◌, suc, IfErr, Err};
 ghost use Rattle.rr_protocol.specs.declared.kind.Kind.TheVariants as kind;
 ghost use Rattle.rr_ports.specs.Facts.{Has, IsFree, Keeps, Names, numbers_left, Of, Answers};
+ghost use Rattle.rr_ports.specs.Owning.{IsBelow, KeepsOwned, Owns};
 ghost use Rattle.rr_ports.specs.Queues.{Awaits, AwaitsNothing, KeepsAwaited, KeepsHeard};
 ghost use Rattle.rr_protocol.specs.Messages.{request_in, with_hint};
 ghost use Rattle.rr_protocol.specs.Queries.{request_header, HasResponse};
@@ -93,6 +94,7 @@ impl<QB: Body> PendingResponse<QB> {
         ensures numbers { numbers_left hub.new ≡ numbers_left hub.old }
         ensures heard { KeepsHeard [] hub.old hub.new }
         ensures awaited { KeepsAwaited [] hub.old hub.new }
+        ensures owned { KeepsOwned [] hub.old hub.new }
     {
         hub.core.set_disconnect_hint(&self.id);
     }
@@ -136,8 +138,9 @@ impl<QB: Body> PendingResponse<QB> {
         hub.core.has_response(&self.id)
     }
 
-    /// Receives the oldest response that some server's queue to this request has. Returns `None` if no response is queued. Takes
-    /// no memory. After iceoryx2's `PendingResponse::receive`.
+    /// Receives the oldest response that some server's queue to this request has. Receives go round: the server after the one that
+    /// was heard last comes first. Returns `None` if no response is queued. Takes no memory. After iceoryx2's
+    /// `PendingResponse::receive`.
     ///
     /// # Errors
     ///
@@ -160,6 +163,12 @@ impl<QB: Body> PendingResponse<QB> {
         ensures of { (port request : ℕ) → Has hub.old self.now (Of port request) → IfOk result (λ received. IfSome received (λ response. Has hub.new response (Of port request))) }
         ensures heard { KeepsHeard [] hub.old hub.new }
         ensures awaited { KeepsAwaited (self.now ∷ []) hub.old hub.new }
+        ensures owned { (port request : ℕ) → Has hub.old self.now (Of port request) → KeepsOwned (port ∷ []) hub.old hub.new }
+        ensures owns { (port request most : ℕ) → Has hub.old self.now (Of port request) → Owns hub.old port most → IfOk result (λ received. IfSome received (λ response. Owns hub.new port (suc most))) }
+        ensures owns_none { result ≡ Ok None → KeepsOwned [] hub.old hub.new }
+        ensures owns_err { IfErr result (λ error. KeepsOwned [] hub.old hub.new) }
+        ensures few_borrows { (port request most : ℕ) → Has hub.old self.now (Of port request) → Owns hub.old port (suc most) → IsBelow most hub.old.limits.max_borrowed_responses_per_pending_response → result ≢ Err ReceiveError.ExceedsMaxBorrows }
+        ensures sure { (port request : ℕ) → Has hub.old self.now (Of port request) → Owns hub.old port 1 → (error : _) → result ≢ Err error }
     {
         hub.core.reached();
         response::received(hub.core.receive_response(&self.id))
@@ -178,6 +187,8 @@ impl<QB: Body> PendingResponse<QB> {
         ensures numbers { numbers_left hub.new ≡ numbers_left hub.old }
         ensures heard { (port request : ℕ) → Has hub.old self (Of port request) → Names hub.old port kind.Client → KeepsHeard (self ∷ []) hub.old hub.new }
         ensures awaited { (port request : ℕ) → Has hub.old self (Of port request) → Names hub.old port kind.Client → KeepsAwaited (self ∷ []) hub.old hub.new }
+        ensures owned { KeepsOwned [] hub.old hub.new }
+        ensures frees { (port request most : ℕ) → Has hub.old self (Of port request) → Owns hub.old port (suc most) → Owns hub.new port most }
     {
         let PendingResponse { id, of: _ } = self;
         hub.core.reached();

@@ -1,9 +1,11 @@
 //! A loaned request that can be sent.
 #![tactic(auto, using(crate::proofs::Asking::asks), unfolding(crate::specs::Facts::Has, crate::specs::Facts::numbers_left))]
 
-ghost use Rattle.std.specs.Prelude.{◌≡◌, IfErr, IfOk, IsSomeAnd, option_and_then, ◌∷◌, [], List, ℕ};
+ghost use Rattle.std.specs.Prelude.{◌≡◌, ◌≢◌, Err, IfErr, IfOk, IsSomeAnd, option_and_then, ◌∷◌, [], List, ℕ, suc};
 ghost use Rattle.rr_protocol.specs.declared.kind.Kind.TheVariants as kind;
-ghost use Rattle.rr_ports.specs.Facts.{Asks, Buffers, Has, Keeps, Names, Of, numbers_left};
+ghost use Rattle.rr_protocol.specs.declared.error.SendError.TheVariants as send;
+ghost use Rattle.rr_ports.specs.Facts.{Asks, Buffers, Discards, Has, Keeps, Names, Of, numbers_left};
+ghost use Rattle.rr_ports.specs.Owning.{IsBelow, KeepsOwned, Owns};
 ghost use Rattle.rr_ports.specs.Queues.{AwaitsNothing, Hears, HearsNothing, KeepsAwaited, KeepsHeard};
 ghost use Rattle.rr_ports.specs.Sending.{SendsPending};
 ghost use Rattle.rr_protocol.specs.Messages.{request_in};
@@ -95,6 +97,11 @@ impl<QB: Body> RequestMut<QB> {
         ensures awaited { (port request : ℕ) → Has hub.old self (Of port request) → Names hub.old port kind.Client → KeepsAwaited (self ∷ []) hub.old hub.new }
         ensures refused { (port request : ℕ) → Has hub.old self (Of port request) → Names hub.old port kind.Client → IfErr result (λ error. KeepsHeard (self ∷ []) hub.old hub.new) }
         ensures buffers { (port room : ℕ) → Has hub.old port (Buffers room) → IfOk result (λ pending. Has hub.new pending (Buffers room)) }
+        ensures discards { (port request : ℕ) → Has hub.old self (Of port request) → Has hub.old port Discards → result ≢ Err (RequestSendError.SendError send.UnableToDeliver) }
+        ensures owned { KeepsOwned [] hub.old hub.new }
+        ensures frees { (port request most : ℕ) → Has hub.old self (Of port request) → Owns hub.old port (suc most) → IfErr result (λ error. Owns hub.new port most) }
+        ensures few_active { (port request most : ℕ) → Has hub.old self (Of port request) → Owns hub.old port (suc most) → IsBelow most hub.old.limits.max_active_requests_per_client → result ≢ Err RequestSendError.ExceedsMaxActiveRequests }
+        ensures sure { (port request : ℕ) → Has hub.old self (Of port request) → Has hub.old port Discards → Owns hub.old port 1 → (error : _) → result ≢ Err error }
     {
         let RequestMut { id, of: _ } = self;
         hub.core.reached();
@@ -117,6 +124,8 @@ impl<QB: Body> RequestMut<QB> {
         ensures numbers { numbers_left hub.new ≡ numbers_left hub.old }
         ensures heard { (port request : ℕ) → Has hub.old self (Of port request) → Names hub.old port kind.Client → KeepsHeard (self ∷ []) hub.old hub.new }
         ensures awaited { (port request : ℕ) → Has hub.old self (Of port request) → Names hub.old port kind.Client → KeepsAwaited (self ∷ []) hub.old hub.new }
+        ensures owned { KeepsOwned [] hub.old hub.new }
+        ensures frees { (port request most : ℕ) → Has hub.old self (Of port request) → Owns hub.old port (suc most) → Owns hub.new port most }
     {
         let RequestMut { id, of: _ } = self;
         hub.core.release_request(&id);

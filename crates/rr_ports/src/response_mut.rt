@@ -1,9 +1,10 @@
 //! A loaned response that can be sent.
 #![tactic(auto, using(crate::proofs::Asking::asks), unfolding(crate::specs::Facts::Has, crate::specs::Facts::numbers_left))]
 
-ghost use Rattle.std.specs.Prelude.{◌≡◌, IfErr, IsOk, IsSomeAnd, option_and_then, ◌∷◌, [], ℕ, List, OnOk, length, ◌<◌, ◌++◌};
+ghost use Rattle.std.specs.Prelude.{◌≡◌, IfErr, IsOk, IsSomeAnd, option_and_then, ◌∷◌, [], ℕ, List, OnOk, length, ◌<◌, ◌++◌, suc};
 ghost use Rattle.rr_protocol.specs.declared.kind.Kind.TheVariants as kind;
-ghost use Rattle.rr_ports.specs.Facts.{Has, Keeps, Names, numbers_left, Of, Answers};
+ghost use Rattle.rr_ports.specs.Facts.{Discards, Has, Keeps, Names, numbers_left, Of, Answers};
+ghost use Rattle.rr_ports.specs.Owning.{KeepsOwned, Owns};
 ghost use Rattle.rr_ports.specs.Queues.{Awaits, AwaitsNothing, KeepsAwaited, KeepsHeard};
 ghost use Rattle.rr_protocol.specs.Messages.{response_in};
 ghost use Rattle.rr_protocol.specs.Queries.{response_header};
@@ -93,6 +94,9 @@ impl<PB: Body> ResponseMut<PB> {
         ensures refused { (server pending : ℕ) → Has hub.old self (Of server pending) → Names hub.old server kind.Server → IfErr result (λ error. KeepsAwaited (self ∷ []) hub.old hub.new) }
         ensures delivered { (server pending : ℕ) → Has hub.old self (Of server pending) → AwaitsNothing hub.old pending → IsOk result }
         ensures room { (server pending : ℕ) (answers : List (List PB.Item)) → Has hub.old self (Of server pending) → Awaits hub.old pending server answers → length answers < hub.old.limits.max_response_buffer_size → IsOk result }
+        ensures discards { (port request : ℕ) → Has hub.old self (Of port request) → Has hub.old port Discards → IsOk result }
+        ensures owned { KeepsOwned [] hub.old hub.new }
+        ensures frees { (port request most : ℕ) → Has hub.old self (Of port request) → Owns hub.old port (suc most) → Owns hub.new port most }
     {
         let ResponseMut { id, of: _ } = self;
         hub.core.reached();
@@ -111,6 +115,8 @@ impl<PB: Body> ResponseMut<PB> {
         ensures numbers { numbers_left hub.new ≡ numbers_left hub.old }
         ensures heard { (port request : ℕ) → Has hub.old self (Of port request) → Names hub.old port kind.Server → KeepsHeard (self ∷ []) hub.old hub.new }
         ensures awaited { (port request : ℕ) → Has hub.old self (Of port request) → Names hub.old port kind.Server → KeepsAwaited (self ∷ []) hub.old hub.new }
+        ensures owned { KeepsOwned [] hub.old hub.new }
+        ensures frees { (port request most : ℕ) → Has hub.old self (Of port request) → Owns hub.old port (suc most) → Owns hub.new port most }
     {
         let ResponseMut { id, of: _ } = self;
         hub.core.release_response_loan(&id);

@@ -1,9 +1,10 @@
 //! A loaned response whose payload is being written.
 #![tactic(auto, using(crate::proofs::Asking::asks), unfolding(crate::specs::Facts::Has, crate::specs::Facts::numbers_left))]
 
-ghost use Rattle.std.specs.Prelude.{◌≡◌, IsSomeAnd, option_and_then, true, ◌∷◌, [], List, ℕ};
+ghost use Rattle.std.specs.Prelude.{◌≡◌, IsSomeAnd, option_and_then, true, ◌∷◌, [], List, ℕ, suc};
 ghost use Rattle.rr_protocol.specs.declared.kind.Kind.TheVariants as kind;
 ghost use Rattle.rr_ports.specs.Facts.{Has, Keeps, Names, numbers_left, Answers, Of};
+ghost use Rattle.rr_ports.specs.Owning.{KeepsOwned, Owns};
 ghost use Rattle.rr_ports.specs.Queues.{KeepsAwaited, KeepsHeard};
 ghost use Rattle.rr_protocol.specs.Messages.{response_in};
 ghost use Rattle.rr_protocol.specs.Queries.{response_header};
@@ -120,6 +121,7 @@ impl<PB: Body> ResponseMutUninit<PB> {
         ensures of { (port request : ℕ) → Has hub.old self (Of port request) → Has hub.new result (Of port request) }
         ensures heard { KeepsHeard (self ∷ []) hub.old hub.new }
         ensures awaited { KeepsAwaited (self ∷ []) hub.old hub.new }
+        ensures owned { KeepsOwned [] hub.old hub.new }
     {
         let ResponseMutUninit { id, of: _ } = self;
         hub.core.assume_init(&id);
@@ -141,6 +143,8 @@ impl<PB: Body> ResponseMutUninit<PB> {
         ensures numbers { numbers_left hub.new ≡ numbers_left hub.old }
         ensures heard { (port request : ℕ) → Has hub.old self (Of port request) → Names hub.old port kind.Server → KeepsHeard (self ∷ []) hub.old hub.new }
         ensures awaited { (port request : ℕ) → Has hub.old self (Of port request) → Names hub.old port kind.Server → KeepsAwaited (self ∷ []) hub.old hub.new }
+        ensures owned { KeepsOwned [] hub.old hub.new }
+        ensures frees { (port request most : ℕ) → Has hub.old self (Of port request) → Owns hub.old port (suc most) → Owns hub.new port most }
     {
         let ResponseMutUninit { id, of: _ } = self;
         hub.core.release_response_loan(&id);

@@ -1,9 +1,10 @@
 //! Servers.
 #![tactic(auto, using(crate::proofs::Asking::asks), unfolding(crate::specs::Facts::Has, crate::specs::Facts::numbers_left))]
 
-ghost use Rattle.std.specs.Prelude.{◌↔◌, ◌+◌, ◌≤◌, ◌<◌, ◌≡◌, IfOk, IfSome, IsOk, IsSomeAnd, IsTrue, ◌∷◌, [], ℕ, List, Ok, None, ◌≢◌};
+ghost use Rattle.std.specs.Prelude.{◌↔◌, ◌+◌, ◌≤◌, ◌<◌, ◌≡◌, IfOk, IfSome, IsOk, IsSomeAnd, IsTrue, ◌∷◌, [], ℕ, List, Ok, None, ◌≢◌, suc, IfErr, Err};
 ghost use Rattle.rr_protocol.specs.declared.kind.Kind.TheVariants as kind;
 ghost use Rattle.rr_ports.specs.Facts.{Has, IsFree, Keeps, Names, numbers_left, WholePool, Asks, Of};
+ghost use Rattle.rr_ports.specs.Owning.{IsBelow, KeepsOwned, Owns};
 ghost use Rattle.rr_ports.specs.Queues.{Hears, HearsNothing, KeepsAwaited, KeepsHeard};
 ghost use Rattle.rr_protocol.specs.Queries.{HasRequests};
 ghost use Rattle.rr_protocol.specs.Receives.{ReceivesRequest};
@@ -113,9 +114,10 @@ impl<PB: Body> Server<PB> {
         Ok(hub.core.has_requests(self.number))
     }
 
-    /// Receives the oldest request of some client, under the next number, of which one is left. Drops requests whose pending
-    /// responses were released on the way, where they are the oldest of their clients, unless the limits have fire-and-forget requests.
-    /// Returns `None` if no request is queued then. Takes no memory. After iceoryx2's `Server::receive`.
+    /// Receives the oldest request of some client, under the next number, of which one is left. Receives go round: the client after
+    /// the one that was heard last comes first. Drops requests whose pending responses were released on the way, where they are the
+    /// oldest of their clients, unless the limits have fire-and-forget requests. Returns `None` if no request is queued then. Takes no
+    /// memory. After iceoryx2's `Server::receive`.
     ///
     /// # Errors
     ///
@@ -141,7 +143,14 @@ impl<PB: Body> Server<PB> {
         ensures quiet { (pending : ℕ) → Hears hub.old self.now pending → IfOk result (λ received. HearsNothing hub.new self.now) }
         ensures heard { KeepsHeard (self.now ∷ []) hub.old hub.new }
         ensures awaited { KeepsAwaited [] hub.old hub.new }
+        ensures owned { KeepsOwned (self.now ∷ []) hub.old hub.new }
+        ensures owns { (most : ℕ) → Owns hub.old self.now most → IfOk result (λ received. IfSome received (λ active. Owns hub.new self.now (suc most))) }
+        ensures owns_none { result ≡ Ok None → KeepsOwned [] hub.old hub.new }
+        ensures owns_err { IfErr result (λ error. KeepsOwned [] hub.old hub.new) }
+        ensures few_borrows { (most : ℕ) → Owns hub.old self.now most → IsBelow most hub.old.limits.max_active_requests_per_client → result ≢ Err ReceiveError.ExceedsMaxBorrows }
+        ensures sure { Owns hub.old self.now 0 → (error : _) → result ≢ Err error }
     {
+        hub.core.reached();
         active_request::received(hub.core.receive_request(self.number))
     }
 
@@ -157,6 +166,7 @@ impl<PB: Body> Server<PB> {
         ensures keeps { Keeps (self ∷ []) hub.old hub.new }
         ensures numbers { numbers_left hub.new ≡ numbers_left hub.old }
         ensures heard { KeepsHeard (self ∷ []) hub.old hub.new }
+        ensures owned { KeepsOwned [] hub.old hub.new }
     {
         let Server { number, of: _ } = self;
         hub.core.reached();

@@ -3,22 +3,28 @@ ghost use Rattle.std.specs.Prelude.{◌≡◌, None, Some, IfOk, IfSome};
 ghost use Rattle.rr_protocol.specs.declared.kind.Kind.TheVariants as kind;
 ghost use Rattle.rr_protocol.specs.Queries.{kind_at};
 ghost use Rattle.rr_protocol.specs.Receives.{ReceivesResponse};
+ghost use Rattle.rr_store.specs.Draining.{HaveQueues};
 ghost use Rattle.rr_store.specs.Opened.{opened};
 ghost use Rattle.rr_store.specs.Reaching.{IsCore};
+ghost use Rattle.rr_store.specs.Receiving.{CanBegin, HaveChannels, IsNextSender};
 ghost use Rattle.rr_store.specs.Views.{state_of};
 ghost use Rattle.rr_table.specs.TableView.{IsAt};
 
 use rr_protocol::{BackpressureFn, ReceiveError};
+use rr_sender::Turns;
 use rr_slots::Body;
-use rr_store::{HandleEntry, HandleId, Stage, Store};
+use rr_store::{HandleEntry, HandleId, ResponseDetails, Side, Stage, Store};
 use rr_table::Place;
 
 /// Receives the oldest response of some server that the pending response in this place has not received yet. It keeps its
 /// number.
 ///
-/// `None` if no server's response waits. `ExceedsMaxBorrows` if some waits, but the client has as many responses from each
-/// such server on this channel as it may. Nothing has changed then. It looks once at each server's sender, and takes no
-/// memory. After iceoryx2's `PendingResponse::receive`.
+/// The receives of a pending response go round the servers: the one after that from which it received last comes first. Returns
+/// `None` if no server's response waits. Takes O(senders of servers), and no memory. After iceoryx2's `PendingResponse::receive`.
+///
+/// # Errors
+///
+/// - `ExceedsMaxBorrows` if some response waits, but the client has as many from each such server on this channel as it may.
 #[inline(always)]
 pub fn receive_response_at<
     QB: Body,
@@ -41,7 +47,9 @@ pub fn receive_response_at<
     let request = store.table.at(number, place);
     let receiver = store.clients.receiver_of(request.sender);
     let most = store.limits.max_borrowed_responses_per_pending_response;
-    match store.servers.next_sender(receiver, request.slot, most) {
+    let servers = &store.servers;
+    let turns = &mut store.response_turns;
+    match next_response_sender(servers, turns, receiver, request.slot, most) {
         Ok(Some(sender)) => {
             let slot = store.servers.take(sender, receiver, request.slot);
             let details = store.servers.details(sender, slot);
@@ -56,5 +64,87 @@ pub fn receive_response_at<
         }
         Ok(None) => Ok(None),
         Err(error) => Err(error),
+    }
+}
+
+/// Returns from which server's sender a client takes its next response on a channel, of which it may have `most` from each.
+#[inline(always)]
+fn next_response_sender<B: Body, H: Drop, P: Drop>(
+    servers: &Side<B, ResponseDetails, H, P>,
+    turns: &mut Turns,
+    receiver: usize,
+    channel: usize,
+    most: usize,
+) -> Result<Option<usize>, ReceiveError>
+    requires receiver { HaveQueues servers.now.senders receiver }
+    requires channel { HaveChannels servers.now.senders receiver channel }
+    ensures { IsNextSender servers.now.senders receiver channel most result }
+{
+    let from = first_response_sender(servers, turns, receiver, channel, most);
+    servers.next_sender(receiver, channel, most, from)
+}
+
+/// Returns at which server's sender a client begins to look. Where one server alone sent, that is the first, and nothing is looked
+/// at.
+#[inline(always)]
+fn first_response_sender<B: Body, H: Drop, P: Drop>(
+    servers: &Side<B, ResponseDetails, H, P>,
+    turns: &mut Turns,
+    receiver: usize,
+    channel: usize,
+    most: usize,
+) -> usize
+    requires receiver { HaveQueues servers.now.senders receiver }
+    requires channel { HaveChannels servers.now.senders receiver channel }
+    ensures { CanBegin servers.now.senders receiver channel most result }
+{
+    if 1 < servers.sender_count() {
+        return response_sender_in_turn(servers, turns, receiver, channel, most);
+    }
+    0
+}
+
+/// Returns from which server's sender a client takes next, if its receives go round, and lets the one after it be the first next
+/// time. Returns 0 if no server has a response that the client may take.
+#[cold]
+fn response_sender_in_turn<B: Body, H: Drop, P: Drop>(
+    servers: &Side<B, ResponseDetails, H, P>,
+    turns: &mut Turns,
+    receiver: usize,
+    channel: usize,
+    most: usize,
+) -> usize
+    requires receiver { HaveQueues servers.now.senders receiver }
+    requires channel { HaveChannels servers.now.senders receiver channel }
+    ensures { CanBegin servers.now.senders receiver channel most result }
+{
+    let turn = turns.at(receiver, channel);
+    match response_sender_around(servers, receiver, channel, most, turn) {
+        Ok(Some(sender)) => {
+            turns.set(receiver, channel, sender.saturating_add(1));
+            sender
+        }
+        _ => 0,
+    }
+}
+
+/// Returns from which server's sender a client takes next: looks from one on, and then, if that isn't the first, at all.
+fn response_sender_around<B: Body, H: Drop, P: Drop>(
+    servers: &Side<B, ResponseDetails, H, P>,
+    receiver: usize,
+    channel: usize,
+    most: usize,
+    turn: usize,
+) -> Result<Option<usize>, ReceiveError>
+    requires receiver { HaveQueues servers.now.senders receiver }
+    requires channel { HaveChannels servers.now.senders receiver channel }
+    ensures { IsNextSender servers.now.senders receiver channel most result }
+{
+    if turn == 0 {
+        return servers.next_sender(receiver, channel, most, 0);
+    }
+    match servers.next_sender(receiver, channel, most, turn) {
+        Ok(Some(sender)) => Ok(Some(sender)),
+        _ => servers.next_sender(receiver, channel, most, 0),
     }
 }

@@ -1,7 +1,9 @@
 //! Releases of received responses.
-ghost use Rattle.std.specs.Prelude.{◌≡◌, true, IsSomeAnd};
+ghost use Rattle.std.specs.Prelude.{◌≡◌, true, IsSomeAnd, option_and_then};
+ghost use Rattle.rr_protocol.specs.Messages.{response_in};
 ghost use Rattle.rr_protocol.specs.Releases.{after_release};
 ghost use Rattle.rr_protocol.specs.State.{handle_at};
+ghost use Rattle.rr_slots.specs.Elements.{option_elements};
 ghost use Rattle.rr_store.specs.Opened.{opened};
 ghost use Rattle.rr_store.specs.Releasing.{IsHandleGone, is_received_response};
 ghost use Rattle.rr_store.specs.Reaching.{IsCore};
@@ -57,4 +59,54 @@ fn end_received<QB: Body, QH: Default + Drop, PB: Body, PH: Default + Drop, K: B
         .servers
         .end_borrow(entry.sender, receiver, details.channel, entry.slot);
     details.client_sender
+}
+
+/// Releases the received response that stands in this place, as `release_received_at` does, and returns what it has.
+#[inline(always)]
+pub fn take_received_at<
+    QB: Body,
+    QH: Default + Drop,
+    T: Drop,
+    PH: Default + Drop,
+    K: BackpressureFn,
+>(store: &mut Store<QB, QH, Option<T>, PH, K>, number: u64, place: Place) -> Option<T>
+    requires core { IsCore (opened store.old) }
+    requires at { IsAt store.old.table number place }
+    requires kind { IsSomeAnd (handle_at (state_of (opened store.old)) number) (λ handle. is_received_response handle ≡ true) }
+    ensures core { IsCore (opened store.new) }
+    ensures view { state_of (opened store.new) ≡ after_release (state_of (opened store.old)) number }
+    ensures elements { IsSomeAnd (option_and_then response_in (handle_at (state_of (opened store.old)) number)) (λ m. option_elements result ≡ m.content.elements) }
+    ensures asked { IsSomeAnd (option_and_then response_in (handle_at (state_of (opened store.old)) number)) (λ m. 1 ≡ m.content.asked_len) }
+{
+    let (sender, element) = end_taken(store, number, place);
+    leave_client_of_sender_if_unused(store, sender);
+    element
+}
+
+/// Ends the received response in its place, as `end_received` does. Returns the client's sender, and what the response has.
+#[inline(always)]
+fn end_taken<QB: Body, QH: Default + Drop, T: Drop, PH: Default + Drop, K: BackpressureFn>(
+    store: &mut Store<QB, QH, Option<T>, PH, K>,
+    number: u64,
+    place: Place,
+) -> (usize, Option<T>)
+    requires core { IsCore (opened store.old) }
+    requires at { IsAt store.old.table number place }
+    requires kind { IsSomeAnd (handle_at (state_of (opened store.old)) number) (λ handle. is_received_response handle ≡ true) }
+    ensures sound { IsSoundStore (opened store.new) empty_hand }
+    ensures port { HasPort (λ c. c.sender) (opened store.new).clients result.0 }
+    ensures gone { IsHandleGone (state_of (opened store.old)) number (sender_of result.0 (opened store.new).client_senders).owner (state_of (opened store.new)) }
+    ensures elements { IsSomeAnd (option_and_then response_in (handle_at (state_of (opened store.old)) number)) (λ m. option_elements result.1 ≡ m.content.elements) }
+    ensures asked { IsSomeAnd (option_and_then response_in (handle_at (state_of (opened store.old)) number)) (λ m. 1 ≡ m.content.asked_len) }
+{
+    let entry = store.table.take_at(number, place);
+    let details = store.servers.details(entry.sender, entry.slot);
+    let receiver = store.clients.receiver_of(details.client_sender);
+    // What it returns isn't read: its clause says that one element is asked for, as of every such body.
+    let body = store.servers.body(entry.sender, entry.slot);
+    let _ = body;
+    let element = store
+        .servers
+        .end_borrow_taking(entry.sender, receiver, details.channel, entry.slot);
+    (details.client_sender, element)
 }

@@ -15,3 +15,4 @@ mod runner;
 mod scripts;
 mod slices;
 mod threads;
+mod turns;

@@ -1,11 +1,10 @@
 -- What a call on one link does to all of them.
-use Rattle.std.proofs.Common.{◌≡◌, ℕ, suc, zero, ◌<◌, ◌≤◌, List, [], ◌∷◌, ◌++◌, cond, length, drop, map, replicate, get_or, All, refl, sym, ap, ◌∙◌, arith}
+use Rattle.std.proofs.Common.{◌≡◌, ℕ, suc, zero, ◌<◌, ◌≤◌, List, [], ◌∷◌, length, map, replicate, get_or, All, refl, sym, ap, ◌∙◌, arith}
 use Rattle.std.specs.Prelude.{slice_set}
 use Rattle.std.proofs.Math.Seq.{map-set_same}
-use Rattle.std.proofs.lemmas.Bool.{ne_eqb}
 use Rattle.std.proofs.lemmas.List.{map-set, get_or-map, get_or_default, length-map}
 use Rattle.std.proofs.lemmas.List.Elements.{All-head, All-tail, All-map}
-use Rattle.rr_slots.specs.Connections.{pushed, no_entries}
+use Rattle.rr_slots.specs.Connections.{no_entries}
 use Rattle.rr_sender.specs.declared.links.Link.{Link}
 use Rattle.rr_sender.specs.Senders.{at_two, set_two}
 use Rattle.rr_sender.specs.Links.{sent, nothing_sent, with_entries, with_count, queues_of, borrowed_of, IsLinked}

@@ -3,3 +3,4 @@ pub mod Links
 pub mod Parts
 pub mod SenderLends
 pub mod Draining
+pub mod Turns

@@ -4,7 +4,8 @@ ghost use Rattle.rr_protocol.specs.Backpressure.{discards};
 ghost use Rattle.rr_protocol.specs.declared.error.RequestSendError.TheVariants as limit;
 ghost use Rattle.rr_protocol.specs.declared.error.SendError.TheVariants as send;
 ghost use Rattle.rr_protocol.specs.Queries.{kind_at};
-ghost use Rattle.rr_protocol.specs.Sends.{SendsRequest};
+ghost use Rattle.rr_protocol.specs.Sends.{SendsRequest, request_send_refusal};
+ghost use Rattle.rr_protocol.specs.State.{IsRequestMutAnd};
 ghost use Rattle.rr_store.specs.Opened.{opened};
 ghost use Rattle.rr_store.specs.Reaching.{IsCore};
 ghost use Rattle.rr_store.specs.Views.{state_of, sender_of};
@@ -71,6 +72,25 @@ pub fn send_request_at<
         .queue(entry.sender, entry.slot, receivers, servers, overflow);
     store.clients.count_as_sent(entry.sender);
     Ok(connections)
+}
+
+/// Returns the first reason against a send of the request that stands in this place. Returns `None` if it would be sent.
+#[inline(always)]
+pub fn request_refusal_at<
+    QB: Body,
+    QH: Default + Drop,
+    PB: Body,
+    PH: Default + Drop,
+    K: BackpressureFn,
+>(store: &Store<QB, QH, PB, PH, K>, number: u64, place: Place) -> Option<RequestSendError>
+    requires core { IsCore (opened store.now) }
+    requires at { IsAt store.now.table number place }
+    requires kind { kind_at (state_of (opened store.now)) number ≡ Some kind.RequestMut }
+    ensures { IsRequestMutAnd (state_of (opened store.now)) number (λ client message. result ≡ request_send_refusal K.action (state_of (opened store.now)) client message) }
+{
+    let entry = store.table.at(number, place);
+    let connections = open_connections(store, entry.sender);
+    request_send_limit(store, entry.sender, connections)
 }
 
 /// Returns to how many connected servers the queue from a sender takes one more.

@@ -2,7 +2,8 @@
 ghost use Rattle.std.specs.Prelude.{◌≡◌, Some, ◌==◌, ◌&&◌, ◌+◌, ◌<◌, ℕ, IsSome, length, not, slice_get};
 ghost use Rattle.rr_protocol.specs.Backpressure.{discards};
 ghost use Rattle.rr_protocol.specs.Queries.{kind_at};
-ghost use Rattle.rr_protocol.specs.Sends.{SendsResponse};
+ghost use Rattle.rr_protocol.specs.Sends.{SendsResponse, is_response_refused};
+ghost use Rattle.rr_protocol.specs.State.{IsResponseMutAnd};
 ghost use Rattle.rr_store.specs.Opened.{opened};
 ghost use Rattle.rr_store.specs.Reaching.{IsCore};
 ghost use Rattle.rr_store.specs.Views.{state_of, sender_of};
@@ -58,6 +59,26 @@ pub fn send_response_at<
     store.end_loan_from(details, receiver);
     leave_server_of_sender_if_unused(store, entry.sender);
     Ok(())
+}
+
+/// Returns whether a send of the response that stands in this place would be refused.
+#[inline(always)]
+pub fn is_response_refused_at<
+    QB: Body,
+    QH: Default + Drop,
+    PB: Body,
+    PH: Default + Drop,
+    K: BackpressureFn,
+>(store: &Store<QB, QH, PB, PH, K>, number: u64, place: Place) -> bool
+    requires core { IsCore (opened store.now) }
+    requires at { IsAt store.now.table number place }
+    requires kind { kind_at (state_of (opened store.now)) number ≡ Some kind.ResponseMut }
+    ensures { IsResponseMutAnd (state_of (opened store.now)) number (λ server message. result ≡ is_response_refused K.action (state_of (opened store.now)) server message) }
+{
+    let entry = store.table.at(number, place);
+    let details = store.servers.details(entry.sender, entry.slot);
+    let reach = store.clients.reached_receiver(&store.table, details);
+    is_response_refused(store, entry.sender, details, reach)
 }
 
 /// Returns whether the queue that a response reaches is full, may not overflow, and is not passed over.

@@ -1,6 +1,6 @@
 -- Buffers of one capacity, and what a connection's calls do to them.
 use Rattle.std.proofs.Common.{◌≡◌, ℕ, suc, zero, ◌-◌, ◌<◌, ◌≤◌, List, [], ◌∷◌, ◌++◌, cond, length, drop, replicate, refl, sym, ap, ◌∙◌, ⊎_elim, arith, get_or}
-use Rattle.std.specs.Prelude.{◌==◌, true, false, IsOk, OnOk, Result, Ok, Err, slice_set, All}
+use Rattle.std.specs.Prelude.{◌==◌, false, IsOk, OnOk, Result, Ok, Err, slice_set, All}
 use Rattle.std.proofs.lemmas.Bool.{cases_eq, cases_lt, false≢true, eq-eqb, eqb-false, ne_eqb}
 use Rattle.std.proofs.lemmas.List.{get_or-map, length-map, map-set, length_push, length-drop}
 use Rattle.std.proofs.lemmas.List.Elements.{All-set, All-replicate}

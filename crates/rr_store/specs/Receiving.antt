@@ -1,5 +1,5 @@
 -- From which sender a receiver takes next, and the parts of a core after a response was received.
-use Rattle.std.specs.Prelude.{◌≡◌, ◌≢◌, ◌<◌, ◌≤◌, ℕ, Bool, true, false, List, [], length, drop, slice_index_or, slice_set, Option, Some, None, Result, Ok, Err}
+use Rattle.std.specs.Prelude.{◌≡◌, ◌≢◌, ◌⊎◌, ◌<◌, ◌≤◌, ℕ, Bool, true, false, List, [], length, drop, slice_index_or, slice_set, Option, Some, None, Result, Ok, Err}
 use Rattle.rr_table.specs.TableView.{inserted}
 use Rattle.rr_sender.specs.Senders.{queue_at, borrowed_at, taken}
 use Rattle.rr_protocol.specs.declared.error.ReceiveError.{ReceiveError}
@@ -37,12 +37,26 @@ module _ {T N H : Type 0} where
       × ((sender : ℕ) × (sender < length senders) × (most ≤ borrowed_from senders receiver channel sender) × (queue_from senders receiver channel sender ≢ []))
   IsNextSender senders receiver channel most (Err (ReceiveError.ConnectionFailure failure)) = ⊥
 
-module _ {T N H : Type 0} (senders : List (Sender T N H)) (receiver channel most : ℕ) where
-  -- of the first senders, none has an entry and room; and whether one has an entry
+  -- the same, where nothing is told of the senders before one
+  abbrev pub IsNextFrom : ℕ → List (Sender T N H) → ℕ → ℕ → ℕ → Result (Option ℕ) ReceiveError → Type 0
+  IsNextFrom from senders receiver channel most (Ok (Some sender)) = IsNextSender senders receiver channel most (Ok (Some sender))
+  IsNextFrom from senders receiver channel most (Ok None) = (sender : ℕ) → from ≤ sender → sender < length senders → queue_from senders receiver channel sender ≡ []
+  IsNextFrom from senders receiver channel most (Err ReceiveError.ExceedsMaxBorrows) =
+      ((sender : ℕ) → from ≤ sender → sender < length senders → borrowed_from senders receiver channel sender < most → queue_from senders receiver channel sender ≡ [])
+      × ((sender : ℕ) × (sender < length senders) × (most ≤ borrowed_from senders receiver channel sender) × (queue_from senders receiver channel sender ≢ []))
+  IsNextFrom from senders receiver channel most (Err (ReceiveError.ConnectionFailure failure)) = ⊥
+
+  -- a look may begin at the first sender, or at one that gives the receiver something
+  abbrev pub CanBegin : List (Sender T N H) → ℕ → ℕ → ℕ → ℕ → Type 0
+  CanBegin senders receiver channel most from = (from ≡ 0) ⊎ IsNextSender senders receiver channel most (Ok (Some from))
+
+module _ {T N H : Type 0} (senders : List (Sender T N H)) (receiver channel most from : ℕ) where
+  -- of the senders from one on, below another, none has an entry and room; and whether one has an entry
   pub record IsLookedThrough (n : ℕ) (is_at_limit : Bool) : Type 0 where
-    pub passed : (sender : ℕ) → sender < n → borrowed_from senders receiver channel sender < most → queue_from senders receiver channel sender ≡ []
-    pub clear : is_at_limit ≡ false → (sender : ℕ) → sender < n → queue_from senders receiver channel sender ≡ []
-    pub at_limit : is_at_limit ≡ true → (sender : ℕ) × (sender < n) × (most ≤ borrowed_from senders receiver channel sender) × (queue_from senders receiver channel sender ≢ [])
+    pub passed : (sender : ℕ) → from ≤ sender → sender < n → borrowed_from senders receiver channel sender < most → queue_from senders receiver channel sender ≡ []
+    pub clear : is_at_limit ≡ false → (sender : ℕ) → from ≤ sender → sender < n → queue_from senders receiver channel sender ≡ []
+    pub at_limit : is_at_limit ≡ true
+        → (sender : ℕ) × (sender < n) × (sender < length senders) × (most ≤ borrowed_from senders receiver channel sender) × (queue_from senders receiver channel sender ≢ [])
 
 module _ {Q QH P PH K : Type 0} (p : Parts Q QH P PH K) where
   -- the handle of a response that was received

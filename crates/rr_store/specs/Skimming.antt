@@ -44,20 +44,18 @@ module _ {T H : Type 0} where
       (slot : ℕ) × (sender < length old) × (borrowed_from old receiver 0 sender < most) × (slice_get (queue_from old receiver 0 sender) 0 ≡ Some slot) × (is_waited table (sender_of sender old) slot ≡ false)
       × SkimsSenders table receiver most senders (slice_set old sender (first_skimmed receiver (sender_of sender old))) new
 
-  -- the first senders were skimmed
-  pub record IsSkimmedBelow (table : TableView HandleEntry) (receiver most n : ℕ) (old new : List (Sender T RequestDetails H)) : Type 0 where
+  -- some senders were skimmed
+  pub record IsSkimmed (table : TableView HandleEntry) (receiver most : ℕ) (old new : List (Sender T RequestDetails H)) : Type 0 where
     pub senders : List ℕ
     pub steps : SkimsSenders table receiver most senders old new
     pub many : length new ≡ length old
     pub reaches : Reaches new receiver 0
-    pub fronts : (sender : ℕ) → sender < n → borrowed_from new receiver 0 sender < most → IsFrontAlive table receiver (sender_of sender new)
 
-  -- the first senders were skimmed, and the one that is told, if one is, is among them
+  -- and somebody waits for the first request of the one that is told, if one is
   pub record IsSkimmedTo (table : TableView HandleEntry) (receiver most : ℕ) (old new : List (Sender T RequestDetails H))
       (result : Result (Option ℕ) ReceiveError) : Type 0 where
-    pub below : ℕ
-    pub skimmed : IsSkimmedBelow table receiver most below old new
-    pub among : (sender : ℕ) → result ≡ Ok (Some sender) → sender < below
+    pub skimmed : IsSkimmed table receiver most old new
+    pub front : (sender : ℕ) → result ≡ Ok (Some sender) → IsFrontAlive table receiver (sender_of sender new)
 
 module _ {Q QH P PH K : Type 0} (p : Parts Q QH P PH K) where
   -- the oldest request of a queue, in this slot, was taken out of it, and a number was given

@@ -2,6 +2,7 @@
 use crate::side::Side;
 use crate::{ClientPort, HandleEntry, RequestDetails, ResponseDetails, ServerPort};
 use rr_protocol::{BackpressureFn, Limits, UniqueNodeId};
+use rr_sender::Turns;
 use rr_slots::Body;
 use rr_table::Table;
 
@@ -32,4 +33,8 @@ pub struct Store<QB: Body, QH: Default + Drop, PB: Body, PH: Default + Drop, K: 
     pub limits: Limits,
     /// The node.
     pub node_id: UniqueNodeId,
+    /// At which client's sender each server looks first, on its one channel.
+    pub request_turns: Turns,
+    /// At which server's sender each client looks first, on each of its channels.
+    pub response_turns: Turns,
 }

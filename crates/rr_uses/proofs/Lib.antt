@@ -1,2 +1,4 @@
 pub mod Hearing
 mod Singles
+pub mod Folding
+pub mod Making

@@ -14,8 +14,8 @@ use rr_slots::{Body, FillBody};
 use rr_store::{HandleEntry, Stage, Store};
 use rr_table::Place;
 
-/// Makes an element the only one of the request of one element that is being written in this place, which can be sent then. One that
-/// was written before is dropped.
+/// Makes an element the only one of the request that is being written in this place, of a body that asks for one, which can be sent
+/// then. One that was written before is dropped.
 #[inline(always)]
 pub fn write_request_at<
     QB: Body,
@@ -27,11 +27,14 @@ pub fn write_request_at<
     requires core { IsCore (opened store.old) }
     requires at { IsAt store.old.table number place }
     requires kind { kind_at (state_of (opened store.old)) number ≡ Some Kind.RequestMutUninit }
-    requires asked { IsSomeAnd (option_and_then request_in (handle_at (state_of (opened store.old)) number)) (λ m. m.content.asked_len ≡ 1) }
+    requires one { (body : QB) → QB.asked_len body ≡ 1 }
     ensures core { IsCore (opened store.new) }
     ensures view { state_of (opened store.new) ≡ with_changed (with_changed (state_of (opened store.old)) number (with_request_content (with_elements (element ∷ [])))) number after_init }
 {
     let entry = store.table.at(number, place);
+    // What it returns isn't read: its clause says that one element is asked for here.
+    let asked = store.clients.body(entry.sender, entry.slot);
+    let _ = asked;
     let ready = HandleEntry {
         stage: Stage::RequestMut,
         ..entry
@@ -40,8 +43,8 @@ pub fn write_request_at<
     store.clients.write(entry.sender, entry.slot, element);
 }
 
-/// Makes an element the only one of the response of one element that is being written in this place, which can be sent then. One that
-/// was written before is dropped.
+/// Makes an element the only one of the response that is being written in this place, of a body that asks for one, which can be sent
+/// then. One that was written before is dropped.
 #[inline(always)]
 pub fn write_response_at<
     QB: Body,
@@ -53,11 +56,14 @@ pub fn write_response_at<
     requires core { IsCore (opened store.old) }
     requires at { IsAt store.old.table number place }
     requires kind { kind_at (state_of (opened store.old)) number ≡ Some Kind.ResponseMutUninit }
-    requires asked { IsSomeAnd (option_and_then response_in (handle_at (state_of (opened store.old)) number)) (λ m. m.content.asked_len ≡ 1) }
+    requires one { (body : PB) → PB.asked_len body ≡ 1 }
     ensures core { IsCore (opened store.new) }
     ensures view { state_of (opened store.new) ≡ with_changed (with_changed (state_of (opened store.old)) number (with_response_content (with_elements (element ∷ [])))) number after_init }
 {
     let entry = store.table.at(number, place);
+    // What it returns isn't read: its clause says that one element is asked for here.
+    let asked = store.servers.body(entry.sender, entry.slot);
+    let _ = asked;
     let ready = HandleEntry {
         stage: Stage::ResponseMut,
         ..entry

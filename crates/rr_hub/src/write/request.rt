@@ -31,14 +31,14 @@ impl<QB: Body, QH: Default + Drop, PB: Body, PH: Default + Drop, K: Backpressure
         self.parts.clients.push(entry.sender, entry.slot, item)
     }
 
-    /// Makes an element the only one of a request of one element that is being written, and the request one that can be sent. An
+    /// Makes an element the only one of a request that is being written, of a body that asks for one, and the request one that can be sent. An
     /// element that was written before is dropped.
     ///
     /// After iceoryx2's `RequestMutUninit::write_payload`.
     #[inline(always)]
     pub fn write_request(&mut self, id: &HandleId, element: QB::Item)
         requires uninit { kind_at self.old id.now ≡ Some Kind.RequestMutUninit }
-        requires asked { IsSomeAnd (option_and_then request_in (handle_at self.old id.now)) (λ m. m.content.asked_len ≡ 1) }
+        requires one { (body : QB) → QB.asked_len body ≡ 1 }
         ensures { self.new ≡ with_changed (with_changed self.old id.now (with_request_content (with_elements (element ∷ [])))) id.now after_init }
     {
         let place = id.place();

@@ -9,6 +9,7 @@ ghost use Rattle.rr_slots.specs.Elements.{option_elements};
 ghost use Rattle.rr_protocol.specs.declared.kind.Kind.TheVariants as kind;
 ghost use Rattle.rr_ports.specs.Facts.{Answers, AskedLen, Asks, Has, Keeps, Names, Of, numbers_left};
 ghost use Rattle.rr_ports.specs.Lends.{lends_request, lends_response};
+ghost use Rattle.rr_ports.specs.Owning.{KeepsOwned};
 ghost use Rattle.rr_ports.specs.Queues.{KeepsAwaited, KeepsHeard};
 ghost use Rattle.rr_ports.specs.Updates.{UpdatesRequest, UpdatesResponse};
 ghost use Rattle.rr_protocol.specs.Messages.{request_in, response_in};
@@ -58,6 +59,7 @@ impl<T: Drop> RequestMutUninit<Option<T>> {
         ensures of { (port request : ℕ) → Has hub.old self.now (Of port request) → Has hub.new self.now (Of port request) }
         ensures heard { KeepsHeard (self.now ∷ []) hub.old hub.new }
         ensures awaited { KeepsAwaited (self.now ∷ []) hub.old hub.new }
+        ensures owned { KeepsOwned [] hub.old hub.new }
     {
         f(Self::payload_mut(hub, self))
     }
@@ -99,6 +101,7 @@ impl<T: Drop> RequestMut<Option<T>> {
         ensures of { (port request : ℕ) → Has hub.old self.now (Of port request) → Has hub.new self.now (Of port request) }
         ensures heard { KeepsHeard (self.now ∷ []) hub.old hub.new }
         ensures awaited { KeepsAwaited (self.now ∷ []) hub.old hub.new }
+        ensures owned { KeepsOwned [] hub.old hub.new }
     {
         f(Self::payload_mut(hub, self))
     }
@@ -139,6 +142,7 @@ impl<T: Drop> ResponseMutUninit<Option<T>> {
         ensures of { (port request : ℕ) → Has hub.old self.now (Of port request) → Has hub.new self.now (Of port request) }
         ensures heard { KeepsHeard (self.now ∷ []) hub.old hub.new }
         ensures awaited { KeepsAwaited (self.now ∷ []) hub.old hub.new }
+        ensures owned { KeepsOwned [] hub.old hub.new }
     {
         f(Self::payload_mut(hub, self))
     }
@@ -180,6 +184,7 @@ impl<T: Drop> ResponseMut<Option<T>> {
         ensures of { (port request : ℕ) → Has hub.old self.now (Of port request) → Has hub.new self.now (Of port request) }
         ensures heard { KeepsHeard (self.now ∷ []) hub.old hub.new }
         ensures awaited { KeepsAwaited (self.now ∷ []) hub.old hub.new }
+        ensures owned { KeepsOwned [] hub.old hub.new }
     {
         f(Self::payload_mut(hub, self))
     }

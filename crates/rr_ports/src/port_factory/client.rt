@@ -1,15 +1,16 @@
 //! How a client is created.
 #![tactic(auto, using(crate::proofs::FamilyLaws::takes_one), unfolding(crate::specs::Facts::Has, crate::specs::Facts::numbers_left))]
 
-ghost use Rattle.std.specs.Prelude.{◌≡◌, ◌+◌, ◌≤◌, None, Some, IfOk, [], ℕ};
-ghost use Rattle.std.specs.Option.{ForSome};
+ghost use Rattle.std.specs.Prelude.{◌≡◌, ◌+◌, ◌≤◌, Some, IfOk, [], ℕ};
 ghost use Rattle.rr_protocol.specs.declared.kind.Kind.TheVariants as kind;
+ghost use Rattle.rr_protocol.specs.declared.settings.BackpressureStrategy.TheVariants as strategy;
 ghost use Rattle.rr_protocol.specs.Limits.{worst_case_requests};
-ghost use Rattle.rr_ports.specs.Factories.{client_defaults, CreatesClientBy, LeavesWhole};
-ghost use Rattle.rr_ports.specs.Facts.{Buffers, Has, IsFree, Keeps, Names, WholePool, numbers_left};
+ghost use Rattle.rr_ports.specs.Factories.{client_defaults, CreatesClientBy, LeavesWhole, room_of};
+ghost use Rattle.rr_ports.specs.Facts.{Buffers, Discards, Has, IsFree, Keeps, Names, WholePool, numbers_left};
+ghost use Rattle.rr_ports.specs.Owning.{KeepsOwned, Owns};
 ghost use Rattle.rr_ports.specs.Queues.{KeepsAwaited, KeepsHeard};
 
-use super::{chosen, request_slots};
+use super::{NoOverride, Override, Preallocation, chosen, request_slots};
 use crate::client;
 use crate::client::Client;
 use crate::hub::Hub;
@@ -20,22 +21,22 @@ use rr_slots::{Body, SliceBody};
 use std::marker::{Model, PhantomData};
 
 /// How a client is created: it passes full queues over, has no handler and a pool of the worst-case size, unless it is set
-/// otherwise. `F` is the type of an override of the pool's size. After iceoryx2's `PortFactoryClient`.
+/// otherwise. `P` chooses the pool's size: `NoOverride` or an `Override`. After iceoryx2's `PortFactoryClient`.
 #[derive(Drop)]
 #[must_use]
-pub struct PortFactoryClient<QB: Body, K, F = fn(usize) -> usize> {
+pub struct PortFactoryClient<QB: Body, K, P = NoOverride> {
     settings: ClientSettings<K>,
-    preallocation: Option<F>,
+    preallocation: P,
     of: PhantomData<QB>,
 }
 
-impl<QB: Body, K, F> Model for PortFactoryClient<QB, K, F> {
-    ghost use Rattle.std.specs.Prelude.{IsTrue, None};
+impl<QB: Body, K, P> Model for PortFactoryClient<QB, K, P> {
+    ghost use Rattle.std.specs.Prelude.{IsTrue};
     ghost use Rattle.rr_slots.specs.Families.{takes_len};
     ghost use Rattle.rr_protocol.specs.declared.settings.ClientSettings.{ClientSettings};
     ghost use Rattle.rr_ports.specs.Factories.{Factory};
 
-    ghost Value = { Factory (ClientSettings K) F };
+    ghost Value = { Factory (ClientSettings K) P };
 
     ghost view = { λ f. record { settings = f.settings; preallocation = f.preallocation } };
 
@@ -44,7 +45,7 @@ impl<QB: Body, K, F> Model for PortFactoryClient<QB, K, F> {
 
 impl<QB: Body, K: BackpressureFn> PortFactoryClient<QB, K> {
     pub(crate) fn new() -> Self
-        ensures { result ≡ record { settings = client_defaults; preallocation = None } }
+        ensures { result ≡ record { settings = client_defaults; preallocation = tt } }
     {
         PortFactoryClient {
             settings: ClientSettings {
@@ -54,13 +55,13 @@ impl<QB: Body, K: BackpressureFn> PortFactoryClient<QB, K> {
                 pool: None,
                 handler: None,
             },
-            preallocation: None,
+            preallocation: NoOverride,
             of: PhantomData,
         }
     }
 }
 
-impl<QB: Body, K: BackpressureFn, F: Drop> PortFactoryClient<QB, K, F> {
+impl<QB: Body, K: BackpressureFn, P: Drop> PortFactoryClient<QB, K, P> {
     /// Sets what the client's sends do at a full queue that may not overflow. `DiscardData`, the default, passes the server over, and
     /// the send is `Ok`: `number_of_server_connections` returns how many took the request. `RetryUntilDelivered` refuses the send with
     /// `UnableToDeliver`. After iceoryx2's `PortFactoryClient::backpressure_strategy`.
@@ -81,11 +82,11 @@ impl<QB: Body, K: BackpressureFn, F: Drop> PortFactoryClient<QB, K, F> {
     }
     /// Has a callback choose how many slots the client's pool has: it is called once, on the worst-case number of requests, and what it
     /// returns counts at least as 1 and at most as the worst case. After iceoryx2's `PortFactoryClient::override_request_preallocation`.
-    pub fn override_request_preallocation<G: FnOnce(usize) -> usize>(
+    pub fn override_request_preallocation<F: FnOnce(usize) -> usize>(
         self,
-        callback: G,
-    ) -> PortFactoryClient<QB, K, G>
-        ensures { result ≡ record { settings = self.settings; preallocation = Some callback } }
+        callback: F,
+    ) -> PortFactoryClient<QB, K, Override<F>>
+        ensures { result ≡ record { settings = self.settings; preallocation = callback } }
     {
         let PortFactoryClient {
             settings,
@@ -94,7 +95,7 @@ impl<QB: Body, K: BackpressureFn, F: Drop> PortFactoryClient<QB, K, F> {
         } = self;
         PortFactoryClient {
             settings,
-            preallocation: Some(callback),
+            preallocation: Override(callback),
             of: PhantomData,
         }
     }
@@ -112,30 +113,34 @@ impl<QB: Body, K: BackpressureFn, F: Drop> PortFactoryClient<QB, K, F> {
         hub: &mut Hub<QB, QH, PB, PH, K>,
     ) -> Result<Client<QB>, ClientCreateError>
     where
-        F: FnOnce(usize) -> usize,
-        requires { ForSome self.preallocation (λ f. F.pre f (worst_case_requests hub.old.limits)) }
-        ensures creates { CreatesClientBy F.post hub.old self result hub.new }
+        P: Preallocation,
+        requires { P.accepts self.preallocation (worst_case_requests hub.old.limits) }
+        ensures creates { CreatesClientBy P.chooses hub.old self result hub.new }
         ensures free { IfOk result (λ client. IsFree [] hub.old client) }
         ensures kind { IfOk result (λ client. Names hub.new client kind.Client) }
-        ensures pool { LeavesWhole F.post (worst_case_requests hub.old.limits) self.preallocation → IfOk result (λ client. Has hub.new client (WholePool self.settings.initial_max_slice_len)) }
+        ensures pool { LeavesWhole P.chooses self.preallocation (worst_case_requests hub.old.limits) → IfOk result (λ client. Has hub.new client (WholePool (room_of QB.family self.settings.initial_max_slice_len))) }
         ensures buffers { (room : ℕ) → room ≤ hub.old.limits.max_response_buffer_size → IfOk result (λ client. Has hub.new client (Buffers room)) }
         ensures keeps { Keeps [] hub.old hub.new }
         ensures numbers { numbers_left hub.old ≤ numbers_left hub.new + 1 }
         ensures heard { KeepsHeard [] hub.old hub.new }
         ensures awaited { KeepsAwaited [] hub.old hub.new }
+        ensures discards { self.settings.strategy ≡ strategy.DiscardData → self.settings.handler ≡ None → IfOk result (λ client. Has hub.new client Discards) }
+        ensures owned { KeepsOwned [] hub.old hub.new }
+        ensures owns { IfOk result (λ client. Owns hub.new client 0) }
     {
         let PortFactoryClient {
             settings,
             preallocation,
             of: _,
         } = self;
+        hub.core.reached();
         let limits = hub.core.limits();
         let pool = chosen(preallocation, request_slots(&limits));
         client::created(hub.core.create_client(ClientSettings { pool, ..settings }))
     }
 }
 
-impl<T: Drop, K: BackpressureFn, F: Drop> PortFactoryClient<SliceBody<T>, K, F> {
+impl<T: Drop, K: BackpressureFn, P: Drop> PortFactoryClient<SliceBody<T>, K, P> {
     /// Sets for how many elements each slot has room from the start. After iceoryx2's `PortFactoryClient::initial_max_slice_len`.
     pub fn initial_max_slice_len(mut self, value: usize) -> Self
         ensures { result ≡ record self { settings = record self.settings { initial_max_slice_len = value } } }

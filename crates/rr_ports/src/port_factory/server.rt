@@ -1,16 +1,17 @@
 //! How a server is created.
 #![tactic(auto, using(crate::proofs::FamilyLaws::takes_one), unfolding(crate::specs::Facts::Has, crate::specs::Facts::numbers_left))]
 
-ghost use Rattle.std.specs.Prelude.{◌≡◌, ◌+◌, ◌≤◌, None, Some, IfOk, [], ℕ};
-ghost use Rattle.std.specs.Option.{ForSome};
+ghost use Rattle.std.specs.Prelude.{◌≡◌, ◌+◌, ◌≤◌, Some, IfOk, [], ℕ};
 ghost use Rattle.rr_protocol.specs.declared.kind.Kind.TheVariants as kind;
+ghost use Rattle.rr_protocol.specs.declared.settings.BackpressureStrategy.TheVariants as strategy;
 ghost use Rattle.rr_protocol.specs.Creation.{loans_of};
 ghost use Rattle.rr_protocol.specs.Limits.{worst_case_responses};
-ghost use Rattle.rr_ports.specs.Factories.{server_defaults, CreatesServerBy, LeavesWhole};
-ghost use Rattle.rr_ports.specs.Facts.{Buffers, Has, IsFree, Keeps, Names, WholePool, numbers_left};
+ghost use Rattle.rr_ports.specs.Factories.{server_defaults, CreatesServerBy, LeavesWhole, room_of};
+ghost use Rattle.rr_ports.specs.Facts.{Buffers, Discards, Has, IsFree, Keeps, Names, WholePool, numbers_left};
+ghost use Rattle.rr_ports.specs.Owning.{KeepsOwned, Owns};
 ghost use Rattle.rr_ports.specs.Queues.{HearsNothing, KeepsAwaited, KeepsHeard};
 
-use super::{chosen, response_slots};
+use super::{NoOverride, Override, Preallocation, chosen, response_slots};
 use crate::hub::Hub;
 use crate::server;
 use crate::server::Server;
@@ -21,22 +22,22 @@ use rr_slots::{Body, SliceBody};
 use std::marker::{Model, PhantomData};
 
 /// How a server is created: it passes full queues over, has no handler and a pool of the worst-case size, unless it is set
-/// otherwise. `F` is the type of an override of the pool's size. After iceoryx2's `PortFactoryServer`.
+/// otherwise. `P` chooses the pool's size: `NoOverride` or an `Override`. After iceoryx2's `PortFactoryServer`.
 #[derive(Drop)]
 #[must_use]
-pub struct PortFactoryServer<PB: Body, K, F = fn(usize) -> usize> {
+pub struct PortFactoryServer<PB: Body, K, P = NoOverride> {
     settings: ServerSettings<K>,
-    preallocation: Option<F>,
+    preallocation: P,
     of: PhantomData<PB>,
 }
 
-impl<PB: Body, K, F> Model for PortFactoryServer<PB, K, F> {
-    ghost use Rattle.std.specs.Prelude.{IsTrue, None};
+impl<PB: Body, K, P> Model for PortFactoryServer<PB, K, P> {
+    ghost use Rattle.std.specs.Prelude.{IsTrue};
     ghost use Rattle.rr_slots.specs.Families.{takes_len};
     ghost use Rattle.rr_protocol.specs.declared.settings.ServerSettings.{ServerSettings};
     ghost use Rattle.rr_ports.specs.Factories.{Factory};
 
-    ghost Value = { Factory (ServerSettings K) F };
+    ghost Value = { Factory (ServerSettings K) P };
 
     ghost view = { λ f. record { settings = f.settings; preallocation = f.preallocation } };
 
@@ -52,7 +53,7 @@ fn loans<K>(settings: &ServerSettings<K>) -> usize
 
 impl<PB: Body, K: BackpressureFn> PortFactoryServer<PB, K> {
     pub(crate) fn new() -> Self
-        ensures { result ≡ record { settings = server_defaults; preallocation = None } }
+        ensures { result ≡ record { settings = server_defaults; preallocation = tt } }
     {
         PortFactoryServer {
             settings: ServerSettings {
@@ -63,13 +64,13 @@ impl<PB: Body, K: BackpressureFn> PortFactoryServer<PB, K> {
                 handler: None,
                 loans: 1,
             },
-            preallocation: None,
+            preallocation: NoOverride,
             of: PhantomData,
         }
     }
 }
 
-impl<PB: Body, K: BackpressureFn, F: Drop> PortFactoryServer<PB, K, F> {
+impl<PB: Body, K: BackpressureFn, P: Drop> PortFactoryServer<PB, K, P> {
     /// Sets what the server's sends do at a full queue that may not overflow. `DiscardData`, the default, passes the client over, and
     /// the send is `Ok`, so that a stream has gaps; `RetryUntilDelivered` refuses the send with `UnableToDeliver`, so that none is
     /// missed. After iceoryx2's `PortFactoryServer::backpressure_strategy`.
@@ -99,11 +100,11 @@ impl<PB: Body, K: BackpressureFn, F: Drop> PortFactoryServer<PB, K, F> {
     }
     /// Has a callback choose how many slots the server's pool has: it is called once, on the worst-case number of responses, and what it
     /// returns counts at least as 1 and at most as the worst case. After iceoryx2's `PortFactoryServer::override_response_preallocation`.
-    pub fn override_response_preallocation<G: FnOnce(usize) -> usize>(
+    pub fn override_response_preallocation<F: FnOnce(usize) -> usize>(
         self,
-        callback: G,
-    ) -> PortFactoryServer<PB, K, G>
-        ensures { result ≡ record { settings = self.settings; preallocation = Some callback } }
+        callback: F,
+    ) -> PortFactoryServer<PB, K, Override<F>>
+        ensures { result ≡ record { settings = self.settings; preallocation = callback } }
     {
         let PortFactoryServer {
             settings,
@@ -112,7 +113,7 @@ impl<PB: Body, K: BackpressureFn, F: Drop> PortFactoryServer<PB, K, F> {
         } = self;
         PortFactoryServer {
             settings,
-            preallocation: Some(callback),
+            preallocation: Override(callback),
             of: PhantomData,
         }
     }
@@ -130,18 +131,21 @@ impl<PB: Body, K: BackpressureFn, F: Drop> PortFactoryServer<PB, K, F> {
         hub: &mut Hub<QB, QH, PB, PH, K>,
     ) -> Result<Server<PB>, ServerCreateError>
     where
-        F: FnOnce(usize) -> usize,
-        requires { ForSome self.preallocation (λ f. F.pre f (worst_case_responses hub.old.limits (loans_of self.settings))) }
-        ensures creates { CreatesServerBy F.post hub.old self result hub.new }
+        P: Preallocation,
+        requires { P.accepts self.preallocation (worst_case_responses hub.old.limits (loans_of self.settings)) }
+        ensures creates { CreatesServerBy P.chooses hub.old self result hub.new }
         ensures free { IfOk result (λ server. IsFree [] hub.old server) }
         ensures kind { IfOk result (λ server. Names hub.new server kind.Server) }
-        ensures pool { LeavesWhole F.post (worst_case_responses hub.old.limits (loans_of self.settings)) self.preallocation → IfOk result (λ server. Has hub.new server (WholePool self.settings.initial_max_slice_len)) }
+        ensures pool { LeavesWhole P.chooses self.preallocation (worst_case_responses hub.old.limits (loans_of self.settings)) → IfOk result (λ server. Has hub.new server (WholePool (room_of PB.family self.settings.initial_max_slice_len))) }
         ensures buffers { (room : ℕ) → room ≤ hub.old.limits.max_response_buffer_size → IfOk result (λ server. Has hub.new server (Buffers room)) }
         ensures keeps { Keeps [] hub.old hub.new }
         ensures numbers { numbers_left hub.old ≤ numbers_left hub.new + 1 }
         ensures hears { IfOk result (λ server. HearsNothing hub.new server) }
         ensures heard { KeepsHeard [] hub.old hub.new }
         ensures awaited { KeepsAwaited [] hub.old hub.new }
+        ensures discards { self.settings.strategy ≡ strategy.DiscardData → self.settings.handler ≡ None → IfOk result (λ server. Has hub.new server Discards) }
+        ensures owned { KeepsOwned [] hub.old hub.new }
+        ensures owns { IfOk result (λ server. Owns hub.new server 0) }
     {
         let PortFactoryServer {
             settings,
@@ -155,7 +159,7 @@ impl<PB: Body, K: BackpressureFn, F: Drop> PortFactoryServer<PB, K, F> {
     }
 }
 
-impl<T: Drop, K: BackpressureFn, F: Drop> PortFactoryServer<SliceBody<T>, K, F> {
+impl<T: Drop, K: BackpressureFn, P: Drop> PortFactoryServer<SliceBody<T>, K, P> {
     /// Sets for how many elements each slot has room from the start. After iceoryx2's `PortFactoryServer::initial_max_slice_len`.
     pub fn initial_max_slice_len(mut self, value: usize) -> Self
         ensures { result ≡ record self { settings = record self.settings { initial_max_slice_len = value } } }

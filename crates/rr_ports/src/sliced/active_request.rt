@@ -1,10 +1,11 @@
 //! Sliced responses to a request.
 #![tactic(auto, using(crate::proofs::Asking::asks), unfolding(crate::specs::Facts::Has, crate::specs::Facts::numbers_left))]
 
-ghost use Rattle.std.specs.Prelude.{◌+◌, ◌≤◌, ◌<◌, ◌≢◌, ◌≡◌, Err, IfErr, IfOk, [], ◌∷◌, ◌++◌, ℕ, List, OnOk, length};
+ghost use Rattle.std.specs.Prelude.{◌+◌, ◌≤◌, ◌<◌, ◌≢◌, ◌≡◌, Err, IfErr, IfOk, [], ◌∷◌, ◌++◌, ℕ, List, OnOk, length, suc};
 ghost use Rattle.rr_protocol.specs.declared.kind.Kind.TheVariants as kind;
 ghost use Rattle.rr_laws.specs.Unreduced.{ServerHasPool};
-ghost use Rattle.rr_ports.specs.Facts.{AskedLen, Answers, Has, IsFree, Keeps, Names, WholePool, numbers_left, Of};
+ghost use Rattle.rr_ports.specs.Facts.{AskedLen, Answers, Discards, Has, IsFree, Keeps, Names, WholePool, numbers_left, Of};
+ghost use Rattle.rr_ports.specs.Owning.{KeepsOwned, Owns};
 ghost use Rattle.rr_ports.specs.Queues.{Awaits, AwaitsNothing, KeepsAwaited, KeepsHeard};
 ghost use Rattle.rr_ports.specs.Loaning.{AreDefaults, LoansResponseComplete, SendsResponseSlice};
 ghost use Rattle.rr_protocol.specs.Loans.{LoansResponse};
@@ -48,7 +49,13 @@ impl<QB: Body> ActiveRequest<QB> {
         ensures of { (port request : ℕ) → Has hub.old self.now (Of port request) → IfOk result (λ response. Has hub.new response (Of port request)) }
         ensures heard { KeepsHeard [] hub.old hub.new }
         ensures awaited { KeepsAwaited [] hub.old hub.new }
+        ensures owned { (port request : ℕ) → Has hub.old self.now (Of port request) → KeepsOwned (port ∷ []) hub.old hub.new }
+        ensures owns { (port request most : ℕ) → Has hub.old self.now (Of port request) → Owns hub.old port most → IfOk result (λ response. Owns hub.new port (suc most)) }
+        ensures owns_err { IfErr result (λ error. KeepsOwned [] hub.old hub.new) }
+        ensures few_loans { (port request : ℕ) → Has hub.old self.now (Of port request) → Owns hub.old port 1 → result ≢ Err LoanError.ExceedsMaxLoans }
+        ensures sure { (port request room : ℕ) → Has hub.old self.now (Of port request) → len ≤ room → Has hub.old self.now (WholePool room) → Owns hub.old port 1 → (error : _) → result ≢ Err error }
     {
+        hub.core.reached();
         response_mut_uninit::loaned(hub.core.loan_response(&self.id, len))
     }
 
@@ -78,6 +85,11 @@ impl<QB: Body> ActiveRequest<QB> {
         ensures of { (port request : ℕ) → Has hub.old self.now (Of port request) → IfOk result (λ response. Has hub.new response (Of port request)) }
         ensures heard { KeepsHeard [] hub.old hub.new }
         ensures awaited { KeepsAwaited [] hub.old hub.new }
+        ensures owned { (port request : ℕ) → Has hub.old self.now (Of port request) → KeepsOwned (port ∷ []) hub.old hub.new }
+        ensures owns { (port request most : ℕ) → Has hub.old self.now (Of port request) → Owns hub.old port most → IfOk result (λ response. Owns hub.new port (suc most)) }
+        ensures owns_err { IfErr result (λ error. KeepsOwned [] hub.old hub.new) }
+        ensures few_loans { (port request : ℕ) → Has hub.old self.now (Of port request) → Owns hub.old port 1 → result ≢ Err LoanError.ExceedsMaxLoans }
+        ensures sure { (port request room : ℕ) → Has hub.old self.now (Of port request) → len ≤ room → Has hub.old self.now (WholePool room) → Owns hub.old port 1 → (error : _) → result ≢ Err error }
     {
         let response = self.loan_slice_uninit(hub, len)?;
         Ok(response.write_from_fn(hub, |_| T::default()))
@@ -110,6 +122,11 @@ impl<QB: Body> ActiveRequest<QB> {
         ensures refused { (server pending : ℕ) → Has hub.old self.now (Of server pending) → Names hub.old server kind.Server → IfErr result (λ error. KeepsAwaited [] hub.old hub.new) }
         ensures delivered { (server pending : ℕ) → Has hub.old self.now (Of server pending) → AwaitsNothing hub.old pending → result ≢ Err SendError.UnableToDeliver }
         ensures room { (server pending : ℕ) (answers : List (List T)) → Has hub.old self.now (Of server pending) → Awaits hub.old pending server answers → length answers < hub.old.limits.max_response_buffer_size → result ≢ Err SendError.UnableToDeliver }
+        ensures discards { (port request : ℕ) → Has hub.old self.now (Of port request) → Has hub.old port Discards → result ≢ Err SendError.UnableToDeliver }
+        ensures owned { (port request : ℕ) → Has hub.old self.now (Of port request) → KeepsOwned [] hub.old hub.new }
+        ensures few_loans { (port request : ℕ) → Has hub.old self.now (Of port request) → Owns hub.old port 1 → result ≢ Err (SendError.LoanError LoanError.ExceedsMaxLoans) }
+        ensures sure { (port request room : ℕ) → Has hub.old self.now (Of port request) → length elements.now ≤ room → Has hub.old self.now (WholePool room) → Owns hub.old port 1 → Has hub.old port Discards → (error : _) → result ≢ Err error }
+        ensures sure_first { (port request room : ℕ) → Has hub.old self.now (Of port request) → length elements.now ≤ room → Has hub.old self.now (WholePool room) → Owns hub.old port 1 → AwaitsNothing hub.old request → (error : _) → result ≢ Err error }
     {
         let response = self.loan_slice_uninit(hub, elements.len())?;
         let response = response.write_from_slice(hub, elements);

@@ -1,10 +1,11 @@
 //! What a client of the sliced family loans and sends.
 #![tactic(auto, using(crate::proofs::Asking::asks), unfolding(crate::specs::Facts::Has, crate::specs::Facts::numbers_left))]
 
-ghost use Rattle.std.specs.Prelude.{◌+◌, ◌≤◌, ◌<◌, ◌≢◌, ◌≡◌, Err, IfErr, IfOk, IsSomeAnd, List, [], ℕ, length};
+ghost use Rattle.std.specs.Prelude.{◌+◌, ◌≤◌, ◌<◌, ◌≢◌, ◌≡◌, Err, IfErr, IfOk, IsSomeAnd, List, [], ℕ, length, suc, ◌∷◌};
 ghost use Rattle.rr_protocol.specs.declared.kind.Kind.TheVariants as kind;
 ghost use Rattle.rr_laws.specs.Unreduced.{ClientHasPool};
-ghost use Rattle.rr_ports.specs.Facts.{AskedLen, Asks, Buffers, Has, IsFree, Keeps, Names, WholePool, numbers_left, Of};
+ghost use Rattle.rr_ports.specs.Facts.{AskedLen, Asks, Buffers, Discards, Has, IsFree, Keeps, Names, WholePool, numbers_left, Of};
+ghost use Rattle.rr_ports.specs.Owning.{IsBelow, KeepsOwned, Owns};
 ghost use Rattle.rr_ports.specs.Queues.{AwaitsNothing, Hears, HearsNothing, KeepsAwaited, KeepsHeard};
 ghost use Rattle.rr_ports.specs.Loaning.{AreDefaults, LoansComplete, SendsSlice};
 ghost use Rattle.rr_protocol.specs.declared.error.SendError.TheVariants as send;
@@ -51,7 +52,13 @@ impl<T: Drop> Client<SliceBody<T>> {
         ensures of { IfOk result (λ request. Has hub.new request (Of self.now request)) }
         ensures heard { KeepsHeard [] hub.old hub.new }
         ensures awaited { KeepsAwaited [] hub.old hub.new }
+        ensures owned { KeepsOwned (self.now ∷ []) hub.old hub.new }
+        ensures owns { (most : ℕ) → Owns hub.old self.now most → IfOk result (λ request. Owns hub.new self.now (suc most)) }
+        ensures owns_err { IfErr result (λ error. KeepsOwned [] hub.old hub.new) }
+        ensures few_loans { (most : ℕ) → Owns hub.old self.now most → IsBelow most hub.old.limits.max_loaned_requests → result ≢ Err LoanError.ExceedsMaxLoans }
+        ensures sure { (room : ℕ) → len ≤ room → Has hub.old self.now (WholePool room) → Owns hub.old self.now 0 → (error : _) → result ≢ Err error }
     {
+        hub.core.reached();
         request_mut_uninit::loaned(hub.core.loan_request(self.number, len))
     }
 
@@ -97,6 +104,11 @@ impl<T: Default + Drop> Client<SliceBody<T>> {
         ensures of { IfOk result (λ request. Has hub.new request (Of self.now request)) }
         ensures heard { KeepsHeard [] hub.old hub.new }
         ensures awaited { KeepsAwaited [] hub.old hub.new }
+        ensures owned { KeepsOwned (self.now ∷ []) hub.old hub.new }
+        ensures owns { (most : ℕ) → Owns hub.old self.now most → IfOk result (λ request. Owns hub.new self.now (suc most)) }
+        ensures owns_err { IfErr result (λ error. KeepsOwned [] hub.old hub.new) }
+        ensures few_loans { (most : ℕ) → Owns hub.old self.now most → IsBelow most hub.old.limits.max_loaned_requests → result ≢ Err LoanError.ExceedsMaxLoans }
+        ensures sure { (room : ℕ) → len ≤ room → Has hub.old self.now (WholePool room) → Owns hub.old self.now 0 → (error : _) → result ≢ Err error }
     {
         let request = self.loan_slice_uninit(hub, len)?;
         Ok(request.write_from_fn(hub, |_| T::default()))
@@ -134,6 +146,13 @@ impl<T: Copy> Client<SliceBody<T>> {
         ensures awaited { KeepsAwaited [] hub.old hub.new }
         ensures refused { IfErr result (λ error. KeepsHeard [] hub.old hub.new) }
         ensures buffers { (port room : ℕ) → Has hub.old port (Buffers room) → IfOk result (λ pending. Has hub.new pending (Buffers room)) }
+        ensures discards { Has hub.old self.now Discards → result ≢ Err (RequestSendError.SendError send.UnableToDeliver) }
+        ensures owned { KeepsOwned (self.now ∷ []) hub.old hub.new }
+        ensures owns { (most : ℕ) → Owns hub.old self.now most → IfOk result (λ pending. Owns hub.new self.now (suc most)) }
+        ensures owns_err { IfErr result (λ error. KeepsOwned [] hub.old hub.new) }
+        ensures few_loans { (most : ℕ) → Owns hub.old self.now most → IsBelow most hub.old.limits.max_loaned_requests → result ≢ Err (RequestSendError.SendError (send.LoanError LoanError.ExceedsMaxLoans)) }
+        ensures few_active { (most : ℕ) → Owns hub.old self.now most → IsBelow most hub.old.limits.max_active_requests_per_client → result ≢ Err RequestSendError.ExceedsMaxActiveRequests }
+        ensures sure { (room : ℕ) → length elements.now ≤ room → Has hub.old self.now (WholePool room) → Has hub.old self.now Discards → Owns hub.old self.now 0 → (error : _) → result ≢ Err error }
     {
         let request = self.loan_slice_uninit(hub, elements.len())?;
         let request = request.write_from_slice(hub, elements);

@@ -5,6 +5,7 @@ ghost use Rattle.std.specs.Prelude.{◌≡◌, ℕ, IsSomeAnd, option_and_then, 
 ghost use Rattle.rr_protocol.specs.declared.kind.Kind.TheVariants as kind;
 ghost use Rattle.rr_ports.specs.Filling.{CallableInOrder, CompletesRequest, FillsRequest, with_request_element, ReturnsInOrder};
 ghost use Rattle.rr_ports.specs.Facts.{AskedLen, Has, Keeps, Names, numbers_left, Asks, Of};
+ghost use Rattle.rr_ports.specs.Owning.{KeepsOwned};
 ghost use Rattle.rr_ports.specs.Queues.{KeepsAwaited, KeepsHeard};
 ghost use Rattle.rr_ports.specs.Loaning.{with_complete_request};
 ghost use Rattle.rr_protocol.specs.Messages.{request_in};
@@ -82,6 +83,7 @@ impl<T: Drop> RequestMutUninit<SliceBody<T>> {
         ensures of { (port request : ℕ) → Has hub.old self.now (Of port request) → Has hub.new self.now (Of port request) }
         ensures heard { KeepsHeard (self.now ∷ []) hub.old hub.new }
         ensures awaited { KeepsAwaited (self.now ∷ []) hub.old hub.new }
+        ensures owned { KeepsOwned [] hub.old hub.new }
     {
         hub.core.push_request(&self.id, element);
     }
@@ -109,6 +111,7 @@ impl<T: Drop> RequestMutUninit<SliceBody<T>> {
         ensures of { (port request : ℕ) → Has hub.old self (Of port request) → Has hub.new result (Of port request) }
         ensures heard { KeepsHeard (self ∷ []) hub.old hub.new }
         ensures awaited { KeepsAwaited (self ∷ []) hub.old hub.new }
+        ensures owned { KeepsOwned [] hub.old hub.new }
     {
         let RequestMutUninit { id, of: _ } = self;
         let (asked, written) = lens(hub.core.request_body(&id));
@@ -160,6 +163,7 @@ impl<T: Copy> RequestMutUninit<SliceBody<T>> {
         ensures of { (port request : ℕ) → Has hub.old self (Of port request) → Has hub.new result (Of port request) }
         ensures heard { KeepsHeard (self ∷ []) hub.old hub.new }
         ensures awaited { KeepsAwaited (self ∷ []) hub.old hub.new }
+        ensures owned { KeepsOwned [] hub.old hub.new }
     {
         let RequestMutUninit { id, of: _ } = self;
         hub.core.fill_request(&id, element);
@@ -189,6 +193,7 @@ impl<T: Copy> RequestMutUninit<SliceBody<T>> {
         ensures of { (port request : ℕ) → Has hub.old self (Of port request) → Has hub.new result (Of port request) }
         ensures heard { KeepsHeard (self ∷ []) hub.old hub.new }
         ensures awaited { KeepsAwaited (self ∷ []) hub.old hub.new }
+        ensures owned { KeepsOwned [] hub.old hub.new }
     {
         let RequestMutUninit { id, of: _ } = self;
         complete_request(hub, &id, elements);

@@ -5,6 +5,7 @@ ghost use Rattle.std.specs.Prelude.{◌≡◌, ℕ, IsSomeAnd, option_and_then, 
 ghost use Rattle.rr_protocol.specs.declared.kind.Kind.TheVariants as kind;
 ghost use Rattle.rr_ports.specs.Filling.{CallableInOrder, CompletesResponse, FillsResponse, with_response_element, ReturnsInOrder};
 ghost use Rattle.rr_ports.specs.Facts.{AskedLen, Has, Keeps, Names, numbers_left, Answers, Of};
+ghost use Rattle.rr_ports.specs.Owning.{KeepsOwned};
 ghost use Rattle.rr_ports.specs.Queues.{KeepsAwaited, KeepsHeard};
 ghost use Rattle.rr_ports.specs.Loaning.{with_complete_response};
 ghost use Rattle.rr_protocol.specs.Messages.{response_in};
@@ -21,13 +22,13 @@ use std::marker::PhantomData;
 
 /// Makes an element the one at an index of a response that is being written, in the place of another one or behind the others.
 #[inline(always)]
-fn put_response<QB: Body, QH: Default + Drop, T: Drop, PH: Default + Drop, K: BackpressureFn>(
-    hub: &mut Hub<QB, QH, SliceBody<T>, PH, K>,
-    id: &HandleId,
-    stands: bool,
-    index: usize,
-    element: T,
-)
+pub(super) fn put_response<
+    QB: Body,
+    QH: Default + Drop,
+    T: Drop,
+    PH: Default + Drop,
+    K: BackpressureFn,
+>(hub: &mut Hub<QB, QH, SliceBody<T>, PH, K>, id: &HandleId, stands: bool, index: usize, element: T)
     requires { Names hub.old id.now kind.ResponseMutUninit }
     ensures { IsSomeAnd (option_and_then response_in (handle_at hub.old id.now)) (λ m. hub.new ≡ with_response_element stands hub.old id.now index element m) }
 {
@@ -82,6 +83,7 @@ impl<T: Drop> ResponseMutUninit<SliceBody<T>> {
         ensures of { (port request : ℕ) → Has hub.old self.now (Of port request) → Has hub.new self.now (Of port request) }
         ensures heard { KeepsHeard (self.now ∷ []) hub.old hub.new }
         ensures awaited { KeepsAwaited (self.now ∷ []) hub.old hub.new }
+        ensures owned { KeepsOwned [] hub.old hub.new }
     {
         hub.core.push_response(&self.id, element);
     }
@@ -109,6 +111,7 @@ impl<T: Drop> ResponseMutUninit<SliceBody<T>> {
         ensures of { (port request : ℕ) → Has hub.old self (Of port request) → Has hub.new result (Of port request) }
         ensures heard { KeepsHeard (self ∷ []) hub.old hub.new }
         ensures awaited { KeepsAwaited (self ∷ []) hub.old hub.new }
+        ensures owned { KeepsOwned [] hub.old hub.new }
     {
         let ResponseMutUninit { id, of: _ } = self;
         let (asked, written) = lens(hub.core.response_body(&id));
@@ -160,6 +163,7 @@ impl<T: Copy> ResponseMutUninit<SliceBody<T>> {
         ensures of { (port request : ℕ) → Has hub.old self (Of port request) → Has hub.new result (Of port request) }
         ensures heard { KeepsHeard (self ∷ []) hub.old hub.new }
         ensures awaited { KeepsAwaited (self ∷ []) hub.old hub.new }
+        ensures owned { KeepsOwned [] hub.old hub.new }
     {
         let ResponseMutUninit { id, of: _ } = self;
         hub.core.fill_response(&id, element);
@@ -189,6 +193,7 @@ impl<T: Copy> ResponseMutUninit<SliceBody<T>> {
         ensures of { (port request : ℕ) → Has hub.old self (Of port request) → Has hub.new result (Of port request) }
         ensures heard { KeepsHeard (self ∷ []) hub.old hub.new }
         ensures awaited { KeepsAwaited (self ∷ []) hub.old hub.new }
+        ensures owned { KeepsOwned [] hub.old hub.new }
     {
         let ResponseMutUninit { id, of: _ } = self;
         complete_response(hub, &id, elements);

@@ -1,9 +1,10 @@
 //! What a pending response receives at once, of the typed family.
 #![tactic(auto, using(crate::proofs::Asking::asks), unfolding(crate::specs::Facts::Has, crate::specs::Facts::numbers_left))]
 
-ghost use Rattle.std.specs.Prelude.{◌∷◌, ◌≡◌, [], List, IfOk, ℕ, Some};
+ghost use Rattle.std.specs.Prelude.{◌∷◌, ◌≡◌, [], List, IfOk, ℕ, Some, suc, Err, ◌≢◌};
 ghost use Rattle.rr_protocol.specs.declared.kind.Kind.TheVariants as kind;
 ghost use Rattle.rr_ports.specs.Facts.{Has, Keeps, Names, Of, numbers_left};
+ghost use Rattle.rr_ports.specs.Owning.{IsBelow, KeepsOwned, Owns};
 ghost use Rattle.rr_ports.specs.Queues.{Awaits, AwaitsNothing, KeepsAwaited, KeepsHeard};
 ghost use Rattle.rr_ports.specs.Shortcuts.{ReceivesCopy};
 
@@ -33,6 +34,9 @@ impl<QB: Body> PendingResponse<QB> {
         ensures done { (client request server : ℕ) (xs : List T) → Has hub.old self.now (Of client request) → Names hub.old client kind.Client → Awaits hub.old self.now server (xs ∷ []) → IfOk result (λ received. AwaitsNothing hub.new self.now) }
         ensures heard { (client request : ℕ) → Has hub.old self.now (Of client request) → Names hub.old client kind.Client → KeepsHeard [] hub.old hub.new }
         ensures awaited { (client request : ℕ) → Has hub.old self.now (Of client request) → Names hub.old client kind.Client → KeepsAwaited (self.now ∷ []) hub.old hub.new }
+        ensures owned { (port request : ℕ) → Has hub.old self.now (Of port request) → KeepsOwned [] hub.old hub.new }
+        ensures few_borrows { (port request most : ℕ) → Has hub.old self.now (Of port request) → Owns hub.old port (suc most) → IsBelow most hub.old.limits.max_borrowed_responses_per_pending_response → result ≢ Err ReceiveError.ExceedsMaxBorrows }
+        ensures sure { (port request : ℕ) → Has hub.old self.now (Of port request) → Owns hub.old port 1 → (error : _) → result ≢ Err error }
     {
         match self.receive(hub) {
             Ok(Some(response)) => {

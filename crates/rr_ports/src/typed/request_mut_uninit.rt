@@ -4,6 +4,7 @@
 ghost use Rattle.std.specs.Prelude.{◌∷◌, ◌≡◌, IsSomeAnd, option_and_then, [], ℕ};
 ghost use Rattle.rr_protocol.specs.declared.kind.Kind.TheVariants as kind;
 ghost use Rattle.rr_ports.specs.Facts.{Has, Keeps, Names, numbers_left, Asks, Of};
+ghost use Rattle.rr_ports.specs.Owning.{KeepsOwned};
 ghost use Rattle.rr_ports.specs.Queues.{KeepsAwaited, KeepsHeard};
 ghost use Rattle.rr_protocol.specs.Messages.{request_in};
 ghost use Rattle.rr_protocol.specs.State.{handle_at, with_changed};
@@ -49,10 +50,9 @@ impl<T: Drop> RequestMutUninit<Option<T>> {
         ensures of { (port request : ℕ) → Has hub.old self (Of port request) → Has hub.new result (Of port request) }
         ensures heard { KeepsHeard (self ∷ []) hub.old hub.new }
         ensures awaited { KeepsAwaited (self ∷ []) hub.old hub.new }
+        ensures owned { KeepsOwned [] hub.old hub.new }
     {
         let RequestMutUninit { id, of: _ } = self;
-        // Its clause says that one element is asked for, as of every typed body.
-        let _body = hub.core.request_body(&id);
         hub.core.write_request(&id, value);
         RequestMut {
             id,

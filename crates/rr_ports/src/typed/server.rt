@@ -1,9 +1,10 @@
 //! What a server of the typed family receives at once.
 #![tactic(auto, using(crate::proofs::Asking::asks), unfolding(crate::specs::Facts::Has, crate::specs::Facts::numbers_left))]
 
-ghost use Rattle.std.specs.Prelude.{◌∷◌, ◌≡◌, ◌+◌, ◌≤◌, ◌<◌, [], IfOk, Some, ℕ};
+ghost use Rattle.std.specs.Prelude.{◌∷◌, ◌≡◌, ◌+◌, ◌≤◌, ◌<◌, [], IfOk, Some, ℕ, Err, ◌≢◌};
 ghost use Rattle.rr_protocol.specs.declared.kind.Kind.TheVariants as kind;
 ghost use Rattle.rr_ports.specs.Facts.{Asks, Has, Keeps, Names, numbers_left};
+ghost use Rattle.rr_ports.specs.Owning.{IsBelow, KeepsOwned, Owns};
 ghost use Rattle.rr_ports.specs.Queues.{Hears, HearsNothing, KeepsAwaited, KeepsHeard};
 ghost use Rattle.rr_ports.specs.Shortcuts.{HearsCopy};
 
@@ -34,6 +35,9 @@ impl<PB: Body> Server<PB> {
         ensures quiet { (pending : ℕ) → Hears hub.old self.now pending → IfOk result (λ received. HearsNothing hub.new self.now) }
         ensures heard { KeepsHeard (self.now ∷ []) hub.old hub.new }
         ensures awaited { KeepsAwaited [] hub.old hub.new }
+        ensures owned { KeepsOwned [] hub.old hub.new }
+        ensures few_borrows { (most : ℕ) → Owns hub.old self.now most → IsBelow most hub.old.limits.max_active_requests_per_client → result ≢ Err ReceiveError.ExceedsMaxBorrows }
+        ensures sure { Owns hub.old self.now 0 → (error : _) → result ≢ Err error }
     {
         match self.receive(hub) {
             Ok(Some(active)) => {

@@ -12,6 +12,7 @@ use rr_ports::typed::{Client, Hub, PendingResponse, Server};
 use rr_uses::calling::{call, call_both};
 use rr_uses::counting::{count, received};
 use rr_uses::crowd::call_all;
+use rr_uses::unrefused;
 use std::alloc::Global;
 use std::slice;
 
@@ -40,6 +41,37 @@ fn a_call_returns_the_answer(rt: HostRuntime) {
     client.release(&mut hub);
     server.release(&mut hub);
     assert_eq!(rt; answer, Ok(21));
+}
+
+/// A call that is never refused returns the answer, and so does the next one.
+#[test]
+fn a_call_that_is_not_refused_returns_the_answer(rt: HostRuntime) {
+    let mut hub = Service::new(rt.alloc(), LIMITS, UniqueNodeId(7)).expect(&rt, "a hub");
+    let client = hub
+        .client_builder()
+        .create(&mut hub)
+        .expect(&rt, "a client");
+    let server = hub
+        .server_builder()
+        .create(&mut hub)
+        .expect(&rt, "a server");
+    let first = unrefused::call(
+        &mut hub,
+        &client,
+        &server,
+        20,
+        |asked: u64| asked.wrapping_add(1),
+    );
+    let second = unrefused::call(
+        &mut hub,
+        &client,
+        &server,
+        first,
+        |asked: u64| asked.wrapping_mul(2),
+    );
+    client.release(&mut hub);
+    server.release(&mut hub);
+    assert_eq!(rt; (first, second), (21, 42));
 }
 
 /// A call of two servers returns what each answers.

@@ -1,7 +1,7 @@
 //! Hubs with what a test needs, and the ends of them.
 #![tactic(auto, using(rr_ports::proofs::Frames::callers), unfolding(rr_ports::specs::Facts::Keeps, rr_ports::specs::Facts::IsFree))]
 
-ghost use Rattle.std.specs.Prelude.{◌≡◌, ◌<◌, ◌≤◌, ◌+◌, None, []};
+ghost use Rattle.std.specs.Prelude.{◌≡◌, ◌<◌, ◌≤◌, ◌+◌, []};
 ghost use Rattle.rr_protocol.specs.declared.kind.Kind.TheVariants as kind;
 ghost use Rattle.rr_ports.specs.Facts.{Keeps, Names, numbers_left};
 
@@ -51,9 +51,7 @@ pub struct Connected {
 }
 
 /// Returns a factory of servers with the loaned responses per request, if they are set.
-fn servers(hub: &Service, loans: Option<usize>) -> PortFactoryServer<u64, At>
-    ensures { result.preallocation ≡ None }
-{
+fn servers(hub: &Service, loans: Option<usize>) -> PortFactoryServer<u64, At> {
     match loans {
         Some(loans) => hub.server_builder().max_loaned_responses_per_request(loans),
         None => hub.server_builder(),

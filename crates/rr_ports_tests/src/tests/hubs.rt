@@ -50,6 +50,18 @@ fn a_port_is_printed_by_its_number(rt: HostRuntime) {
     assert_eq!(rt; shown.as_str(), "Server(1) 1");
 }
 
+/// A port equals itself, and one of another hub that has its number.
+#[test]
+fn ports_are_compared_by_number(rt: HostRuntime) {
+    let connected = connect(&rt, rt.alloc(), SETUP);
+    let other = connect(&rt, rt.alloc(), SETUP);
+    let itself = connected.client == connected.client;
+    let there = connected.server == other.server;
+    connected.end();
+    other.end();
+    assert_eq!(rt; (itself, there), (true, true));
+}
+
 /// A hub can be moved into a thread.
 #[test]
 fn a_hub_goes_to_another_thread(rt: HostRuntime) {

@@ -93,8 +93,8 @@ module _ {Q QH P PH K : Type 0} (p : Parts Q QH P PH K) (core : IsCore p) (n : �
           go false e =
               let to = skimmed e in
               subst (λ x. IsReady p x server.it Chosen) (sym rest)
-              (ready_skimmed p core.sound server.index server.it server.at Chosen e receiver receiver_is to.below q.client_senders
-              to.skimmed to.among)
+              (ready_skimmed p core.sound server.index server.it server.at Chosen e receiver receiver_is q.client_senders to.skimmed
+              to.front)
 
       -- the server is found by its number
       found : find (λ (s : ServerPart K). s.port.id == server.it.port.id) p.servers ≡ Some server.it

@@ -1,10 +1,12 @@
 -- A received response leaves its place, its client's count and its slot.
 use Rattle.std.proofs.Common.{◌≡◌, ◌<◌, ℕ, true, [], ◌∷◌, Some, length, map, refl, sym, ap, ◌∙◌, subst, arith}
-use Rattle.std.specs.Prelude.{◌==◌, IsSomeAnd, slice_get, slice_index, slice_index_or}
+use Rattle.std.specs.Prelude.{◌==◌, IsSomeAnd, List, option_and_then, slice_get, slice_index, slice_index_or}
 use Rattle.std.specs.FinMap as fin_map
+use Rattle.rr_slots.specs.Pools.{Written}
 use Rattle.rr_table.specs.TableView.{table_entry}
 use Rattle.rr_table.specs.declared.place.Place.{Place}
-use Rattle.rr_sender.specs.Senders.{borrowed_at}
+use Rattle.rr_sender.specs.Senders.{borrowed_at, content_at, uses}
+use Rattle.rr_protocol.specs.Messages.{ResponseMessage, response_in}
 use Rattle.rr_protocol.specs.State.{handle_at}
 use Rattle.rr_store.specs.declared.details.ResponseDetails.{ResponseDetails}
 use Rattle.rr_store.specs.declared.handle_entry.HandleEntry.{HandleEntry}
@@ -14,12 +16,13 @@ use Rattle.rr_store.specs.Loaning.{with_messages}
 use Rattle.rr_store.specs.Parts.{ClientPart, Parts}
 use Rattle.rr_store.specs.Reaching.{IsCore}
 use Rattle.rr_store.specs.Releasing.{IsHandleGone, borrow_ended, borrow_given_back, is_received_response}
-use Rattle.rr_store.specs.Sound.{HasPort, IsSoundStore, empty_hand, response_details}
-use Rattle.rr_store.specs.Views.{sender_of, state_of}
+use Rattle.rr_store.specs.Sound.{HasPort, IsSoundStore, empty_hand, is_of_response, response_details, response_uses}
+use Rattle.rr_store.specs.Views.{response_at, sender_of, state_of}
 use Rattle.rr_store.proofs.base.frames.Emptied.{emptied_sound, emptied_view}
 use Rattle.rr_store.proofs.base.senders.Emptied.{among_emptied, responses_emptied}
+use Rattle.rr_store.proofs.base.hands.Stages.{received_is_response}
 use Rattle.rr_store.proofs.base.lookups.Placed.{value_there}
-use Rattle.rr_store.proofs.base.lookups.Shown.{held_within}
+use Rattle.rr_store.proofs.base.lookups.Shown.{held_within, of_response}
 use Rattle.rr_store.proofs.base.senders.Owners.{First, first_by}
 use Rattle.rr_store.proofs.base.views.Counts.{listed}
 use Rattle.rr_releasing.proofs.laws.response.Fields.{ReceivedFound, received_found, queue_there}
@@ -32,7 +35,37 @@ module _ {Q QH P PH K : Type 0} (p : Parts Q QH P PH K) (core : IsCore p) (n : �
   found : ReceivedFound p n entry
   found = received_found p core.sound (state_of p) n n refl refl kind entry (value_there p.table n place entry taken)
 
+  -- the response is in its slot, which nothing else has
+  its_stage : is_of_response entry.stage ≡ true
+  its_stage = subst (λ (h : HandleEntry). is_of_response h.stage ≡ true) found.is (received_is_response found.table_entry.value.stage found.got)
+
+  used_once : response_uses p entry.sender entry.slot ≡ 1
+  used_once = omega (arith, found.slot, core.sound.held_once.responses entry.sender entry.slot)
+
+  -- what holds of it there holds of the response that contracts see
+  seen : (R : ResponseMessage P PH → Type 0) → R (response_at p entry.sender entry.slot)
+      → IsSomeAnd (option_and_then response_in (handle_at (state_of p) n)) R
+  seen R told = of_response p (state_of p) n n refl refl entry (value_there p.table n place entry taken) R its_stage told
+
   module _ (q : Parts Q QH P PH K) (gone : q ≡ without_handle p n) where
+    -- what was taken out of the slot is what the response said
+    pub taken_then : (elements : List P)
+        → (uses (sender_of entry.sender q.server_senders).messages entry.slot ≡ 1 → elements ≡
+        (content_at (sender_of entry.sender q.server_senders).messages entry.slot).elements)
+        → IsSomeAnd (option_and_then response_in (handle_at (state_of p) n)) (λ m. elements ≡ m.content.elements)
+    taken_then elements told =
+        seen (λ m. elements ≡ m.content.elements)
+        (subst (λ (q : Parts Q QH P PH K). uses (sender_of entry.sender q.server_senders).messages entry.slot ≡ 1 → elements ≡
+        (content_at (sender_of entry.sender q.server_senders).messages entry.slot).elements) gone told used_once)
+
+    -- and for so many it asked
+    pub asked_then : (body : Written P) → body ≡ content_at (sender_of entry.sender q.server_senders).messages entry.slot
+        → IsSomeAnd (option_and_then response_in (handle_at (state_of p) n)) (λ m. body.asked_len ≡ m.content.asked_len)
+    asked_then body is =
+        seen (λ m. body.asked_len ≡ m.content.asked_len)
+        (ap (λ (w : Written P). w.asked_len)
+        (is ∙ ap (λ (q : Parts Q QH P PH K). content_at (sender_of entry.sender q.server_senders).messages entry.slot) gone))
+
     pub sender_asked : entry.sender < length q.server_senders
     sender_asked = subst (λ (q : Parts Q QH P PH K). entry.sender < length q.server_senders) (sym gone) found.sender
 

@@ -1,7 +1,7 @@
 //! Reads and writes that fail: of every row, each call in turn.
 use super::least::PoolRow;
 use super::scripts::{Row, told, words};
-use super::{defaults, least, leaving, pools, questions, queues, rewriting, rows, slices};
+use super::{defaults, least, leaving, pools, questions, queues, rewriting, rows, slices, turns};
 use rr_script::serve_alone;
 use std::alloc::Global;
 use std::io::{self, BufReader, Read, Write};
@@ -183,6 +183,7 @@ fn failing_row(alloc: Global, side: Side) -> io::Result<Option<&'static str>> {
         &defaults::WRITTEN[..],
         &defaults::REFUSED[..],
         &defaults::SLICES[..],
+        &turns::TURNS[..],
     ] {
         if let Some(name) = failing(alloc, rows, 0, side)? {
             return Ok(Some(name));

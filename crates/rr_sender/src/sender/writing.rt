@@ -1,8 +1,8 @@
 //! Writing what stands in a slot, and its user header.
-ghost use Rattle.std.specs.Prelude.{◌≡◌, ◌<◌, [], ◌∷◌, Some, length, slice_get};
+ghost use Rattle.std.specs.Prelude.{◌≡◌, ◌<◌, [], ◌∷◌, Some, length, slice_get, slice_index};
 ghost use Rattle.std.specs.Borrow.{sem};
 ghost use Rattle.rr_slots.specs.Pools.{appended, filled, with_elements};
-ghost use Rattle.rr_sender.specs.Senders.{content_at, with_changed_at};
+ghost use Rattle.rr_sender.specs.Senders.{content_at, given_back, uses, with_changed_at};
 
 use crate::sender::Sender;
 use rr_slots::{Body, FillBody, SliceBody};
@@ -76,6 +76,16 @@ impl<T: Drop, N: Copy, H: Drop> Sender<Option<T>, N, H> {
         ensures value { (content_at self.old slot).elements ≡ option_elements result.now }
     {
         self.pool.option_mut(slot)
+    }
+
+    /// One handle less holds a slot. Returns what stood in it if that was its last use, and else `None`.
+    #[inline(always)]
+    pub fn take_back(&mut self, slot: usize) -> Option<T>
+        requires { 0 < slice_index self.old.held slot }
+        ensures given { self.new ≡ given_back self.old slot }
+        ensures taken { uses self.old slot ≡ 1 → option_elements result ≡ (content_at self.old slot).elements }
+    {
+        self.pool.take_back(slot)
     }
 }
 

@@ -18,7 +18,7 @@ use Rattle.rr_protocol.specs.declared.settings.BackpressureAction.{BackpressureA
 use Rattle.rr_protocol.specs.Queries.{kind_at}
 use Rattle.rr_protocol.specs.Releases.{after_release}
 use Rattle.rr_protocol.specs.Sends.{SendsRequest, connections_of, request_send_refusal, with_sent_request}
-use Rattle.rr_protocol.specs.State.{handle_at}
+use Rattle.rr_protocol.specs.State.{IsRequestMutAnd, handle_at}
 use Rattle.rr_laws.proofs.CompleteCalls.{sends_request_complete}
 use Rattle.rr_laws.proofs.Sending.{sends_request_reached}
 use Rattle.rr_store.specs.declared.details.RequestDetails.{RequestDetails}
@@ -141,6 +141,16 @@ module _ {Q QH P PH K : Type 0} (p : Parts Q QH P PH K) (core : IsCore p) (n : �
       ∙ sym (ap (λ b. reason b (is_refused client.it)) (lt-leb most pendings fewer)))
       (λ more. many more ∙ sym (ap (λ b. reason b (is_refused client.it)) (le-leb most pendings more)))
       (cases_lt pendings most)
+
+  -- what a question tells of it
+  pub refusal_told : (clients : List (ClientPort K)) → map client_part clients ≡ p.clients → (r : Option RequestSendError) → IsMany r
+      → IsFew clients r → IsRequestMutAnd (state_of p) n (λ client message. r ≡ request_send_refusal action (state_of p) client message)
+  refusal_told clients same r many few =
+      refusals.told p core.sound n entry.sender entry.slot (table_entry place entry) at is client.index client.it client.at client.is
+      (λ s m client message. r ≡ request_send_refusal action s client message) (state_of p) n refl refl
+      (limit_is clients same r many few
+      ∙ sym (refusals.refusal_parts p core.sound n entry.sender entry.slot (table_entry place entry) at is client.index client.it client.at
+      client.is action))
 
   -- a refusal equals a release
   pub refused : (clients : List (ClientPort K)) → map client_part clients ≡ p.clients → (r : Option RequestSendError) → IsMany r

@@ -123,6 +123,14 @@ module _ {Q QH P PH K : Type 0} (p : Parts Q QH P PH K) (core : IsCore p) (n : �
         ∙ fields.refused_then p core.sound n entry found server.index server.it server.at server.is action details
         (sym are) reach told m refl
 
+    -- what a question tells of it
+    pub refusal_told : (servers : List (ServerPort K)) → map server_part servers ≡ p.servers → (r : Bool) → IsRefusal servers r
+        → IsResponseMutAnd (state_of p) n (λ server message. r ≡ is_response_refused action (state_of p) server message)
+    refusal_told servers same r refusal =
+        fields.of_sent p core.sound n entry found server.index server.it server.at server.is
+        (λ s j server message. r ≡ is_response_refused action s server message) value kind_is (refused_is servers same r refusal)
+        (state_of p) n refl refl
+
     -- a refusal equals a release
     pub refused : (servers : List (ServerPort K)) → map server_part servers ≡ p.servers → (r : Bool) → IsRefusal servers r → r ≡ true
         → (t : Parts Q QH P PH K) → state_of t ≡ after_release (state_of p) n

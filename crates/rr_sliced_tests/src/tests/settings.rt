@@ -34,8 +34,7 @@ fn client_settings(
     factory: PortFactoryClient<u64>,
     len: usize,
 ) -> Result<ClientSettings, ClientCreateError>
-    requires pool { factory.preallocation ≡ None }
-    requires numbers { 1 < numbers_left hub.old }
+    requires { 1 < numbers_left hub.old }
     ensures { numbers_left hub.old ≤ numbers_left hub.new + 2 }
 {
     let client = factory.create(hub)?;
@@ -74,9 +73,7 @@ fn a_client_is_as_its_builder_set_it(rt: HostRuntime) {
 fn server_settings(
     hub: &mut Service,
     factory: PortFactoryServer<u64>,
-) -> Result<(BackpressureStrategy, usize), ServerCreateError>
-    requires pool { factory.preallocation ≡ None }
-{
+) -> Result<(BackpressureStrategy, usize), ServerCreateError> {
     let server = factory.create(hub)?;
     let settings = (
         server.backpressure_strategy(hub),

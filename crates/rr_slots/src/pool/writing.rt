@@ -1,7 +1,7 @@
 //! Writing what stands in a slot.
-ghost use Rattle.std.specs.Prelude.{◌≡◌, ◌<◌, [], ◌∷◌, length, slice_get, Some};
+ghost use Rattle.std.specs.Prelude.{◌≡◌, ◌<◌, [], ◌∷◌, length, slice_get, slice_index, Some};
 ghost use Rattle.std.specs.Borrow.{sem, Lends};
-ghost use Rattle.rr_slots.specs.Pools.{content_at, appended, filled, with_changed_at, with_elements};
+ghost use Rattle.rr_slots.specs.Pools.{content_at, appended, filled, given_back, with_changed_at, with_elements};
 
 use crate::body::{Body, FillBody};
 use crate::pool::Pool;
@@ -72,6 +72,20 @@ impl<T: Drop> Pool<Option<T>> {
         ensures value { (content_at self.old slot).elements ≡ option_elements result.now }
     {
         &mut self.bodies[slot]
+    }
+
+    /// Gives back a hold on a slot, and returns what stood in it if nobody holds it any more. Else returns `None`.
+    #[inline(always)]
+    pub fn take_back(&mut self, slot: usize) -> Option<T>
+        requires { 0 < slice_index self.old.holders slot }
+        ensures given { self.new ≡ given_back self.old slot }
+        ensures taken { slice_index self.old.holders slot ≡ 1 → option_elements result ≡ (content_at self.old slot).elements }
+    {
+        if self.holders.give_back(slot) {
+            let body = &mut self.bodies[slot];
+            return body.take();
+        }
+        None
     }
 }
 

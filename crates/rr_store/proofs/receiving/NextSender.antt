@@ -1,15 +1,17 @@
 -- Senders are looked through one after another.
-use Rattle.std.proofs.Common.{◌≡◌, ◌<◌, ◌≤◌, ◌+◌, ℕ, Bool, true, false, List, [], ◌∷◌, length, refl, sym, ap, ◌∙◌, ⊎_elim, arith}
+use Rattle.std.proofs.Common.{◌≡◌, ◌<◌, ◌≤◌, ◌+◌, ℕ, Bool, true, false, List, [], ◌∷◌, Option, None, Some, Ok, Err, length, refl, sym, ap, ◌∙◌, subst, ⊎_elim, arith}
+use Rattle.std.specs.Prelude.{Result}
 use Rattle.std.proofs.lemmas.Bool.{cases_eq, cases_lt, false≢true}
 use Rattle.rr_store.specs.Parts.{Sender}
-use Rattle.rr_store.specs.Receiving.{queue_from, borrowed_from, IsLookedThrough}
+use Rattle.rr_protocol.specs.declared.error.ReceiveError.{ReceiveError}
+use Rattle.rr_store.specs.Receiving.{queue_from, borrowed_from, CanBegin, IsLookedThrough, IsNextFrom, IsNextSender}
 
-module _ {T N H : Type 0} (senders : List (Sender T N H)) (receiver channel most : ℕ) where
+module _ {T N H : Type 0} (senders : List (Sender T N H)) (receiver channel most from : ℕ) where
   -- before the first
-  pub looked_at_none : IsLookedThrough senders receiver channel most 0 false
+  pub looked_at_none : IsLookedThrough senders receiver channel most from from false
   looked_at_none = record {
-    passed = λ l h. absurd (omega (arith, h));
-    clear = λ _ l h. absurd (omega (arith, h));
+    passed = λ l f h. absurd (omega (arith, f, h));
+    clear = λ _ l f h. absurd (omega (arith, f, h));
     at_limit = λ e. absurd (false≢true e);
   }
 
@@ -21,24 +23,46 @@ module _ {T N H : Type 0} (senders : List (Sender T N H)) (receiver channel most
       below l n h e = ⊎_elim (λ g. g) (λ g. absurd (e (omega (arith, h, g)))) (cases_lt l n)
 
   -- the next one has no entry
-  pub looked_at_empty : (n : ℕ) (b : Bool) → IsLookedThrough senders receiver channel most n b → queue_from senders receiver channel n ≡ []
-      → IsLookedThrough senders receiver channel most (n + 1) b
+  pub looked_at_empty : (n : ℕ) (b : Bool) → IsLookedThrough senders receiver channel most from n b → queue_from senders receiver channel n ≡ []
+      → IsLookedThrough senders receiver channel most from (n + 1) b
   looked_at_empty n b so none = record {
-    passed = λ l h room. last_or_before n l h (λ g. so.passed l g room) (λ e. ap (queue_from senders receiver channel) e ∙ none);
-    clear = λ e l h. last_or_before n l h (λ g. so.clear e l g) (λ f. ap (queue_from senders receiver channel) f ∙ none);
-    at_limit = λ e. let r = so.at_limit e in (r.0, omega (arith, r.1), r.2, r.3);
+    passed = λ l f h room. last_or_before n l h (λ g. so.passed l f g room) (λ e. ap (queue_from senders receiver channel) e ∙ none);
+    clear = λ e l f h. last_or_before n l h (λ g. so.clear e l f g) (λ is. ap (queue_from senders receiver channel) is ∙ none);
+    at_limit = λ e. let r = so.at_limit e in (r.0, omega (arith, r.1), r.2, r.3, r.4);
   }
 
   -- the next one has no room
-  pub looked_at_limit : (n : ℕ) (b : Bool) → IsLookedThrough senders receiver channel most n b → most ≤ borrowed_from senders receiver
-      channel n
-      → (queue_from senders receiver channel n ≡ [] → ⊥) → IsLookedThrough senders receiver channel most (n + 1) true
-  looked_at_limit n b so full some = record {
-    passed = λ l h room. last_or_before n l h (λ g. so.passed l g room)
+  pub looked_at_limit : (n : ℕ) (b : Bool) → IsLookedThrough senders receiver channel most from n b → n < length senders
+      → most ≤ borrowed_from senders receiver channel n → (queue_from senders receiver channel n ≡ [] → ⊥)
+      → IsLookedThrough senders receiver channel most from (n + 1) true
+  looked_at_limit n b so there full some = record {
+    passed = λ l f h room. last_or_before n l h (λ g. so.passed l f g room)
         (λ e. absurd (omega (arith, full, room, ap (borrowed_from senders receiver channel) e)));
     clear = λ e. absurd (false≢true (sym e));
-    at_limit = λ _. (n, omega arith, full, some);
+    at_limit = λ _. (n, omega arith, there, full, some);
   }
+
+  -- what is told of the senders from the first on is told of all
+  pub from_first : (answer : Result (Option ℕ) ReceiveError) → IsNextFrom 0 senders receiver channel most answer
+      → IsNextSender senders receiver channel most answer
+  from_first (Ok (Some sender)) told = told
+  from_first (Ok None) told = λ sender there. told sender (omega arith) there
+  from_first (Err ReceiveError.ExceedsMaxBorrows) (none, some) = (λ sender there room. none sender (omega arith) there room, some)
+  from_first (Err (ReceiveError.ConnectionFailure failure)) told = told
+
+  -- and so is what is told from one on that gives something
+  pub from_giving : IsNextSender senders receiver channel most (Ok (Some from)) → (answer : Result (Option ℕ) ReceiveError)
+      → IsNextFrom from senders receiver channel most answer → IsNextSender senders receiver channel most answer
+  from_giving gives (Ok (Some sender)) told = told
+  from_giving gives (Ok None) told = absurd (omega (arith, gives.1, ap length (told from (omega arith) gives.0)))
+  from_giving gives (Err ReceiveError.ExceedsMaxBorrows) (none, some) =
+      absurd (omega (arith, gives.1, ap length (none from (omega arith) gives.0 gives.2)))
+  from_giving gives (Err (ReceiveError.ConnectionFailure failure)) told = told
+
+  pub from_begin : CanBegin senders receiver channel most from → (answer : Result (Option ℕ) ReceiveError)
+      → IsNextFrom from senders receiver channel most answer → IsNextSender senders receiver channel most answer
+  from_begin begins answer told =
+      ⊎_elim (λ e. from_first answer (subst (λ n. IsNextFrom n senders receiver channel most answer) e told)) (λ gives. from_giving gives answer told) begins
 
 -- a list without elements
 pub empty_of : {X : Type 0} (xs : List X) → (0 < length xs → ⊥) → xs ≡ []

@@ -1,6 +1,7 @@
 //! What a sender counts of its messages, and the marks of those who may answer.
 ghost use Rattle.std.specs.Prelude.{◌≡◌, ◌+◌, ◌*◌, ◌<◌, ◌^◌, [], IsSomeAnd, length, slice_get, slice_index, slice_index_or, slice_set};
-ghost use Rattle.rr_sender.specs.Senders.{borrowed_at};
+ghost use Rattle.rr_slots.specs.Elements.{option_elements};
+ghost use Rattle.rr_sender.specs.Senders.{borrowed_at, content_at, uses};
 ghost use Rattle.rr_store.specs.Clearing.{without_pending};
 ghost use Rattle.rr_store.specs.Loaning.{with_one_loan, with_sender_at};
 ghost use Rattle.rr_store.specs.Releasing.{borrow_given_back, without_loan, without_mark};
@@ -121,6 +122,29 @@ impl<B: Body, N: Copy, H: Drop, P: Drop> Side<B, N, H, P> {
     {
         let marks = &mut self.senders[sender].may_answer;
         marks[slot * receivers + receiver] = NO_SERVER;
+    }
+}
+
+impl<T: Drop, N: Copy, H: Drop, P: Drop> Side<Option<T>, N, H, P> {
+    /// Gives back a hold on a message that was received, and counts one less that its receiver has from the channel. Returns what
+    /// stands in the slot if that was its last use, and else `None`.
+    #[inline(always)]
+    pub fn end_borrow_taking(
+        &mut self,
+        sender: usize,
+        receiver: usize,
+        channel: usize,
+        slot: usize,
+    ) -> Option<T>
+        requires sender { sender < length self.old.senders }
+        requires queue { (receiver < length (sender_of sender self.old.senders).messages.queues) × (channel < length (slice_index_or (sender_of sender self.old.senders).messages.queues receiver [])) }
+        requires counted { (0 < borrowed_at (sender_of sender self.old.senders).messages receiver channel) × (0 < slice_index (sender_of sender self.old.senders).messages.held slot) }
+        ensures given { self.new ≡ with_sent self.old sender (λ m. borrow_given_back m receiver channel slot) }
+        ensures taken { uses (sender_of sender self.old.senders).messages slot ≡ 1 → option_elements result ≡ (content_at (sender_of sender self.old.senders).messages slot).elements }
+    {
+        let messages = &mut self.senders[sender].messages;
+        messages.end_borrow(receiver, channel);
+        messages.take_back(slot)
     }
 }
 

@@ -5,7 +5,7 @@ ghost use Rattle.rr_store.specs.Asked.{CanTake};
 ghost use Rattle.rr_store.specs.Delivering.{HasQueue, handed_on};
 ghost use Rattle.rr_store.specs.Ports.{server_part, sender_part};
 ghost use Rattle.rr_store.specs.Draining.{HaveQueues};
-ghost use Rattle.rr_store.specs.Receiving.{HaveChannels, IsNextSender, queue_from};
+ghost use Rattle.rr_store.specs.Receiving.{HaveChannels, IsNextFrom, queue_from};
 ghost use Rattle.rr_store.specs.Sending.{HasQueues, after_queued};
 ghost use Rattle.rr_store.specs.Sides.{with_channel_emptied, with_first_taken, with_sender, with_sent};
 ghost use Rattle.rr_store.specs.Views.{sender_of};
@@ -33,8 +33,8 @@ impl<B: Body, N: Copy, H: Drop, P: Drop> Side<B, N, H, P> {
         false
     }
 
-    /// Returns from which sender a receiver takes next on a channel, of which it may have `most` from each. Returns `None` if no
-    /// message is queued.
+    /// Returns from which sender, of those from one on, a receiver takes next on a channel, of which it may have `most` from each.
+    /// Returns `None` if those have no message queued.
     ///
     /// # Errors
     ///
@@ -45,14 +45,15 @@ impl<B: Body, N: Copy, H: Drop, P: Drop> Side<B, N, H, P> {
         receiver: usize,
         channel: usize,
         most: usize,
+        from: usize,
     ) -> Result<Option<usize>, ReceiveError>
         requires receiver { HaveQueues self.now.senders receiver }
         requires channel { HaveChannels self.now.senders receiver channel }
-        ensures { IsNextSender self.now.senders receiver channel most result }
+        ensures { IsNextFrom from self.now.senders receiver channel most result }
     {
         let mut is_at_limit = false;
         let senders = &self.senders;
-        for sender in 0..senders.len() {
+        for sender in from..senders.len() {
             if senders[sender].messages.has_entries(receiver, channel) {
                 if senders[sender].messages.borrowed(receiver, channel) < most {
                     return Ok(Some(sender));

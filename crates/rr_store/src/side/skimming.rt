@@ -3,7 +3,7 @@ ghost use Rattle.std.specs.Prelude.{◌≡◌, ◌<◌, ◌↔◌, ℕ, [], Some
 ghost use Rattle.rr_sender.specs.Senders.{queue_at};
 ghost use Rattle.rr_store.specs.Ports.{sender_part};
 ghost use Rattle.rr_store.specs.Draining.{HaveQueues};
-ghost use Rattle.rr_store.specs.Receiving.{HaveChannels, IsNextSender};
+ghost use Rattle.rr_store.specs.Receiving.{HaveChannels, IsNextFrom};
 ghost use Rattle.rr_store.specs.Skimming.{IsFrontAlive, IsSkimmedTo, SkimsSender, is_waited};
 
 use crate::side::Side;
@@ -13,9 +13,9 @@ use rr_slots::Body;
 use rr_table::{Place, Table};
 
 impl<B: Body, H: Drop, P: Drop> Side<B, RequestDetails, H, P> {
-    /// Returns from which sender a receiver takes its next request, of which it may have `most` from each. Drops the requests that
-    /// nobody waits for from the fronts of the queues that it looks at, where the receiver may have one more. Returns `None` if no
-    /// request is queued then.
+    /// Returns from which sender, of those from one on, a receiver takes its next request, of which it may have `most` from each.
+    /// Drops the requests that nobody waits for from the fronts of the queues that it looks at, where the receiver may have one
+    /// more. Returns `None` if those senders have no request queued then.
     ///
     /// # Errors
     ///
@@ -26,16 +26,17 @@ impl<B: Body, H: Drop, P: Drop> Side<B, RequestDetails, H, P> {
         table: &Table<HandleEntry>,
         receiver: usize,
         most: usize,
+        from: usize,
     ) -> Result<Option<usize>, ReceiveError>
         requires receiver { HaveQueues self.old.senders receiver }
         requires channel { HaveChannels self.old.senders receiver 0 }
         ensures rest { self.new ≡ record self.old { senders = self.new.senders } }
         ensures skimmed { IsSkimmedTo table.now receiver most self.old.senders self.new.senders result }
-        ensures next { IsNextSender self.new.senders receiver 0 most result }
+        ensures next { IsNextFrom from self.new.senders receiver 0 most result }
     {
         let mut is_at_limit = false;
         let senders = &mut self.senders;
-        for sender in 0..senders.len() {
+        for sender in from..senders.len() {
             if senders[sender].messages.borrowed(receiver, 0) < most {
                 if skim_sender(&mut senders[sender], table, receiver) {
                     return Ok(Some(sender));

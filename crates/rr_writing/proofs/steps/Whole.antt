@@ -1,19 +1,19 @@
 -- A message is written whole, and can be sent then.
-use Rattle.std.proofs.Common.{◌≡◌, ◌<◌, ◌==◌, [], ◌∷◌, ℕ, true, Some, length, replicate, refl, sym, ap, ◌∙◌, subst, inl, inr, arith}
-use Rattle.std.specs.Prelude.{IsSomeAnd, option_and_then}
+use Rattle.std.proofs.Common.{◌≡◌, ◌<◌, List, ℕ, true, Some, length, replicate, refl, sym, ap, ◌∙◌, subst, inl, inr, arith}
+use Rattle.std.specs.Prelude.{IsSomeAnd}
 use Rattle.std.specs.FinMap as fin_map
 use Rattle.std.proofs.lemmas.Bool.{eq-eqb, false≢true}
 use Rattle.std.proofs.lemmas.List.{length-replicate}
-use Rattle.rr_slots.specs.Pools.{Written}
+use Rattle.rr_slots.specs.Pools.{Written, written}
 use Rattle.rr_table.specs.TableView.{table_entry}
 use Rattle.rr_table.specs.declared.place.Place.{Place}
-use Rattle.rr_sender.specs.Senders.{content_at, with_changed_at}
+use Rattle.rr_sender.specs.Senders.{with_changed_at}
 use Rattle.rr_map_laws.proofs.MapLaws.{get-insert_same}
 use Rattle.rr_protocol.specs.declared.kind.Kind.{Kind}
-use Rattle.rr_protocol.specs.Messages.{ActiveRequest, Content, Handle, PendingResponse, RequestMessage, RequestMut, RequestMutUninit, Response, ResponseMessage, ResponseMut, ResponseMutUninit, request_in, response_in}
+use Rattle.rr_protocol.specs.Messages.{ActiveRequest, Content, Handle, PendingResponse, RequestMut, RequestMutUninit, Response, ResponseMut, ResponseMutUninit}
 use Rattle.rr_protocol.specs.Queries.{kind_at}
 use Rattle.rr_protocol.specs.State.{handle_at, with_changed}
-use Rattle.rr_protocol.specs.Writing.{after_init, filled, is_complete, with_elements, with_request_content, with_response_content}
+use Rattle.rr_protocol.specs.Writing.{after_init, filled, is_complete, with_request_content, with_response_content}
 use Rattle.rr_laws.specs.Complete.{HasComplete, MessagesComplete}
 use Rattle.rr_laws.specs.Roles.{role_of}
 use Rattle.rr_laws.proofs.CompleteMessages.{changed_complete, changed_there}
@@ -43,6 +43,15 @@ module _ {Q QH P PH : Type 0} where
   incomplete (ActiveRequest a) e = absurd (false≢true e)
   incomplete (ResponseMut m) e = absurd (false≢true e)
   incomplete (Response m) e = absurd (false≢true e)
+
+module _ {B T : Type 0} (asked_len : B → ℕ) (elements : B → List T) (one : (body : B) → asked_len body ≡ 1) (body : B)
+    (content : Written T) (is : written asked_len elements body ≡ content) where
+  -- where each body asks for one element, one is asked for
+  pub asks_one : content.asked_len ≡ 1
+  asks_one = sym (ap (λ (w : Written T). w.asked_len) is) ∙ one body
+
+  pub asks_some : 0 < content.asked_len
+  asks_some = omega (arith, asks_one)
 
 module _ {Q QH P PH K : Type 0} (p : Parts Q QH P PH K) (core : IsCore p) (n : ℕ) (place : Place) (entry : HandleEntry)
     (at : fin_map.get p.table.entries n ≡ Some (table_entry place entry)) where
@@ -132,19 +141,6 @@ module _ {Q QH P PH K : Type 0} (p : Parts Q QH P PH K) (core : IsCore p) (n : �
         let asked = (request_at p entry.sender entry.slot).content.asked_len in
         eq-eqb (length (replicate asked element)) asked (length-replicate asked element)
 
-    -- one of one element
-    module _ (asked : IsSomeAnd (option_and_then request_in (handle_at (state_of p) n)) (λ m. m.content.asked_len ≡ 1)) where
-      request_asked : (request_at p entry.sender entry.slot).content.asked_len ≡ 1
-      request_asked = subst (λ o. IsSomeAnd (option_and_then request_in o) (λ (m : RequestMessage Q QH). m.content.asked_len ≡ 1))
-          (there ∙ ap Some request_shown) asked
-
-      pub request_room : 0 < (content_at (sender_of entry.sender p.client_senders).messages entry.slot).asked_len
-      request_room = omega (arith, request_asked)
-
-      -- is complete with one
-      pub request_of_one : (element : Q) → is_complete (with_elements (element ∷ []) (request_at p entry.sender entry.slot).content) ≡ true
-      request_of_one element = ap (λ k. 1 == k) request_asked
-
   -- a response that is being written
   module _ (kind : kind_at (state_of p) n ≡ Some Kind.ResponseMutUninit) where
     response_stage : entry.stage ≡ stage.ResponseMutUninit
@@ -197,16 +193,3 @@ module _ {Q QH P PH K : Type 0} (p : Parts Q QH P PH K) (core : IsCore p) (n : �
     response_filled element =
         let asked = (response_at p entry.sender entry.slot).content.asked_len in
         eq-eqb (length (replicate asked element)) asked (length-replicate asked element)
-
-    -- one of one element
-    module _ (asked : IsSomeAnd (option_and_then response_in (handle_at (state_of p) n)) (λ m. m.content.asked_len ≡ 1)) where
-      response_asked : (response_at p entry.sender entry.slot).content.asked_len ≡ 1
-      response_asked = subst (λ o. IsSomeAnd (option_and_then response_in o) (λ (m : ResponseMessage P PH). m.content.asked_len ≡ 1))
-          (there ∙ ap Some response_shown) asked
-
-      pub response_room : 0 < (content_at (sender_of entry.sender p.server_senders).messages entry.slot).asked_len
-      response_room = omega (arith, response_asked)
-
-      -- is complete with one
-      pub response_of_one : (element : P) → is_complete (with_elements (element ∷ []) (response_at p entry.sender entry.slot).content) ≡ true
-      response_of_one element = ap (λ k. 1 == k) response_asked

@@ -10,7 +10,7 @@ use Rattle.rr_protocol.specs.Receives.{Skims, ReceivesUnskimmed, ReceivesRequest
 use Rattle.rr_protocol.specs.State.{State, server_at}
 use Rattle.rr_store.specs.Parts.{Parts, ServerPart, Sender}
 use Rattle.rr_store.specs.Receiving.{queue_from, borrowed_from, Reaches}
-use Rattle.rr_store.specs.Skimming.{is_waited, IsFrontAlive, IsSkimmedBelow}
+use Rattle.rr_store.specs.Skimming.{is_waited, IsFrontAlive, IsSkimmed}
 use Rattle.rr_store.specs.Sound.{IsSoundStore, empty_hand, server_place}
 use Rattle.rr_store.specs.Views.{sender_of, server_of, state_of}
 use Rattle.rr_store.proofs.base.senders.Entries.{found_alone}
@@ -33,18 +33,18 @@ module _ {Q QH P PH K : Type 0} (p : Parts Q QH P PH K) (sound : IsSoundStore p 
     (at : slice_get p.servers index ≡ Some c) (Chosen : ℕ → Type 0) where
   -- after a skim
   pub ready_skimmed : p.limits.enable_fire_and_forget_requests ≡ false → (receiver : ℕ) → receiver ≡ c.receiver
-      → (n : ℕ) (senders : List (Sender Q _ QH))
-      → IsSkimmedBelow p.table receiver p.limits.max_active_requests_per_client n p.client_senders senders
-      → ((sender : ℕ) → Chosen sender → sender < n) → IsReady p (with_client_senders p senders) c Chosen
-  ready_skimmed forgets receiver its n senders skimmed among =
-      let so = subst (λ r. IsSkimmedBelow p.table r p.limits.max_active_requests_per_client n p.client_senders senders) its skimmed in
+      → (senders : List (Sender Q _ QH)) → IsSkimmed p.table receiver p.limits.max_active_requests_per_client p.client_senders senders
+      → ((sender : ℕ) → Chosen sender → IsFrontAlive p.table receiver (sender_of sender senders))
+      → IsReady p (with_client_senders p senders) c Chosen
+  ready_skimmed forgets receiver its senders skimmed front =
+      let so = subst (λ r. IsSkimmed p.table r p.limits.max_active_requests_per_client p.client_senders senders) its skimmed in
       let s = skims_all p sound index c at forgets so.senders senders so.steps in
       record {
         same = refl;
         sound = s.0;
         clients = s.1.0;
         skims = s.1.1;
-        fronts = λ _ sender chosen few. so.fronts sender (among sender chosen) few;
+        fronts = λ _ sender chosen _. subst (λ r. IsFrontAlive p.table r (sender_of sender senders)) its (front sender chosen);
       }
 
   -- where nothing is skimmed

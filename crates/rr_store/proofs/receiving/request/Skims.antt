@@ -1,7 +1,7 @@
 -- Requests that nobody waits for leave the fronts of queues.
-use Rattle.std.proofs.Common.{zero, suc, ◌≡◌, ◌<◌, ◌≤◌, ◌+◌, ℕ, Bool, true, false, List, [], ◌∷◌, ◌++◌, Option, None, Some, Ok, length, refl, sym, ap, ◌∙◌, subst, ⊎_elim, arith}
+use Rattle.std.proofs.Common.{zero, suc, ◌≡◌, ◌<◌, ◌+◌, ℕ, Bool, true, false, List, [], ◌∷◌, ◌++◌, Option, None, Some, Ok, length, refl, sym, ap, ◌∙◌, subst, ⊎_elim, arith}
 use Rattle.std.specs.Prelude.{IfSome, Result, drop, slice_get, slice_set, slice_index_or}
-use Rattle.std.proofs.lemmas.Bool.{cases_eq, cases_lt}
+use Rattle.std.proofs.lemmas.Bool.{cases_eq, false≢true}
 use Rattle.std.proofs.lemmas.List.{get_or-set_same, get_or-set_other, set-get_or, length-set}
 use Rattle.rr_table.specs.TableView.{TableView}
 use Rattle.rr_protocol.specs.declared.error.ReceiveError.{ReceiveError}
@@ -10,24 +10,17 @@ use Rattle.rr_sender.proofs.EntryLaws.{length-set_two}
 use Rattle.rr_store.specs.declared.handle_entry.HandleEntry.{HandleEntry}
 use Rattle.rr_store.specs.declared.details.RequestDetails.{RequestDetails}
 use Rattle.rr_store.specs.Parts.{Sender}
-use Rattle.rr_store.specs.Receiving.{borrowed_from, queue_from, IsLookedThrough, IsNextSender, Reaches}
-use Rattle.rr_store.specs.Skimming.{is_waited, first_skimmed, SkimsSender, IsFrontAlive, SkimsSenders, IsSkimmedBelow, IsSkimmedTo}
+use Rattle.rr_store.specs.Receiving.{borrowed_from, queue_from, IsLookedThrough, IsNextFrom, IsNextSender, Reaches}
+use Rattle.rr_store.specs.Skimming.{is_waited, first_skimmed, SkimsSender, IsFrontAlive, SkimsSenders, IsSkimmed, IsSkimmedTo}
 use Rattle.rr_store.specs.Views.{sender_of, no_sender}
 use Rattle.rr_store.proofs.base.lists.SetTwo.{row_length}
-use Rattle.rr_store.proofs.receiving.NextSender.{looked_at_empty, looked_at_limit, empty_of}
+use Rattle.rr_store.proofs.receiving.NextSender.{looked_at_empty, empty_of}
 
 -- an element that is set twice
 set_again : {X : Type 0} (xs : List X) (i : ℕ) (x y : X) → slice_set (slice_set xs i x) i y ≡ slice_set xs i y
 set_again [] i x y = refl
 set_again (z ∷ xs) zero x y = refl
 set_again (z ∷ xs) (suc i) x y = ap (λ ys. z ∷ ys) (set_again xs i x y)
-
--- one more, or one of those before
-last_or_before : {Z : Type 0} (n l : ℕ) → l < n + 1 → (l < n → Z) → (l ≡ n → Z) → Z
-last_or_before n l h before last = ⊎_elim last (λ e. before (below l n h e)) (cases_eq l n)
-  where
-    below : (l n : ℕ) → l < n + 1 → (l ≡ n → ⊥) → l < n
-    below l n h e = ⊎_elim (λ g. g) (λ g. absurd (e (omega (arith, h, g)))) (cases_lt l n)
 
 module _ {T H : Type 0} (table : TableView HandleEntry) (receiver : ℕ) where
   -- what stays as requests leave the front
@@ -95,27 +88,51 @@ module _ {T H : Type 0} (table : TableView HandleEntry) (receiver : ℕ) where
         (slot, there, few, f, d, then_more ls ms (slice_set a l (first_skimmed receiver (sender_of l a))) b c first more)
 
     -- before the first sender
-    pub skimmed_none : (a : List (Sender T RequestDetails H)) → Reaches a receiver 0 → IsSkimmedBelow table receiver most 0 a a
-    skimmed_none a reach = record { senders = []; steps = refl; many = refl; reaches = reach; fronts = λ l h. absurd (omega (arith, h)) }
+    pub skimmed_none : (a : List (Sender T RequestDetails H)) → Reaches a receiver 0 → IsSkimmed table receiver most a a
+    skimmed_none a reach = record { senders = []; steps = refl; many = refl; reaches = reach }
 
-    -- the receiver may have no more from a sender
-    pub skimmed_full : (n : ℕ) (a b : List (Sender T RequestDetails H)) → IsSkimmedBelow table receiver most n a b
-        → most ≤ borrowed_from b receiver 0 n → IsSkimmedBelow table receiver most (n + 1) a b
-    skimmed_full n a b so full = record {
-      senders = so.senders;
-      steps = so.steps;
-      many = so.many;
-      reaches = so.reaches;
-      fronts = λ l h few. last_or_before n l h (λ g. so.fronts l g few)
-          (λ e. absurd (omega (arith, full, few, ap (borrowed_from b receiver 0) e)));
+    -- the same senders, or others, were skimmed again
+    pub skimmed_twice : (a b c : List (Sender T RequestDetails H)) → IsSkimmed table receiver most a b → IsSkimmed table receiver most b c
+        → IsSkimmed table receiver most a c
+    skimmed_twice a b c first more = record {
+      senders = first.senders ++ more.senders;
+      steps = then_more first.senders more.senders a b c first.steps more.steps;
+      many = more.many ∙ first.many;
+      reaches = more.reaches;
     }
 
-    -- or the sender was skimmed
-    pub skimmed_sender : (n : ℕ) (a b : List (Sender T RequestDetails H)) → IsSkimmedBelow table receiver most n a b → n < length b
+    -- up to the one that is told then
+    pub skimmed_then : (a b c : List (Sender T RequestDetails H)) (told : Result (Option ℕ) ReceiveError) → IsSkimmed table receiver most a b
+        → IsSkimmedTo table receiver most b c told → IsSkimmedTo table receiver most a c told
+    skimmed_then a b c told before after = record { skimmed = skimmed_twice a b c before after.skimmed; front = after.front }
+
+    -- a sender whose first request somebody waits for passes a skim
+    skims_pass : (ls : List ℕ) (a b : List (Sender T RequestDetails H)) → SkimsSenders table receiver most ls a b → (n : ℕ)
+        → IsFrontAlive table receiver (sender_of n a) → sender_of n b ≡ sender_of n a
+    skims_pass [] a b e n alive = ap (sender_of n) e
+    skims_pass (l ∷ ls) a b (slot, there, few, first, dead, more) n alive =
+        let y = first_skimmed receiver (sender_of l a) in
+        let same : sender_of n (slice_set a l y) ≡ sender_of n a =
+        get_or-set_other a l n y no_sender (λ e. false≢true (sym dead
+        ∙ subst (λ o. IfSome o (λ s. is_waited table (sender_of l a) s ≡ true)) first (subst (λ k. IsFrontAlive table receiver (sender_of k a)) e alive))) in
+        skims_pass ls (slice_set a l y) b more n (subst (IsFrontAlive table receiver) (sym same) alive) ∙ same
+
+    -- and still gives something
+    pub still_gives : (a b : List (Sender T RequestDetails H)) → IsSkimmed table receiver most a b → (n : ℕ)
+        → IsFrontAlive table receiver (sender_of n a) → IsNextSender a receiver 0 most (Ok (Some n)) → IsNextSender b receiver 0 most (Ok (Some n))
+    still_gives a b so n alive gives =
+        let same = skims_pass so.senders a b so.steps n alive in (
+          omega (arith, gives.0, so.many),
+          subst (λ (x : Sender T RequestDetails H). 0 < length (queue_at x.messages receiver 0)) (sym same) gives.1,
+          subst (λ (x : Sender T RequestDetails H). borrowed_at x.messages receiver 0 < most) (sym same) gives.2,
+        )
+
+    -- one sender was skimmed
+    pub skimmed_sender : (n : ℕ) (a b : List (Sender T RequestDetails H)) → IsSkimmed table receiver most a b → n < length b
         → borrowed_from b receiver 0 n < most
-        → (x : Sender T RequestDetails H) (k : ℕ) → SkimsSender table receiver k (sender_of n b) x → IsFrontAlive table receiver x
-        → IsSkimmedBelow table receiver most (n + 1) a (slice_set b n x)
-    skimmed_sender n a b so there few x k steps front =
+        → (x : Sender T RequestDetails H) (k : ℕ) → SkimsSender table receiver k (sender_of n b) x
+        → IsSkimmed table receiver most a (slice_set b n x)
+    skimmed_sender n a b so there few x k steps =
         let more = to_senders k b n there few x steps in
         let alike = skim_alike k (sender_of n b) x steps in
         let here : sender_of n (slice_set b n x) ≡ x = get_or-set_same b n x no_sender there in
@@ -140,16 +157,6 @@ module _ {T H : Type 0} (table : TableView HandleEntry) (receiver : ℕ) where
                 omega (arith, was.1, ap (λ (y : Sender T RequestDetails H). length (slice_index_or y.messages.queues receiver [])) is),
               ))
               (cases_eq l n);
-          fronts = λ l h room. ⊎_elim
-              (λ e. subst (IsFrontAlive table receiver) (sym (ap (λ l. sender_of l (slice_set b n x)) e ∙ here)) front)
-              (λ e. let is : sender_of l (slice_set b n x) ≡ sender_of l b = get_or-set_other b n l x no_sender e in
-              subst (IsFrontAlive table receiver) (sym is)
-              (last_or_before n l h (λ g. so.fronts l g (omega (
-                arith,
-                room,
-                ap (λ (y : Sender T RequestDetails H). borrowed_at y.messages receiver 0) is,
-              ))) (λ f. absurd (e f))))
-              (cases_eq l n);
         }
 
 -- a queue without its first entry is shorter
@@ -167,9 +174,9 @@ told_is : (n m : ℕ) → (let told : ℕ → Result (Option ℕ) ReceiveError =
 told_is n m e = cc
 
 -- a sender that is not looked through yet changes, and those before it stay
-pub looked_apart : {T N H : Type 0} (senders : List (Sender T N H)) (receiver channel most n : ℕ) (x : Sender T N H) (b : Bool)
-    → IsLookedThrough senders receiver channel most n b → IsLookedThrough (slice_set senders n x) receiver channel most n b
-looked_apart {T} {N} {H} senders receiver channel most n x b so =
+pub looked_apart : {T N H : Type 0} (senders : List (Sender T N H)) (receiver channel most from n : ℕ) (x : Sender T N H) (b : Bool)
+    → IsLookedThrough senders receiver channel most from n b → IsLookedThrough (slice_set senders n x) receiver channel most from n b
+looked_apart {T} {N} {H} senders receiver channel most from n x b so =
     let same : (l : ℕ) → l < n → sender_of l (slice_set senders n x) ≡ sender_of l senders = λ l h.
     get_or-set_other senders n l x no_sender (λ e. omega (arith, h, e)) in
     let queue : (l : ℕ) → l < n → queue_from (slice_set senders n x) receiver channel l ≡ queue_from senders receiver channel l = λ l h.
@@ -177,58 +184,49 @@ looked_apart {T} {N} {H} senders receiver channel most n x b so =
     let count : (l : ℕ) → l < n → borrowed_from (slice_set senders n x) receiver channel l ≡ borrowed_from senders receiver channel l = λ l h.
     ap (λ (s : Sender T N H). borrowed_at s.messages receiver channel) (same l h) in
     record {
-      passed = λ l h room. queue l h ∙ so.passed l h (omega (arith, room, count l h));
-      clear = λ e l h. queue l h ∙ so.clear e l h;
-      at_limit = λ e. let r = so.at_limit e in (r.0, r.1, omega (arith, r.2, count r.0 r.1), λ none. r.3 (sym (queue r.0 r.1) ∙ none));
+      passed = λ l f h room. queue l h ∙ so.passed l f h (omega (arith, room, count l h));
+      clear = λ e l f h. queue l h ∙ so.clear e l f h;
+      at_limit = λ e. let r = so.at_limit e in (
+        r.0,
+        r.1,
+        omega (arith, r.2, length-set senders n x),
+        omega (arith, r.3, count r.0 r.1),
+        λ none. r.4 (sym (queue r.0 r.1) ∙ none),
+      );
     }
 
-module _ {T H : Type 0} (table : TableView HandleEntry) (receiver most n : ℕ) (old now : List (Sender T RequestDetails H))
-    (so : IsSkimmedBelow table receiver most n old now) (there : n < length now) where
-  -- the receiver may have no more from the next sender, which has no entry
-  pub passed_full : (b : Bool) → IsLookedThrough now receiver 0 most n b → most ≤ borrowed_from now receiver 0 n
-      → queue_from now receiver 0 n ≡ []
-      → IsSkimmedBelow table receiver most (n + 1) old now × IsLookedThrough now receiver 0 most (n + 1) b
-  passed_full b seen full none =
-      (skimmed_full table receiver most n old now so full, looked_at_empty now receiver 0 most n b seen none)
+module _ {T H : Type 0} (table : TableView HandleEntry) (receiver most from n : ℕ) (old now : List (Sender T RequestDetails H))
+    (so : IsSkimmed table receiver most old now) (there : n < length now) (few : borrowed_from now receiver 0 n < most)
+    (x : Sender T RequestDetails H) (k : ℕ) (steps : SkimsSender table receiver k (sender_of n now) x) where
+  here : sender_of n (slice_set now n x) ≡ x
+  here = get_or-set_same now n x no_sender there
 
-  -- or has one
-  pub passed_waiting : (b : Bool) → IsLookedThrough now receiver 0 most n b → most ≤ borrowed_from now receiver 0 n
-      → (queue_from now receiver 0 n ≡ [] → ⊥)
-      → IsSkimmedBelow table receiver most (n + 1) old now × IsLookedThrough now receiver 0 most (n + 1) true
-  passed_waiting b seen full some =
-      (skimmed_full table receiver most n old now so full, looked_at_limit now receiver 0 most n b seen full some)
+  -- the next sender was skimmed
+  pub skimmed_here : IsSkimmed table receiver most old (slice_set now n x)
+  skimmed_here = skimmed_sender table receiver most n old now so there few x k steps
 
-  module _ (few : borrowed_from now receiver 0 n < most) (x : Sender T RequestDetails H) (k : ℕ)
-      (steps : SkimsSender table receiver k (sender_of n now) x) (front : IsFrontAlive table receiver x) where
-    here : sender_of n (slice_set now n x) ≡ x
-    here = get_or-set_same now n x no_sender there
+  -- and has no entry then
+  pub passed_skimmed : (b : Bool) → IsLookedThrough now receiver 0 most from n b → (0 < length (queue_at x.messages receiver 0) → ⊥)
+      → IsLookedThrough (slice_set now n x) receiver 0 most from (n + 1) b
+  passed_skimmed b seen none =
+      looked_at_empty (slice_set now n x) receiver 0 most from n b (looked_apart now receiver 0 most from n x b seen)
+      (ap (λ (s : Sender T RequestDetails H). queue_at s.messages receiver 0) here ∙ empty_of _ none)
 
-    -- the next sender was skimmed
-    pub skimmed_here : IsSkimmedBelow table receiver most (n + 1) old (slice_set now n x)
-    skimmed_here = skimmed_sender table receiver most n old now so there few x k steps front
+  -- or is next
+  pub skimmed_next : 0 < length (queue_at x.messages receiver 0) → IsNextFrom from (slice_set now n x) receiver 0 most (Ok (Some n))
+  skimmed_next some = (
+    omega (arith, there, length-set now n x),
+    omega (arith, some, ap (λ (s : Sender T RequestDetails H). length (queue_at s.messages receiver 0)) here),
+    omega (
+      arith,
+      few,
+      ap (λ (s : Sender T RequestDetails H). borrowed_at s.messages receiver 0) here,
+      ap (λ counts. at_two 0 counts receiver 0) (skim_alike table receiver k (sender_of n now) x steps).borrowed,
+    ),
+  )
 
-    -- and has no entry then
-    pub passed_skimmed : (b : Bool) → IsLookedThrough now receiver 0 most n b → (0 < length (queue_at x.messages receiver 0) → ⊥)
-        → IsSkimmedBelow table receiver most (n + 1) old (slice_set now n x)
-        × IsLookedThrough (slice_set now n x) receiver 0 most (n + 1) b
-    passed_skimmed b seen none = (
-      skimmed_here,
-      looked_at_empty (slice_set now n x) receiver 0 most n b (looked_apart now receiver 0 most n x b seen)
-          (ap (λ (s : Sender T RequestDetails H). queue_at s.messages receiver 0) here ∙ empty_of _ none),
-    )
-
-    -- or is next
-    pub skimmed_next : 0 < length (queue_at x.messages receiver 0) → IsNextSender (slice_set now n x) receiver 0 most (Ok (Some n))
-    skimmed_next some = (
-      omega (arith, there, length-set now n x),
-      omega (arith, some, ap (λ (s : Sender T RequestDetails H). length (queue_at s.messages receiver 0)) here),
-      omega (
-        arith,
-        few,
-        ap (λ (s : Sender T RequestDetails H). borrowed_at s.messages receiver 0) here,
-        ap (λ counts. at_two 0 counts receiver 0) (skim_alike table receiver k (sender_of n now) x steps).borrowed,
-      ),
-    )
-
-    pub skimmed_to : IsSkimmedTo table receiver most old (slice_set now n x) (Ok (Some n))
-    skimmed_to = record { below = n + 1; skimmed = skimmed_here; among = λ sender e. omega (arith, told_is n sender e) }
+  pub skimmed_to : IsFrontAlive table receiver x → IsSkimmedTo table receiver most old (slice_set now n x) (Ok (Some n))
+  skimmed_to alive = record {
+    skimmed = skimmed_here;
+    front = λ sender e. subst (IsFrontAlive table receiver) (sym (ap (λ l. sender_of l (slice_set now n x)) (sym (told_is n sender e)) ∙ here)) alive;
+  }

@@ -1,6 +1,7 @@
 use Rattle.rr_store.specs.Opened.{opened}
 use Rattle.rr_store.specs.Views.{state_of}
 use Rattle.rr_hub.proofs.laws.OneChannel.{one_channel, one_kind, one_number, own_number}
+use Rattle.rr_hub.proofs.laws.OwnServer.{loans_keep_servers}
 use Rattle.rr_hub.proofs.state.Core.reached.Goals as goal
 
 pub returns-clause-reached : goal.returns-clause-reached
@@ -16,3 +17,6 @@ returns-clause-servers g c = rw (← c.self.view_is) (one_number (opened c.self.
 
 pub returns-clause-kinds : goal.returns-clause-kinds
 returns-clause-kinds g c = rw (← c.self.view_is) (one_kind (opened c.self.inside.parts) c.self.invariant.sound)
+
+pub returns-clause-loans : goal.returns-clause-loans
+returns-clause-loans g c = rw (← c.self.view_is) (loans_keep_servers (opened c.self.inside.parts) c.self.invariant.sound)

@@ -1,13 +1,18 @@
 use Rattle.rr_ports.specs.Facts.{Has}
+use Rattle.rr_ports.proofs.DiscardSends.{request_passed}
 use Rattle.rr_ports.proofs.FactLaws.{if_refused}
 use Rattle.rr_ports.proofs.ReleaseLaws.{released_keeps, released_numbers}
 use Rattle.rr_ports.proofs.SendLaws.{unsent, sent_names, sent_asks, sent_buffers, sent_but}
 use Rattle.rr_ports.proofs.AwaitedSends.{sent_awaits}
 use Rattle.rr_ports.proofs.HandleReleases.{client_used, released_awaited, released_heard}
 use Rattle.rr_ports.proofs.HeardLaws.{sent_hears, sent_of, sent_responses, sent_stays}
+use Rattle.rr_ports.proofs.OwningLaws.{released_frees, released_owned}
+use Rattle.rr_ports.proofs.OwningRefusals.{send_few}
+use Rattle.rr_ports.proofs.OwningSends.{sent_owned}
 use Rattle.rr_ports.proofs.QueueLaws.{awaited_stays}
+use Rattle.rr_ports.proofs.Sureties.{send_sure}
 use Rattle.rr_protocol.specs.declared.kind.Kind.{Kind}
-use Rattle.std.proofs.Common.{[], ◌∷◌}
+use Rattle.std.proofs.Common.{[], ◌∷◌, arith, rules}
 use Rattle.rr_ports.proofs.request_mut.RequestMut.send.Goals as goal
 
 pub returns-in_err-_connections-clause-keeps : goal.returns-in_err-_connections-clause-keeps
@@ -85,3 +90,40 @@ unfolding Has
 returns-clause-buffers g c port room has =
     sent_buffers g.K.BackpressureFn.action c.hub.inside.core c.send_request.new.self c.self.inside.id c.in_ok-_connections._connections c.in_ok-_connections.ensures
     (rw (← c.hub.view_is, ← c.self.view_is) at c.requires) port room (rw (← c.hub.view_is) at has)
+
+pub returns-in_err-_connections-clause-discards : goal.returns-in_err-_connections-clause-discards
+unfolding Has
+returns-in_err-_connections-clause-discards g c port request of over =
+    request_passed g.K.BackpressureFn.action c.hub.inside.core c.send_request.new.self c.self.inside.id c.reached.ensures.kinds port request
+    (rw (← c.hub.view_is, ← c.self.view_is) at of) (rw (← c.hub.view_is) at over) (rw (← c.hub.view_is, ← c.self.view_is) at c.requires) _ (search rules)
+
+pub returns-in_err-_connections-clause-owned : goal.returns-in_err-_connections-clause-owned
+returns-in_err-_connections-clause-owned g c =
+    rw (← c.hub.view_is) (released_owned c.hub.inside.core c.send_request.new.self c.self.inside.id
+    (unsent g.K.BackpressureFn.action c.hub.inside.core c.send_request.new.self c.self.inside.id c.in_err-_connections.field-0.0 c.in_err-_connections.ensures))
+
+pub returns-in_err-_connections-clause-frees : goal.returns-in_err-_connections-clause-frees
+unfolding Has
+returns-in_err-_connections-clause-frees g c port request most of owns =
+    if_refused c.from_residual.result (released_frees c.hub.inside.core c.send_request.new.self c.self.inside.id
+    (unsent g.K.BackpressureFn.action c.hub.inside.core c.send_request.new.self c.self.inside.id c.in_err-_connections.field-0.0 c.in_err-_connections.ensures)
+    Kind.RequestMut (λ e. cc) (λ e. cc) (rw (← c.hub.view_is, ← c.self.view_is) at c.requires) port request
+    (rw (← c.hub.view_is, ← c.self.view_is) at of) most (rw (← c.hub.view_is) at owns))
+
+pub returns-in_err-_connections-clause-few_active : goal.returns-in_err-_connections-clause-few_active
+unfolding Has
+returns-in_err-_connections-clause-few_active g c port request most of owns below =
+    send_few c.hub.inside.core c.send_request.new.self c.self.inside.id c.reached.ensures.reached g.K.BackpressureFn.action
+    (rw (← c.hub.view_is, ← c.self.view_is) at c.requires) port request most (rw (← c.hub.view_is, ← c.self.view_is) at of)
+    (rw (← c.hub.view_is) at owns) (rw (← c.hub.view_is) at below) _ (search rules)
+
+pub returns-clause-owned : goal.returns-clause-owned
+returns-clause-owned g c =
+    rw (← c.hub.view_is) (sent_owned g.K.BackpressureFn.action c.hub.inside.core c.send_request.new.self c.self.inside.id
+    c.in_ok-_connections._connections c.in_ok-_connections.ensures)
+
+pub returns-in_err-_connections-clause-sure : goal.returns-in_err-_connections-clause-sure
+returns-in_err-_connections-clause-sure g c port request of over owns =
+    send_sure g.K.BackpressureFn.action c.hub.inside.core c.send_request.new.self c.self.inside.id _ (search rules)
+    (returns-in_err-_connections-clause-few_active g c port request 0 of owns (omega arith))
+    (returns-in_err-_connections-clause-discards g c port request of over)

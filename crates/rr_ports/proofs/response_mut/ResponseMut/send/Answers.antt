@@ -1,4 +1,6 @@
 use Rattle.rr_ports.specs.Facts.{Has}
+use Rattle.rr_ports.proofs.DiscardSends.{response_passed}
+use Rattle.rr_ports.proofs.OwningSends.{answered_frees, answered_owned}
 use Rattle.rr_ports.proofs.ResponseSends.{response_beside, response_delivered, response_first, response_heard, response_next, response_refused, response_room}
 use Rattle.rr_ports.proofs.SendLaws.{answered_but, answered_numbers}
 use Rattle.rr_ports.proofs.response_mut.ResponseMut.send.Goals as goal
@@ -55,3 +57,21 @@ unfolding Has
 returns-clause-room g c server pending answers of awaits room =
     response_room g.K.BackpressureFn.action c.hub.inside.core c.send_response.new.self c.self.inside.id (rw (← c.hub.view_is, ← c.self.view_is) at c.requires) c.reached.ensures.reached server pending (rw (← c.hub.view_is, ← c.self.view_is) at of)
     c.send_response.result c.send_response.ensures answers (rw (← c.hub.view_is) at awaits) (rw (← c.hub.view_is) at room)
+
+pub returns-clause-discards : goal.returns-clause-discards
+unfolding Has
+returns-clause-discards g c port request of over =
+    response_passed g.K.BackpressureFn.action c.hub.inside.core c.send_response.new.self c.self.inside.id c.reached.ensures.kinds port request
+    (rw (← c.hub.view_is, ← c.self.view_is) at of) (rw (← c.hub.view_is) at over) (rw (← c.hub.view_is, ← c.self.view_is) at c.requires)
+    c.send_response.result c.send_response.ensures
+
+pub returns-clause-owned : goal.returns-clause-owned
+returns-clause-owned g c =
+    rw (← c.hub.view_is) (answered_owned g.K.BackpressureFn.action c.hub.inside.core c.send_response.new.self c.self.inside.id
+    c.send_response.result c.send_response.ensures)
+
+pub returns-clause-frees : goal.returns-clause-frees
+unfolding Has
+returns-clause-frees g c port request most of owns =
+    answered_frees g.K.BackpressureFn.action c.hub.inside.core c.send_response.new.self c.self.inside.id c.send_response.result c.send_response.ensures
+    (rw (← c.hub.view_is, ← c.self.view_is) at c.requires) port request (rw (← c.hub.view_is, ← c.self.view_is) at of) most (rw (← c.hub.view_is) at owns)

@@ -42,7 +42,7 @@ pub index-requires : goal.index-requires
 index-requires g c = omega (arith, within g c, c.self.inside.senders.ok.0)
 
 pub loop-sender-init : goal.loop-sender-init
-loop-sender-init g c = looked_at_none (map sender_part c.self.inside.senders.items) c.args.receiver c.args.channel c.args.most
+loop-sender-init g c = looked_at_none (map sender_part c.self.inside.senders.items) c.args.receiver c.args.channel c.args.most c.args.from
 
 pub has_entries-requires-clause-receiver : goal.has_entries-requires-clause-receiver
 has_entries-requires-clause-receiver g c =
@@ -114,15 +114,15 @@ loop-sender-preserved g c =
           ) in
           let some : 0 < length (queue_at c.index.result.now.messages c.args.receiver c.args.channel) = c.has_entries.ensures.0
           w.if-has_entries.true in
-          subst (IsLookedThrough ls c.args.receiver c.args.channel c.args.most (c.loop-sender.sender + 1)) (sym w.is_at_limit-is)
-          (looked_at_limit ls c.args.receiver c.args.channel c.args.most c.loop-sender.sender c.loop-sender.is_at_limit
-          c.loop-sender.invariant full
+          subst (IsLookedThrough ls c.args.receiver c.args.channel c.args.most c.args.from (c.loop-sender.sender + 1)) (sym w.is_at_limit-is)
+          (looked_at_limit ls c.args.receiver c.args.channel c.args.most c.args.from c.loop-sender.sender c.loop-sender.is_at_limit
+          c.loop-sender.invariant (omega (arith, within, length-map senders sender_part)) full
           (some_of (queue_from ls c.args.receiver c.args.channel c.loop-sender.sender) (omega (arith, some, ap length queue))))
       | else-has_entries w ↦
           let none : queue_at c.index.result.now.messages c.args.receiver c.args.channel ≡ [] = empty_of _
           (λ h. false≢true (sym w.if-has_entries.false ∙ c.has_entries.ensures.1 h)) in
-          subst (IsLookedThrough ls c.args.receiver c.args.channel c.args.most (c.loop-sender.sender + 1)) (sym w.is_at_limit-is)
-          (looked_at_empty ls c.args.receiver c.args.channel c.args.most c.loop-sender.sender c.loop-sender.is_at_limit
+          subst (IsLookedThrough ls c.args.receiver c.args.channel c.args.most c.args.from (c.loop-sender.sender + 1)) (sym w.is_at_limit-is)
+          (looked_at_empty ls c.args.receiver c.args.channel c.args.most c.args.from c.loop-sender.sender c.loop-sender.is_at_limit
           c.loop-sender.invariant
           (queue ∙ none))
     ]
@@ -139,24 +139,12 @@ returns-then-is_at_limit g c =
     ) in
     let b = c.loop-sender.invariant.at_limit c.if-is_at_limit.true in
     rw (← c.self.view_is) (
-      (λ l h room. c.loop-sender.invariant.passed l (omega (arith, h, all)) room),
-      (
-        b.0,
-        omega (
-          arith,
-          b.1,
-          c.loop-sender.auto.sender-end,
-          c.len-sender-end.ensures,
-          c.self.inside.senders.ok.0,
-          length-map senders sender_part,
-        ),
-        b.2,
-        b.3,
-      ),
+      (λ l from h room. c.loop-sender.invariant.passed l from (omega (arith, h, all)) room),
+      (b.0, b.2, b.3, b.4),
     )
 
 pub returns : goal.returns
-returns g c l h =
+returns g c l from h =
     let senders = c.self.inside.senders.items in
     let all : length (map sender_part senders) ≤ c.loop-sender.sender = omega (
       arith,
@@ -165,4 +153,4 @@ returns g c l h =
       c.self.inside.senders.ok.0,
       length-map senders sender_part,
     ) in
-    rw (← c.self.view_is) (c.loop-sender.invariant.clear c.if-is_at_limit.false l (omega (arith, (rw (← c.self.view_is) at h), all)))
+    rw (← c.self.view_is) (c.loop-sender.invariant.clear c.if-is_at_limit.false l from (omega (arith, (rw (← c.self.view_is) at h), all)))
