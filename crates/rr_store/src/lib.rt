@@ -8,6 +8,7 @@ mod handle_id;
 mod port;
 mod side;
 mod store;
+mod this_hub;
 
 pub use details::{RequestDetails, ResponseDetails};
 pub use handle_entry::{HandleEntry, Stage};

@@ -8,6 +8,7 @@ ghost use Rattle.rr_store.specs.Views.{sender_of};
 
 use crate::port::index_by_halving;
 use crate::side::Side;
+use crate::this_hub::of_this_hub;
 use crate::{ConnectedPort, HandleEntry, LeftPort, OwnedSender, Stage};
 use rr_sender::Sender;
 use rr_slots::Body;
@@ -64,13 +65,10 @@ impl<B: Body, N: Copy, H: Drop, P: ConnectedPort> Side<B, N, H, P> {
         ensures { position (λ p. P.id p == number) self.now.ports ≡ Some result }
     {
         let middle = self.ports.len() / 2;
-        if self.ports[middle].details().id == number {
+        if of_this_hub(self.ports.get(middle)).details().id == number {
             return middle;
         }
-        match index_by_halving(self.ports.as_slice(), number) {
-            Some(index) => index,
-            None => unreachable!(),
-        }
+        of_this_hub(index_by_halving(self.ports.as_slice(), number))
     }
 
     /// Returns where the port that sends from a sender stands, in O(log ports).

@@ -13,6 +13,7 @@ ghost use Rattle.std.specs.FinMap as fin_map;
 ghost use Rattle.rr_table.specs.declared.place.Place as place;
 
 use crate::store::Store;
+use crate::this_hub::of_this_hub;
 use crate::{HandleEntry, HandleId, ResponseDetails, Stage};
 use rr_protocol::BackpressureFn;
 use rr_slots::Body;
@@ -55,10 +56,7 @@ impl<QB: Body, QH: Default + Drop, PB: Body, PH: Default + Drop, K: Backpressure
         requires { IsSome (handle_at (state_of (opened self.now)) number) }
         ensures { IsAt self.now.table number result }
     {
-        match self.table.find(number) {
-            Some(place) => place,
-            None => unreachable!(),
-        }
+        of_this_hub(self.table.find(number))
     }
 
     /// Returns a handle. Looks where its id says first, and walks over the table if it stands elsewhere.
