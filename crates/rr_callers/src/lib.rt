@@ -7,4 +7,5 @@ pub mod frames;
 pub mod pools;
 pub mod refusals;
 pub mod slices;
+pub mod steps;
 pub mod values;
