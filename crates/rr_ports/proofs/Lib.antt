@@ -15,6 +15,7 @@ pub mod FactLaws
 pub mod Asking
 pub mod Payloads
 pub mod PortReleases
+mod Refusing
 pub mod ReleaseLaws
 pub mod GainLaws
 pub mod LoanLaws

@@ -144,7 +144,8 @@ impl<QB: Body> PendingResponse<QB> {
     ///
     /// # Errors
     ///
-    /// - `ExceedsMaxBorrows` if every queue that has a response is at its borrow limit. The hub stays as it was.
+    /// - `ExceedsMaxBorrows` if every queue that has a response is at its borrow limit. The hub stays as it was. Not if fewer other
+    ///   handles of the client live (`few_borrows`).
     #[inline(always)]
     pub fn receive<QH: Default + Drop, PB: Body, PH: Default + Drop, K: BackpressureFn>(
         &self,

@@ -78,8 +78,10 @@ impl<QB: Body> RequestMut<QB> {
     /// # Errors
     ///
     /// An error releases the request, and no queue has it.
-    /// - `ExceedsMaxActiveRequests` if the client has as many pending responses as it may.
-    /// - `SendError(UnableToDeliver)` if the queue to some server is full, may not overflow, and is not passed over.
+    /// - `ExceedsMaxActiveRequests` if the client has as many pending responses as it may. Not if fewer of its other handles live
+    ///   (`few_active`).
+    /// - `SendError(UnableToDeliver)` if the queue to some server is full, may not overflow, and is not passed over. Not if the client
+    ///   discards at full queues (`discards`).
     #[inline(always)]
     pub fn send<QH: Default + Drop, PB: Body, PH: Default + Drop, K: BackpressureFn>(
         self,

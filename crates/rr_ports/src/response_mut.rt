@@ -77,7 +77,8 @@ impl<PB: Body> ResponseMut<PB> {
     /// # Errors
     ///
     /// - `UnableToDeliver` if the queue to the request is full, may not overflow, and is not passed over. The response is released,
-    ///   and the queue stays.
+    ///   and the queue stays. Not if the server discards at full queues (`discards`), or the request awaits nothing (`delivered`) or
+    ///   less than its buffer takes (`room`).
     #[inline(always)]
     pub fn send<QB: Body, QH: Default + Drop, PH: Default + Drop, K: BackpressureFn>(
         self,

@@ -122,7 +122,7 @@ impl<PB: Body> Server<PB> {
     /// # Errors
     ///
     /// - `ExceedsMaxBorrows` if every queue that has a request is at its borrow limit. Requests that were dropped stay dropped, and
-    ///   nothing else changes.
+    ///   nothing else changes. Not if fewer handles of the server live than it may have active requests of a client (`few_borrows`).
     #[inline(always)]
     pub fn receive<QB: Body, QH: Default + Drop, PH: Default + Drop, K: BackpressureFn>(
         &self,

@@ -1,10 +1,11 @@
 //! Sends that give the message back where they are refused.
 #![tactic(auto, using(crate::proofs::Asking::asks, crate::proofs::Unchanged::unchanged), unfolding(crate::specs::Facts::Has, crate::specs::Facts::numbers_left))]
 
-ghost use Rattle.std.specs.Prelude.{◌∷◌, ◌<◌, ◌≡◌, ◌++◌, [], false, IfErr, IfOk, IsOk, List, OnOk, Ok, Some, length, suc, true, ℕ};
+ghost use Rattle.std.specs.Prelude.{◌∷◌, ◌<◌, ◌≡◌, ◌≢◌, ◌++◌, [], false, IfErr, IfOk, IsOk, List, OnOk, Ok, Some, length, suc, true, ℕ};
 ghost use Rattle.rr_protocol.specs.declared.kind.Kind.TheVariants as kind;
-ghost use Rattle.rr_ports.specs.Facts.{Answers, Asks, Buffers, Has, Keeps, Names, Of, numbers_left};
-ghost use Rattle.rr_ports.specs.Owning.{KeepsOwned, Owns};
+ghost use Rattle.rr_protocol.specs.declared.error.SendError.TheVariants as send;
+ghost use Rattle.rr_ports.specs.Facts.{Answers, Asks, Buffers, Discards, Has, Keeps, Names, Of, numbers_left};
+ghost use Rattle.rr_ports.specs.Owning.{IsBelow, KeepsOwned, Owns};
 ghost use Rattle.rr_ports.specs.Queues.{Awaits, AwaitsNothing, Hears, HearsNothing, KeepsAwaited, KeepsHeard};
 ghost use Rattle.rr_ports.specs.Sending.{SendsPending};
 ghost use Rattle.rr_protocol.specs.Sends.{SendsResponse, is_response_refused, request_send_refusal};
@@ -18,6 +19,30 @@ use rr_hub::{BackpressureFn, RequestSendError, SendError};
 use rr_slots::Body;
 
 /// A message that was not sent, and why. It can be sent again, or released. Not in iceoryx2, whose refused sends drop the message.
+///
+/// # Examples
+///
+/// Sends a request, and returns it if it could not be sent yet (`rr_uses::keeping`):
+///
+/// ```
+/// fn posed(
+///     hub: &mut Service,
+///     request: RequestMut<u64>,
+/// ) -> Result<PendingResponse<u64>, RequestMut<u64>>
+///     requires { Names hub.old request kind.RequestMut }
+///     ensures sent { IfOk result (λ pending. Names hub.new pending kind.PendingResponse) }
+///     ensures kept { IfErr result (λ kept. Names hub.new kept kind.RequestMut) }
+///     ensures keeps { Keeps (request ∷ []) hub.old hub.new }
+/// {
+///     match request.try_send(hub) {
+///         Ok(pending) => Ok(pending),
+///         Err(refused) => {
+///             let Refused { message, error: _ } = refused;
+///             Err(message)
+///         }
+///     }
+/// }
+/// ```
 #[must_use]
 pub struct Refused<M, E> {
     /// The message, as it was written.
@@ -44,7 +69,8 @@ impl<QB: Body> RequestMut<QB> {
     ///
     /// # Errors
     ///
-    /// An error leaves the hub as it was; `message` is the request, and `error` as `send`.
+    /// An error leaves the hub as it was; `message` is the request, and `error` as `send`. None comes where none comes of `send`
+    /// (`discards`, `few_active`, `sure`).
     #[inline(always)]
     pub fn try_send<QH: Default + Drop, PB: Body, PH: Default + Drop, K: BackpressureFn>(
         self,
@@ -64,9 +90,14 @@ impl<QB: Body> RequestMut<QB> {
         ensures awaits { IfOk result (λ pending. AwaitsNothing hub.new pending) }
         ensures awaited { (port request : ℕ) → Has hub.old self (Of port request) → Names hub.old port kind.Client → KeepsAwaited (self ∷ []) hub.old hub.new }
         ensures heard { IfErr result (λ refused. KeepsHeard [] hub.old hub.new) }
+        ensures awaited_err { IfErr result (λ refused. KeepsAwaited [] hub.old hub.new) }
         ensures buffers { (port room : ℕ) → Has hub.old port (Buffers room) → IfOk result (λ pending. Has hub.new pending (Buffers room)) }
+        ensures discards { (port request : ℕ) → Has hub.old self (Of port request) → Has hub.old port Discards → IfErr result (λ refused. refused.error ≢ RequestSendError.SendError send.UnableToDeliver) }
         ensures owned { KeepsOwned [] hub.old hub.new }
+        ensures few_active { (port request most : ℕ) → Has hub.old self (Of port request) → Owns hub.old port (suc most) → IsBelow most hub.old.limits.max_active_requests_per_client → IfErr result (λ refused. refused.error ≢ RequestSendError.ExceedsMaxActiveRequests) }
+        ensures sure { (port request : ℕ) → Has hub.old self (Of port request) → Has hub.old port Discards → Owns hub.old port 1 → IsOk result }
     {
+        hub.core.reached();
         if let Some(error) = self.send_refusal(hub) {
             return Err(Refused {
                 message: self,
@@ -98,7 +129,8 @@ impl<PB: Body> ResponseMut<PB> {
     ///
     /// # Errors
     ///
-    /// An error leaves the hub as it was; `message` is the response, and `error` is `UnableToDeliver`, as of `send`.
+    /// An error leaves the hub as it was; `message` is the response, and `error` is `UnableToDeliver`, as of `send`. None comes where
+    /// none comes of `send` (`delivered`, `room`, `discards`).
     ///
     /// # Examples
     ///
@@ -136,9 +168,15 @@ impl<PB: Body> ResponseMut<PB> {
         ensures next { (server pending : ℕ) (answers : List (List PB.Item)) (xs : List PB.Item) → Has hub.old self (Of server pending) → Names hub.old server kind.Server → Has hub.old self (Answers xs) → Awaits hub.old pending server answers → length answers < hub.old.limits.max_response_buffer_size → OnOk result (Awaits hub.new pending server (answers ++ xs ∷ [])) }
         ensures heard { (port request : ℕ) → Has hub.old self (Of port request) → Names hub.old port kind.Server → KeepsHeard (self ∷ []) hub.old hub.new }
         ensures awaited { (server pending : ℕ) → Has hub.old self (Of server pending) → Names hub.old server kind.Server → KeepsAwaited (self ∷ pending ∷ []) hub.old hub.new }
+        ensures heard_err { IfErr result (λ refused. KeepsHeard [] hub.old hub.new) }
+        ensures awaited_err { IfErr result (λ refused. KeepsAwaited [] hub.old hub.new) }
+        ensures delivered { (server pending : ℕ) → Has hub.old self (Of server pending) → AwaitsNothing hub.old pending → IsOk result }
+        ensures room { (server pending : ℕ) (answers : List (List PB.Item)) → Has hub.old self (Of server pending) → Awaits hub.old pending server answers → length answers < hub.old.limits.max_response_buffer_size → IsOk result }
+        ensures discards { (port request : ℕ) → Has hub.old self (Of port request) → Has hub.old port Discards → IsOk result }
         ensures owned { KeepsOwned [] hub.old hub.new }
         ensures frees { (port request most : ℕ) → Has hub.old self (Of port request) → Owns hub.old port (suc most) → OnOk result (Owns hub.new port most) }
     {
+        hub.core.reached();
         if self.is_refused(hub) {
             return Err(Refused {
                 message: self,

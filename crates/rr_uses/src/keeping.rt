@@ -1,12 +1,12 @@
 //! Sends that give the message back where they are refused.
 #![tactic(auto, using(rr_ports::proofs::Frames::callers), unfolding(rr_ports::specs::Facts::Keeps, rr_ports::specs::Facts::IsFree))]
 
-ghost use Rattle.std.specs.Prelude.{◌<◌, ◌≤◌, ◌+◌, ◌≡◌, ◌∷◌, [], IfSome};
+ghost use Rattle.std.specs.Prelude.{◌<◌, ◌≤◌, ◌+◌, ◌≡◌, ◌∷◌, [], IfErr, IfOk, IfSome, List, ℕ};
 ghost use Rattle.rr_protocol.specs.declared.kind.Kind.TheVariants as kind;
-ghost use Rattle.rr_ports.specs.Facts.{IsFree, Keeps, Names, numbers_left};
+ghost use Rattle.rr_ports.specs.Facts.{Asks, Has, IsFree, Keeps, Names, numbers_left};
 
 use rr_ports::Refused;
-use rr_ports::typed::{ActiveRequest, Hub, ResponseMut};
+use rr_ports::typed::{ActiveRequest, Hub, PendingResponse, RequestMut, ResponseMut};
 
 /// A service that answers numbers with numbers.
 type Service = Hub<u64, u64, u64, u64>;
@@ -44,6 +44,29 @@ pub fn offered_again(hub: &mut Service, response: ResponseMut<u64>) -> Option<Re
         Err(refused) => {
             let Refused { message, error: _ } = refused;
             Some(message)
+        }
+    }
+}
+
+/// Sends a request. Returns it with what it says if it could not be sent yet.
+pub fn posed(
+    hub: &mut Service,
+    request: RequestMut<u64>,
+) -> Result<PendingResponse<u64>, RequestMut<u64>>
+    requires { Names hub.old request kind.RequestMut }
+    ensures sent { IfOk result (λ pending. Names hub.new pending kind.PendingResponse) }
+    ensures kept { IfErr result (λ kept. Names hub.new kept kind.RequestMut) }
+    ensures free { IfOk result (λ pending. IsFree (request ∷ []) hub.old pending) }
+    ensures same { IfErr result (λ kept. kept ≡ request) }
+    ensures says { (xs : List ℕ) → Has hub.old request (Asks xs) → IfErr result (λ kept. Has hub.new kept (Asks xs)) }
+    ensures keeps { Keeps (request ∷ []) hub.old hub.new }
+    ensures numbers { numbers_left hub.new ≡ numbers_left hub.old }
+{
+    match request.try_send(hub) {
+        Ok(pending) => Ok(pending),
+        Err(refused) => {
+            let Refused { message, error: _ } = refused;
+            Err(message)
         }
     }
 }

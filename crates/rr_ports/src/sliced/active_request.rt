@@ -26,7 +26,8 @@ impl<QB: Body> ActiveRequest<QB> {
     ///
     /// An error leaves the hub as it was.
     /// - `ExceedsMaxLoanSize` if the slice is longer than a static pool has room for.
-    /// - `ExceedsMaxLoans` if the active request, or its server, has as many responses on loan as it may.
+    /// - `ExceedsMaxLoans` if the active request, or its server, has as many responses on loan as it may. Not if it is the one handle
+    ///   of its server that lives (`few_loans`).
     /// - `OutOfMemory` if the server's live responses fill its pool, or a longer slice found no memory. Up to the initial slice length a pool of the
     ///   worst-case size never returns it.
     #[inline(always)]
@@ -102,6 +103,9 @@ impl<QB: Body> ActiveRequest<QB> {
     /// - `LoanError(..)` as `loan_slice_uninit`: up to the initial slice length a pool of the worst-case size never returns
     ///   `OutOfMemory`. The hub stays as it was.
     /// - `UnableToDeliver` as `ResponseMut::send`. The response is gone, and the queue stays.
+    ///
+    /// None comes if the pool is whole, the server discards at full queues or the request awaits nothing, and the request is the
+    /// one handle of its server that lives (`sure`, `sure_first`).
     #[inline(always)]
     pub fn send_slice<QH: Default + Drop, T: Copy, PH: Default + Drop, K: BackpressureFn>(
         &self,

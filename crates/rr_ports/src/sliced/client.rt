@@ -29,7 +29,7 @@ impl<T: Drop> Client<SliceBody<T>> {
     ///
     /// An error leaves the hub as it was.
     /// - `ExceedsMaxLoanSize` if the slice is longer than a static pool has room for.
-    /// - `ExceedsMaxLoans` if the client has as many requests on loan as it may.
+    /// - `ExceedsMaxLoans` if the client has as many requests on loan as it may. Not if fewer of its handles live (`few_loans`).
     /// - `OutOfMemory` if the client's live requests fill its pool, or a longer slice found no memory. Up to the initial slice length a pool of the
     ///   worst-case size never returns it.
     #[inline(always)]
@@ -124,6 +124,8 @@ impl<T: Copy> Client<SliceBody<T>> {
     /// - `SendError(LoanError(..))` as `loan_slice_uninit`: up to the initial slice length a pool of the worst-case size never
     ///   returns `OutOfMemory`. The hub stays as it was.
     /// - `ExceedsMaxActiveRequests` and `SendError(UnableToDeliver)` as `RequestMut::send`. The request is gone.
+    ///
+    /// None comes if the pool is whole, the client discards at full queues and none of its handles lives (`sure`).
     #[inline(always)]
     pub fn send_slice<QH: Default + Drop, PB: Body, PH: Default + Drop, K: BackpressureFn>(
         &self,

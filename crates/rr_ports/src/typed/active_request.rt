@@ -25,7 +25,8 @@ impl<QB: Body> ActiveRequest<QB> {
     /// # Errors
     ///
     /// An error leaves the hub as it was.
-    /// - `ExceedsMaxLoans` if the active request, or its server, has as many responses on loan as it may.
+    /// - `ExceedsMaxLoans` if the active request, or its server, has as many responses on loan as it may. Not if it is the one handle
+    ///   of its server that lives (`few_loans`).
     /// - `OutOfMemory` if the server's live responses fill its pool. A pool of the worst-case size never returns it.
     #[inline(always)]
     pub fn loan_uninit<QH: Default + Drop, T: Drop, PH: Default + Drop, K: BackpressureFn>(
@@ -98,6 +99,9 @@ impl<QB: Body> ActiveRequest<QB> {
     /// - `LoanError(..)` as `loan_uninit`: a pool of the worst-case size never returns `OutOfMemory`. The hub stays as it was, and
     ///   the value is dropped.
     /// - `UnableToDeliver` as `ResponseMut::send`. The response is gone, and the queue stays.
+    ///
+    /// None comes if the pool is whole, the server discards at full queues or the request awaits nothing, and the request is the
+    /// one handle of its server that lives (`sure`, `sure_first`).
     #[inline(always)]
     pub fn send_copy<QH: Default + Drop, T: Drop, PH: Default + Drop, K: BackpressureFn>(
         &self,

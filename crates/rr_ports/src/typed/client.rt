@@ -28,7 +28,7 @@ impl<T: Drop> Client<Option<T>> {
     /// # Errors
     ///
     /// An error leaves the hub as it was.
-    /// - `ExceedsMaxLoans` if the client has as many requests on loan as it may.
+    /// - `ExceedsMaxLoans` if the client has as many requests on loan as it may. Not if fewer of its handles live (`few_loans`).
     /// - `OutOfMemory` if the client's live requests fill its pool. A pool of the worst-case size never returns it.
     #[inline(always)]
     pub fn loan_uninit<QH: Default + Drop, PB: Body, PH: Default + Drop, K: BackpressureFn>(
@@ -102,6 +102,8 @@ impl<T: Drop> Client<Option<T>> {
     /// - `SendError(LoanError(..))` as `loan_uninit`: a pool of the worst-case size never returns `OutOfMemory`. The hub stays as it
     ///   was, and the value is dropped.
     /// - `ExceedsMaxActiveRequests` and `SendError(UnableToDeliver)` as `RequestMut::send`. The request is gone.
+    ///
+    /// None comes if the pool is whole, the client discards at full queues and none of its handles lives (`sure`).
     #[inline(always)]
     pub fn send_copy<QH: Default + Drop, PB: Body, PH: Default + Drop, K: BackpressureFn>(
         &self,

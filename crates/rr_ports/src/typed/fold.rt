@@ -6,6 +6,7 @@ ghost use Rattle.std.specs.List.{FoldsTo};
 ghost use Rattle.rr_protocol.specs.declared.kind.Kind.TheVariants as kind;
 ghost use Rattle.rr_ports.specs.Draining.{Drains, FoldsOne};
 ghost use Rattle.rr_ports.specs.Facts.{Asks, Has, Keeps, Names, Of, numbers_left};
+ghost use Rattle.rr_ports.specs.Owning.{KeepsOwned};
 ghost use Rattle.rr_ports.specs.Queues.{Awaits, AwaitsNothing, Hears, HearsNothing, KeepsAwaited, KeepsHeard};
 ghost use Rattle.rr_ports.specs.Shortcuts.{HearsCopy, ReceivesCopy};
 
@@ -40,6 +41,7 @@ impl<QB: Body> PendingResponse<QB> {
         ensures answers { (client request server : ℕ) (answers : List T) → Has hub.old self.now (Of client request) → Names hub.old client kind.Client → Awaits hub.old self.now server (map (λ x. x ∷ []) answers) → length answers < 2 ^ 64 - 1 → IfOk result (λ folded. (last : F) × FoldsTo (FoldsOne F.FnMut) (f, init) answers (last, folded) × AwaitsNothing hub.new self.now) }
         ensures heard { (client request : ℕ) → Has hub.old self.now (Of client request) → Names hub.old client kind.Client → KeepsHeard [] hub.old hub.new }
         ensures awaited { (client request : ℕ) → Has hub.old self.now (Of client request) → Names hub.old client kind.Client → KeepsAwaited (self.now ∷ []) hub.old hub.new }
+        ensures owned { (port request : ℕ) → Has hub.old self.now (Of port request) → KeepsOwned [] hub.old hub.new }
     {
         let mut folded = init;
         for _count in 0..u64::MAX {
@@ -81,6 +83,7 @@ impl<PB: Body> Server<PB> {
         ensures asks { (pending : ℕ) (value : T) → Hears hub.old self.now pending → Has hub.old pending (Asks (value ∷ [])) → 0 < numbers_left hub.old → IfOk result (λ folded. (last : F) × FoldsOne F.FnMut (f, init) value (last, folded) × HearsNothing hub.new self.now) }
         ensures heard { KeepsHeard (self.now ∷ []) hub.old hub.new }
         ensures awaited { KeepsAwaited [] hub.old hub.new }
+        ensures owned { KeepsOwned [] hub.old hub.new }
     {
         let mut folded = init;
         for _count in 0..hub.numbers_left() {

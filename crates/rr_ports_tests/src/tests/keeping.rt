@@ -1,14 +1,16 @@
 //! Sends that give the message back where they are refused.
 #![tactic(auto, using(rr_ports::proofs::Frames::callers), unfolding(rr_ports::specs::Facts::Keeps, rr_ports::specs::Facts::IsFree))]
 
-ghost use Rattle.std.specs.Prelude.{◌<◌, ◌∷◌, []};
+ghost use Rattle.std.specs.Prelude.{◌<◌, ◌∷◌, ◌≡◌, [], IfSome};
 ghost use Rattle.rr_protocol.specs.declared.kind.Kind.TheVariants as kind;
 ghost use Rattle.rr_ports.specs.Facts.{Keeps, Names, numbers_left};
 
 use super::LIMITS;
-use rr_ports::typed::{ActiveRequest, Client, Hub, PendingResponse, ResponseMut, Server};
+use rr_ports::typed::{
+    ActiveRequest, Client, Hub, PendingResponse, RequestMut, ResponseMut, Server,
+};
 use rr_ports::{BackpressureStrategy, Limits, RequestSendError, UniqueNodeId};
-use rr_uses::keeping::{offered, offered_again};
+use rr_uses::keeping::{offered, offered_again, posed};
 
 /// A service that answers numbers with numbers.
 type Service = Hub<u64, u64, u64, u64>;
@@ -101,4 +103,98 @@ fn a_refused_response_is_given_back(rt: HostRuntime) {
     client.release(&mut hub);
     server.release(&mut hub);
     assert_eq!(rt; came, Ok((Some(10), Some(11), None)));
+}
+
+/// Sends a request, and releases it. Returns it if it could not be sent yet.
+fn posed_or_kept(hub: &mut Service, request: RequestMut<u64>) -> Option<RequestMut<u64>>
+    requires { Names hub.old request kind.RequestMut }
+    ensures kind { IfSome result (λ kept. Names hub.new kept kind.RequestMut) }
+    ensures same { IfSome result (λ kept. kept ≡ request) }
+    ensures keeps { Keeps (request ∷ []) hub.old hub.new }
+    ensures numbers { numbers_left hub.new ≡ numbers_left hub.old }
+{
+    match posed(hub, request) {
+        Ok(pending) => {
+            pending.release(hub);
+            None
+        }
+        Err(kept) => Some(kept),
+    }
+}
+
+/// Sends a request, and returns what the server hears.
+fn heard(hub: &mut Service, server: &Server<u64>, request: RequestMut<u64>) -> Option<u64>
+    requires server { Names hub.old server.now kind.Server }
+    requires request { Names hub.old request kind.RequestMut }
+    requires numbers { 0 < numbers_left hub.old }
+    ensures { Keeps (request ∷ []) hub.old hub.new }
+{
+    match posed(hub, request) {
+        Ok(pending) => {
+            let heard = server.receive_copy(hub).unwrap_or(None);
+            pending.release(hub);
+            heard
+        }
+        Err(kept) => {
+            kept.release(hub);
+            None
+        }
+    }
+}
+
+/// Sends a request beside one that is active, and again once that is released. Returns what the server hears.
+fn heard_at_last(
+    hub: &mut Service,
+    server: &Server<u64>,
+    first: PendingResponse<u64>,
+    request: RequestMut<u64>,
+) -> Option<u64>
+    requires server { Names hub.old server.now kind.Server }
+    requires first { Names hub.old first kind.PendingResponse }
+    requires request { Names hub.old request kind.RequestMut }
+    requires numbers { 0 < numbers_left hub.old }
+    ensures { Keeps (first ∷ request ∷ []) hub.old hub.new }
+{
+    let kept = posed_or_kept(hub, request);
+    first.release(hub);
+    match kept {
+        Some(request) => heard(hub, server, request),
+        None => None,
+    }
+}
+
+/// Asks twice, and returns what the server hears.
+fn asked_twice(hub: &mut Service, client: &Client<u64>, server: &Server<u64>) -> Option<u64>
+    requires client { Names hub.old client.now kind.Client }
+    requires server { Names hub.old server.now kind.Server }
+    requires numbers { 2 < numbers_left hub.old }
+    ensures { Keeps [] hub.old hub.new }
+{
+    let Ok(first) = client.send_copy(hub, 1) else {
+        return None;
+    };
+    match client.loan_uninit(hub) {
+        Ok(request) => {
+            let request = request.write_payload(hub, 2);
+            heard_at_last(hub, server, first, request)
+        }
+        Err(_) => {
+            first.release(hub);
+            None
+        }
+    }
+}
+
+/// A request beside as many as may be active is given back, and is received once it was sent again.
+#[test]
+fn a_refused_request_is_given_back(rt: HostRuntime) {
+    let mut hub = Service::new(rt.alloc(), Limits::SMALLEST, UniqueNodeId(7)).expect(&rt, "a hub");
+    let clients = hub.client_builder();
+    let client = clients.create(&mut hub).expect(&rt, "a client");
+    let servers = hub.server_builder();
+    let server = servers.create(&mut hub).expect(&rt, "a server");
+    let heard = asked_twice(&mut hub, &client, &server);
+    client.release(&mut hub);
+    server.release(&mut hub);
+    assert_eq!(rt; heard, Some(2));
 }
