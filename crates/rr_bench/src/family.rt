@@ -6,9 +6,10 @@ ghost use Rattle.rr_protocol.specs.declared.kind.Kind.TheVariants as kind;
 ghost use Rattle.rr_ports.specs.Facts.{IsFree, Keeps, Names, numbers_left};
 
 use crate::payload::Payload;
+use crate::trip_error::TripError;
 use rr_ports::{
     ActiveRequest, BackpressureStrategy, Client, ClientCreateError, LoanError, NoHandler,
-    PendingResponse, RequestMut, RequestSendError, Response, SendError, Server, ServerCreateError,
+    PendingResponse, RequestMut, RequestSendError, SendError, Server, ServerCreateError,
 };
 use rr_slots::{Body, SliceBody};
 
@@ -73,9 +74,17 @@ pub trait Family: Body {
         ensures keeps { Keeps [] hub.old hub.new }
         ensures numbers { numbers_left hub.old ≤ numbers_left hub.new + 1 };
 
-    /// Returns the last word of a response. Returns `None` if it has no elements.
-    fn word_answered(hub: &Hub<Self>, response: &Response<Self>) -> Option<u64>
-        requires { Names hub.now response.now kind.Response };
+    /// Receives a response, and returns its last word.
+    ///
+    /// # Errors
+    ///
+    /// - `NothingCame` if none is queued.
+    /// - `NoElements` if it has none.
+    /// - `ReceiveError` as the receive.
+    fn conclude(hub: &mut Hub<Self>, pending: &PendingResponse<Self>) -> Result<u64, TripError>
+        requires { Names hub.old pending.now kind.PendingResponse }
+        ensures keeps { Keeps [] hub.old hub.new }
+        ensures numbers { numbers_left hub.new ≡ numbers_left hub.old };
 }
 
 impl<T: Payload> Family for Option<T> {
@@ -128,8 +137,16 @@ impl<T: Payload> Family for Option<T> {
     }
 
     #[inline(always)]
-    fn word_answered(hub: &Hub<Self>, response: &Response<Self>) -> Option<u64> {
-        Some(response.payload(hub).last_word())
+    fn conclude(hub: &mut Hub<Self>, pending: &PendingResponse<Self>) -> Result<u64, TripError> {
+        let Some(response) = pending.receive(hub)? else {
+            return Err(TripError::NothingCame);
+        };
+        if T::is_taken() {
+            return Ok(response.into_payload(hub).last_word());
+        }
+        let word = response.payload(hub).last_word();
+        response.release(hub);
+        Ok(word)
     }
 }
 
@@ -188,7 +205,15 @@ impl<T: Payload + Copy> Family for SliceBody<T> {
     }
 
     #[inline(always)]
-    fn word_answered(hub: &Hub<Self>, response: &Response<Self>) -> Option<u64> {
-        Some(response.payload(hub).last()?.last_word())
+    fn conclude(hub: &mut Hub<Self>, pending: &PendingResponse<Self>) -> Result<u64, TripError> {
+        let Some(response) = pending.receive(hub)? else {
+            return Err(TripError::NothingCame);
+        };
+        let word = match response.payload(hub).last() {
+            Some(element) => Ok(element.last_word()),
+            None => Err(TripError::NoElements),
+        };
+        response.release(hub);
+        word
     }
 }

@@ -15,6 +15,9 @@ pub trait Payload: Drop {
     /// Returns the last word.
     fn last_word(&self) -> u64
         ensures { result ≡ last self.now };
+
+    /// Returns whether a receiver takes it out of its slot. A word is taken, and a page is read where it lies.
+    fn is_taken() -> bool;
 }
 
 impl Payload for u64 {
@@ -26,6 +29,11 @@ impl Payload for u64 {
 
     fn last_word(&self) -> u64 {
         *self
+    }
+
+    #[inline(always)]
+    fn is_taken() -> bool {
+        true
     }
 }
 
@@ -41,6 +49,11 @@ impl Payload for [u64; 512] {
     fn last_word(&self) -> u64 {
         self[511]
     }
+
+    #[inline(always)]
+    fn is_taken() -> bool {
+        false
+    }
 }
 
 impl Payload for [u64; 8192] {
@@ -54,5 +67,10 @@ impl Payload for [u64; 8192] {
 
     fn last_word(&self) -> u64 {
         self[8191]
+    }
+
+    #[inline(always)]
+    fn is_taken() -> bool {
+        false
     }
 }

@@ -45,21 +45,6 @@ fn answer<B: Family>(hub: &mut Hub<B>, server: &Server<B>, len: usize) -> Result
     Ok(())
 }
 
-/// Receives the response. Returns the word that came.
-#[inline(always)]
-fn conclude<B: Family>(hub: &mut Hub<B>, pending: &PendingResponse<B>) -> Result<u64, TripError>
-    requires { Names hub.old pending.now kind.PendingResponse }
-    ensures keeps { Keeps [] hub.old hub.new }
-    ensures numbers { numbers_left hub.new ≡ numbers_left hub.old }
-{
-    let Some(response) = pending.receive(hub)? else {
-        return Err(TripError::NothingCame);
-    };
-    let word = B::word_answered(hub, &response);
-    response.release(hub);
-    word.ok_or(TripError::NoElements)
-}
-
 /// Answers a request and receives the response. Returns the word that came.
 #[inline(always)]
 fn exchange<B: Family>(
@@ -74,7 +59,7 @@ fn exchange<B: Family>(
     ensures { Keeps [] hub.old hub.new }
 {
     answer(hub, server, len)?;
-    conclude(hub, pending)
+    B::conclude(hub, pending)
 }
 
 /// Makes a round trip with a word. Returns the word that came back.
