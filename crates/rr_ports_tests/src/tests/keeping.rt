@@ -188,7 +188,11 @@ fn asked_twice(hub: &mut Service, client: &Client<u64>, server: &Server<u64>) ->
 /// A request beside as many as may be active is given back, and is received once it was sent again.
 #[test]
 fn a_refused_request_is_given_back(rt: HostRuntime) {
-    let mut hub = Service::new(rt.alloc(), Limits::SMALLEST, UniqueNodeId(7)).expect(&rt, "a hub");
+    let limits = Limits {
+        enable_safe_overflow_for_requests: true,
+        ..Limits::SMALLEST
+    };
+    let mut hub = Service::new(rt.alloc(), limits, UniqueNodeId(7)).expect(&rt, "a hub");
     let clients = hub.client_builder();
     let client = clients.create(&mut hub).expect(&rt, "a client");
     let servers = hub.server_builder();
