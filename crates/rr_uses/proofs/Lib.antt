@@ -2,3 +2,4 @@ pub mod Hearing
 mod Singles
 pub mod Folding
 pub mod Making
+mod Zipped

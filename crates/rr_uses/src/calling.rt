@@ -10,8 +10,8 @@ use rr_ports::typed::{Client, Hub, PendingResponse, Server};
 use rr_ports::{ReceiveError, RequestSendError, SendError};
 use thiserror::Error;
 
-/// A service that answers numbers with numbers.
-type Service = Hub<u64, u64, u64, u64>;
+/// A service that answers questions of one type with answers of another. A crate that names it need not know its user headers.
+pub type Service<Q, P> = Hub<Q, u64, P, u64>;
 
 /// Why a call returned no answer.
 #[derive(Clone, Copy, Debug, PartialEq, Eq, Error)]
@@ -35,13 +35,13 @@ pub enum CallError {
 /// # Errors
 ///
 /// `NotHeard` as `Server::receive`, `NotAnswered` as `ActiveRequest::send_copy`.
-pub fn answer<F: FnOnce(u64) -> u64>(
-    hub: &mut Service,
-    server: &Server<u64>,
-    pending: &PendingResponse<u64>,
-    question: u64,
+pub fn answer<Q: Copy, P: Copy, F: FnOnce(Q) -> P>(
+    hub: &mut Service<Q, P>,
+    server: &Server<P>,
+    pending: &PendingResponse<Q>,
+    question: Q,
     answer_by: F,
-) -> Result<u64, CallError>
+) -> Result<P, CallError>
     requires server { Names hub.old server.now kind.Server }
     requires asks { Has hub.old pending.now (Asks (question ∷ [])) }
     requires hears { Hears hub.old server.now pending.now }
@@ -80,13 +80,13 @@ pub fn answer<F: FnOnce(u64) -> u64>(
 /// # Errors
 ///
 /// `NotReceived` as `PendingResponse::receive`.
-pub fn received(
-    hub: &mut Service,
-    client: &Client<u64>,
-    server: &Server<u64>,
-    pending: &PendingResponse<u64>,
-    answer: u64,
-) -> Result<u64, CallError>
+pub fn received<Q: Copy, P: Copy>(
+    hub: &mut Service<Q, P>,
+    client: &Client<Q>,
+    server: &Server<P>,
+    pending: &PendingResponse<Q>,
+    answer: P,
+) -> Result<P, CallError>
     requires client { Names hub.old client.now kind.Client }
     requires pending { Names hub.old pending.now kind.PendingResponse }
     requires of { Has hub.old pending.now (Of client.now pending.now) }
@@ -109,14 +109,14 @@ pub fn received(
 /// # Errors
 ///
 /// As `answer` and `received`.
-pub fn exchange<F: FnOnce(u64) -> u64>(
-    hub: &mut Service,
-    client: &Client<u64>,
-    server: &Server<u64>,
-    pending: &PendingResponse<u64>,
-    question: u64,
+pub fn exchange<Q: Copy, P: Copy, F: FnOnce(Q) -> P>(
+    hub: &mut Service<Q, P>,
+    client: &Client<Q>,
+    server: &Server<P>,
+    pending: &PendingResponse<Q>,
+    question: Q,
     answer_by: F,
-) -> Result<u64, CallError>
+) -> Result<P, CallError>
     requires client { Names hub.old client.now kind.Client }
     requires server { Names hub.old server.now kind.Server }
     requires pending { Names hub.old pending.now kind.PendingResponse }
@@ -145,13 +145,13 @@ pub fn exchange<F: FnOnce(u64) -> u64>(
 /// # Errors
 ///
 /// Each variant of `CallError` says when it comes.
-pub fn call<F: FnOnce(u64) -> u64>(
-    hub: &mut Service,
-    client: &Client<u64>,
-    server: &Server<u64>,
-    question: u64,
+pub fn call<Q: Copy, P: Copy, F: FnOnce(Q) -> P>(
+    hub: &mut Service<Q, P>,
+    client: &Client<Q>,
+    server: &Server<P>,
+    question: Q,
     answer_by: F,
-) -> Result<u64, CallError>
+) -> Result<P, CallError>
     requires client { Names hub.old client.now kind.Client }
     requires server { Names hub.old server.now kind.Server }
     requires quiet { HearsNothing hub.old server.now }
@@ -160,6 +160,7 @@ pub fn call<F: FnOnce(u64) -> u64>(
     ensures answers { IfOk result (λ answer. F.post answer_by question answer) }
     ensures quiet { IfOk result (λ answer. HearsNothing hub.new server.now) }
     ensures keeps { Keeps [] hub.old hub.new }
+    ensures numbers { numbers_left hub.old ≤ numbers_left hub.new + 3 }
 {
     let pending = client
         .send_copy(hub, question)
@@ -175,15 +176,15 @@ pub fn call<F: FnOnce(u64) -> u64>(
 /// # Errors
 ///
 /// Each variant of `CallError` says when it comes.
-pub fn call_both<F: FnOnce(u64) -> u64, G: FnOnce(u64) -> u64>(
-    hub: &mut Service,
-    client: &Client<u64>,
-    first: &Server<u64>,
-    second: &Server<u64>,
-    question: u64,
+pub fn call_both<Q: Copy, P: Copy, F: FnOnce(Q) -> P, G: FnOnce(Q) -> P>(
+    hub: &mut Service<Q, P>,
+    client: &Client<Q>,
+    first: &Server<P>,
+    second: &Server<P>,
+    question: Q,
     first_answers: F,
     second_answers: G,
-) -> Result<(u64, u64), CallError>
+) -> Result<(P, P), CallError>
     requires client { Names hub.old client.now kind.Client }
     requires first { Names hub.old first.now kind.Server }
     requires second { Names hub.old second.now kind.Server }

@@ -1,15 +1,16 @@
 //! A stream of answers to one request, which the client ends by a hint once it has enough.
 #![tactic(auto, using(rr_ports::proofs::Frames::callers), unfolding(rr_ports::specs::Facts::Keeps, rr_ports::specs::Facts::IsFree))]
 
-ghost use Rattle.std.specs.Prelude.{◌<◌, ◌≤◌, IfOk, []};
+ghost use Rattle.std.specs.Prelude.{◌≤◌, IfOk, []};
 ghost use Rattle.rr_protocol.specs.declared.kind.Kind.TheVariants as kind;
-ghost use Rattle.rr_ports.specs.Facts.{Keeps, Names, numbers_left};
+ghost use Rattle.rr_ports.specs.Facts.{Keeps, Names};
 
 use rr_ports::RequestSendError;
 use rr_ports::typed::{ActiveRequest, Client, Hub, PendingResponse, Server};
+use thiserror::Error;
 
 /// A service that answers numbers with numbers.
-type Service = Hub<u64, u64, u64, u64>;
+pub type Service = Hub<u64, u64, u64, u64>;
 
 /// Sends a number as the next response, unless the client wants no more or no number is left. Returns whether it was sent.
 fn is_sent(hub: &mut Service, active: &ActiveRequest<u64>, value: u64) -> bool
@@ -61,52 +62,87 @@ pub fn receive(hub: &mut Service, pending: &PendingResponse<u64>, wanted: u64) -
     0
 }
 
-/// Has the server send two responses and the client receive them, over and over, until the server sends none. Returns how many the
-/// client wants still.
+/// Why no stream began.
+#[derive(Clone, Copy, Debug, PartialEq, Eq, Error)]
+pub enum StreamError {
+    /// The request was not sent.
+    #[error("not asked: {0}")]
+    NotAsked(#[from] RequestSendError),
+    /// The server didn't receive the request.
+    #[error("not heard")]
+    NotHeard,
+    /// The hub has no numbers left for handles.
+    #[error("no numbers left")]
+    NoNumbersLeft,
+}
+
+/// How a stream went.
+#[derive(Clone, Copy, Debug, PartialEq, Eq)]
+pub struct Streamed {
+    /// How many responses the server sent.
+    pub sent: u64,
+    /// How many of them the client received.
+    pub came: u64,
+}
+
+/// Has the server send two responses and the client receive them, over and over, until the server sends none.
 fn take_turns(
     hub: &mut Service,
     active: &ActiveRequest<u64>,
     pending: &PendingResponse<u64>,
     wanted: u64,
-) -> u64
+) -> Streamed
     requires active { Names hub.old active.now kind.ActiveRequest }
     requires pending { Names hub.old pending.now kind.PendingResponse }
     ensures keeps { Keeps [] hub.old hub.new }
-    ensures wanted { result ≤ wanted }
+    ensures came { result.came ≤ wanted }
 {
+    let mut sent = 0_u64;
     let mut left = wanted;
     for _ in 0..wanted {
-        if answer(hub, active, 2) == 0 {
-            return left;
+        let more = answer(hub, active, 2);
+        if more == 0 {
+            return Streamed {
+                sent,
+                came: wanted - left,
+            };
         }
+        sent = sent.saturating_add(more);
         left = receive(hub, pending, left);
     }
-    left
+    Streamed {
+        sent,
+        came: wanted - left,
+    }
 }
 
-/// Asks a server for a stream of responses, and ends it once as many came as are wanted. Returns how many came.
+/// Asks a server for a stream of responses, and ends it once as many came as are wanted. Returns how many were sent, and how many
+/// came.
 ///
 /// # Errors
 ///
-/// As `Client::send_copy`.
+/// Each variant of `StreamError` says when it comes.
 pub fn stream(
     hub: &mut Service,
     client: &Client<u64>,
     server: &Server<u64>,
     wanted: u64,
-) -> Result<u64, RequestSendError>
+) -> Result<Streamed, StreamError>
     requires client { Names hub.old client.now kind.Client }
     requires server { Names hub.old server.now kind.Server }
-    requires numbers { 1 < numbers_left hub.old }
-    ensures { IfOk result (λ came. came ≤ wanted) }
+    ensures came { IfOk result (λ streamed. streamed.came ≤ wanted) }
+    ensures keeps { Keeps [] hub.old hub.new }
 {
+    if hub.numbers_left() < 2 {
+        return Err(StreamError::NoNumbersLeft);
+    }
     let pending = client.send_copy(hub, wanted)?;
     let Ok(Some(active)) = server.receive(hub) else {
         pending.release(hub);
-        return Ok(0);
+        return Err(StreamError::NotHeard);
     };
-    let left = take_turns(hub, &active, &pending, wanted);
+    let streamed = take_turns(hub, &active, &pending, wanted);
     active.release(hub);
     pending.release(hub);
-    Ok(wanted - left)
+    Ok(streamed)
 }

@@ -1,0 +1,88 @@
+//! A remote procedure call: a client asks a server to divide, and prints what comes back for each question.
+//!
+//! ```text
+//! 17 by 5: 3, remainder 2
+//! 17 by 0: the divisor is zero
+//! 144 by 12: 12, remainder 0
+//! ```
+//!
+//! `rr_uses::call_each` carries each question to the server and its answer back. Its contract says that the answers are what `divide`
+//! returned for the questions, in their order; or an error says which call was refused.
+#![tactic(auto, using(rr_ports::proofs::Frames::callers), unfolding(rr_ports::specs::Facts::Keeps, rr_ports::specs::Facts::IsFree))]
+
+use rr_ports::{Limits, UniqueNodeId};
+use rr_uses::calling::Service;
+use rr_uses::each::call_each;
+use thiserror::Error;
+
+/// What a client asks.
+#[derive(Clone, Copy, Debug)]
+struct Division {
+    dividend: u64,
+    divisor: u64,
+}
+
+/// What a server answers.
+#[derive(Clone, Copy, Debug)]
+struct Quotient {
+    quotient: u64,
+    remainder: u64,
+}
+
+/// Why a server has no quotient.
+#[derive(Clone, Copy, Debug, Error)]
+enum DivideError {
+    /// There is no number that the quotient could be.
+    #[error("the divisor is zero")]
+    DivisorIsZero,
+}
+
+/// Divides.
+fn divide(asked: Division) -> Result<Quotient, DivideError> {
+    if asked.divisor == 0 {
+        return Err(DivideError::DivisorIsZero);
+    }
+    Ok(Quotient {
+        quotient: asked.dividend / asked.divisor,
+        remainder: asked.dividend % asked.divisor,
+    })
+}
+
+fn main(rt: HostRuntime) -> anyhow::Result<()> {
+    let questions = [
+        Division {
+            dividend: 17,
+            divisor: 5,
+        },
+        Division {
+            dividend: 17,
+            divisor: 0,
+        },
+        Division {
+            dividend: 144,
+            divisor: 12,
+        },
+    ];
+    let mut hub = Service::new(rt.alloc(), Limits::SMALLEST, UniqueNodeId(0))?;
+    let client = hub.client_builder().create(&mut hub)?;
+    let answers = match hub.server_builder().create(&mut hub) {
+        Ok(server) => {
+            let ask = |asked: Division| divide(asked);
+            let answers = call_each(rt.alloc(), &mut hub, &client, &server, &questions, &ask);
+            server.release(&mut hub);
+            answers.map_err(anyhow::Error::from)
+        }
+        Err(error) => Err(anyhow::Error::from(error)),
+    };
+    client.release(&mut hub);
+    for (asked, answer) in questions.iter().zip(answers?.iter()) {
+        match answer {
+            Ok(told) => println!(rt;
+                "{} by {}: {}, remainder {}",
+                asked.dividend, asked.divisor, told.quotient, told.remainder
+            )?,
+            Err(error) => println!(rt; "{} by {}: {error}", asked.dividend, asked.divisor)?,
+        }
+    }
+    Ok(())
+}

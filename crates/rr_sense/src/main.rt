@@ -1,0 +1,39 @@
+//! A sensor: a client names channels, and a server streams frames, slices with a sample of each channel, which it writes in place.
+//!
+//! ```text
+//! frame 0: from 100 to 700
+//! frame 1: from 101 to 701
+//! frame 2: from 102 to 702
+//! ```
+//!
+//! `rr_uses::sensing::sense` sends the request, has the server send each frame and the client read it where it lies, and releases all
+//! handles. It needs ports of this hub, and promises that they are that still.
+#![tactic(auto, using(rr_ports::proofs::Frames::callers), unfolding(rr_ports::specs::Facts::Keeps, rr_ports::specs::Facts::IsFree))]
+
+use rr_ports::{Limits, UniqueNodeId};
+use rr_uses::sensing::{Service, sense};
+
+/// The channels that are measured.
+const CHANNELS: [u64; 3] = [2, 7, 1];
+
+fn main(rt: HostRuntime) -> anyhow::Result<()> {
+    let mut hub = Service::new(rt.alloc(), Limits::SMALLEST, UniqueNodeId(0))?;
+    let client = hub
+        .client_builder()
+        .initial_max_slice_len(CHANNELS.len())
+        .create(&mut hub)?;
+    let sensors = hub.server_builder().initial_max_slice_len(CHANNELS.len());
+    let frames = match sensors.create(&mut hub) {
+        Ok(server) => {
+            let frames = sense(rt.alloc(), &mut hub, &client, &server, &CHANNELS, 3);
+            server.release(&mut hub);
+            Ok(frames)
+        }
+        Err(error) => Err(error),
+    };
+    client.release(&mut hub);
+    for (time, frame) in frames??.iter().enumerate() {
+        println!(rt; "frame {time}: from {} to {}", frame.least, frame.most)?;
+    }
+    Ok(())
+}
