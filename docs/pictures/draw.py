@@ -58,13 +58,13 @@ POOL = [
 
 # Nanoseconds a round trip, the best of all samples (docs/DESIGN.md, "Speed").
 TIMES = [
-    ("8 bytes", 122),
-    ("slice of 8 bytes", 128),
-    ("slice of 4,096 bytes", 308),
-    ("4,096 bytes in one element", 752),
-    ("8 bytes, 64 servers", 1770),
-    ("slice of 65,536 bytes", 3539),
-    ("8 bytes, 1,000 clients", 4165),
+    ("8 bytes", 109),
+    ("slice of 8 bytes", 115),
+    ("slice of 4,096 bytes", 288),
+    ("4,096 bytes in one element", 668),
+    ("8 bytes, 64 servers", 1602),
+    ("8 bytes, 1,000 clients", 3232),
+    ("slice of 65,536 bytes", 3507),
 ]
 
 
