@@ -5,6 +5,23 @@ use rr_hub::{
 };
 
 /// Why a call of the ports was refused, whichever call it was. Not in iceoryx2, whose examples box the errors.
+///
+/// # Examples
+///
+/// Two calls with errors of two types (a test of `rr_ports_tests`):
+///
+/// ```
+/// fn told(hub: &mut Service, client: &Client<u64>, server: &Server<u64>) -> Result<u64, Error>
+///     requires client { Names hub.old client.now kind.Client }
+///     requires server { Names hub.old server.now kind.Server }
+///     requires numbers { 1 < numbers_left hub.old }
+///     ensures { Keeps [] hub.old hub.new }
+/// {
+///     client.tell(hub, 5)?;
+///     client.tell(hub, 6)?;
+///     Ok(server.fold_requests(hub, 0_u64, with_digit)?)
+/// }
+/// ```
 #[derive(Clone, Copy, Debug, PartialEq, Eq, thiserror::Error)]
 pub enum Error {
     /// No hub was made: a limit is 0, or a worst-case pool is past `usize::MAX`. From `Hub::new`.

@@ -62,6 +62,14 @@ impl<QB: Body, QH: Default + Drop, PB: Body, PH: Default + Drop, K: Backpressure
     }
 
     /// Returns the limits that the hub was made with. Not in iceoryx2, which has one getter for each.
+    ///
+    /// # Examples
+    ///
+    /// How many clients may be connected at one time:
+    ///
+    /// ```
+    /// let most = hub.limits().max_clients;
+    /// ```
     pub fn limits(&self) -> Limits
         ensures { result ≡ self.now.limits }
     {

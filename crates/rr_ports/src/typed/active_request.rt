@@ -102,6 +102,16 @@ impl<QB: Body> ActiveRequest<QB> {
     ///
     /// None comes if the pool is whole, the server discards at full queues or the request awaits nothing, and the request is the
     /// one handle of its server that lives (`sure`, `sure_first`).
+    ///
+    /// # Examples
+    ///
+    /// Answers with twice what was asked, and ends the request (`rr_hello`):
+    ///
+    /// ```
+    /// let asked = *active.payload(hub);
+    /// let _ = active.send_copy(hub, asked.wrapping_mul(2));
+    /// active.release(hub);
+    /// ```
     #[inline(always)]
     pub fn send_copy<QH: Default + Drop, T: Drop, PH: Default + Drop, K: BackpressureFn>(
         &self,

@@ -104,6 +104,15 @@ impl<T: Drop> Client<Option<T>> {
     /// - `ExceedsMaxActiveRequests` and `SendError(UnableToDeliver)` as `RequestMut::send`. The request is gone.
     ///
     /// None comes if the pool is whole, the client discards at full queues and none of its handles lives (`sure`).
+    ///
+    /// # Examples
+    ///
+    /// Sends a number, and waits for nothing (`rr_uses::telling`):
+    ///
+    /// ```
+    /// let pending = client.send_copy(hub, value)?;
+    /// pending.release(hub);
+    /// ```
     #[inline(always)]
     pub fn send_copy<QH: Default + Drop, PB: Body, PH: Default + Drop, K: BackpressureFn>(
         &self,
@@ -146,6 +155,15 @@ impl<T: Drop> Client<Option<T>> {
     /// # Errors
     ///
     /// As `send_copy`.
+    ///
+    /// # Examples
+    ///
+    /// Tells a server two numbers (a test of `rr_ports_tests`):
+    ///
+    /// ```
+    /// client.tell(hub, 5)?;
+    /// client.tell(hub, 6)?;
+    /// ```
     #[inline(always)]
     pub fn tell<QH: Default + Drop, PB: Body, PH: Default + Drop, K: BackpressureFn>(
         &self,
