@@ -24,7 +24,7 @@ pub const PARTS: u64 = MOST_SEATS + 2;
 
 /// A hub of numbers with the history of its calls. Contracts see its limits, its node id, the history and the number of seats made.
 ///
-/// Its history is a run of the message machine at every moment. Each call waits for nobody. Our own.
+/// Its history is a run of the message machine at every moment. Each call waits for nobody. Not in iceoryx2.
 #[derive(Drop)]
 pub struct Book<L: Ledger> {
     history: Vec<(HubCommand, HubReply)>,
@@ -154,8 +154,8 @@ impl<L: Ledger> Book<L> {
     /// Carries out a command, and returns its reply.
     ///
     /// The command and the reply are appended to the history, and with their place in it to the seat. If no memory is found for
-    /// them, or the runner finds none, returns `NoMemory`, and neither the book nor the seat has changed. Takes constant time beside
-    /// the command's own, but for the growth of both lists, which is amortised. Our own.
+    /// them, or the runner finds none, returns `NoMemory`, and neither the book nor the seat has changed. Takes constant time
+    /// beside the command's own, but for the growth of both lists, which is amortised. Not in iceoryx2.
     pub fn apply(&mut self, seat: &mut Seat<L>, command: HubCommand) -> HubReply
         ensures refused { result ≡ Reply.NoMemory → (self.new ≡ self.old) × (seat.new ≡ seat.old) }
         ensures book { result ≢ Reply.NoMemory → self.new ≡ record self.old { history = self.old.history ++ (command, result) ∷ [] } }

@@ -8,7 +8,7 @@ use std::sync::Wait;
 use std::sync::ledger::Ledger;
 
 /// Sends a number: as a request of a client, or as a response to an active request. Returns the number of the pending response, or
-/// of the response. Our own.
+/// of the response. Not in iceoryx2.
 ///
 /// # Errors
 ///
@@ -30,7 +30,7 @@ pub fn send_copy<L: Ledger, S: Submit<L>, R: Wait>(
 /// Receives by a server or a pending response until something comes. Returns the number of the active request or of the response.
 ///
 /// It reads the bell before each receive, so that one that rings between a receive and the wait after it isn't missed. A turn is
-/// one reading of the bell. Our own.
+/// one reading of the bell. Not in iceoryx2.
 ///
 /// # Errors
 ///
@@ -56,7 +56,7 @@ pub fn receive<L: Ledger, S: Submit<L>, R: Wait>(
     Err(WorkerError::GaveUp)
 }
 
-/// Returns the number that a message says. Our own.
+/// Returns the number that a message says. Not in iceoryx2.
 ///
 /// # Errors
 ///
@@ -78,7 +78,7 @@ pub fn payload<L: Ledger, S: Submit<L>, R: Wait>(
     }
 }
 
-/// Releases a handle or a port. Our own.
+/// Releases a handle or a port. Not in iceoryx2.
 ///
 /// # Errors
 ///
@@ -98,7 +98,7 @@ pub fn release<L: Ledger, S: Submit<L>, R: Wait>(
 
 /// Receives a response to a pending response, and releases both. Returns the number that it says.
 ///
-/// It waits as `receive` does. Our own.
+/// It waits as `receive` does. Not in iceoryx2.
 ///
 /// # Errors
 ///

@@ -14,7 +14,8 @@ use std::sync::{Mutex, Wait};
 
 /// A book under a lock, and beside it its opening. Contracts see its limits and its node id.
 ///
-/// Threads share it by reference; each takes a seat, and submits commands by it. A seat is used with the hub that made it. Our own.
+/// Threads share it by reference; each takes a seat, and submits commands by it. A seat is used with the hub that made it. Not in
+/// iceoryx2.
 #[derive(Drop)]
 pub struct LockedHub<L: Ledger> {
     pub(crate) inside: Mutex<Book<L>>,

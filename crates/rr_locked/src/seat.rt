@@ -9,7 +9,7 @@ use std::alloc::Global;
 use std::marker::Model;
 use std::sync::ledger::{Ledger, Share};
 
-/// One caller's right to submit commands to a hub, with the receipts of its calls. Contracts see the receipts. Our own.
+/// One caller's right to submit commands to a hub, with the receipts of its calls. Contracts see the receipts. Not in iceoryx2.
 #[derive(Drop)]
 pub struct Seat<L: Ledger> {
     pub(crate) receipts: Vec<Receipt>,

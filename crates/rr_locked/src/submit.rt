@@ -9,7 +9,7 @@ use rr_commands::Reply;
 use std::sync::Wait;
 use std::sync::ledger::Ledger;
 
-/// What takes commands from many threads. Workers are generic over it, so that each can be tried by itself. Our own.
+/// What takes commands from many threads. Workers are generic over it, so that each can be tried by itself. Not in iceoryx2.
 pub trait Submit<L: Ledger> {
     /// Carries out a command, and returns its reply: `NoMemory` with the seat unchanged, or the reply of the one receipt by which the
     /// seat grew. May wait for other threads.

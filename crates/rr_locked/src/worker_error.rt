@@ -14,7 +14,7 @@ pub enum WorkerError {
 }
 
 impl WorkerError {
-    /// Returns why a worker ends that got this reply in place of the one that it needs. Our own.
+    /// Returns why a worker ends that got this reply in place of the one that it needs. Not in iceoryx2.
     pub fn of(reply: &Reply<u64, u64>) -> Self {
         match reply {
             Reply::NoMemory => WorkerError::NoMemory,

@@ -19,7 +19,7 @@ pub struct Plan {
 /// Sends the numbers from 0 on as requests of a client, as many as the plan has rounds, each after the response to the one before
 /// was received and released. Returns the sum of the responses, modulo 2^64.
 ///
-/// It rings the server's bell after each request, and waits at the client's. Our own.
+/// It rings the server's bell after each request, and waits at the client's. Not in iceoryx2.
 ///
 /// # Errors
 ///
@@ -57,7 +57,7 @@ fn ask<L: Ledger, S: Submit<L>, R: Wait>(
 
 /// Answers as many requests of a server as the plan has rounds, each with the number after the one that was asked.
 ///
-/// It waits at the server's bell, and rings the client's after each response. Our own.
+/// It waits at the server's bell, and rings the client's after each response. Not in iceoryx2.
 ///
 /// # Errors
 ///

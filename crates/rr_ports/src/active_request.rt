@@ -129,7 +129,7 @@ impl<QB: Body> ActiveRequest<QB> {
     }
 
     /// Releases the active request. Its server will not answer it any more, but for responses that are on loan from it already.
-    /// After the drop of iceoryx2's `ActiveRequest`.
+    /// Replaces the `Drop` of iceoryx2's `ActiveRequest`.
     #[inline(always)]
     pub fn release<QH: Default + Drop, PB: Body, PH: Default + Drop, K: BackpressureFn>(
         self,

@@ -87,8 +87,8 @@ impl<QB: Body> Client<QB> {
         hub.core.client_backpressure_strategy(self.number)
     }
 
-    /// Releases the client. It stays connected as long as one of its handles lives, and leaves with the last of them. After the
-    /// drop of iceoryx2's `Client`.
+    /// Releases the client. It stays connected as long as one of its handles lives, and leaves with the last of them. Replaces the
+    /// `Drop` of iceoryx2's `Client`.
     #[inline(always)]
     pub fn release<QH: Default + Drop, PB: Body, PH: Default + Drop, K: BackpressureFn>(
         self,

@@ -6,7 +6,7 @@ use crate::hub::Hub;
 use rr_hub::BackpressureFn;
 use rr_slots::Body;
 
-/// A port or a handle: `Hub::holds` takes any. Our own.
+/// A port or a handle: `Hub::holds` takes any. Not in iceoryx2.
 pub trait Handle {
     ghost use Rattle.std.specs.Prelude.{ℕ};
     ghost use Rattle.rr_protocol.specs.declared.kind.Kind.{Kind};

@@ -38,7 +38,7 @@ impl<QB: Body, QH: Default + Drop, PB: Body, PH: Default + Drop, K: Backpressure
     PH,
     K,
 > {
-    /// Makes a hub without ports. Takes no memory. Our own.
+    /// Makes a hub without ports. Takes no memory. Not in iceoryx2.
     ///
     /// # Errors
     ///
@@ -54,7 +54,7 @@ impl<QB: Body, QH: Default + Drop, PB: Body, PH: Default + Drop, K: Backpressure
         }
     }
 
-    /// Returns how many numbers the hub can still give. Our own.
+    /// Returns how many numbers the hub can still give. Not in iceoryx2.
     pub fn numbers_left(&self) -> u64
         ensures { result ≡ numbers_left self.now }
     {
@@ -84,7 +84,7 @@ impl<QB: Body, QH: Default + Drop, PB: Body, PH: Default + Drop, K: Backpressure
     }
 
     /// Returns whether the hub has a port or a handle: its number names one of its kind here. A port or a handle of another hub
-    /// that agrees in both can't be told apart. Our own.
+    /// that agrees in both can't be told apart. Not in iceoryx2.
     pub fn holds<H: Handle>(&self, handle: &H) -> bool
         ensures { IsTrue result ↔ Names self.now (H.number handle.now) H.kind }
     {

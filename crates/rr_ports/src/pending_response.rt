@@ -175,8 +175,8 @@ impl<QB: Body> PendingResponse<QB> {
         response::received(hub.core.receive_response(&self.id))
     }
 
-    /// Releases the pending response. Responses that were not received go, and nobody waits for the request any more. After the
-    /// drop of iceoryx2's `PendingResponse`.
+    /// Releases the pending response. Responses that were not received go, and nobody waits for the request any more. Replaces the
+    /// `Drop` of iceoryx2's `PendingResponse`.
     #[inline(always)]
     pub fn release<QH: Default + Drop, PB: Body, PH: Default + Drop, K: BackpressureFn>(
         self,

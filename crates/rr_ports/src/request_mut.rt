@@ -61,7 +61,8 @@ impl<QB: Body> RequestMut<QB> {
         hub.core.request_user_header(&self.id)
     }
 
-    /// Returns whether a send would be taken by each queue that it reaches: no queue of a connected server that a send would reach is full, or full ones may overflow. Our own.
+    /// Returns whether a send would be taken by each queue that it reaches: no queue of a connected server that a send would reach
+    /// is full, or full ones may overflow. Not in iceoryx2.
     #[inline(always)]
     pub fn is_deliverable<QH: Default + Drop, PB: Body, PH: Default + Drop, K: BackpressureFn>(
         &self,
@@ -114,7 +115,7 @@ impl<QB: Body> RequestMut<QB> {
         })
     }
 
-    /// Releases the request, which is never sent. After the drop of iceoryx2's `RequestMut`.
+    /// Releases the request, which is never sent. Replaces the `Drop` of iceoryx2's `RequestMut`.
     #[inline(always)]
     pub fn release<QH: Default + Drop, PB: Body, PH: Default + Drop, K: BackpressureFn>(
         self,

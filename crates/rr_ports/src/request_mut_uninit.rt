@@ -92,7 +92,7 @@ impl<QB: Body> RequestMutUninit<QB> {
         hub.core.request_user_header(&self.id)
     }
 
-    /// Returns whether as many elements were written as were asked for. Our own.
+    /// Returns whether as many elements were written as were asked for. Not in iceoryx2.
     #[inline(always)]
     pub fn is_complete<QH: Default + Drop, PB: Body, PH: Default + Drop, K: BackpressureFn>(
         &self,
@@ -132,7 +132,7 @@ impl<QB: Body> RequestMutUninit<QB> {
         }
     }
 
-    /// Releases the request, which is never sent. After the drop of iceoryx2's `RequestMutUninit`.
+    /// Releases the request, which is never sent. Replaces the `Drop` of iceoryx2's `RequestMutUninit`.
     #[inline(always)]
     pub fn release<QH: Default + Drop, PB: Body, PH: Default + Drop, K: BackpressureFn>(
         self,

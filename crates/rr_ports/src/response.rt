@@ -86,7 +86,7 @@ impl<PB: Body> Response<PB> {
         hub.core.response_origin(&self.id)
     }
 
-    /// Releases the response. After the drop of iceoryx2's `Response`.
+    /// Releases the response. Replaces the `Drop` of iceoryx2's `Response`.
     #[inline(always)]
     pub fn release<QB: Body, QH: Default + Drop, PH: Default + Drop, K: BackpressureFn>(
         self,

@@ -58,7 +58,8 @@ impl<PB: Body> ResponseMut<PB> {
         hub.core.response_user_header(&self.id)
     }
 
-    /// Returns whether a send would be taken by each queue that it reaches: the queue that a send would reach, if there is one, is not full, or may overflow. Our own.
+    /// Returns whether a send would be taken by each queue that it reaches: the queue that a send would reach, if there is one, is
+    /// not full, or may overflow. Not in iceoryx2.
     #[inline(always)]
     pub fn is_deliverable<QB: Body, QH: Default + Drop, PH: Default + Drop, K: BackpressureFn>(
         &self,
@@ -104,7 +105,7 @@ impl<PB: Body> ResponseMut<PB> {
         hub.core.send_response(&id)
     }
 
-    /// Releases the response, which is never sent. After the drop of iceoryx2's `ResponseMut`.
+    /// Releases the response, which is never sent. Replaces the `Drop` of iceoryx2's `ResponseMut`.
     #[inline(always)]
     pub fn release<QB: Body, QH: Default + Drop, PH: Default + Drop, K: BackpressureFn>(
         self,

@@ -91,7 +91,7 @@ impl<PB: Body> ResponseMutUninit<PB> {
         hub.core.response_user_header(&self.id)
     }
 
-    /// Returns whether as many elements were written as were asked for. Our own.
+    /// Returns whether as many elements were written as were asked for. Not in iceoryx2.
     #[inline(always)]
     pub fn is_complete<QB: Body, QH: Default + Drop, PH: Default + Drop, K: BackpressureFn>(
         &self,
@@ -131,7 +131,7 @@ impl<PB: Body> ResponseMutUninit<PB> {
         }
     }
 
-    /// Releases the response, which is never sent. After the drop of iceoryx2's `ResponseMutUninit`.
+    /// Releases the response, which is never sent. Replaces the `Drop` of iceoryx2's `ResponseMutUninit`.
     #[inline(always)]
     pub fn release<QB: Body, QH: Default + Drop, PH: Default + Drop, K: BackpressureFn>(
         self,

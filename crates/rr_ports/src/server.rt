@@ -154,8 +154,8 @@ impl<PB: Body> Server<PB> {
         active_request::received(hub.core.receive_request(self.number))
     }
 
-    /// Releases the server. It stays connected as long as one of its handles lives, and leaves with the last of them. After the
-    /// drop of iceoryx2's `Server`.
+    /// Releases the server. It stays connected as long as one of its handles lives, and leaves with the last of them. Replaces the
+    /// `Drop` of iceoryx2's `Server`.
     #[inline(always)]
     pub fn release<QB: Body, QH: Default + Drop, PH: Default + Drop, K: BackpressureFn>(
         self,

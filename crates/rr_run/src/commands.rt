@@ -13,11 +13,11 @@ use rr_slots::Body;
 
 /// Carries out commands, one after another, and appends their replies. A refusal is a reply, and the next command follows.
 ///
-/// Replies and state are a run of the message machine. Whatever commands led to this state from a new hub, with these commands
-/// and their replies the answer rule holds: a response reaches only the request that it answers, at most once, and in the order
-/// in which its server sent it. No port then has more live messages than the worst case; a loan is answered `OutOfMemory` only
-/// where the live messages of its port fill the pool or a longer slice found no memory, and so never, up to the initial slice
-/// length, by a port that was created with a pool of the worst-case size. Our own: iceoryx2 has the calls alone.
+/// Replies and state are a run of the message machine. Whatever commands led to this state from a new hub, with these commands and
+/// their replies the answer rule holds: a response reaches only the request that it answers, at most once, and in the order in
+/// which its server sent it. No port then has more live messages than the worst case; a loan is answered `OutOfMemory` only where
+/// the live messages of its port fill the pool or a longer slice found no memory, and so never, up to the initial slice length, by
+/// a port that was created with a pool of the worst-case size. Not in iceoryx2: iceoryx2 has the calls alone.
 ///
 /// # Errors
 ///

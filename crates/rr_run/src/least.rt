@@ -33,10 +33,10 @@ pub enum LeastPoolError {
 /// Returns a list of commands and their replies, which shows whether a request pool of `n` slots is enough.
 ///
 /// They are a run of the typed machine with these limits. One client is created, with a pool of `n` slots, at least 1 and at most
-/// the worst case. Each server then holds as many of its requests as it may, and as many stand in the queue to it; as many wait
-/// for responses as may, and as many are on loan. A loan of the client is answered `OutOfMemory` exactly if `n` is below the
-/// worst case, `max_loaned_requests + max_active_requests_per_client * (1 + 2 * max_servers)`; that reply is then the last one.
-/// So no smaller pool is enough. Takes time in proportion to the commands. Our own.
+/// the worst case. Each server then holds as many of its requests as it may, and as many stand in the queue to it; as many wait for
+/// responses as may, and as many are on loan. A loan of the client is answered `OutOfMemory` exactly if `n` is below the worst
+/// case, `max_loaned_requests + max_active_requests_per_client * (1 + 2 * max_servers)`; that reply is then the last one. So no
+/// smaller pool is enough. Takes time in proportion to the commands. Not in iceoryx2.
 ///
 /// # Errors
 ///

@@ -26,7 +26,7 @@ pub(crate) struct Spot {
 /// one was lost because no memory was found for it. Calls walk over the rows of the core's table then.
 ///
 /// Each number has a spot, which it shares with others, and in which the handle that came last is looked for first: most are gone
-/// before a later one takes their spot. Our own.
+/// before a later one takes their spot. Not in iceoryx2.
 #[derive(Drop)]
 pub(crate) struct Places {
     spots: [Option<Spot>; SPOTS],

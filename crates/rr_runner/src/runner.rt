@@ -31,7 +31,7 @@ mod writes;
 
 /// A hub whose ports and handles are named by numbers. Contracts see the state of the message machine.
 ///
-/// It keeps a core, and where handles stood last. Our own: iceoryx2 has the calls alone.
+/// It keeps a core, and where handles stood last. Not in iceoryx2: iceoryx2 has the calls alone.
 #[derive(Drop)]
 pub struct Runner<T: Copy + Default, B: Body<Item = T>, H: Copy + Default, K: BackpressureFn> {
     alloc: Global,
@@ -81,7 +81,7 @@ impl<T: Copy + Default, B: Body<Item = T>, H: Copy + Default, K: BackpressureFn>
     /// Returns what a number names: a client or a server whose value lives, or a handle. Returns `None` if it names nothing.
     ///
     /// Looks at one place for a handle and takes O(log ports) for a port, unless a place was lost because no memory was found to
-    /// keep it. Our own.
+    /// keep it. Not in iceoryx2.
     pub fn kind(&self, number: u64) -> Option<Kind>
         ensures { result ≡ kind_at self.now number }
     {

@@ -11,7 +11,7 @@ use std::io::{BufRead, Write};
 /// number, from 0 to 2^64 - 1, read one line that makes a hub, and write the replies of `least_pool` for its limits and a pool of
 /// that number. 0 if all was done. Else one line goes to `faults`: 1 for a line that isn't one of the script's (`bad line L`), 2
 /// for a read or write that failed, 3 for other words, 4 if the hub or `least_pool` was refused or a buffer found no memory. What
-/// was written before stays. Our own.
+/// was written before stays. Not in iceoryx2.
 pub fn serve_alone<R: BufRead + Drop, W: Write, F: Write>(
     alloc: Global,
     words: &[String],

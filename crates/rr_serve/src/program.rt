@@ -19,7 +19,7 @@ const TURNS: u64 = 1_000_000_000;
 ///
 /// `threads` and a number of rounds, from 0 to 100000, let two threads at one hub send and answer so many requests, and write the
 /// sum of the answers; no input is read. All other words are those of `serve_alone`. Beside its statuses it returns 4 if a command
-/// of a worker found no memory, or a worker gave up. Our own.
+/// of a worker found no memory, or a worker gave up. Not in iceoryx2.
 pub fn serve<T: Threads + Wait + Sync, R: BufRead + Drop, W: Write, F: Write>(
     rt: &T,
     alloc: Global,

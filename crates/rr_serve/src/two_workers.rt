@@ -29,8 +29,8 @@ const LIMITS: Limits = Limits {
 /// Makes a hub with a client and a server, and lets a worker of each send and answer requests, each in its own thread. Returns the
 /// sum of the answers, modulo 2^64.
 ///
-/// The blank is to have `PARTS` parts, and is spent. Ports are created through a seat of the caller's own; all seats are handed
-/// to `finish`. Our own.
+/// The blank is to have `PARTS` parts, and is spent. Ports are created through a seat of the caller's own; all seats are handed to
+/// `finish`. Not in iceoryx2.
 ///
 /// # Errors
 ///

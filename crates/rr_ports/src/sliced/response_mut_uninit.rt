@@ -52,7 +52,8 @@ impl<T: Drop> ResponseMutUninit<SliceBody<T>> {
         hub.core.response_body(&self.id).as_slice()
     }
 
-    /// Returns how many elements the response asks for. Our own: the length of what iceoryx2's `ResponseMutUninit::payload` lends.
+    /// Returns how many elements the response asks for. Not in iceoryx2: the length of what iceoryx2's `ResponseMutUninit::payload`
+    /// lends.
     #[inline(always)]
     pub fn asked_len<QB: Body, QH: Default + Drop, PH: Default + Drop, K: BackpressureFn>(
         &self,
@@ -64,8 +65,8 @@ impl<T: Drop> ResponseMutUninit<SliceBody<T>> {
         hub.core.response_body(&self.id).asked_len()
     }
 
-    /// Appends an element to a payload that is not complete, which `is_complete` tests. Our own: it stands for writes through the
-    /// `MaybeUninit`s that iceoryx2's `ResponseMutUninit::payload_mut` lends.
+    /// Appends an element to a payload that is not complete, which `is_complete` tests. Not in iceoryx2: it stands for writes
+    /// through the `MaybeUninit`s that iceoryx2's `ResponseMutUninit::payload_mut` lends.
     #[inline(always)]
     pub fn push<QB: Body, QH: Default + Drop, PH: Default + Drop, K: BackpressureFn>(
         &self,
@@ -145,8 +146,8 @@ fn complete_response<QB: Body, QH: Default + Drop, T: Copy, PH: Default + Drop, 
 }
 
 impl<T: Copy> ResponseMutUninit<SliceBody<T>> {
-    /// Makes an element each of those that are asked for, and the response one that can be sent. Elements that were written before are
-    /// dropped. Our own: `write_from_fn` with a function that always returns this element.
+    /// Makes an element each of those that are asked for, and the response one that can be sent. Elements that were written before
+    /// are dropped. Not in iceoryx2: `write_from_fn` with a function that always returns this element.
     #[inline(always)]
     pub fn fill<QB: Body, QH: Default + Drop, PH: Default + Drop, K: BackpressureFn>(
         self,
