@@ -4,7 +4,7 @@ use std::alloc::AllocError;
 
 /// One call of a port or of a handle. The first number names which one.
 ///
-/// `T` is the type of an element, `H` that of a user header, and `K` that of a backpressure handler. Our own: iceoryx2 has
+/// `T` is the type of an element, `H` that of a user header, and `K` that of a backpressure handler. Not in iceoryx2, which has
 /// the calls alone.
 #[derive(Copy, Debug, PartialEq, Eq)]
 pub enum Command<T, H, K> {

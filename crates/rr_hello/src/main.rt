@@ -41,7 +41,7 @@ fn double(hub: &mut Service, client: &Client<u64>, server: &Server<u64>, value: 
 }
 
 fn main(rt: HostRuntime) -> anyhow::Result<()> {
-    let mut hub: Service = Hub::new(rt.alloc(), Limits::SMALLEST, UniqueNodeId(0))?;
+    let mut hub: Service = Hub::new(rt.alloc(), Limits::default(), UniqueNodeId(0))?;
     let client = hub.client_builder().create(&mut hub)?;
     let doubled = match hub.server_builder().create(&mut hub) {
         Ok(server) => {

@@ -36,14 +36,14 @@ impl<QB: Body, QH: Default + Drop, PB: Body, PH: Default + Drop, K: Backpressure
         }
     }
 
-    /// Returns how many numbers the hub can still give. Our own.
+    /// Returns how many numbers the hub can still give. Not in iceoryx2.
     pub fn numbers_left(&self) -> u64
         ensures { result ≡ numbers_left self.now }
     {
         NUMBERS - self.parts.next
     }
 
-    /// Returns the number that is given next, if one remains. It names nothing yet. Our own.
+    /// Returns the number that is given next, if one remains. It names nothing yet. Not in iceoryx2.
     pub fn next_number(&self) -> u64
         ensures number { result ≡ self.now.next }
         ensures free { kind_at self.now result ≡ None }

@@ -20,9 +20,9 @@ impl<QB: Body, QH: Default + Drop, PB: Body, PH: Default + Drop, K: Backpressure
     PH,
     K,
 > {
-    /// Returns what a number names: a client or a server whose value lives, or a handle. Returns `None` if it names nothing.
-    /// Finds a handle where its id says, and a port in O(log ports); walks over the table at last, where the id is wrong or the
-    /// number names nothing. Our own.
+    /// Returns what a number names: a client or a server whose value lives, or a handle. Returns `None` if it names nothing. Finds
+    /// a handle where its id says, and a port in O(log ports); walks over the table at last, where the id is wrong or the number
+    /// names nothing. Not in iceoryx2.
     #[inline(always)]
     pub fn kind(&self, id: &HandleId) -> Option<Kind>
         ensures { result ≡ kind_at self.now id.now }
@@ -30,8 +30,8 @@ impl<QB: Body, QH: Default + Drop, PB: Body, PH: Default + Drop, K: Backpressure
         kind_of(&self.parts, id.number(), id.place())
     }
 
-    /// Returns which port a number names: a client or a server whose value lives. Returns `None` if it names none, also if it
-    /// names a handle. Takes O(log ports), and never walks over the table. Our own.
+    /// Returns which port a number names: a client or a server whose value lives. Returns `None` if it names none, also if it names
+    /// a handle. Takes O(log ports), and never walks over the table. Not in iceoryx2.
     #[inline(always)]
     pub fn port_kind(&self, number: u64) -> Option<Kind>
         ensures { result ≡ (if is_client_value self.now number then Some Kind.Client else if is_server_value self.now number then Some Kind.Server else None) }
@@ -96,7 +96,7 @@ impl<QB: Body, QH: Default + Drop, PB: Body, PH: Default + Drop, K: Backpressure
         }
     }
 
-    /// Returns the number of the request that a server received as an active request. Our own: iceoryx2 has no numbers of
+    /// Returns the number of the request that a server received as an active request. Not in iceoryx2, which has no numbers of
     /// requests.
     #[inline(always)]
     pub fn request_number(&self, id: &HandleId) -> u64

@@ -46,7 +46,7 @@ impl<QB: Body, QH: Default + Drop, PB: Body, PH: Default + Drop, K: Backpressure
     }
 
     /// Returns whether each queue that a request would reach takes it: none is full, or full ones may overflow. Looks at most once
-    /// at each connected server. Our own.
+    /// at each connected server. Not in iceoryx2.
     #[inline(always)]
     pub fn is_request_deliverable(&self, id: &HandleId) -> bool
         requires { kind_at self.now id.now ≡ Some Kind.RequestMut }
@@ -57,7 +57,7 @@ impl<QB: Body, QH: Default + Drop, PB: Body, PH: Default + Drop, K: Backpressure
     }
 
     /// Returns whether the queue that a response would reach takes it, if it would reach one: it is not full, or may overflow.
-    /// Looks at the one place where its request's handle can stand, and at one queue. Our own.
+    /// Looks at the one place where its request's handle can stand, and at one queue. Not in iceoryx2.
     #[inline(always)]
     pub fn is_response_deliverable(&self, id: &HandleId) -> bool
         requires { kind_at self.now id.now ≡ Some Kind.ResponseMut }

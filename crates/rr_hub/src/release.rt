@@ -27,7 +27,7 @@ impl<QB: Body, QH: Default + Drop, PB: Body, PH: Default + Drop, K: Backpressure
     /// Releases a client. Its number names nothing any more. The client stays connected as long as one of its handles lives, and
     /// leaves with the last of them: what waits for it is dropped, and what it sent and no server received goes to the end of each
     /// server's list of expired connections, whose oldest gives way if it is full. A server keeps such requests only with
-    /// fire-and-forget. Takes no memory. After the drop of iceoryx2's `Client`.
+    /// fire-and-forget. Takes no memory. Replaces the `Drop` of iceoryx2's `Client`.
     pub fn release_client(&mut self, client: u64)
         requires { kind_at self.old client ≡ Some kind.Client }
         ensures { self.new ≡ after_release self.old client }
@@ -37,8 +37,8 @@ impl<QB: Body, QH: Default + Drop, PB: Body, PH: Default + Drop, K: Backpressure
 
     /// Releases a server. Its number names nothing any more. The server stays connected as long as one of its handles lives, and
     /// leaves with the last of them: what waits for it is dropped, and what it sent and no client received goes to the end of each
-    /// client's list of expired connections, whose oldest gives way if it is full. Takes no memory. After the drop of iceoryx2's
-    /// `Server`.
+    /// client's list of expired connections, whose oldest gives way if it is full. Takes no memory. Replaces the `Drop` of
+    /// iceoryx2's `Server`.
     pub fn release_server(&mut self, server: u64)
         requires { kind_at self.old server ≡ Some kind.Server }
         ensures { self.new ≡ after_release self.old server }
@@ -51,9 +51,9 @@ impl<QB: Body, QH: Default + Drop, PB: Body, PH: Default + Drop, K: Backpressure
     ///
     /// A request or response on loan is never sent then. With a pending response go the responses on its channel that were not
     /// received, and nobody waits for the request any more. An active request's server will not answer it any more, but for
-    /// responses that are on loan from it already. Looks in one place for the active request of a response on loan, takes
-    /// O(log servers) for an active request, and for a pending response a look at the sender of each server, also of one that left
-    /// until a creation takes it. Takes no memory. After the drops of iceoryx2's handles.
+    /// responses that are on loan from it already. Looks in one place for the active request of a response on loan, takes O(log
+    /// servers) for an active request, and for a pending response a look at the sender of each server, also of one that left until
+    /// a creation takes it. Takes no memory. Replaces the `Drop` of iceoryx2's handles.
     #[inline(always)]
     pub fn release(&mut self, id: &HandleId)
         requires { IsSome (handle_at self.old id.now) }
@@ -63,7 +63,7 @@ impl<QB: Body, QH: Default + Drop, PB: Body, PH: Default + Drop, K: Backpressure
         release_at(&mut self.parts, id.number(), place);
     }
 
-    /// Releases a pending response, as `release` does, without a look at what it is. After the drop of iceoryx2's
+    /// Releases a pending response, as `release` does, without a look at what it is. Replaces the `Drop` of iceoryx2's
     /// `PendingResponse`.
     #[inline(always)]
     pub fn release_pending(&mut self, id: &HandleId)
@@ -79,7 +79,7 @@ impl<QB: Body, QH: Default + Drop, PB: Body, PH: Default + Drop, K: Backpressure
         }
     }
 
-    /// Releases an active request, as `release` does, without a look at what it is. After the drop of iceoryx2's
+    /// Releases an active request, as `release` does, without a look at what it is. Replaces the `Drop` of iceoryx2's
     /// `ActiveRequest`.
     #[inline(always)]
     pub fn release_active(&mut self, id: &HandleId)
@@ -95,7 +95,7 @@ impl<QB: Body, QH: Default + Drop, PB: Body, PH: Default + Drop, K: Backpressure
         }
     }
 
-    /// Releases a response that was received, as `release` does, without a look at what it is. After the drop of iceoryx2's
+    /// Releases a response that was received, as `release` does, without a look at what it is. Replaces the `Drop` of iceoryx2's
     /// `Response`.
     #[inline(always)]
     pub fn release_response(&mut self, id: &HandleId)
@@ -111,7 +111,7 @@ impl<QB: Body, QH: Default + Drop, PB: Body, PH: Default + Drop, K: Backpressure
         }
     }
 
-    /// Releases a request on loan, as `release` does, without a look at what it is. After the drops of iceoryx2's
+    /// Releases a request on loan, as `release` does, without a look at what it is. Replaces the `Drop` of iceoryx2's
     /// `RequestMutUninit` and `RequestMut`.
     #[inline(always)]
     pub fn release_request(&mut self, id: &HandleId)
@@ -122,7 +122,7 @@ impl<QB: Body, QH: Default + Drop, PB: Body, PH: Default + Drop, K: Backpressure
         release_request_at(&mut self.parts, id.number(), place);
     }
 
-    /// Releases a response on loan, as `release` does, without a look at what it is. After the drops of iceoryx2's
+    /// Releases a response on loan, as `release` does, without a look at what it is. Replaces the `Drop` of iceoryx2's
     /// `ResponseMutUninit` and `ResponseMut`.
     #[inline(always)]
     pub fn release_response_loan(&mut self, id: &HandleId)

@@ -15,7 +15,7 @@ impl<QB: Body, QH: Default + Drop, PB: Body, PH: Default + Drop, K: Backpressure
     PH,
     K,
 > {
-    /// Returns the limits. Our own: iceoryx2 has one getter for each.
+    /// Returns the limits. Not in iceoryx2, which has one getter for each.
     #[inline(always)]
     pub fn limits(&self) -> Limits
         ensures limits { result ≡ self.now.limits }
@@ -26,7 +26,7 @@ impl<QB: Body, QH: Default + Drop, PB: Body, PH: Default + Drop, K: Backpressure
         self.parts.limits
     }
 
-    /// Returns the node that the core was made with. Our own.
+    /// Returns the node that the core was made with. Not in iceoryx2.
     #[inline(always)]
     pub fn node_id(&self) -> UniqueNodeId
         ensures { result.0 ≡ self.now.node_id }

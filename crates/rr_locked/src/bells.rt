@@ -10,6 +10,20 @@ const READINGS: u64 = 1024;
 /// A counter that one thread raises and another one reads. Nothing is proved of what it shows.
 ///
 /// It has its cache lines to itself, so that who waits at it takes no line from who works.
+///
+/// # Examples
+///
+/// Rings a bell, and returns whether who waits at it hears it (`rr_locked_tests::tests::examples`):
+///
+/// ```
+/// use rr_locked::Bell;
+///
+/// fn is_heard(bell: &Bell) -> bool {
+///     let rings = bell.rings();
+///     bell.ring();
+///     bell.wait(rings, 1).is_some()
+/// }
+/// ```
 #[derive(Drop)]
 pub struct Bell {
     rings: CachePadded<AtomicU64>,
@@ -51,6 +65,28 @@ impl Bell {
 }
 
 /// A client's and a server's bell.
+///
+/// # Examples
+///
+/// Sends a number, and returns the number that came as a response (`rr_locked_tests::tests::examples`):
+///
+/// ```
+/// use rr_locked::{Bells, Seat, Submit, WorkerError, send_copy, take_response};
+/// use std::sync::Wait;
+/// use std::sync::ledger::Ledger;
+///
+/// fn ask<L: Ledger, S: Submit<L>, R: Wait>(
+///     rt: &R,
+///     hub: &S,
+///     seat: &mut Seat<L>,
+///     bells: &Bells,
+///     client: u64,
+/// ) -> Result<u64, WorkerError> {
+///     let pending = send_copy(rt, hub, seat, client, 41)?;
+///     bells.server.ring();
+///     take_response(rt, hub, seat, &bells.client, pending, 1000)
+/// }
+/// ```
 #[derive(Drop)]
 pub struct Bells {
     /// Rings after a response was sent.

@@ -25,6 +25,31 @@ pub const PARTS: u64 = MOST_SEATS + 2;
 /// A hub of numbers with the history of its calls. Contracts see its limits, its node id, the history and the number of seats made.
 ///
 /// Its history is a run of the message machine at every moment. Each call waits for nobody. Not in iceoryx2.
+///
+/// # Examples
+///
+/// Makes a book with a client, and returns how many calls it has noted (`rr_locked_tests::tests::examples`):
+///
+/// ```
+/// ghost use Rattle.std.specs.Prelude.{◌≡◌};
+///
+/// use rr_locked::{Book, CREATE_CLIENT};
+/// use rr_protocol::{Limits, UniqueNodeId};
+/// use std::alloc::Global;
+/// use std::sync::ledger::{Blank, Ledger};
+/// use std::test::Fail;
+///
+/// fn noted<L: Ledger>(alloc: Global, blank: Blank) -> Result<usize, Fail>
+///     requires name { blank.name ≡ L.name }
+///     requires parts { blank.parts ≡ L.parts }
+///     requires many { blank.parts ≡ 1048578 }
+/// {
+///     let mut book = Book::<L>::new(alloc, Limits::SMALLEST, UniqueNodeId(0), blank)?;
+///     let mut seat = book.seat().ok_or("no seat")?;
+///     let _ = book.apply(&mut seat, CREATE_CLIENT);
+///     Ok(book.history().len())
+/// }
+/// ```
 #[derive(Drop)]
 pub struct Book<L: Ledger> {
     history: Vec<(HubCommand, HubReply)>,

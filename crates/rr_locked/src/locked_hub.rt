@@ -16,6 +16,33 @@ use std::sync::{Mutex, Wait};
 ///
 /// Threads share it by reference; each takes a seat, and submits commands by it. A seat is used with the hub that made it. Not in
 /// iceoryx2.
+///
+/// # Examples
+///
+/// Makes a hub, creates a client, and ends the sharing (`rr_locked_tests::tests::examples`):
+///
+/// ```
+/// ghost use Rattle.std.specs.Prelude.{◌≡◌};
+///
+/// use rr_locked::{CREATE_CLIENT, LockedHub};
+/// use rr_protocol::{Limits, UniqueNodeId};
+/// use std::alloc::Global;
+/// use std::sync::Wait;
+/// use std::sync::ledger::{Blank, Ledger};
+/// use std::test::Fail;
+///
+/// fn told<L: Ledger, R: Wait>(rt: &R, alloc: Global, blank: Blank) -> Result<usize, Fail>
+///     requires name { blank.name ≡ L.name }
+///     requires parts { blank.parts ≡ L.parts }
+///     requires many { blank.parts ≡ 1048578 }
+/// {
+///     let hub = LockedHub::<L>::new(alloc, Limits::SMALLEST, UniqueNodeId(0), blank)?;
+///     let mut seat = hub.seat(rt).ok_or("no seat")?;
+///     let _ = hub.submit(rt, &mut seat, CREATE_CLIENT);
+///     let book = hub.finish(Vec::from_array(alloc, [seat])?);
+///     Ok(book.history().len())
+/// }
+/// ```
 #[derive(Drop)]
 pub struct LockedHub<L: Ledger> {
     pub(crate) inside: Mutex<Book<L>>,

@@ -2,6 +2,22 @@
 use crate::hub_command::{HubCommand, HubReply};
 
 /// A call: its place in the history, and what was asked and answered.
+///
+/// # Examples
+///
+/// Returns the place of a seat's last call in the history (`rr_locked_tests::tests::examples`):
+///
+/// ```
+/// use rr_locked::{Receipt, Seat};
+/// use std::sync::ledger::Ledger;
+///
+/// fn last_place<L: Ledger>(seat: &Seat<L>) -> Option<u64> {
+///     match seat.receipts().last() {
+///         Some(Receipt { place, .. }) => Some(*place),
+///         None => None,
+///     }
+/// }
+/// ```
 #[derive(Drop)]
 pub struct Receipt {
     /// How many calls stand before it in the history.

@@ -10,6 +10,22 @@ use std::marker::Model;
 use std::sync::ledger::{Ledger, Share};
 
 /// One caller's right to submit commands to a hub, with the receipts of its calls. Contracts see the receipts. Not in iceoryx2.
+///
+/// # Examples
+///
+/// Returns the place of a seat's last call in the history (`rr_locked_tests::tests::examples`):
+///
+/// ```
+/// use rr_locked::{Receipt, Seat};
+/// use std::sync::ledger::Ledger;
+///
+/// fn last_place<L: Ledger>(seat: &Seat<L>) -> Option<u64> {
+///     match seat.receipts().last() {
+///         Some(Receipt { place, .. }) => Some(*place),
+///         None => None,
+///     }
+/// }
+/// ```
 #[derive(Drop)]
 pub struct Seat<L: Ledger> {
     pub(crate) receipts: Vec<Receipt>,

@@ -10,6 +10,24 @@ use std::sync::Wait;
 use std::sync::ledger::Ledger;
 
 /// What takes commands from many threads. Workers are generic over it, so that each can be tried by itself. Not in iceoryx2.
+///
+/// # Examples
+///
+/// Creates a client, and returns its number (`rr_locked_tests::tests::examples`):
+///
+/// ```
+/// use rr_commands::Reply;
+/// use rr_locked::{CREATE_CLIENT, Seat, Submit};
+/// use std::sync::Wait;
+/// use std::sync::ledger::Ledger;
+///
+/// fn client<L: Ledger, S: Submit<L>, R: Wait>(rt: &R, hub: &S, seat: &mut Seat<L>) -> Option<u64> {
+///     match hub.submit(rt, seat, CREATE_CLIENT) {
+///         Reply::Created(number) => Some(number),
+///         _ => None,
+///     }
+/// }
+/// ```
 pub trait Submit<L: Ledger> {
     /// Carries out a command, and returns its reply: `NoMemory` with the seat unchanged, or the reply of the one receipt by which the
     /// seat grew. May wait for other threads.

@@ -3,7 +3,29 @@ use rr_commands::Reply;
 use thiserror::Error;
 
 /// Why a worker ended before its last request.
-#[derive(Clone, Copy, Debug, PartialEq, Eq, Error)]
+///
+/// # Examples
+///
+/// Sends a number, and returns the number that came as a response (`rr_locked_tests::tests::examples`):
+///
+/// ```
+/// use rr_locked::{Bells, Seat, Submit, WorkerError, send_copy, take_response};
+/// use std::sync::Wait;
+/// use std::sync::ledger::Ledger;
+///
+/// fn ask<L: Ledger, S: Submit<L>, R: Wait>(
+///     rt: &R,
+///     hub: &S,
+///     seat: &mut Seat<L>,
+///     bells: &Bells,
+///     client: u64,
+/// ) -> Result<u64, WorkerError> {
+///     let pending = send_copy(rt, hub, seat, client, 41)?;
+///     bells.server.ring();
+///     take_response(rt, hub, seat, &bells.client, pending, 1000)
+/// }
+/// ```
+#[derive(Clone, Copy, Debug, PartialEq, Eq, Hash, Error)]
 pub enum WorkerError {
     /// A command found no memory.
     #[error("WorkerError::NoMemory")]

@@ -8,7 +8,30 @@ use std::sync::Wait;
 use std::sync::ledger::Ledger;
 
 /// How much workers do.
-#[derive(Clone, Copy, Debug, PartialEq, Eq)]
+///
+/// # Examples
+///
+/// Sends ten numbers, and returns the sum of the responses (`rr_locked_tests::tests::examples`):
+///
+/// ```
+/// use rr_locked::{Bells, Plan, Seat, Submit, WorkerError, ask_all};
+/// use std::sync::Wait;
+/// use std::sync::ledger::Ledger;
+///
+/// fn ask_ten<L: Ledger, S: Submit<L>, R: Wait>(
+///     rt: &R,
+///     hub: &S,
+///     seat: &mut Seat<L>,
+///     client: u64,
+/// ) -> Result<u64, WorkerError> {
+///     let plan = Plan {
+///         rounds: 10,
+///         turns: 1000,
+///     };
+///     ask_all(rt, hub, seat, &Bells::new(), client, plan)
+/// }
+/// ```
+#[derive(Clone, Copy, Debug, PartialEq, Eq, Hash)]
 pub struct Plan {
     /// How many requests are sent and answered.
     pub rounds: u64,

@@ -1,6 +1,7 @@
 //! Books, locked hubs and workers at work.
 mod alone;
 mod books;
+mod examples;
 mod hubs;
 mod orders;
 mod ports;

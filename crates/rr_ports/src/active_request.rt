@@ -25,6 +25,14 @@ use std::marker::{Model, PhantomData};
 /// Sends a number as the next response, unless the client wants no more (`rr_uses::streaming`):
 ///
 /// ```
+/// ghost use Rattle.std.specs.Prelude.{[]};
+/// ghost use Rattle.rr_protocol.specs.declared.kind.Kind.TheVariants as kind;
+/// ghost use Rattle.rr_ports.specs.Facts.{Keeps, Names};
+///
+/// use rr_ports::typed::{ActiveRequest, Hub};
+///
+/// type Service = Hub<u64, u64, u64, u64>;
+///
 /// fn is_sent(hub: &mut Service, active: &ActiveRequest<u64>, value: u64) -> bool
 ///     requires { Names hub.old active.now kind.ActiveRequest }
 ///     ensures { Keeps [] hub.old hub.new }

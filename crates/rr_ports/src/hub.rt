@@ -3,6 +3,8 @@
 
 ghost use Rattle.std.specs.Prelude.{◌≡◌, ◌↔◌, IsTrue, IfOk, ◌^◌};
 ghost use Rattle.rr_protocol.specs.Creation.{CreatesHub};
+ghost use Rattle.rr_protocol.specs.Limits.{default_limits};
+ghost use Rattle.rr_protocol.specs.State.{empty_hub};
 ghost use Rattle.rr_ports.specs.Factories.{client_defaults, server_defaults};
 ghost use Rattle.rr_ports.specs.Facts.{Names, numbers_left};
 
@@ -14,6 +16,22 @@ use std::alloc::Global;
 use std::marker::Model;
 
 /// All ports, handles and messages of a service. Contracts see the state of the message machine.
+///
+/// # Examples
+///
+/// Makes the hub of a service with three clients at most and the other limits of iceoryx2's configuration (`rr_uses::creating`):
+///
+/// ```
+/// use rr_ports::sliced::Hub;
+/// use rr_ports::{HubCreateError, Limits, UniqueNodeId};
+/// use std::alloc::Global;
+///
+/// type Service = Hub<u64, (), u64, ()>;
+///
+/// fn small_service(alloc: Global) -> Result<Service, HubCreateError> {
+///     Hub::new(alloc, Limits::default().max_clients(3), UniqueNodeId(0))
+/// }
+/// ```
 #[derive(Drop)]
 pub struct Hub<QB: Body, QH: Default + Drop, PB: Body, PH: Default + Drop, K: BackpressureFn> {
     pub(crate) core: Core<QB, QH, PB, PH, K>,
@@ -51,6 +69,24 @@ impl<QB: Body, QH: Default + Drop, PB: Body, PH: Default + Drop, K: Backpressure
         match Core::new(alloc, limits, node_id) {
             Ok(core) => Ok(Hub { core }),
             Err(refusal) => Err(refusal),
+        }
+    }
+
+    /// Makes a hub without ports, with the limits of iceoryx2's default configuration, which are never refused. Takes no memory. Not
+    /// in iceoryx2.
+    ///
+    /// # Examples
+    ///
+    /// ```
+    /// let mut hub = Service::with_default_limits(rt.alloc(), UniqueNodeId(0));
+    /// ```
+    pub fn with_default_limits(alloc: Global, node_id: UniqueNodeId) -> Self
+        ensures makes { result ≡ empty_hub default_limits node_id.0 }
+        ensures numbers { numbers_left result ≡ 2 ^ 62 }
+    {
+        match Hub::new(alloc, Limits::DEFAULT, node_id) {
+            Ok(hub) => hub,
+            Err(_) => unreachable!(),
         }
     }
 

@@ -41,6 +41,7 @@ pub use rr_hub::{
     UniqueNodeId, UniqueServerId,
 };
 pub use rr_protocol::NoHandler;
+pub use rr_slots::{Body, SliceBody};
 pub use server::Server;
 pub use try_send::Refused;
 pub use update_connections::UpdateConnections;

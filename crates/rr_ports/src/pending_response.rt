@@ -24,22 +24,23 @@ use std::marker::{Model, PhantomData};
 ///
 /// # Examples
 ///
-/// Returns the number that came as a response, if one did, and releases it (`rr_uses::parameter`):
+/// Returns the number that came as a response, if one did (`rr_uses::parameter`):
 ///
 /// ```
+/// ghost use Rattle.std.specs.Prelude.{◌≡◌, []};
+/// ghost use Rattle.rr_protocol.specs.declared.kind.Kind.TheVariants as kind;
+/// ghost use Rattle.rr_ports.specs.Facts.{Keeps, Names, numbers_left};
+///
+/// use rr_ports::typed::{Hub, PendingResponse};
+///
+/// type Service = Hub<u64, u64, u64, u64>;
+///
 /// fn received(hub: &mut Service, pending: &PendingResponse<u64>) -> Option<u64>
 ///     requires { Names hub.old pending.now kind.PendingResponse }
 ///     ensures keeps { Keeps [] hub.old hub.new }
 ///     ensures numbers { numbers_left hub.new ≡ numbers_left hub.old }
 /// {
-///     match pending.receive(hub) {
-///         Ok(Some(response)) => {
-///             let value = *response.payload(hub);
-///             response.release(hub);
-///             Some(value)
-///         }
-///         _ => None,
-///     }
+///     pending.receive_copy(hub).unwrap_or(None)
 /// }
 /// ```
 #[must_use]

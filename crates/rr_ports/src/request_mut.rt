@@ -22,6 +22,31 @@ use rr_slots::Body;
 use std::marker::{Model, PhantomData};
 
 /// A loaned request that can be sent. It is not dropped: `send` or `release` ends it.
+///
+/// # Examples
+///
+/// Has a function replace the payload in place (`rr_callers::values`):
+///
+/// ```
+/// ghost use Rattle.std.specs.Prelude.{◌∷◌, []};
+/// ghost use Rattle.rr_protocol.specs.declared.kind.Kind.TheVariants as kind;
+/// ghost use Rattle.rr_ports.specs.Facts.{Asks, Has, Keeps, Names};
+///
+/// use rr_ports::typed::Hub;
+/// use rr_ports::typed::RequestMut;
+///
+/// type Service = Hub<u64, u64, u64, u64>;
+///
+/// fn replaced(hub: &mut Service, request: &RequestMut<u64>, old: u64)
+///     requires request { Names hub.old request.now kind.RequestMut }
+///     requires asks { Has hub.old request.now (Asks (old ∷ [])) }
+///     ensures kind { Names hub.new request.now kind.RequestMut }
+///     ensures says { Has hub.new request.now (Asks (7 ∷ [])) }
+///     ensures keeps { Keeps (request.now ∷ []) hub.old hub.new }
+/// {
+///     request.update(hub, |value: &mut u64| *value = 7);
+/// }
+/// ```
 #[must_use]
 pub struct RequestMut<QB> {
     pub(crate) id: HandleId,

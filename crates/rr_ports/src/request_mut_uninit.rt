@@ -26,9 +26,18 @@ use std::marker::{Model, PhantomData};
 /// Appends values to a request until it is complete or no value is left (`rr_uses::slices`):
 ///
 /// ```
+/// ghost use Rattle.std.specs.Prelude.{◌≡◌, [], ◌∷◌};
+/// ghost use Rattle.rr_protocol.specs.declared.kind.Kind.TheVariants as kind;
+/// ghost use Rattle.rr_ports.specs.Facts.{Keeps, Names, numbers_left};
+///
+/// use rr_ports::sliced::{Hub, RequestMutUninit};
+///
+/// type Service = Hub<u64, u64, u64, u64>;
+///
 /// fn write(hub: &mut Service, request: &RequestMutUninit<u64>, values: &[u64])
 ///     requires { Names hub.old request.now kind.RequestMutUninit }
-///     ensures keeps { Keeps [] hub.old hub.new }
+///     ensures kind { Names hub.new request.now kind.RequestMutUninit }
+///     ensures keeps { Keeps (request.now ∷ []) hub.old hub.new }
 ///     ensures numbers { numbers_left hub.new ≡ numbers_left hub.old }
 /// {
 ///     for value in values {

@@ -18,6 +18,34 @@ use rr_slots::Body;
 use std::marker::{Model, PhantomData};
 
 /// A response that was received. It is not dropped: `release` ends it.
+///
+/// # Examples
+///
+/// Returns the first element of a response, which it reads where it lies (`rr_uses::slices`):
+///
+/// ```
+/// ghost use Rattle.std.specs.Prelude.{[]};
+/// ghost use Rattle.rr_protocol.specs.declared.kind.Kind.TheVariants as kind;
+/// ghost use Rattle.rr_ports.specs.Facts.{Keeps, Names};
+///
+/// use rr_ports::sliced::{Hub, PendingResponse};
+///
+/// type Service = Hub<u64, u64, u64, u64>;
+///
+/// fn receive(hub: &mut Service, pending: &PendingResponse<u64>) -> Option<u64>
+///     requires { Names hub.old pending.now kind.PendingResponse }
+///     ensures { Keeps [] hub.old hub.new }
+/// {
+///     match pending.receive(hub) {
+///         Ok(Some(response)) => {
+///             let sum = response.payload(hub).first().copied();
+///             response.release(hub);
+///             sum
+///         }
+///         _ => None,
+///     }
+/// }
+/// ```
 #[must_use]
 pub struct Response<PB> {
     pub(crate) id: HandleId,

@@ -19,6 +19,37 @@ use rr_slots::Body;
 use std::marker::{Model, PhantomData};
 
 /// A loaned response that can be sent. It is not dropped: `send` or `release` ends it.
+///
+/// # Examples
+///
+/// Sends a response, and returns it if it could not be sent yet (`rr_uses::keeping`):
+///
+/// ```
+/// ghost use Rattle.std.specs.Prelude.{◌≡◌, ◌∷◌, [], IfSome};
+/// ghost use Rattle.rr_protocol.specs.declared.kind.Kind.TheVariants as kind;
+/// ghost use Rattle.rr_ports.specs.Facts.{Keeps, Names, numbers_left};
+///
+/// use rr_ports::Refused;
+/// use rr_ports::typed::{Hub, ResponseMut};
+///
+/// type Service = Hub<u64, u64, u64, u64>;
+///
+/// fn offered_again(hub: &mut Service, response: ResponseMut<u64>) -> Option<ResponseMut<u64>>
+///     requires { Names hub.old response kind.ResponseMut }
+///     ensures same { IfSome result (λ kept. kept ≡ response) }
+///     ensures kind { IfSome result (λ kept. Names hub.new kept kind.ResponseMut) }
+///     ensures keeps { Keeps (response ∷ []) hub.old hub.new }
+///     ensures numbers { numbers_left hub.new ≡ numbers_left hub.old }
+/// {
+///     match response.try_send(hub) {
+///         Ok(()) => None,
+///         Err(refused) => {
+///             let Refused { message, error: _ } = refused;
+///             Some(message)
+///         }
+///     }
+/// }
+/// ```
 #[must_use]
 pub struct ResponseMut<PB> {
     pub(crate) id: HandleId,

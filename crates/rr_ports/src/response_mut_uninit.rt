@@ -26,6 +26,15 @@ use std::marker::{Model, PhantomData};
 /// Sends a slice of one element as a response (`rr_uses::slices`):
 ///
 /// ```
+/// ghost use Rattle.std.specs.Prelude.{◌<◌, []};
+/// ghost use Rattle.rr_protocol.specs.declared.kind.Kind.TheVariants as kind;
+/// ghost use Rattle.rr_ports.specs.Facts.{Keeps, Names, numbers_left};
+///
+/// use rr_ports::sliced::{ActiveRequest, Hub};
+/// use rr_ports::SendError;
+///
+/// type Service = Hub<u64, u64, u64, u64>;
+///
 /// fn send_one(hub: &mut Service, active: &ActiveRequest<u64>, value: u64) -> Result<(), SendError>
 ///     requires active { Names hub.old active.now kind.ActiveRequest }
 ///     requires number { 0 < numbers_left hub.old }

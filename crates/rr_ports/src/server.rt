@@ -30,6 +30,15 @@ use std::marker::{Model, PhantomData};
 /// Answers the oldest request with the double of its number (`rr_uses::serving`):
 ///
 /// ```
+/// ghost use Rattle.std.specs.Prelude.{◌<◌, []};
+/// ghost use Rattle.rr_protocol.specs.declared.kind.Kind.TheVariants as kind;
+/// ghost use Rattle.rr_ports.specs.Facts.{Keeps, Names, numbers_left};
+///
+/// use rr_ports::ReceiveError;
+/// use rr_ports::typed::{Hub, Server};
+///
+/// type Service = Hub<u64, u64, u64, u64>;
+///
 /// fn is_served(hub: &mut Service, server: &Server<u64>) -> Result<bool, ReceiveError>
 ///     requires server { Names hub.old server.now kind.Server }
 ///     requires numbers { 1 < numbers_left hub.old }

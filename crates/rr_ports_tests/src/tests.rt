@@ -1,16 +1,12 @@
-//! What a user of the ports sees: exchanges, loans, pools, handlers, hubs, calls and their answers, what is queued, receives that go
-//! round, payloads that are taken, messages that are given back, and errors.
-mod calling;
+//! What a user of the ports sees: exchanges, loans, pools, handlers, hubs, what is queued, receives that go round, and errors.
 mod errors;
 mod exchanges;
 mod fixtures;
 mod folds;
 mod handlers;
 mod hubs;
-mod keeping;
 mod loans;
 mod pools;
-mod taking;
 mod turns;
 
 use rr_ports::Limits;

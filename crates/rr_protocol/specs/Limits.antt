@@ -1,5 +1,5 @@
 -- The sizes of pools that the limits call for, and which limits make no hub.
-use Rattle.std.specs.Prelude.{ℕ, ◌+◌, ◌*◌, ◌^◌, Bool, ◌||◌, ◌==◌, nat_le, if◌then◌else◌, Option, Some, None}
+use Rattle.std.specs.Prelude.{ℕ, ◌+◌, ◌*◌, ◌^◌, Bool, true, ◌||◌, ◌==◌, nat_le, if◌then◌else◌, Option, Some, None}
 use Rattle.rr_protocol.specs.declared.limits.Limits.{Limits}
 use Rattle.rr_protocol.specs.declared.error.HubCreateError.{HubCreateError}
 use Rattle.rr_protocol.specs.declared.error.HubCreateError.TheVariants.{ZeroLimit, LimitsTooLarge}
@@ -35,3 +35,19 @@ hub_refusal l =
     if has_zero_limit l then Some ZeroLimit
     else if is_too_large (worst_case_requests l) || is_too_large (worst_case_responses l 1) then Some LimitsTooLarge
     else None
+
+-- what a service of iceoryx2 has, if nobody sets a limit
+abbrev pub default_limits : Limits
+default_limits = record {
+  max_clients = 8;
+  max_servers = 2;
+  max_loaned_requests = 2;
+  max_active_requests_per_client = 4;
+  max_response_buffer_size = 2;
+  max_borrowed_responses_per_pending_response = 2;
+  enable_safe_overflow_for_requests = true;
+  enable_safe_overflow_for_responses = true;
+  enable_fire_and_forget_requests = true;
+  client_expired_connection_buffer = 128;
+  server_expired_connection_buffer = 128;
+}

@@ -2,7 +2,7 @@
 use crate::settings::BackpressureAction;
 
 /// What a handler is asked about: the numbers of the two ports between which a queue is full.
-#[derive(Clone, Copy, Debug, PartialEq, Eq)]
+#[derive(Clone, Copy, Debug, PartialEq, Eq, Hash)]
 pub struct BackpressureInfo {
     pub sender: u64,
     pub receiver: u64,

@@ -1,8 +1,8 @@
 //! Why a call was refused.
 use thiserror::Error;
 
-/// Why no hub was made. Our own: iceoryx2 makes services elsewhere.
-#[derive(Clone, Copy, Debug, PartialEq, Eq, Error)]
+/// Why no hub was made. Not in iceoryx2, which makes services elsewhere.
+#[derive(Clone, Copy, Debug, PartialEq, Eq, Hash, Error)]
 pub enum HubCreateError {
     /// A limit that must be at least 1 is 0.
     #[error("HubCreateError::ZeroLimit")]
@@ -16,7 +16,7 @@ pub enum HubCreateError {
 }
 
 /// Why no client was made. iceoryx2's `ClientCreateError`.
-#[derive(Clone, Copy, Debug, PartialEq, Eq, Error)]
+#[derive(Clone, Copy, Debug, PartialEq, Eq, Hash, Error)]
 pub enum ClientCreateError {
     /// Memory was refused.
     #[error("ClientCreateError::UnableToCreateDataSegment")]
@@ -33,7 +33,7 @@ pub enum ClientCreateError {
 }
 
 /// Why no server was made. iceoryx2's `ServerCreateError`.
-#[derive(Clone, Copy, Debug, PartialEq, Eq, Error)]
+#[derive(Clone, Copy, Debug, PartialEq, Eq, Hash, Error)]
 pub enum ServerCreateError {
     /// As many servers are connected as the hub may have.
     #[error("ServerCreateError::ExceedsMaxSupportedServers")]
@@ -50,7 +50,7 @@ pub enum ServerCreateError {
 }
 
 /// Why nothing was loaned. Named after iceoryx2's `LoanError`.
-#[derive(Clone, Copy, Debug, PartialEq, Eq, Error)]
+#[derive(Clone, Copy, Debug, PartialEq, Eq, Hash, Error)]
 pub enum LoanError {
     /// The port's live messages fill its pool, or memory for a slice longer than the initial length was refused.
     #[error("LoanError::OutOfMemory")]
@@ -64,7 +64,7 @@ pub enum LoanError {
 }
 
 /// Why two ports are not connected. It never comes, since creation connects. Named after iceoryx2's `ConnectionFailure`.
-#[derive(Clone, Copy, Debug, PartialEq, Eq, Error)]
+#[derive(Clone, Copy, Debug, PartialEq, Eq, Hash, Error)]
 pub enum ConnectionFailure {
     /// Never comes.
     #[error("ConnectionFailure::FailedToEstablishConnection")]
@@ -72,7 +72,7 @@ pub enum ConnectionFailure {
 }
 
 /// Why nothing was sent. Named after iceoryx2's `SendError`.
-#[derive(Clone, Copy, Debug, PartialEq, Eq, Error)]
+#[derive(Clone, Copy, Debug, PartialEq, Eq, Hash, Error)]
 pub enum SendError {
     /// The loan before the send was refused.
     #[error("SendError::LoanError({0:?})")]
@@ -86,7 +86,7 @@ pub enum SendError {
 }
 
 /// Why no request was sent. iceoryx2's `RequestSendError`.
-#[derive(Clone, Copy, Debug, PartialEq, Eq, Error)]
+#[derive(Clone, Copy, Debug, PartialEq, Eq, Hash, Error)]
 pub enum RequestSendError {
     /// As many pending responses of the client live as may live at one time. The request is released.
     #[error("RequestSendError::ExceedsMaxActiveRequests")]
@@ -97,7 +97,7 @@ pub enum RequestSendError {
 }
 
 /// Why nothing was received though something is there. Named after iceoryx2's `ReceiveError`.
-#[derive(Clone, Copy, Debug, PartialEq, Eq, Error)]
+#[derive(Clone, Copy, Debug, PartialEq, Eq, Hash, Error)]
 pub enum ReceiveError {
     /// From each queue that has entries as many messages are held as may be borrowed.
     #[error("ReceiveError::ExceedsMaxBorrows")]

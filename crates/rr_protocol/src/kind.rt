@@ -1,7 +1,7 @@
 //! What a number of a hub can name.
 
 /// The kind of a port or of a handle. Each is named after its type.
-#[derive(Clone, Copy, Debug, PartialEq, Eq)]
+#[derive(Clone, Copy, Debug, PartialEq, Eq, Hash)]
 pub enum Kind {
     /// The value of a client.
     Client,

@@ -5,8 +5,8 @@ use crate::error::HubCreateError;
 
 /// What a hub may hold. The first six are at least 1.
 ///
-/// The fields have the names of iceoryx2's service settings; the three pool sizes that follow from them are our own.
-#[derive(Clone, Copy, Debug, PartialEq, Eq)]
+/// The fields have the names of iceoryx2's service settings. The three pool sizes that follow from them aren't in iceoryx2.
+#[derive(Clone, Copy, Debug, PartialEq, Eq, Hash)]
 pub struct Limits {
     /// Connected clients.
     pub max_clients: usize,
@@ -61,6 +61,34 @@ impl Limits {
         enable_fire_and_forget_requests: false,
         client_expired_connection_buffer: 0,
         server_expired_connection_buffer: 0,
+    };
+
+    /// The limits of iceoryx2's default configuration: 8 clients, 2 servers, 2 requests on loan and 4 active ones for each client, 2
+    /// responses in a queue and 2 held from it, both overflows, fire-and-forget, and 128 ports that left on either side.
+    ///
+    /// # Examples
+    ///
+    /// A service with these limits, but for one server whose full queues refuse:
+    ///
+    /// ```
+    /// const LIMITS: Limits = Limits {
+    ///     max_servers: 1,
+    ///     enable_safe_overflow_for_requests: false,
+    ///     ..Limits::DEFAULT
+    /// };
+    /// ```
+    pub const DEFAULT: Limits = Limits {
+        max_clients: 8,
+        max_servers: 2,
+        max_loaned_requests: 2,
+        max_active_requests_per_client: 4,
+        max_response_buffer_size: 2,
+        max_borrowed_responses_per_pending_response: 2,
+        enable_safe_overflow_for_requests: true,
+        enable_safe_overflow_for_responses: true,
+        enable_fire_and_forget_requests: true,
+        client_expired_connection_buffer: 128,
+        server_expired_connection_buffer: 128,
     };
 
     /// Whether a limit is below its least value.
@@ -123,5 +151,144 @@ impl Limits {
             return Some(HubCreateError::LimitsTooLarge);
         }
         None
+    }
+
+    /// Sets how many clients may be connected. After iceoryx2's setting of this name.
+    #[must_use]
+    pub fn max_clients(self, value: usize) -> Self
+        ensures { result ≡ record self { max_clients = value } }
+    {
+        Limits {
+            max_clients: value,
+            ..self
+        }
+    }
+
+    /// Sets how many servers may be connected. After iceoryx2's setting of this name.
+    #[must_use]
+    pub fn max_servers(self, value: usize) -> Self
+        ensures { result ≡ record self { max_servers = value } }
+    {
+        Limits {
+            max_servers: value,
+            ..self
+        }
+    }
+
+    /// Sets how many requests a client may have on loan. After iceoryx2's setting of this name.
+    #[must_use]
+    pub fn max_loaned_requests(self, value: usize) -> Self
+        ensures { result ≡ record self { max_loaned_requests = value } }
+    {
+        Limits {
+            max_loaned_requests: value,
+            ..self
+        }
+    }
+
+    /// Sets how many pending responses a client may have. After iceoryx2's setting of this name.
+    #[must_use]
+    pub fn max_active_requests_per_client(self, value: usize) -> Self
+        ensures { result ≡ record self { max_active_requests_per_client = value } }
+    {
+        Limits {
+            max_active_requests_per_client: value,
+            ..self
+        }
+    }
+
+    /// Sets how many entries a response queue has. After iceoryx2's setting of this name.
+    #[must_use]
+    pub fn max_response_buffer_size(self, value: usize) -> Self
+        ensures { result ≡ record self { max_response_buffer_size = value } }
+    {
+        Limits {
+            max_response_buffer_size: value,
+            ..self
+        }
+    }
+
+    /// Sets how many responses may be held from one response queue. After iceoryx2's setting of this name.
+    #[must_use]
+    pub fn max_borrowed_responses_per_pending_response(self, value: usize) -> Self
+        ensures { result ≡ record self { max_borrowed_responses_per_pending_response = value } }
+    {
+        Limits {
+            max_borrowed_responses_per_pending_response: value,
+            ..self
+        }
+    }
+
+    /// Sets whether a full request queue drops its oldest entry for a new one. After iceoryx2's setting of this name.
+    #[must_use]
+    pub fn enable_safe_overflow_for_requests(self, value: bool) -> Self
+        ensures { result ≡ record self { enable_safe_overflow_for_requests = value } }
+    {
+        Limits {
+            enable_safe_overflow_for_requests: value,
+            ..self
+        }
+    }
+
+    /// Sets whether a full response queue drops its oldest entry for a new one. After iceoryx2's setting of this name.
+    #[must_use]
+    pub fn enable_safe_overflow_for_responses(self, value: bool) -> Self
+        ensures { result ≡ record self { enable_safe_overflow_for_responses = value } }
+    {
+        Limits {
+            enable_safe_overflow_for_responses: value,
+            ..self
+        }
+    }
+
+    /// Sets whether servers hear requests that nobody waits for. After iceoryx2's setting of this name.
+    #[must_use]
+    pub fn enable_fire_and_forget_requests(self, value: bool) -> Self
+        ensures { result ≡ record self { enable_fire_and_forget_requests = value } }
+    {
+        Limits {
+            enable_fire_and_forget_requests: value,
+            ..self
+        }
+    }
+
+    /// Sets of how many servers that left a client keeps responses. After iceoryx2's setting of this name.
+    #[must_use]
+    pub fn client_expired_connection_buffer(self, value: usize) -> Self
+        ensures { result ≡ record self { client_expired_connection_buffer = value } }
+    {
+        Limits {
+            client_expired_connection_buffer: value,
+            ..self
+        }
+    }
+
+    /// Sets of how many clients that left a server keeps requests. After iceoryx2's setting of this name.
+    #[must_use]
+    pub fn server_expired_connection_buffer(self, value: usize) -> Self
+        ensures { result ≡ record self { server_expired_connection_buffer = value } }
+    {
+        Limits {
+            server_expired_connection_buffer: value,
+            ..self
+        }
+    }
+}
+
+/// Returns `Limits::DEFAULT`, to be changed by its setters.
+///
+/// # Examples
+///
+/// ```
+/// let limits = Limits::default().max_clients(20).enable_safe_overflow_for_requests(false);
+/// ```
+impl Default for Limits {
+    ghost use Rattle.std.specs.Prelude.{◌≡◌};
+    ghost use Rattle.rr_protocol.specs.Limits.{default_limits};
+
+    ghost is_default = { λ limits. limits ≡ default_limits };
+
+    fn default() -> Self {
+        Limits::DEFAULT
     }
 }

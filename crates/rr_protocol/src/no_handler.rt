@@ -2,9 +2,9 @@
 use crate::backpressure::{BackpressureFn, BackpressureInfo};
 use crate::settings::BackpressureAction;
 
-/// A handler that leaves each full queue to the port's strategy, for hubs whose ports have no handler. Our own: iceoryx2's
+/// A handler that leaves each full queue to the port's strategy, for hubs whose ports have no handler. Not in iceoryx2, whose
 /// handlers are boxed.
-#[derive(Clone, Copy, Debug, PartialEq, Eq)]
+#[derive(Clone, Copy, Debug, PartialEq, Eq, Hash)]
 pub struct NoHandler;
 
 impl BackpressureFn for NoHandler {

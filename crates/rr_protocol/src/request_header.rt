@@ -4,7 +4,7 @@ ghost use Rattle.std.specs.Prelude.{◌≡◌};
 use crate::identifiers::{UniqueClientId, UniqueNodeId};
 
 /// The header of a request, after iceoryx2's `RequestHeader`.
-#[derive(Clone, Copy, Debug, PartialEq, Eq)]
+#[derive(Clone, Copy, Debug, PartialEq, Eq, Hash)]
 pub struct RequestHeader {
     pub client_id: UniqueClientId,
     pub request_id: u64,

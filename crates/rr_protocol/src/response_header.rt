@@ -4,7 +4,7 @@ ghost use Rattle.std.specs.Prelude.{◌≡◌};
 use crate::identifiers::{UniqueNodeId, UniqueServerId};
 
 /// The header of a response, after iceoryx2's `ResponseHeader`.
-#[derive(Clone, Copy, Debug, PartialEq, Eq)]
+#[derive(Clone, Copy, Debug, PartialEq, Eq, Hash)]
 pub struct ResponseHeader {
     pub server_id: UniqueServerId,
     pub request_id: u64,

@@ -1,7 +1,7 @@
 //! How ports are created, and what they do at full queues.
 
 /// What a send does at a full queue that may not overflow. iceoryx2's `BackpressureStrategy`.
-#[derive(Clone, Copy, Debug, PartialEq, Eq)]
+#[derive(Clone, Copy, Debug, PartialEq, Eq, Hash)]
 pub enum BackpressureStrategy {
     /// The send is refused. Nothing waits inside a send: the caller tries again.
     RetryUntilDelivered,
@@ -10,7 +10,7 @@ pub enum BackpressureStrategy {
 }
 
 /// What a handler answers about such a queue. iceoryx2's `BackpressureAction`.
-#[derive(Clone, Copy, Debug, PartialEq, Eq)]
+#[derive(Clone, Copy, Debug, PartialEq, Eq, Hash)]
 pub enum BackpressureAction {
     /// The send is refused.
     Retry,
@@ -23,7 +23,7 @@ pub enum BackpressureAction {
 }
 
 /// Whether a slot may grow for a slice that is longer than the initial length. iceoryx2's `AllocationStrategy`.
-#[derive(Clone, Copy, Debug, PartialEq, Eq)]
+#[derive(Clone, Copy, Debug, PartialEq, Eq, Hash)]
 pub enum AllocationStrategy {
     /// It may not: such a loan is refused.
     Static,
@@ -34,7 +34,7 @@ pub enum AllocationStrategy {
 }
 
 /// How a client is created.
-#[derive(Clone, Copy, Debug, PartialEq, Eq)]
+#[derive(Clone, Copy, Debug, PartialEq, Eq, Hash)]
 pub struct ClientSettings<K> {
     /// The elements for which each slot has room from the start.
     pub initial_max_slice_len: usize,
@@ -49,7 +49,7 @@ pub struct ClientSettings<K> {
 }
 
 /// How a server is created.
-#[derive(Clone, Copy, Debug, PartialEq, Eq)]
+#[derive(Clone, Copy, Debug, PartialEq, Eq, Hash)]
 pub struct ServerSettings<K> {
     /// The elements for which each slot has room from the start.
     pub initial_max_slice_len: usize,

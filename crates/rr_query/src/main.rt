@@ -9,30 +9,15 @@
 //! releases both handles. It needs ports of this hub, and promises that no more responses come than are wanted.
 #![tactic(auto, using(rr_ports::proofs::Frames::callers), unfolding(rr_ports::specs::Facts::Keeps, rr_ports::specs::Facts::IsFree))]
 
-use rr_ports::{Limits, UniqueNodeId};
-use rr_uses::streaming::{Service, stream};
-
-/// Room for the two responses of a turn.
-const LIMITS: Limits = Limits {
-    max_response_buffer_size: 2,
-    ..Limits::SMALLEST
-};
+use rr_uses::connected::Connected;
+use rr_uses::streaming::stream;
 
 fn main(rt: HostRuntime) -> anyhow::Result<()> {
-    let mut hub = Service::new(rt.alloc(), LIMITS, UniqueNodeId(0))?;
-    let client = hub.client_builder().create(&mut hub)?;
-    let streams = match hub.server_builder().create(&mut hub) {
-        Ok(server) => {
-            let one = stream(&mut hub, &client, &server, 1);
-            let five = stream(&mut hub, &client, &server, 5);
-            server.release(&mut hub);
-            Ok([(1_u64, one), (5_u64, five)])
-        }
-        Err(error) => Err(error),
-    };
-    client.release(&mut hub);
-    for (wanted, streamed) in streams? {
-        let streamed = streamed?;
+    let mut ports = Connected::new(rt.alloc())?;
+    let one = stream(&mut ports.hub, &ports.client, &ports.server, 1);
+    let five = stream(&mut ports.hub, &ports.client, &ports.server, 5);
+    ports.end();
+    for (wanted, streamed) in [(1, one?), (5, five?)] {
         println!(rt;
             "wanted {wanted}: {} came of {} that were sent",
             streamed.came, streamed.sent

@@ -10,8 +10,7 @@
 //! returned for the questions, in their order; or an error says which call was refused.
 #![tactic(auto, using(rr_ports::proofs::Frames::callers), unfolding(rr_ports::specs::Facts::Keeps, rr_ports::specs::Facts::IsFree))]
 
-use rr_ports::{Limits, UniqueNodeId};
-use rr_uses::calling::Service;
+use rr_uses::connected::Connected;
 use rr_uses::each::call_each;
 use thiserror::Error;
 
@@ -63,18 +62,17 @@ fn main(rt: HostRuntime) -> anyhow::Result<()> {
             divisor: 12,
         },
     ];
-    let mut hub = Service::new(rt.alloc(), Limits::SMALLEST, UniqueNodeId(0))?;
-    let client = hub.client_builder().create(&mut hub)?;
-    let answers = match hub.server_builder().create(&mut hub) {
-        Ok(server) => {
-            let ask = |asked: Division| divide(asked);
-            let answers = call_each(rt.alloc(), &mut hub, &client, &server, &questions, &ask);
-            server.release(&mut hub);
-            answers.map_err(anyhow::Error::from)
-        }
-        Err(error) => Err(anyhow::Error::from(error)),
-    };
-    client.release(&mut hub);
+    let mut ports = Connected::new(rt.alloc())?;
+    let ask = |asked: Division| divide(asked);
+    let answers = call_each(
+        rt.alloc(),
+        &mut ports.hub,
+        &ports.client,
+        &ports.server,
+        &questions,
+        &ask,
+    );
+    ports.end();
     for (asked, answer) in questions.iter().zip(answers?.iter()) {
         match answer {
             Ok(told) => println!(rt;

@@ -17,7 +17,7 @@ use rr_slots::Body;
 /// their replies the answer rule holds: a response reaches only the request that it answers, at most once, and in the order in
 /// which its server sent it. No port then has more live messages than the worst case; a loan is answered `OutOfMemory` only where
 /// the live messages of its port fill the pool or a longer slice found no memory, and so never, up to the initial slice length, by
-/// a port that was created with a pool of the worst-case size. Not in iceoryx2: iceoryx2 has the calls alone.
+/// a port that was created with a pool of the worst-case size. Not in iceoryx2, which has the calls alone.
 ///
 /// # Errors
 ///

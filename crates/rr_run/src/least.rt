@@ -20,7 +20,7 @@ pub type PoolCommand = Command<u64, u64, NoHandler>;
 pub type PoolReply = Reply<u64, u64>;
 
 /// Why `least_pool` made no list.
-#[derive(Clone, Copy, Debug, PartialEq, Eq, Error)]
+#[derive(Clone, Copy, Debug, PartialEq, Eq, Hash, Error)]
 pub enum LeastPoolError {
     /// The limits make no hub, or a full queue of requests overflows.
     #[error("WrongLimits")]

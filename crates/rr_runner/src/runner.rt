@@ -31,7 +31,7 @@ mod writes;
 
 /// A hub whose ports and handles are named by numbers. Contracts see the state of the message machine.
 ///
-/// It keeps a core, and where handles stood last. Not in iceoryx2: iceoryx2 has the calls alone.
+/// It keeps a core, and where handles stood last. Not in iceoryx2, which has the calls alone.
 #[derive(Drop)]
 pub struct Runner<T: Copy + Default, B: Body<Item = T>, H: Copy + Default, K: BackpressureFn> {
     alloc: Global,

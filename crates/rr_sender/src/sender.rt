@@ -33,11 +33,12 @@ pub struct SenderSize {
 /// What one port sends from: a fixed number of slots, each with a message, its details and its user header; and to each
 /// receiver a queue of slots for each channel.
 ///
-/// A slot is in use while a handle holds it or it stands in a queue. Contracts count the handles alone: an entry holds its
-/// slot without the caller's doing, and lets it go when it leaves the queue. What stands in a slot is dropped with the last use,
-/// so that a free slot doesn't keep what a payload owns; a user header stays until the slot is loaned again. Only `new`, and
-/// `loan` above the room, take memory. Beside `new`, `has_any`, `has_borrowed` and the calls that clear queues, each call takes a fixed time,
-/// and what it takes to drop elements or a user header. Our own: it stands for the data segment of an iceoryx2 port and its connections.
+/// A slot is in use while a handle holds it or it stands in a queue. Contracts count the handles alone: an entry holds its slot
+/// without the caller's doing, and lets it go when it leaves the queue. What stands in a slot is dropped with the last use, so that
+/// a free slot doesn't keep what a payload owns; a user header stays until the slot is loaned again. Only `new`, and `loan` above
+/// the room, take memory. Beside `new`, `has_any`, `has_borrowed` and the calls that clear queues, each call takes a fixed time,
+/// and what it takes to drop elements or a user header. Not in iceoryx2: it stands for the data segment of an iceoryx2 port and its
+/// connections.
 #[derive(Drop)]
 pub struct Sender<B: Body, N: Copy, H: Drop> {
     heads: Vec<Head<N, H>>,

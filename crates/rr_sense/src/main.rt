@@ -10,29 +10,28 @@
 //! handles. It needs ports of this hub, and promises that they are that still.
 #![tactic(auto, using(rr_ports::proofs::Frames::callers), unfolding(rr_ports::specs::Facts::Keeps, rr_ports::specs::Facts::IsFree))]
 
-use rr_ports::{Limits, UniqueNodeId};
+use rr_ports::UniqueNodeId;
+use rr_uses::connected::Connected;
 use rr_uses::sensing::{Service, sense};
 
 /// The channels that are measured.
 const CHANNELS: [u64; 3] = [2, 7, 1];
 
 fn main(rt: HostRuntime) -> anyhow::Result<()> {
-    let mut hub = Service::new(rt.alloc(), Limits::SMALLEST, UniqueNodeId(0))?;
-    let client = hub
-        .client_builder()
-        .initial_max_slice_len(CHANNELS.len())
-        .create(&mut hub)?;
-    let sensors = hub.server_builder().initial_max_slice_len(CHANNELS.len());
-    let frames = match sensors.create(&mut hub) {
-        Ok(server) => {
-            let frames = sense(rt.alloc(), &mut hub, &client, &server, &CHANNELS, 3);
-            server.release(&mut hub);
-            Ok(frames)
-        }
-        Err(error) => Err(error),
-    };
-    client.release(&mut hub);
-    for (time, frame) in frames??.iter().enumerate() {
+    let hub = Service::with_default_limits(rt.alloc(), UniqueNodeId(0));
+    let clients = hub.client_builder().initial_max_slice_len(CHANNELS.len());
+    let servers = hub.server_builder().initial_max_slice_len(CHANNELS.len());
+    let mut ports = Connected::by(hub, clients, servers)?;
+    let frames = sense(
+        rt.alloc(),
+        &mut ports.hub,
+        &ports.client,
+        &ports.server,
+        &CHANNELS,
+        3,
+    );
+    ports.end();
+    for (time, frame) in frames?.iter().enumerate() {
         println!(rt; "frame {time}: from {} to {}", frame.least, frame.most)?;
     }
     Ok(())

@@ -7,8 +7,8 @@ use std::alloc::{AllocError, Global};
 
 /// A list of elements with an asked length, and room for a number of elements.
 ///
-/// Only `new`, and `prepare` above the room, take memory. No call lowers the room. Our own: it stands for a payload that
-/// is being written, which iceoryx2 hands out as `MaybeUninit`.
+/// Only `new`, and `prepare` above the room, take memory. No call lowers the room. Not in iceoryx2: it stands for a payload that is
+/// being written, which iceoryx2 hands out as `MaybeUninit`.
 pub trait Body: Drop {
     ghost use Rattle.std.specs.Prelude.{ℕ, List, slice_set};
     ghost use Rattle.rr_slots.specs.declared.family.Family.{Family};

@@ -10,7 +10,7 @@ use std::marker::Model;
 /// number of a slot in the sender's pool.
 ///
 /// All memory is taken by `new`. Each other call takes none, and beside `is_empty` a fixed time whatever the numbers of channels
-/// and entries. Our own: iceoryx2 leaves queues to the layers below its ports.
+/// and entries. Not in iceoryx2, which leaves queues to the layers below its ports.
 #[derive(Drop)]
 pub struct Connection {
     queues: Vec<HeapCircularBuffer<usize>>,

@@ -25,7 +25,7 @@ pub enum AcquireError {
 
 /// A fixed number of slots, each with a body and the number of its holders. A slot is free exactly if nobody holds it.
 ///
-/// Our own: it stands for the data segment of an iceoryx2 port. `acquire`, `hold` and `give_back` look at most twice at the
+/// Not in iceoryx2: it stands for the data segment of an iceoryx2 port. `acquire`, `hold` and `give_back` look at most twice at the
 /// holders of a slot, whatever the number of slots; contracts see the looks, which take no bytes.
 #[derive(Drop)]
 pub struct Pool<B: Body> {

@@ -6,7 +6,7 @@ use std::marker::Model;
 
 /// The number of a handle, and where it is kept. Contracts see the number alone.
 ///
-/// The place is tried first and checked, so that a wrong one costs a walk and nothing else. Our own.
+/// The place is tried first and checked, so that a wrong one costs a walk and nothing else. Not in iceoryx2.
 #[derive(Drop)]
 pub struct HandleId {
     number: u64,

@@ -1,4 +1,5 @@
 pub mod Hearing
+mod Sensed
 mod Singles
 pub mod Folding
 pub mod Making

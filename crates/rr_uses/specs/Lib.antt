@@ -1,2 +1,4 @@
 pub mod Crowd
+pub mod Parameters
+pub mod Sensing
 pub mod Singles

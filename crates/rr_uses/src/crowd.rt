@@ -1,10 +1,10 @@
 //! A question to many servers, each of which answers it.
 #![tactic(auto, using(rr_ports::proofs::Frames::callers), unfolding(rr_ports::specs::Facts::Keeps, rr_ports::specs::Facts::IsFree))]
 
-ghost use Rattle.std.specs.Prelude.{◌≡◌, ◌+◌, ◌*◌, ◌≤◌, ◌<◌, ◌∷◌, [], IfOk, length};
+ghost use Rattle.std.specs.Prelude.{◌*◌, ◌≤◌, ◌<◌, ◌∷◌, [], IfOk, length};
 ghost use Rattle.rr_protocol.specs.declared.kind.Kind.TheVariants as kind;
 ghost use Rattle.rr_ports.specs.Facts.{Asks, Has, Keeps, Names, Of, numbers_left};
-ghost use Rattle.rr_ports.specs.Queues.{AwaitsNothing, Hears, HearsNothing};
+ghost use Rattle.rr_ports.specs.Queues.{AwaitsNothing};
 ghost use Rattle.rr_uses.specs.Crowd.{AllHear, AnswersEach, AreApart, AreQuiet};
 
 use crate::calling::{CallError, exchange};

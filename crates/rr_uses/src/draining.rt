@@ -4,10 +4,10 @@
 ghost use Rattle.std.specs.Prelude.{◌≡◌, ◌+◌, ◌-◌, ◌%◌, ◌^◌, ◌<◌, [], ◌∷◌, ℕ, List, IfOk, fold, length, map};
 ghost use Rattle.rr_protocol.specs.declared.kind.Kind.TheVariants as kind;
 ghost use Rattle.rr_ports.specs.Facts.{Has, Keeps, Names, Of, numbers_left};
-ghost use Rattle.rr_ports.specs.Queues.{Awaits, AwaitsNothing};
+ghost use Rattle.rr_ports.specs.Queues.{Awaits};
 
-use rr_ports::ReceiveError;
 use rr_ports::typed::{Client, Hub, PendingResponse, Server};
+use rr_ports::{Error, ReceiveError};
 
 /// A service that answers numbers with numbers.
 type Service = Hub<u64, u64, u64, u64>;
@@ -35,4 +35,26 @@ pub fn sum_of_answers(
         0_u64,
         |sum: u64, answer: &u64| sum.wrapping_add(*answer),
     )
+}
+
+/// Tells a server two numbers. Returns the wrapped sum of all that is queued for it.
+///
+/// # Errors
+///
+/// As `Client::tell` and `Server::fold_requests`.
+pub fn told(
+    hub: &mut Service,
+    client: &Client<u64>,
+    server: &Server<u64>,
+    one: u64,
+    two: u64,
+) -> Result<u64, Error>
+    requires client { Names hub.old client.now kind.Client }
+    requires server { Names hub.old server.now kind.Server }
+    requires numbers { 1 < numbers_left hub.old }
+    ensures { Keeps [] hub.old hub.new }
+{
+    client.tell(hub, one)?;
+    client.tell(hub, two)?;
+    Ok(server.fold_requests(hub, 0_u64, |sum: u64, value: &u64| sum.wrapping_add(*value))?)
 }

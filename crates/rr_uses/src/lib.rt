@@ -3,7 +3,9 @@
 
 pub mod asking;
 pub mod calling;
+pub mod connected;
 pub mod counting;
+pub mod creating;
 pub mod crowd;
 pub mod draining;
 pub mod each;

@@ -21,7 +21,7 @@ impl<QB: Body, QH: Default + Drop, PB: Body, PH: Default + Drop, K: Backpressure
     /// Appends an element to a request that is being written, and returns `true`. Returns `false` if the body is complete; the
     /// element is dropped then, and the hub stays as it was.
     ///
-    /// Our own: it stands for writes through the `MaybeUninit` that iceoryx2's `RequestMutUninit::payload_mut` lends.
+    /// Not in iceoryx2: it stands for writes through the `MaybeUninit` that iceoryx2's `RequestMutUninit::payload_mut` lends.
     #[inline(always)]
     pub fn push_request(&mut self, id: &HandleId, item: QB::Item) -> bool
         requires { kind_at self.old id.now ≡ Some Kind.RequestMutUninit }
@@ -53,7 +53,7 @@ impl<QB: Body, QH: Default + Drop, PB: Body, PH: Default + Drop, K: Backpressure
     /// Replaces the element at an index of a request that was not sent, and returns `true`. Returns `false` if no element stands
     /// there; the element is dropped then, and the hub stays as it was.
     ///
-    /// Our own: it stands for writes through what iceoryx2's `RequestMut::payload_mut` lends.
+    /// Not in iceoryx2: it stands for writes through what iceoryx2's `RequestMut::payload_mut` lends.
     #[inline(always)]
     pub fn write_request_element(&mut self, id: &HandleId, index: usize, element: QB::Item) -> bool
         requires { (kind_at self.old id.now ≡ Some Kind.RequestMutUninit) ⊎ (kind_at self.old id.now ≡ Some Kind.RequestMut) }
@@ -67,7 +67,7 @@ impl<QB: Body, QH: Default + Drop, PB: Body, PH: Default + Drop, K: Backpressure
 
     /// Replaces the user header of a request that was not sent. The old one is dropped.
     ///
-    /// Our own: it stands for writes through what iceoryx2's `RequestMut::user_header_mut` lends.
+    /// Not in iceoryx2: it stands for writes through what iceoryx2's `RequestMut::user_header_mut` lends.
     #[inline(always)]
     pub fn write_request_user_header(&mut self, id: &HandleId, header: QH)
         requires { (kind_at self.old id.now ≡ Some Kind.RequestMutUninit) ⊎ (kind_at self.old id.now ≡ Some Kind.RequestMut) }

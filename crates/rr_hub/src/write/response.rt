@@ -21,7 +21,7 @@ impl<QB: Body, QH: Default + Drop, PB: Body, PH: Default + Drop, K: Backpressure
     /// Appends an element to a response that is being written, and returns `true`. Returns `false` if the body is complete; the
     /// element is dropped then, and the hub stays as it was.
     ///
-    /// Our own: it stands for writes through the `MaybeUninit` that iceoryx2's `ResponseMutUninit::payload_mut` lends.
+    /// Not in iceoryx2: it stands for writes through the `MaybeUninit` that iceoryx2's `ResponseMutUninit::payload_mut` lends.
     #[inline(always)]
     pub fn push_response(&mut self, id: &HandleId, item: PB::Item) -> bool
         requires { kind_at self.old id.now ≡ Some Kind.ResponseMutUninit }
@@ -53,7 +53,7 @@ impl<QB: Body, QH: Default + Drop, PB: Body, PH: Default + Drop, K: Backpressure
     /// Replaces the element at an index of a response that was not sent, and returns `true`. Returns `false` if no element stands
     /// there; the element is dropped then, and the hub stays as it was.
     ///
-    /// Our own: it stands for writes through what iceoryx2's `ResponseMut::payload_mut` lends.
+    /// Not in iceoryx2: it stands for writes through what iceoryx2's `ResponseMut::payload_mut` lends.
     #[inline(always)]
     pub fn write_response_element(&mut self, id: &HandleId, index: usize, element: PB::Item) -> bool
         requires { (kind_at self.old id.now ≡ Some Kind.ResponseMutUninit) ⊎ (kind_at self.old id.now ≡ Some Kind.ResponseMut) }
@@ -67,7 +67,7 @@ impl<QB: Body, QH: Default + Drop, PB: Body, PH: Default + Drop, K: Backpressure
 
     /// Replaces the user header of a response that was not sent. The old one is dropped.
     ///
-    /// Our own: it stands for writes through what iceoryx2's `ResponseMut::user_header_mut` lends.
+    /// Not in iceoryx2: it stands for writes through what iceoryx2's `ResponseMut::user_header_mut` lends.
     #[inline(always)]
     pub fn write_response_user_header(&mut self, id: &HandleId, header: PH)
         requires { (kind_at self.old id.now ≡ Some Kind.ResponseMutUninit) ⊎ (kind_at self.old id.now ≡ Some Kind.ResponseMut) }

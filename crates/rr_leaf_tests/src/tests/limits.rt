@@ -36,6 +36,58 @@ fn a_limit_of_zero_is_refused_before_one_that_is_too_large(rt: HostRuntime) {
     assert!(rt; limits.refusal() == Some(HubCreateError::ZeroLimit));
 }
 
+#[test]
+fn default_limits_are_those_of_iceoryx2(rt: HostRuntime) {
+    let limits = Limits::default();
+    let sizes = [
+        limits.max_clients,
+        limits.max_servers,
+        limits.max_loaned_requests,
+        limits.max_active_requests_per_client,
+        limits.max_response_buffer_size,
+        limits.max_borrowed_responses_per_pending_response,
+        limits.client_expired_connection_buffer,
+        limits.server_expired_connection_buffer,
+    ];
+    let switches = [
+        limits.enable_safe_overflow_for_requests,
+        limits.enable_safe_overflow_for_responses,
+        limits.enable_fire_and_forget_requests,
+    ];
+    let told = (sizes, switches, limits.refusal());
+    assert!(rt; told == ([8, 2, 2, 4, 2, 2, 128, 128], [true, true, true], None));
+}
+
+#[test]
+fn each_setter_sets_its_own_limit(rt: HostRuntime) {
+    let set = Limits::default()
+        .max_clients(11)
+        .max_servers(12)
+        .max_loaned_requests(13)
+        .max_active_requests_per_client(14)
+        .max_response_buffer_size(15)
+        .max_borrowed_responses_per_pending_response(16)
+        .enable_safe_overflow_for_requests(false)
+        .enable_safe_overflow_for_responses(false)
+        .enable_fire_and_forget_requests(false)
+        .client_expired_connection_buffer(17)
+        .server_expired_connection_buffer(18);
+    let literal = Limits {
+        max_clients: 11,
+        max_servers: 12,
+        max_loaned_requests: 13,
+        max_active_requests_per_client: 14,
+        max_response_buffer_size: 15,
+        max_borrowed_responses_per_pending_response: 16,
+        enable_safe_overflow_for_requests: false,
+        enable_safe_overflow_for_responses: false,
+        enable_fire_and_forget_requests: false,
+        client_expired_connection_buffer: 17,
+        server_expired_connection_buffer: 18,
+    };
+    assert!(rt; set == literal);
+}
+
 /// One of everything, and so many requests on loan.
 fn one_of_each(max_loaned_requests: usize) -> Limits
     ensures { 0 < result.max_active_requests_per_client }

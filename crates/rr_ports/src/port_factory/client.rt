@@ -22,6 +22,35 @@ use std::marker::{Model, PhantomData};
 
 /// How a client is created: it passes full queues over, has no handler and a pool of the worst-case size, unless it is set
 /// otherwise. `P` chooses the pool's size: `NoOverride` or an `Override`. After iceoryx2's `PortFactoryClient`.
+///
+/// # Examples
+///
+/// Creates a client whose slots have room for 16 elements and grow for more, and whose sends are refused at a full queue
+/// (`rr_uses::creating`):
+///
+/// ```
+/// ghost use Rattle.std.specs.Prelude.{[], IfOk};
+/// ghost use Rattle.rr_protocol.specs.declared.kind.Kind.TheVariants as kind;
+/// ghost use Rattle.rr_ports.specs.Facts.{Has, IsFree, Keeps, Names, WholePool};
+///
+/// use rr_ports::sliced::{Client, Hub};
+/// use rr_ports::{AllocationStrategy, BackpressureStrategy, ClientCreateError};
+///
+/// type Service = Hub<u64, (), u64, ()>;
+///
+/// fn patient_client(hub: &mut Service) -> Result<Client<u64>, ClientCreateError>
+///     ensures free { IfOk result (λ client. IsFree [] hub.old client) }
+///     ensures kind { IfOk result (λ client. Names hub.new client kind.Client) }
+///     ensures pool { IfOk result (λ client. Has hub.new client (WholePool 16)) }
+///     ensures keeps { Keeps [] hub.old hub.new }
+/// {
+///     hub.client_builder()
+///         .initial_max_slice_len(16)
+///         .allocation_strategy(AllocationStrategy::PowerOfTwo)
+///         .backpressure_strategy(BackpressureStrategy::RetryUntilDelivered)
+///         .create(hub)
+/// }
+/// ```
 #[derive(Drop)]
 #[must_use]
 pub struct PortFactoryClient<QB: Body, K, P = NoOverride> {

@@ -23,6 +23,33 @@ use std::marker::{Model, PhantomData};
 
 /// How a server is created: it passes full queues over, has no handler and a pool of the worst-case size, unless it is set
 /// otherwise. `P` chooses the pool's size: `NoOverride` or an `Override`. After iceoryx2's `PortFactoryServer`.
+///
+/// # Examples
+///
+/// Creates a server that may have three responses on loan for each request, and has half of its worst-case pool
+/// (`rr_uses::creating`):
+///
+/// ```
+/// ghost use Rattle.std.specs.Prelude.{[], IfOk};
+/// ghost use Rattle.rr_protocol.specs.declared.kind.Kind.TheVariants as kind;
+/// ghost use Rattle.rr_ports.specs.Facts.{IsFree, Keeps, Names};
+///
+/// use rr_ports::sliced::{Hub, Server};
+/// use rr_ports::ServerCreateError;
+///
+/// type Service = Hub<u64, (), u64, ()>;
+///
+/// fn frugal_server(hub: &mut Service) -> Result<Server<u64>, ServerCreateError>
+///     ensures free { IfOk result (λ server. IsFree [] hub.old server) }
+///     ensures kind { IfOk result (λ server. Names hub.new server kind.Server) }
+///     ensures keeps { Keeps [] hub.old hub.new }
+/// {
+///     hub.server_builder()
+///         .max_loaned_responses_per_request(3)
+///         .override_response_preallocation(|worst_case: usize| worst_case / 2)
+///         .create(hub)
+/// }
+/// ```
 #[derive(Drop)]
 #[must_use]
 pub struct PortFactoryServer<PB: Body, K, P = NoOverride> {

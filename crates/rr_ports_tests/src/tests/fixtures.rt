@@ -1,17 +1,18 @@
 //! Hubs with what a test needs, and the ends of them.
 #![tactic(auto, using(rr_ports::proofs::Frames::callers), unfolding(rr_ports::specs::Facts::Keeps, rr_ports::specs::Facts::IsFree))]
 
-ghost use Rattle.std.specs.Prelude.{◌≡◌, ◌<◌, ◌≤◌, ◌+◌, []};
+ghost use Rattle.std.specs.Prelude.{◌<◌, ◌≤◌, ◌+◌, []};
 ghost use Rattle.rr_protocol.specs.declared.kind.Kind.TheVariants as kind;
 ghost use Rattle.rr_ports.specs.Facts.{Keeps, Names, numbers_left};
 
 use super::LIMITS;
 use super::handlers::At;
-use rr_ports::typed::{Client, Hub, PendingResponse, PortFactoryServer, Server};
+use rr_ports::typed::{Client, Hub, PendingResponse, PortFactoryServer};
 use rr_ports::{
     BackpressureAction, BackpressureStrategy, Limits, ReceiveError, RequestSendError, UniqueNodeId,
     UniqueServerId,
 };
+use rr_uses::connected::Connected;
 use std::alloc::Global;
 use std::process::Abort;
 
@@ -44,11 +45,7 @@ pub const SETUP: Setup = Setup {
 };
 
 /// A hub with a client 0 and a server 1.
-pub struct Connected {
-    pub hub: Service,
-    pub client: Client<u64>,
-    pub server: Server<u64>,
-}
+pub type Ports = Connected<Option<u64>, u64, Option<u64>, u64, At>;
 
 /// Returns a factory of servers with the loaned responses per request, if they are set.
 fn servers(hub: &Service, loans: Option<usize>) -> PortFactoryServer<u64, At> {
@@ -59,7 +56,7 @@ fn servers(hub: &Service, loans: Option<usize>) -> PortFactoryServer<u64, At> {
 }
 
 /// Makes a hub with a client and a server.
-pub fn connect(rt: &impl Abort, alloc: Global, setup: Setup) -> Connected
+pub fn connect(rt: &impl Abort, alloc: Global, setup: Setup) -> Ports
     ensures client { Names result.hub result.client kind.Client }
     ensures server { Names result.hub result.server kind.Server }
     ensures numbers { 9 < numbers_left result.hub }
@@ -78,23 +75,6 @@ pub fn connect(rt: &impl Abort, alloc: Global, setup: Setup) -> Connected
         hub,
         client,
         server,
-    }
-}
-
-impl Connected {
-    /// Releases the ports.
-    #[tactic(auto, using(rr_ports::proofs::Frames::callers), unfolding(rr_ports::specs::Facts::Keeps, rr_ports::specs::Facts::IsFree))]
-    pub fn end(self)
-        requires client { Names self.hub self.client kind.Client }
-        requires server { Names self.hub self.server kind.Server }
-    {
-        let Connected {
-            mut hub,
-            client,
-            server,
-        } = self;
-        client.release(&mut hub);
-        server.release(&mut hub);
     }
 }
 

@@ -5,8 +5,9 @@ ghost use Rattle.std.specs.Prelude.{◌<◌};
 ghost use Rattle.rr_protocol.specs.declared.kind.Kind.TheVariants as kind;
 ghost use Rattle.rr_ports.specs.Facts.{Names, numbers_left};
 
-use rr_ports::sliced::{Client, Hub, Server};
-use rr_ports::{AllocationStrategy, Limits, UniqueNodeId};
+use rr_ports::sliced::Hub;
+use rr_ports::{AllocationStrategy, Limits, NoHandler, SliceBody, UniqueNodeId};
+use rr_uses::connected::Connected;
 use std::alloc::Global;
 use std::process::Abort;
 
@@ -14,11 +15,7 @@ use std::process::Abort;
 pub type Service = Hub<u64, u64, u64, u64>;
 
 /// A hub with a client and a server.
-pub struct Connected {
-    pub hub: Service,
-    pub client: Client<u64>,
-    pub server: Server<u64>,
-}
+pub type Ports = Connected<SliceBody<u64>, u64, SliceBody<u64>, u64, NoHandler>;
 
 /// Limits of two of everything and one loaned request, with queues that refuse; nothing is kept of ports that left.
 const LIMITS: Limits = Limits {
@@ -37,44 +34,16 @@ pub fn service(rt: &impl Abort, alloc: Global) -> Service
 }
 
 /// Makes a hub with a client, whose slots have room for `len` elements at first, and a server, whose slots have for 13.
-pub fn connect(
-    rt: &impl Abort,
-    alloc: Global,
-    len: usize,
-    strategy: AllocationStrategy,
-) -> Connected
+pub fn connect(rt: &impl Abort, alloc: Global, len: usize, strategy: AllocationStrategy) -> Ports
     ensures client { Names result.hub result.client kind.Client }
     ensures server { Names result.hub result.server kind.Server }
     ensures numbers { 8 < numbers_left result.hub }
 {
-    let mut hub = service(rt, alloc);
+    let hub = service(rt, alloc);
     let clients = hub
         .client_builder()
         .initial_max_slice_len(len)
         .allocation_strategy(strategy);
-    let client = clients.create(&mut hub).expect(rt, "a client");
     let servers = hub.server_builder().initial_max_slice_len(13);
-    let server = servers.create(&mut hub).expect(rt, "a server");
-    Connected {
-        hub,
-        client,
-        server,
-    }
-}
-
-impl Connected {
-    /// Releases the ports.
-    #[tactic(auto, using(rr_ports::proofs::Frames::callers), unfolding(rr_ports::specs::Facts::Keeps, rr_ports::specs::Facts::IsFree))]
-    pub fn end(self)
-        requires client { Names self.hub self.client kind.Client }
-        requires server { Names self.hub self.server kind.Server }
-    {
-        let Connected {
-            mut hub,
-            client,
-            server,
-        } = self;
-        client.release(&mut hub);
-        server.release(&mut hub);
-    }
+    Connected::by(hub, clients, servers).expect(rt, "ports")
 }

@@ -1,7 +1,7 @@
 //! What ports are that builders made, and what they are without a word.
 #![tactic(auto, using(rr_ports::proofs::Frames::callers), unfolding(rr_ports::specs::Facts::Keeps, rr_ports::specs::Facts::IsFree))]
 
-ghost use Rattle.std.specs.Prelude.{◌≡◌, ◌<◌, ◌≤◌, ◌+◌, None, []};
+ghost use Rattle.std.specs.Prelude.{◌<◌, ◌≤◌, ◌+◌, []};
 ghost use Rattle.rr_protocol.specs.declared.kind.Kind.TheVariants as kind;
 ghost use Rattle.rr_ports.specs.Facts.{Keeps, Names, numbers_left};
 

@@ -6,10 +6,9 @@ ghost use Rattle.rr_protocol.specs.declared.kind.Kind.TheVariants as kind;
 ghost use Rattle.rr_ports.specs.Facts.{Buffers, Has, Keeps, Names, Of, numbers_left};
 ghost use Rattle.rr_ports.specs.Queues.{AwaitsNothing, Hears, HearsNothing};
 
-use super::LIMITS;
-use rr_ports::UniqueNodeId;
 use rr_ports::typed::{Client, Hub, PendingResponse, Server};
 use rr_uses::calling::{call, call_both};
+use rr_uses::connected::Connected;
 use rr_uses::counting::{count, received};
 use rr_uses::crowd::call_all;
 use rr_uses::unrefused;
@@ -22,86 +21,59 @@ type Service = Hub<u64, u64, u64, u64>;
 /// A call returns what the server answers to its question.
 #[test]
 fn a_call_returns_the_answer(rt: HostRuntime) {
-    let mut hub = Service::new(rt.alloc(), LIMITS, UniqueNodeId(7)).expect(&rt, "a hub");
-    let client = hub
-        .client_builder()
-        .create(&mut hub)
-        .expect(&rt, "a client");
-    let server = hub
-        .server_builder()
-        .create(&mut hub)
-        .expect(&rt, "a server");
+    let mut connected = Connected::new(rt.alloc()).expect(&rt, "ports");
     let answer = call(
-        &mut hub,
-        &client,
-        &server,
+        &mut connected.hub,
+        &connected.client,
+        &connected.server,
         20,
         |asked: u64| asked.wrapping_add(1),
     );
-    client.release(&mut hub);
-    server.release(&mut hub);
+    connected.end();
     assert_eq!(rt; answer, Ok(21));
 }
 
 /// A call that is never refused returns the answer, and so does the next one.
 #[test]
 fn a_call_that_is_not_refused_returns_the_answer(rt: HostRuntime) {
-    let mut hub = Service::new(rt.alloc(), LIMITS, UniqueNodeId(7)).expect(&rt, "a hub");
-    let client = hub
-        .client_builder()
-        .create(&mut hub)
-        .expect(&rt, "a client");
-    let server = hub
-        .server_builder()
-        .create(&mut hub)
-        .expect(&rt, "a server");
+    let mut connected = Connected::new(rt.alloc()).expect(&rt, "ports");
     let first = unrefused::call(
-        &mut hub,
-        &client,
-        &server,
+        &mut connected.hub,
+        &connected.client,
+        &connected.server,
         20,
         |asked: u64| asked.wrapping_add(1),
     );
     let second = unrefused::call(
-        &mut hub,
-        &client,
-        &server,
+        &mut connected.hub,
+        &connected.client,
+        &connected.server,
         first,
         |asked: u64| asked.wrapping_mul(2),
     );
-    client.release(&mut hub);
-    server.release(&mut hub);
+    connected.end();
     assert_eq!(rt; (first, second), (21, 42));
 }
 
 /// A call of two servers returns what each answers.
 #[test]
 fn a_call_of_two_returns_both_answers(rt: HostRuntime) {
-    let mut hub = Service::new(rt.alloc(), LIMITS, UniqueNodeId(7)).expect(&rt, "a hub");
-    let client = hub
-        .client_builder()
-        .create(&mut hub)
-        .expect(&rt, "a client");
-    let first = hub
-        .server_builder()
-        .create(&mut hub)
-        .expect(&rt, "a server");
-    let second = hub
-        .server_builder()
-        .create(&mut hub)
+    let mut connected = Connected::new(rt.alloc()).expect(&rt, "ports");
+    let servers = connected.hub.server_builder();
+    let second = servers
+        .create(&mut connected.hub)
         .expect(&rt, "a second server");
     let answers = call_both(
-        &mut hub,
-        &client,
-        &first,
+        &mut connected.hub,
+        &connected.client,
+        &connected.server,
         &second,
         20,
         |asked: u64| asked.wrapping_add(1),
         |asked: u64| asked.wrapping_mul(2),
     );
-    client.release(&mut hub);
-    first.release(&mut hub);
-    second.release(&mut hub);
+    second.release(&mut connected.hub);
+    connected.end();
     assert_eq!(rt; answers, Ok((21, 40)));
 }
 
@@ -109,26 +81,17 @@ fn a_call_of_two_returns_both_answers(rt: HostRuntime) {
 #[tactic(auto, using(rr_ports::proofs::Frames::callers, rr_uses::proofs::Hearing::crowds), unfolding(rr_ports::specs::Facts::Keeps, rr_ports::specs::Facts::IsFree))]
 #[test]
 fn a_question_to_all_returns_all_answers(rt: HostRuntime) {
-    let mut hub = Service::new(rt.alloc(), LIMITS, UniqueNodeId(7)).expect(&rt, "a hub");
-    let client = hub
-        .client_builder()
-        .create(&mut hub)
-        .expect(&rt, "a client");
-    let server = hub
-        .server_builder()
-        .create(&mut hub)
-        .expect(&rt, "a server");
-    let servers = slice::from_ref(&server);
+    let mut connected = Connected::new(rt.alloc()).expect(&rt, "ports");
+    let servers = slice::from_ref(&connected.server);
     let answers = call_all(
         rt.alloc(),
-        &mut hub,
-        &client,
+        &mut connected.hub,
+        &connected.client,
         servers,
         20,
         &|asked: u64| asked.wrapping_add(1),
     );
-    client.release(&mut hub);
-    server.release(&mut hub);
+    connected.end();
     let answers = answers.expect(&rt, "all answers");
     assert_eq!(rt; answers.as_slice(), [21].as_slice());
 }
@@ -190,18 +153,14 @@ fn counted(
 /// A stream is received in the order in which it was sent.
 #[test]
 fn a_stream_comes_in_order(rt: HostRuntime) {
-    let mut hub = Service::new(rt.alloc(), LIMITS, UniqueNodeId(7)).expect(&rt, "a hub");
-    let client = hub
-        .client_builder()
-        .create(&mut hub)
-        .expect(&rt, "a client");
-    let server = hub
-        .server_builder()
-        .create(&mut hub)
-        .expect(&rt, "a server");
-    let came = counted(rt.alloc(), &mut hub, &client, &server);
-    client.release(&mut hub);
-    server.release(&mut hub);
+    let mut connected = Connected::new(rt.alloc()).expect(&rt, "ports");
+    let came = counted(
+        rt.alloc(),
+        &mut connected.hub,
+        &connected.client,
+        &connected.server,
+    );
+    connected.end();
     let came = came.expect(&rt, "a stream");
     assert_eq!(rt; came.as_slice(), [0, 1].as_slice());
 }

@@ -5,9 +5,9 @@ ghost use Rattle.std.specs.Prelude.{◌<◌, []};
 ghost use Rattle.rr_protocol.specs.declared.kind.Kind.TheVariants as kind;
 ghost use Rattle.rr_ports.specs.Facts.{Keeps, Names, numbers_left};
 
-use super::LIMITS;
+use rr_ports::RequestSendError;
 use rr_ports::typed::{Client, Hub, Server};
-use rr_ports::{RequestSendError, UniqueNodeId};
+use rr_uses::connected::Connected;
 use rr_uses::taking::taken;
 
 /// A service that answers numbers with texts.
@@ -50,15 +50,15 @@ fn asked(
 /// A text is taken as it was sent, once.
 #[test]
 fn a_text_is_taken_by_value(rt: HostRuntime) {
-    let mut hub = Texts::new(rt.alloc(), LIMITS, UniqueNodeId(7)).expect(&rt, "a hub");
-    let clients = hub.client_builder();
-    let client = clients.create(&mut hub).expect(&rt, "a client");
-    let servers = hub.server_builder();
-    let server = servers.create(&mut hub).expect(&rt, "a server");
+    let mut connected = Connected::new(rt.alloc()).expect(&rt, "ports");
     let text = String::from_str(rt.alloc(), "an answer").expect(&rt, "a text");
-    let came = asked(&mut hub, &client, &server, text);
-    client.release(&mut hub);
-    server.release(&mut hub);
+    let came = asked(
+        &mut connected.hub,
+        &connected.client,
+        &connected.server,
+        text,
+    );
+    connected.end();
     let (first, second) = came.expect(&rt, "a pending response");
     assert_eq!(rt; first.as_deref(), Some("an answer"));
     assert_eq!(rt; second.as_deref(), None);

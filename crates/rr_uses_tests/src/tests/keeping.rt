@@ -5,7 +5,6 @@ ghost use Rattle.std.specs.Prelude.{◌<◌, ◌∷◌, ◌≡◌, [], IfSome};
 ghost use Rattle.rr_protocol.specs.declared.kind.Kind.TheVariants as kind;
 ghost use Rattle.rr_ports.specs.Facts.{Keeps, Names, numbers_left};
 
-use super::LIMITS;
 use rr_ports::typed::{
     ActiveRequest, Client, Hub, PendingResponse, RequestMut, ResponseMut, Server,
 };
@@ -87,10 +86,9 @@ fn asked(
 /// A response that finds a full queue is given back, and is received once it was sent again.
 #[test]
 fn a_refused_response_is_given_back(rt: HostRuntime) {
-    let limits = Limits {
-        max_response_buffer_size: 1,
-        ..LIMITS
-    };
+    let limits = Limits::default()
+        .max_response_buffer_size(1)
+        .enable_safe_overflow_for_responses(false);
     let mut hub = Service::new(rt.alloc(), limits, UniqueNodeId(7)).expect(&rt, "a hub");
     let clients = hub.client_builder();
     let client = clients.create(&mut hub).expect(&rt, "a client");
@@ -188,10 +186,7 @@ fn asked_twice(hub: &mut Service, client: &Client<u64>, server: &Server<u64>) ->
 /// A request beside as many as may be active is given back, and is received once it was sent again.
 #[test]
 fn a_refused_request_is_given_back(rt: HostRuntime) {
-    let limits = Limits {
-        enable_safe_overflow_for_requests: true,
-        ..Limits::SMALLEST
-    };
+    let limits = Limits::default().max_active_requests_per_client(1);
     let mut hub = Service::new(rt.alloc(), limits, UniqueNodeId(7)).expect(&rt, "a hub");
     let clients = hub.client_builder();
     let client = clients.create(&mut hub).expect(&rt, "a client");
