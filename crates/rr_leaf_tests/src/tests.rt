@@ -9,6 +9,7 @@ mod channels;
 mod connections;
 mod errors;
 mod limits;
+mod logs;
 mod messages;
 mod pools;
 mod replies;
