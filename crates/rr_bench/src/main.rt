@@ -1,4 +1,4 @@
-//! Times round trips through the ports of `rr_ports`, and of two threads at a hub of `rr_locked`.
+//! Times round trips through the ports of `rr_ports`, of two threads at a hub of `rr_locked`, and of threads at one of `rr_shared`.
 #![tactic(auto)]
 
 mod family;
@@ -8,6 +8,7 @@ mod payload;
 mod rows;
 mod service;
 mod shapes;
+mod shared;
 mod trip;
 mod trip_error;
 
@@ -60,10 +61,12 @@ fn main(rt: HostRuntime) -> anyhow::Result<ExitCode> {
             payloads(&rt, Job::Check)?;
             larger(&rt, Job::Check)?;
             locked::check(&rt, rt.alloc())?;
+            shared::check(&rt, rt.alloc())?;
         }
         (Some("time"), None, ..) => {
             payloads(&rt, Job::Time)?;
             locked::time(&rt, rt.alloc())?;
+            shared::time(&rt, rt.alloc())?;
         }
         (Some("grow"), None, ..) => larger(&rt, Job::Time)?,
         (Some("count"), Some(trips), None, _) => count(&rt, trips.parse()?, 0)?,
