@@ -8,8 +8,8 @@ use rr_locked::{Bell, Bells};
 use rr_ports::{Limits, UniqueNodeId};
 use rr_shared::{Naming, Reply};
 use rr_trips::{
-    CREATE_CLIENT, CREATE_SERVER, Hub, HubReply, HubSeat, OpenedHub, create, payload, receive,
-    release, respond, round_trips, send_copy,
+    Hub, HubReply, HubSeat, OpenedHub, create, new_client, new_server, payload, receive, release,
+    respond, round_trips, send_copy,
 };
 use std::alloc::Global;
 use std::marker::Brand;
@@ -41,8 +41,8 @@ fn alone<N: Naming, R: Wait + Clock>(rt: &R, opened: OpenedHub, trips: u64) -> a
     let hub = opened.named::<N>();
     let mut asking = hub.seat();
     let mut answering = hub.seat();
-    let client = got(create(rt, &hub, &mut asking, CREATE_CLIENT))?;
-    let server = got(create(rt, &hub, &mut answering, CREATE_SERVER))?;
+    let client = got(create(rt, &hub, &mut asking, new_client()))?;
+    let server = got(create(rt, &hub, &mut answering, new_server()))?;
     let start = Instant::now(rt)?;
     let sum = round_trips(rt, &hub, &mut asking, &mut answering, client, server, trips);
     let nanos = start.elapsed(rt)?.as_nanos();
@@ -82,8 +82,10 @@ fn ask<N: Naming, R: Wait>(
     servers: u64,
     asked: u64,
 ) -> Result<u64, HubReply> {
+    let heard = bells.client.rings();
     let pending = send_copy(rt, hub, seat, client, asked)?;
     bells.server.ring();
+    bells.client.wait(heard, TURNS).ok_or(Reply::Nothing)?;
     let mut sum = 0u64;
     for _ in 0..servers {
         let response = wait_for(rt, hub, seat, &bells.client, pending)?;
@@ -122,7 +124,8 @@ fn answer_all<N: Naming, R: Wait>(
     requests: u64,
 ) -> Result<u64, HubReply> {
     let mut sum = 0u64;
-    for _ in 0..requests {
+    for answered in 0..requests {
+        bells.server.wait(answered, TURNS).ok_or(Reply::Nothing)?;
         let active = wait_for(rt, hub, seat, &bells.server, server)?;
         sum = sum.wrapping_add(respond(rt, hub, seat, active)?);
         bells.client.ring();
@@ -158,10 +161,10 @@ fn workers<N: Naming, R: Wait>(
     let mut workers = Vec::new(alloc);
     for _ in 0..side {
         let mut asking = hub.seat();
-        let client = got(create(rt, hub, &mut asking, CREATE_CLIENT))?;
+        let client = got(create(rt, hub, &mut asking, new_client()))?;
         workers.push((asking, true, client))?;
         let mut answering = hub.seat();
-        let server = got(create(rt, hub, &mut answering, CREATE_SERVER))?;
+        let server = got(create(rt, hub, &mut answering, new_server()))?;
         workers.push((answering, false, server))?;
     }
     Ok(workers)

@@ -7,8 +7,7 @@ use crate::worker::work;
 use rr_commands::{Command, Reply};
 use rr_locked::{Bells, HubCommand, HubReply, LockedHub, Seat, Submit, WorkerError};
 use rr_protocol::{
-    AllocationStrategy, BackpressureStrategy, ClientSettings, Limits, NoHandler, ServerSettings,
-    UniqueNodeId,
+    BackpressureStrategy, ClientSettings, Limits, NoHandler, ServerSettings, UniqueNodeId,
 };
 use std::alloc::{AllocError, Global};
 use std::sync::Wait;
@@ -32,24 +31,21 @@ const LIMITS: Limits = Limits {
     ..Limits::SMALLEST
 };
 
-/// Creates the client.
-const CREATE_CLIENT: HubCommand = Command::CreateClient(ClientSettings {
-    strategy: BackpressureStrategy::RetryUntilDelivered,
-    initial_max_slice_len: 1,
-    allocation_strategy: AllocationStrategy::Static,
-    pool: None,
-    handler: None::<NoHandler>,
-});
+/// How the client is created: its sends are refused at a full queue.
+fn client_settings() -> ClientSettings<NoHandler> {
+    ClientSettings {
+        strategy: BackpressureStrategy::RetryUntilDelivered,
+        ..ClientSettings::default()
+    }
+}
 
-/// Creates a server.
-const CREATE_SERVER: HubCommand = Command::CreateServer(ServerSettings {
-    strategy: BackpressureStrategy::RetryUntilDelivered,
-    initial_max_slice_len: 1,
-    allocation_strategy: AllocationStrategy::Static,
-    pool: None,
-    handler: None::<NoHandler>,
-    loans: 1,
-});
+/// How a server is created: its sends are refused at a full queue.
+fn server_settings() -> ServerSettings<NoHandler> {
+    ServerSettings {
+        strategy: BackpressureStrategy::RetryUntilDelivered,
+        ..ServerSettings::default()
+    }
+}
 
 /// A worker's seat, the number of its server, and which jobs are its own: those with this rest by the number of workers.
 #[derive(Drop)]
@@ -80,7 +76,7 @@ pub fn do_jobs<L: Ledger + Send + Sync, R: Threads + Wait + Sync>(
 {
     let hub = LockedHub::<L>::new(alloc, LIMITS, UniqueNodeId(0), blank).map_err(Failure::Hub)?;
     let mut seat = hub.seat(rt).ok_or(Failure::NoPlace)?;
-    let client = created(hub.submit(rt, &mut seat, CREATE_CLIENT))?;
+    let client = created(hub.submit(rt, &mut seat, Command::CreateClient(client_settings())))?;
     let posts = posts(rt, alloc, &hub, &mut seat)?;
     let bells = Bells::new();
     let ((own, sum), workers) = call(rt, &hub, &bells, seat, client, posts);
@@ -134,7 +130,7 @@ fn posts<L: Ledger, R: Wait>(
     let mut posts = Vec::new(alloc);
     for index in 0..WORKERS {
         let post = Post {
-            port: created(hub.submit(rt, seat, CREATE_SERVER))?,
+            port: created(hub.submit(rt, seat, Command::CreateServer(server_settings())))?,
             seat: hub.seat(rt).ok_or(Failure::NoPlace)?,
             index,
         };

@@ -6,6 +6,8 @@ use std::alloc::Global;
 
 mod bodies;
 mod channels;
+mod claimed_rows;
+mod claims;
 mod connections;
 mod errors;
 mod limits;

@@ -1,3 +1,5 @@
 pub mod Lists
-pub mod Fitting
-pub mod Moves
+mod Keyless
+mod Tokens
+mod Lent
+mod Walks

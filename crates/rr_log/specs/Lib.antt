@@ -1,2 +1,2 @@
+pub mod Owned
 pub mod Entries
-pub mod Views

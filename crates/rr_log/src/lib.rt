@@ -2,11 +2,10 @@
 #![tactic(auto)]
 
 mod log;
+mod moves;
+mod name;
 mod pen;
-mod rules;
 mod seen;
-mod shown;
-mod view;
 
 pub use log::Log;
 pub use pen::Pen;

@@ -1,69 +1,69 @@
 //! A log, and the calls of its tokens.
-ghost use Rattle.std.specs.Prelude.{◌≡◌, ◌⊎◌, [], ◌∷◌, ◌++◌, IfOk};
+ghost use Rattle.std.specs.Prelude.{◌≡◌, ◌≢◌, ◌⊎◌, [], ◌∷◌, ◌++◌};
 ghost use mathlib.Core.List.{IsPrefix};
 ghost use Rattle.rr_log.specs.Entries.{whole, beginning, Follows};
 
+use crate::moves;
+use crate::name::Name;
 use crate::pen::Pen;
-use crate::rules::{Appends, Compares, Enters, Grows, Hears, Hosts, Leaves, Tells};
 use crate::seen::Seen;
-use crate::shown::Shown;
-use crate::view::View;
-use atomic_table::Table;
-use std::alloc::{AllocError, Global};
 use std::marker::Model;
 
 /// A log of entries, each with its caller. Contracts see which log it is.
 ///
-/// It has one word in memory, at which its tokens make their steps, and which never changes. A log is shared by reference. An entry
-/// that is a value with bytes is only read. Not in iceoryx2.
+/// It has no bytes, and its calls do nothing when they run. A log is shared by reference. An entry that is a value with bytes is only
+/// read. Not in iceoryx2.
 ///
 /// # Examples
 ///
-/// Adds an entry by each of two callers, and compares what they have seen (`rr_leaf_tests`):
+/// Adds an entry by each of two callers, and compares what they have seen (`rr_leaf_tests::tests::logs`):
 ///
 /// ```
-/// let (log, mut pen) = Log::open(alloc)?;
-/// let (mut first, mut second) = (log.caller(), log.caller());
-/// log.append(&mut pen, &mut first, &3u64);
-/// log.append(&mut pen, &mut second, &5);
-/// log.compare(&mut first, &mut second);
+/// ghost use Rattle.std.specs.Prelude.{◌≡◌, [], ◌∷◌, map};
+///
+/// use rr_log::{Log, Pen};
+///
+/// fn two_entries() -> Pen<u64>
+///     ensures { map (λ entry. entry.1) result.entries ≡ 3 ∷ 5 ∷ [] }
+/// {
+///     let (log, mut pen) = Log::open();
+///     let mut first = log.caller();
+///     let mut second = log.caller();
+///     log.append(&mut pen, &mut first, &3);
+///     log.append(&mut pen, &mut second, &5);
+///     log.compare(&mut first, &mut second);
+///     pen
+/// }
 /// ```
 pub struct Log<E> {
-    table: Table<Shown<E>, View<E>, (), Grows, Global>,
+    name: Name<E>,
 }
 
 impl<E> Model for Log<E> {
-    ghost use Rattle.std.specs.Prelude.{◌≡◌};
-    ghost use Rattle.atomic_table.specs.Seated.{TableId, table_id_coded};
+    ghost use Rattle.std.specs.Prelude.{ℕ};
+    ghost use base.Stored.{coded_ℕ};
 
-    ghost Value = { TableId };
+    ghost Value = { ℕ };
 
-    ghost coded = { table_id_coded };
+    ghost coded = { coded_ℕ };
 
-    ghost view = { λ l. l.table.shared.table_id };
-
-    ghost invariant = { λ l. l.table.shared.table_id.words ≡ 1 };
+    ghost view = { λ l. l.name.log_id };
 }
 
 impl<E> Log<E> {
     /// Makes a log without entries, and its pen. Not in iceoryx2.
-    ///
-    /// # Errors
-    ///
-    /// - `AllocError` if no memory was found for its word.
-    pub fn open(alloc: Global) -> Result<(Log<E>, Pen<E>), AllocError>
-        ensures { IfOk result (λ made. made.1 ≡ whole made.0 []) }
+    pub fn open() -> (Log<E>, Pen<E>)
+        ensures { result.1 ≡ whole result.0 [] }
     {
-        let (table, seat) = Table::of_words(alloc, &[0], &())?;
-        Ok((Log { table }, Pen { seat }))
+        let (name, pen) = moves::open();
+        (Log { name }, pen)
     }
 
     /// Makes a caller, which has seen nothing. Not in iceoryx2.
     pub fn caller(&self) -> Seen<E>
         ensures { (result.log_id ≡ self.now) × (result.entries ≡ []) }
     {
-        let (_, seat) = self.table.shared.load_new_seat::<Enters>(0);
-        Seen { seat }
+        moves::enter(&self.name)
     }
 
     /// Adds an entry of a caller, which has then seen all entries: what it had seen, entries of others, and this one. Not in iceoryx2.
@@ -74,13 +74,8 @@ impl<E> Log<E> {
         ensures seen { seen.new ≡ beginning self.now seen.old.caller pen.new.entries }
         ensures follows { Follows seen.old.caller seen.old.entries pen.old.entries }
     {
-        let token = self.table.shared.split_seat::<Leaves>(&mut seen.seat);
-        self.table.shared.join_seat::<Hosts>(&mut pen.seat, token);
-        let said = Shown::of(entry);
-        self.table
-            .shared
-            .compare_exchange_with::<Appends>(&mut pen.seat, 0, 0, 0, &said);
-        seen.seat = self.table.shared.split_seat::<Leaves>(&mut pen.seat);
+        moves::show(pen, seen);
+        moves::add(pen, seen, entry);
     }
 
     /// Shows a caller all entries. Since it saw the log last, others alone added entries. Not in iceoryx2.
@@ -91,10 +86,7 @@ impl<E> Log<E> {
         ensures seen { seen.new ≡ beginning self.now seen.old.caller pen.old.entries }
         ensures follows { Follows seen.old.caller seen.old.entries pen.old.entries }
     {
-        let token = self.table.shared.split_seat::<Leaves>(&mut seen.seat);
-        self.table.shared.join_seat::<Hosts>(&mut pen.seat, token);
-        self.table.shared.load::<Appends>(&mut pen.seat, 0);
-        seen.seat = self.table.shared.split_seat::<Leaves>(&mut pen.seat);
+        moves::show(pen, seen);
     }
 
     /// Compares what two callers have seen: the entries of one of them begin those of the other. Changes nothing. Not in iceoryx2.
@@ -103,16 +95,15 @@ impl<E> Log<E> {
         requires other { other.old.log_id ≡ self.now }
         ensures same { (one.new ≡ one.old) × (other.new ≡ other.old) }
         ensures begins { IsPrefix one.old.entries other.old.entries ⊎ IsPrefix other.old.entries one.old.entries }
+        ensures differ { one.old.caller ≢ other.old.caller }
     {
-        let token = self.table.shared.split_seat::<Tells>(&mut other.seat);
-        self.table.shared.join_seat::<Hears>(&mut one.seat, token);
-        self.table.shared.load::<Compares>(&mut one.seat, 0);
+        moves::compare(one, other);
     }
 }
 
 impl<E> Drop for Log<E> {
     fn drop(self) {
-        let Self { table } = self;
-        drop(table);
+        let Self { name } = self;
+        drop(name);
     }
 }

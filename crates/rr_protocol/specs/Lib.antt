@@ -14,3 +14,4 @@ pub mod Sends
 pub mod Receives
 pub mod Creation
 pub mod Codes
+pub mod Settings

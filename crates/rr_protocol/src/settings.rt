@@ -48,6 +48,36 @@ pub struct ClientSettings<K> {
     pub handler: Option<K>,
 }
 
+/// What a client is created with where nothing else is said: slots of one element, which do not grow, in a pool of the worst-case size;
+/// its sends pass full queues over, and ask no handler. These are the defaults of iceoryx2's `PortFactoryClient`.
+///
+/// # Examples
+///
+/// A client whose sends are refused at a full queue:
+///
+/// ```
+/// let settings = ClientSettings {
+///     strategy: BackpressureStrategy::RetryUntilDelivered,
+///     ..ClientSettings::default()
+/// };
+/// ```
+impl<K> Default for ClientSettings<K> {
+    ghost use Rattle.std.specs.Prelude.{◌≡◌};
+    ghost use Rattle.rr_protocol.specs.Settings.{client_defaults};
+
+    ghost is_default = { λ settings. settings ≡ client_defaults };
+
+    fn default() -> Self {
+        ClientSettings {
+            initial_max_slice_len: 1,
+            pool: None,
+            strategy: BackpressureStrategy::DiscardData,
+            allocation_strategy: AllocationStrategy::Static,
+            handler: None,
+        }
+    }
+}
+
 /// How a server is created.
 #[derive(Clone, Copy, Debug, PartialEq, Eq, Hash)]
 pub struct ServerSettings<K> {
@@ -63,4 +93,25 @@ pub struct ServerSettings<K> {
     pub allocation_strategy: AllocationStrategy,
     /// The handler that is asked at a full queue before the strategy, if there is one.
     pub handler: Option<K>,
+}
+
+/// What a server is created with where nothing else is said: slots of one element, which do not grow, in a pool of the worst-case size,
+/// and one response on loan at a time for each active request; its sends pass full queues over, and ask no handler. Except for the
+/// loans these are the defaults of iceoryx2's `PortFactoryServer`.
+impl<K> Default for ServerSettings<K> {
+    ghost use Rattle.std.specs.Prelude.{◌≡◌};
+    ghost use Rattle.rr_protocol.specs.Settings.{server_defaults};
+
+    ghost is_default = { λ settings. settings ≡ server_defaults };
+
+    fn default() -> Self {
+        ServerSettings {
+            initial_max_slice_len: 1,
+            pool: None,
+            loans: 1,
+            strategy: BackpressureStrategy::DiscardData,
+            allocation_strategy: AllocationStrategy::Static,
+            handler: None,
+        }
+    }
 }

@@ -7,9 +7,7 @@ ghost use Rattle.rr_slots.specs.declared.family.Family.{Family};
 ghost use Rattle.rr_shared.specs.Histories.{history_of};
 ghost use Rattle.rr_shared.specs.Laws.{calls_of, HasReceived, WasSentFor};
 
-use rr_protocol::{
-    AllocationStrategy, BackpressureFn, BackpressureStrategy, ClientSettings, NoHandler,
-};
+use rr_protocol::{BackpressureFn, ClientSettings, NoHandler};
 use rr_shared::{Command, Naming, Reply, Seat, SharedHub};
 use rr_slots::Body;
 use std::sync::Wait;
@@ -69,7 +67,7 @@ pub fn met<
     (reply, other_reply)
 }
 
-/// Receives by two seats, which meet afterwards. Promises that if both have received one response they are the same caller.
+/// Receives by two seats, which meet afterwards. Promises that they have received no response in common.
 pub fn received_by_both<N: Naming, R: Wait>(
     rt: &R,
     hub: &Numbers<N>,
@@ -77,7 +75,7 @@ pub fn received_by_both<N: Naming, R: Wait>(
     other: &mut NumbersSeat<N>,
     pending: u64,
 )
-    ensures { (k : ℕ) → HasReceived k one.new → HasReceived k other.new → one.new.0 ≡ other.new.0 }
+    ensures { (k : ℕ) → HasReceived k one.new → HasReceived k other.new → ⊥ }
 {
     let _ = hub.submit(rt, one, Command::Receive(pending));
     let _ = hub.submit(rt, other, Command::Receive(pending));
@@ -120,14 +118,7 @@ pub fn created<N: Naming, R: Wait>(
 ) -> Option<u64>
     ensures { IfSome result (λ client. HasWholePool Family.Typed N.limits (history_of seat.new) client 1) }
 {
-    let settings = ClientSettings {
-        strategy: BackpressureStrategy::DiscardData,
-        initial_max_slice_len: 1,
-        allocation_strategy: AllocationStrategy::Static,
-        pool: None,
-        handler: None,
-    };
-    match hub.submit(rt, seat, Command::CreateClient(settings)) {
+    match hub.submit(rt, seat, Command::CreateClient(ClientSettings::default())) {
         Reply::Created(client) => Some(client),
         _ => None,
     }

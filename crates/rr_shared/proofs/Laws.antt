@@ -159,15 +159,6 @@ module _ {T H K : Type 0} where
   received_once k one other (inr begins) rule once has also =
       only_one (is_response k) one.0 other.0 one.1 (rule k) has (within k other one begins also)
 
-  -- the same of the seats as they are after they met, which changes nothing
-  pub received_once_after : (k : ℕ) (one other one_after other_after : Seated T H K) → one_after ≡ one → other_after ≡ other
-      → IsPrefix one.1 other.1 ⊎ IsPrefix other.1 one.1 → ReceivesOnce (history_of one) → ReceivesOnce (history_of other)
-      → HasReceived k one_after → HasReceived k other_after → one_after.0 ≡ other_after.0
-  received_once_after k one other one_after other_after same also_same begins once rule has also =
-      ap (λ seat. seat.0) same
-      ∙ received_once k one other begins once rule (subst (HasReceived k) same has) (subst (HasReceived k) also_same also)
-      ∙ sym (ap (λ seat. seat.0) also_same)
-
 module _ {T H K : Type 0} (family : Family) (limits : Limits) where
   -- a whole pool is one in a longer history
   has_more : (xs ys : List (Event T H K)) (n len : ℕ) → HasWholePool family limits xs n len → HasWholePool family limits (xs ++ ys) n len

@@ -29,16 +29,17 @@ pub(crate) struct Desk<
 
 impl<N: Naming, T: Copy + Default, B: Body<Item = T>, H: Copy + Default, K: BackpressureFn> Model
     for Desk<N, T, B, H, K> {
-    ghost use Rattle.std.specs.Prelude.{◌≡◌, ℕ, List};
+    ghost use Rattle.std.specs.Prelude.{◌≡◌, ℕ, List, None};
     ghost use Rattle.rr_commands.specs.AnswerRule.{Event};
     ghost use Rattle.rr_commands.specs.Continuing.{LeadsTo};
+    ghost use Rattle.rr_protocol.specs.Limits.{hub_refusal};
     ghost use Rattle.rr_shared.specs.Histories.{without_callers};
 
     ghost Value = { List (ℕ × Event T H K) };
 
     ghost view = { λ d. d.pen.entries };
 
-    ghost invariant = { λ d. (d.pen.log_id ≡ N.log_id) × LeadsTo K.action T.is_default H.is_default B.family N.limits N.node_id (without_callers d.pen.entries) d.runner };
+    ghost invariant = { λ d. (d.pen.log_id ≡ N.log_id) × LeadsTo K.action T.is_default H.is_default B.family N.limits N.node_id (without_callers d.pen.entries) d.runner × (hub_refusal N.limits ≡ None) };
 }
 
 impl<N: Naming, T: Copy + Default, B: Body<Item = T>, H: Copy + Default, K: BackpressureFn> Desk<

@@ -17,6 +17,34 @@ use rr_slots::Body;
 use std::marker::Model;
 
 /// A hub whose sharing has ended. Contracts see its whole history: all calls, each with its caller. Not in iceoryx2.
+///
+/// # Examples
+///
+/// Ends the sharing of a hub, and shows two seats the whole history. Promises that they have then seen the same, and that each made
+/// just the calls that it knew of (`rr_seats::laws`):
+///
+/// ```
+/// ghost use Rattle.std.specs.Prelude.{◌≡◌};
+/// ghost use Rattle.rr_shared.specs.Laws.{calls_of};
+///
+/// use rr_protocol::BackpressureFn;
+/// use rr_shared::{Naming, Seat, SharedHub};
+/// use rr_slots::Body;
+///
+/// fn ended<N: Naming, T: Copy + Default, B: Body<Item = T>, H: Copy + Default, K: BackpressureFn>(
+///     hub: SharedHub<N, T, B, H, K>,
+///     one: &mut Seat<N, T, H, K>,
+///     other: &mut Seat<N, T, H, K>,
+/// )
+///     ensures same { one.new.1 ≡ other.new.1 }
+///     ensures one { calls_of one.new ≡ calls_of one.old }
+///     ensures other { calls_of other.new ≡ calls_of other.old }
+/// {
+///     let mut finished = hub.finish();
+///     finished.look(one);
+///     finished.look(other);
+/// }
+/// ```
 #[derive(Drop)]
 pub struct Finished<
     N: Naming,
@@ -32,13 +60,14 @@ pub struct Finished<
 impl<N: Naming, T: Copy + Default, B: Body<Item = T>, H: Copy + Default, K: BackpressureFn> Model
     for Finished<N, T, B, H, K> {
     ghost use Rattle.std.specs.Prelude.{◌≡◌, ℕ, List};
-    ghost use Rattle.rr_commands.specs.AnswerRule.{Event};
+    ghost use Rattle.rr_commands.specs.AnswerRule.{Event, ReceivesOnce};
+    ghost use Rattle.rr_shared.specs.Histories.{without_callers};
 
     ghost Value = { List (ℕ × Event T H K) };
 
     ghost view = { λ f. f.desk };
 
-    ghost invariant = { λ f. f.log ≡ N.log_id };
+    ghost invariant = { λ f. (f.log ≡ N.log_id) × ReceivesOnce (without_callers f.desk) };
 }
 
 impl<

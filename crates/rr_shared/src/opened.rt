@@ -16,6 +16,29 @@ use std::sync::Mutex;
 
 /// A hub without ports and with an empty history, which has no name yet. Contracts see which log it has, its limits and its node id.
 /// Not in iceoryx2.
+///
+/// # Examples
+///
+/// Makes a hub, and gives it to the two threads of the example of `SharedHub`, which know it as `Brand`
+/// (`rr_shared_tests::tests::threads`):
+///
+/// ```
+/// use rr_protocol::{Limits, NoHandler, UniqueNodeId};
+/// use rr_shared::Opened;
+/// use std::marker::Brand;
+/// use std::test::Fail;
+///
+/// type OpenedHub = Opened<u64, Option<u64>, u64, NoHandler>;
+///
+/// const LIMITS: Limits = Limits { max_clients: 8, ..Limits::SMALLEST };
+///
+/// fn two_threads_get_two_numbers(rt: HostRuntime) -> Result<(), Fail> {
+///     let opened = OpenedHub::new(rt.alloc(), LIMITS, UniqueNodeId(3))?;
+///     let numbers = two_create::<Brand, _>(&rt, opened);
+///     assert!(rt; matches!(numbers, (Some(0), Some(1)) | (Some(1), Some(0))));
+///     Ok(())
+/// }
+/// ```
 #[derive(Drop)]
 pub struct Opened<T: Copy + Default, B: Body<Item = T>, H: Copy + Default, K: BackpressureFn> {
     limits: Limits,
@@ -48,20 +71,17 @@ impl<T: Copy + Default, B: Body<Item = T>, H: Copy + Default, K: BackpressureFn>
     H,
     K,
 > {
-    /// Makes a hub without ports, with an empty history. Not in iceoryx2.
+    /// Makes a hub without ports, with an empty history. Takes no memory, so `OutOfMemory` never comes. Not in iceoryx2.
     ///
     /// # Errors
     ///
     /// - `ZeroLimit` if a limit is below its least value.
     /// - `LimitsTooLarge` if a worst-case size is more than a `usize` counts.
-    /// - `OutOfMemory` if no memory was found for the one word of the log.
     pub fn new(alloc: Global, limits: Limits, node_id: UniqueNodeId) -> Result<Self, HubCreateError>
         ensures { OpensHub limits node_id.0 result }
     {
         let runner = Runner::new(alloc, limits, node_id)?;
-        let Ok((log, pen)) = Log::open(alloc) else {
-            return Err(HubCreateError::OutOfMemory);
-        };
+        let (log, pen) = Log::open();
         Ok(Opened {
             limits,
             node_id,

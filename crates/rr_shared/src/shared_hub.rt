@@ -1,7 +1,7 @@
 //! A hub that threads share.
-ghost use Rattle.std.specs.Prelude.{◌≡◌, ◌⊎◌, ◌∷◌, ◌++◌, [], ℕ};
+ghost use Rattle.std.specs.Prelude.{◌≡◌, ◌≢◌, ◌⊎◌, ◌∷◌, ◌++◌, [], ℕ};
 ghost use mathlib.Core.List.{IsPrefix};
-ghost use Rattle.rr_commands.specs.AnswerRule.{KeepsAnswerRule, ReceivesOnce};
+ghost use Rattle.rr_commands.specs.AnswerRule.{KeepsAnswerRule};
 ghost use Rattle.rr_laws.specs.Whole.{NeverRunsDry};
 ghost use Rattle.rr_shared.specs.Histories.{history_of, IsLegal, MakesCall, MayCopy};
 ghost use Rattle.rr_shared.specs.Laws.{calls_of, FindsRoom, HasReceived, IsAnswered};
@@ -23,18 +23,50 @@ use std::sync::{Mutex, Wait};
 ///
 /// # Examples
 ///
-/// Creates a client in each of two threads, and compares what their seats have seen then (`rr_shared_tests`):
+/// Creates a client in each of two threads, and compares what their seats have seen then (`rr_shared_tests::tests::threads`):
 ///
 /// ```
-/// let hub = opened.named::<N>();
-/// let mut first = hub.seat();
-/// let mut second = hub.seat();
-/// let numbers = thread::join(
-///     rt,
-///     || create(rt, &hub, &mut first),
-///     || create(rt, &hub, &mut second),
-/// );
-/// hub.compare(&mut first, &mut second);
+/// ghost use Rattle.std.specs.Prelude.{◌≡◌};
+///
+/// use rr_protocol::NoHandler;
+/// use rr_shared::{Naming, Opened, Reply, Seat, SharedHub};
+/// use rr_trips::new_client;
+/// use std::sync::Wait;
+/// use std::thread;
+/// use std::thread::Threads;
+///
+/// type OpenedHub = Opened<u64, Option<u64>, u64, NoHandler>;
+///
+/// type Hub<N> = SharedHub<N, u64, Option<u64>, u64, NoHandler>;
+///
+/// type HubSeat<N> = Seat<N, u64, u64, NoHandler>;
+///
+/// fn create<N: Naming, R: Wait>(rt: &R, hub: &Hub<N>, seat: &mut HubSeat<N>) -> Option<u64> {
+///     match hub.submit(rt, seat, new_client()) {
+///         Reply::Created(number) => Some(number),
+///         _ => None,
+///     }
+/// }
+///
+/// fn two_create<N: Naming, R: Threads + Wait + Sync>(
+///     rt: &R,
+///     opened: OpenedHub,
+/// ) -> (Option<u64>, Option<u64>)
+///     requires log { opened.log_id ≡ N.log_id }
+///     requires limits { opened.limits ≡ N.limits }
+///     requires node_id { opened.node_id ≡ N.node_id }
+/// {
+///     let hub = opened.named::<N>();
+///     let mut first = hub.seat();
+///     let mut second = hub.seat();
+///     let numbers = thread::join(
+///         rt,
+///         || create(rt, &hub, &mut first),
+///         || create(rt, &hub, &mut second),
+///     );
+///     hub.compare(&mut first, &mut second);
+///     numbers
+/// }
 /// ```
 #[derive(Drop)]
 pub struct SharedHub<
@@ -120,12 +152,13 @@ impl<
         self.inside.lock(rt).apply(&self.log, seat, command)
     }
 
-    /// Compares what two seats have seen: the history of one of them begins that of the other. Changes nothing, and takes no lock.
-    /// Not in iceoryx2.
+    /// Compares what two seats have seen: the history of one of them begins that of the other. They are two callers, who received no
+    /// response in common. Changes nothing, and takes no lock. Not in iceoryx2.
     pub fn compare(&self, one: &mut Seat<N, T, H, K>, other: &mut Seat<N, T, H, K>)
         ensures same { (one.new ≡ one.old) × (other.new ≡ other.old) }
         ensures begins { IsPrefix one.new.1 other.new.1 ⊎ IsPrefix other.new.1 one.new.1 }
-        ensures once { (k : ℕ) → ReceivesOnce (history_of one.old) → ReceivesOnce (history_of other.old) → HasReceived k one.new → HasReceived k other.new → one.new.0 ≡ other.new.0 }
+        ensures differ { one.old.0 ≢ other.old.0 }
+        ensures once { (k : ℕ) → HasReceived k one.new → HasReceived k other.new → ⊥ }
     {
         self.log.compare(&mut one.seen, &mut other.seen);
     }

@@ -1,7 +1,5 @@
 //! Hubs that seats share, in one thread and in several.
-use rr_protocol::{
-    AllocationStrategy, BackpressureStrategy, ClientSettings, Limits, ServerSettings,
-};
+use rr_protocol::{ClientSettings, Limits, ServerSettings};
 use rr_shared::{Command, Naming, Reply};
 use rr_trips::{Hub, HubCommand, HubReply, HubSeat};
 use std::sync::Wait;
@@ -21,25 +19,19 @@ pub const LIMITS: Limits = Limits {
 };
 
 /// Creates a client whose slots have room for so many elements. It passes full queues over.
-pub fn client<T, H, K>(initial_max_slice_len: usize) -> Command<T, H, K> {
+pub fn client<T, H, K: Drop>(initial_max_slice_len: usize) -> Command<T, H, K> {
     Command::CreateClient(ClientSettings {
-        strategy: BackpressureStrategy::DiscardData,
         initial_max_slice_len,
-        allocation_strategy: AllocationStrategy::Static,
-        pool: None,
-        handler: None,
+        ..ClientSettings::default()
     })
 }
 
 /// Creates a server whose slots have room for so many elements. It passes full queues over, unless a handler says otherwise.
-pub fn server<T, H, K>(initial_max_slice_len: usize, handler: Option<K>) -> Command<T, H, K> {
+pub fn server<T, H, K: Drop>(initial_max_slice_len: usize, handler: Option<K>) -> Command<T, H, K> {
     Command::CreateServer(ServerSettings {
-        strategy: BackpressureStrategy::DiscardData,
         initial_max_slice_len,
-        allocation_strategy: AllocationStrategy::Static,
-        pool: None,
         handler,
-        loans: 1,
+        ..ServerSettings::default()
     })
 }
 

@@ -26,7 +26,8 @@ pub fn small_service(alloc: Global) -> Result<Service, HubCreateError> {
     Hub::new(alloc, Limits::default().max_clients(3), UniqueNodeId(0))
 }
 
-/// Creates a client whose slots have room for 16 elements and grow for more, and whose sends are refused at a full queue.
+/// Creates a client whose slots have room for 16 elements and grow for more, and whose sends are refused at a full queue that may not
+/// overflow.
 ///
 /// # Errors
 ///

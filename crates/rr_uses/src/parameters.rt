@@ -77,7 +77,7 @@ fn told(values: &[u64], asked: Asked) -> &[u64]
 ///
 /// # Errors
 ///
-/// `NotHeard` as `Server::receive`, which leaves the values as they were; `NotAnswered` as `ActiveRequest::send_slice`.
+/// `NotHeard` as `Server::receive`; `NotAnswered` as `ActiveRequest::send_slice`. No clause tells of the values then.
 pub fn serve(
     hub: &mut Service,
     server: &Server<u64>,
@@ -185,7 +185,7 @@ pub fn ask(
 ///
 /// # Errors
 ///
-/// As `ask`. Questions that were asked before have set what they set.
+/// As `ask`. No clause tells of the values then.
 pub fn ask_in_turn(
     alloc: Global,
     hub: &mut Service,

@@ -13,10 +13,7 @@ use crate::least::outcome::{Outcome, outcome_of};
 use crate::least::stop::Stop;
 use crate::least::{LeastPoolError, PoolCommand, PoolReply};
 use rr_commands::Command;
-use rr_protocol::{
-    AllocationStrategy, BackpressureStrategy, ClientSettings, Limits, NoHandler, ServerSettings,
-    UniqueNodeId,
-};
+use rr_protocol::{ClientSettings, Limits, NoHandler, ServerSettings, UniqueNodeId};
 use rr_runner::Runner;
 use std::alloc::Global;
 
@@ -74,11 +71,8 @@ impl Filling {
         ensures filled { OnOk result (HasGrown 0 self.old self.new) }
     {
         let settings = ClientSettings {
-            strategy: BackpressureStrategy::DiscardData,
-            initial_max_slice_len: 1,
-            allocation_strategy: AllocationStrategy::Static,
             pool: Some(self.pool),
-            handler: None,
+            ..ClientSettings::default()
         };
         match self.note(Command::CreateClient(settings))? {
             Outcome::Created(_) => Ok(()),
@@ -229,15 +223,7 @@ impl Filling {
         ensures filled { IfOk result (λ server. HasGrown 0 self.old self.new × HasQueued self.new server 0) }
         ensures full { result ≢ Err stop.Full }
     {
-        let settings = ServerSettings {
-            strategy: BackpressureStrategy::DiscardData,
-            initial_max_slice_len: 1,
-            allocation_strategy: AllocationStrategy::Static,
-            pool: None,
-            handler: None,
-            loans: 1,
-        };
-        match self.carry_out(Command::CreateServer(settings))? {
+        match self.carry_out(Command::CreateServer(ServerSettings::default()))? {
             Outcome::Created(server) => Ok(server),
             _ => Err(Stop::NoMemory),
         }

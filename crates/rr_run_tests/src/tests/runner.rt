@@ -1,9 +1,8 @@
 //! Calls of a runner that no script reaches: kinds, lists of commands, and handlers of full queues.
 use rr_commands::{Command, Reply};
 use rr_protocol::{
-    AllocationStrategy, BackpressureAction, BackpressureFn, BackpressureInfo, BackpressureStrategy,
-    ClientSettings, Kind, Limits, ReceiveError, RequestSendError, SendError, ServerSettings,
-    UniqueNodeId,
+    BackpressureAction, BackpressureFn, BackpressureInfo, BackpressureStrategy, ClientSettings,
+    Kind, Limits, ReceiveError, RequestSendError, SendError, ServerSettings, UniqueNodeId,
 };
 use rr_run::{Runner, run};
 use std::alloc::{AllocError, Global};
@@ -50,22 +49,16 @@ const LIMITS: Limits = Limits {
 fn client(strategy: BackpressureStrategy, handler: Option<AtPortTwo>) -> ClientSettings<AtPortTwo> {
     ClientSettings {
         strategy,
-        initial_max_slice_len: 1,
-        allocation_strategy: AllocationStrategy::Static,
-        pool: None,
         handler,
+        ..ClientSettings::default()
     }
 }
 
 /// How a server is created.
 fn server(handler: Option<AtPortTwo>) -> ServerSettings<AtPortTwo> {
     ServerSettings {
-        strategy: BackpressureStrategy::DiscardData,
-        initial_max_slice_len: 1,
-        allocation_strategy: AllocationStrategy::Static,
-        pool: None,
         handler,
-        loans: 1,
+        ..ServerSettings::default()
     }
 }
 

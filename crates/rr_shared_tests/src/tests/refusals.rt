@@ -7,7 +7,7 @@ use rr_protocol::{
     SendError, ServerCreateError, UniqueNodeId,
 };
 use rr_shared::{Command, Naming, Reply};
-use rr_trips::{CREATE_CLIENT, CREATE_SERVER, HubCommand, HubReply, OpenedHub};
+use rr_trips::{HubCommand, HubReply, OpenedHub, new_client, new_server};
 use std::alloc::Global;
 use std::marker::Brand;
 use std::sync::Wait;
@@ -20,14 +20,14 @@ fn asked_too_much() -> [(HubCommand, HubReply); 19] {
     ));
     [
         (Command::Receive(0), Reply::Unknown),
-        (CREATE_CLIENT, Reply::Created(0)),
+        (new_client(), Reply::Created(0)),
         (
-            CREATE_CLIENT,
+            new_client(),
             Reply::ClientError(ClientCreateError::ExceedsMaxSupportedClients),
         ),
-        (CREATE_SERVER, Reply::Created(1)),
+        (new_server(), Reply::Created(1)),
         (
-            CREATE_SERVER,
+            new_server(),
             Reply::ServerError(ServerCreateError::ExceedsMaxSupportedServers),
         ),
         (Command::Loan(0, 1), Reply::Loaned(2)),

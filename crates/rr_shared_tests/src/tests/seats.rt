@@ -4,7 +4,7 @@ ghost use Rattle.std.specs.Prelude.{◌≡◌};
 use super::LIMITS;
 use rr_protocol::{Limits, UniqueNodeId};
 use rr_shared::{Command, Naming, Reply};
-use rr_trips::{CREATE_CLIENT, CREATE_SERVER, Hub, HubSeat, OpenedHub};
+use rr_trips::{Hub, HubSeat, OpenedHub, new_client, new_server};
 use std::marker::Brand;
 use std::process::Abort;
 use std::sync::Wait;
@@ -17,10 +17,10 @@ fn asked<N: Naming, R: Wait>(
     asking: &mut HubSeat<N>,
     answering: &mut HubSeat<N>,
 ) -> Option<u64> {
-    let Reply::Created(client) = hub.submit(rt, asking, CREATE_CLIENT) else {
+    let Reply::Created(client) = hub.submit(rt, asking, new_client()) else {
         return None;
     };
-    let Reply::Created(server) = hub.submit(rt, answering, CREATE_SERVER) else {
+    let Reply::Created(server) = hub.submit(rt, answering, new_server()) else {
         return None;
     };
     let Reply::Pending(_, 1) = hub.submit(rt, asking, Command::SendCopy(client, 5)) else {

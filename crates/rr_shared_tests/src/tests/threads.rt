@@ -4,7 +4,7 @@ ghost use Rattle.std.specs.Prelude.{◌≡◌};
 use super::LIMITS;
 use rr_protocol::UniqueNodeId;
 use rr_shared::{Naming, Reply};
-use rr_trips::{CREATE_CLIENT, Hub, HubSeat, OpenedHub};
+use rr_trips::{Hub, HubSeat, OpenedHub, new_client};
 use std::alloc::{AllocError, Global};
 use std::marker::Brand;
 use std::sync::Wait;
@@ -14,7 +14,7 @@ use std::thread::Threads;
 
 /// Creates a client. Returns its number.
 fn create<N: Naming, R: Wait>(rt: &R, hub: &Hub<N>, seat: &mut HubSeat<N>) -> Option<u64> {
-    match hub.submit(rt, seat, CREATE_CLIENT) {
+    match hub.submit(rt, seat, new_client()) {
         Reply::Created(number) => Some(number),
         _ => None,
     }

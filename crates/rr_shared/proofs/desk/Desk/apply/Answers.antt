@@ -1,4 +1,6 @@
-use Rattle.std.proofs.Common.{◌≡◌, ap, ◌∙◌}
+use Rattle.std.proofs.Common.{◌≡◌, ap, ◌∙◌, rules}
+use Rattle.rr_laws.proofs.AnswerRuleHolds.{keeps_answer_rule}
+use Rattle.rr_shared.specs.Histories.{without_callers}
 use Rattle.rr_shared.proofs.Going.{goes_on, made_call, may_copy}
 use Rattle.rr_shared.proofs.desk.Desk.apply.Goals as goal
 
@@ -12,6 +14,7 @@ invariant_of-self g c = (
       (ap (λ w. w.entries) c.append.ensures.pen)
       (c.of.ensures ∙ ap (λ command. (command, c.apply-reply.result)) c.of-asked.ensures)
       c.self.invariant.1 c.apply-reply.ensures.step,
+  c.self.invariant.2,
 )
 
 pub returns-clause-call : goal.returns-clause-call
@@ -42,3 +45,12 @@ returns-clause-legal g c = (
 
 pub returns-clause-memory : goal.returns-clause-memory
 returns-clause-memory g c = λ none. may_copy g.B.Body.family c.self.inside.runner c.args.command (c.apply-reply.ensures.memory none)
+
+-- a legal history receives no response twice
+pub invariant_of-seat : goal.invariant_of-seat
+invariant_of-seat g c =
+    let legal = returns-clause-legal g c in (
+      search rules,
+      (keeps_answer_rule g.K.BackpressureFn.action g.T.Default.is_default g.H.Default.is_default g.B.Body.family g.N.Naming.limits
+          g.N.Naming.node_id c.self.invariant.2 (without_callers c.append.new.seen.entries) legal.0 legal.1).once,
+    )

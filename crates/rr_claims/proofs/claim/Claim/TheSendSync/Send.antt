@@ -1,0 +1,7 @@
+-- A claim owns a part of a ghost entry, and so it may go to any thread.
+use denote.RattleType.{RattleType}
+use denote.Param.Send.{IsSend}
+use Rattle.rr_claims.specs.contracts.claim.Claim.{the_row}
+
+pub send : (W : RattleType) → IsSend (the_row W)
+send W = record { owned = λ d vs. ((λ vss. (tt, ((λ uss. (tt, tt)), tt))), tt); leaving = λ k f vs. tt }

@@ -1,0 +1,2 @@
+pub mod Rosters
+pub mod Cards

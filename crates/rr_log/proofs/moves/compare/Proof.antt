@@ -1,0 +1,61 @@
+-- `compare` opens both tokens, and gives them back as they were.
+use Rattle.std.proofs.Common.{◌≢◌, ◌⊎◌, List, [], ◌∷◌, refl}
+use mathlib.Core.List.{IsPrefix}
+use mir.Syntax.{a_type, named}
+use mir.Val.{Val, vunit, vptr}
+use mir.MapTy.{inst_fn}
+use base.Logic.{SProp}
+use base.Fml.{ftrue, flft}
+use contract.Monad.{fact}
+use contract.Running.{tables}
+use types.Kit.{‵, raw, ◌⊛◌, given, later, ◌$◌, ◌∵◌, !, qed, by, move, keep, drop, split, join, fsplit, fsplit3, fjoin, fjoin3, learn, await, feq_i, use2}
+use types.Run.{enter, of_opd, unit_lit, returns}
+use types.ByLocal.{alloc_all, pass_all, free_all, look_at, sets}
+use denote.RattleType.{RattleType, owns}
+use denote.Ref.{mut_vals, mut_Tells}
+use denote.Signature.{types_at, plain}
+use denote.Steps.{nothing}
+use denote.Param.{param, layouts}
+use denote.Triple.Walked.{Stays, stay_ref, Goes-ref, walk_of}
+use Rattle.std.proofs.raw_atomic.Walks.{proved}
+use Rattle.rr_log.specs.contracts.seen.Seen as Seen
+use Rattle.rr_log.specs.contracts.moves.compare.{ended, clauses}
+use Rattle.rr_log.specs.contracts.moves.compare.Key.{name as #self}
+use Rattle.rr_log.proofs.Tokens.{compares}
+use Rattle.rr_log.proofs.Lent.{lent, both_move}
+use Rattle.rr_log.proofs.Walks.{told, and_told, ends}
+use Rattle.rr_log.proofs.moves.compare.Statement.{statement}
+use Rattle.rr_log.proofs.moves.compare.Code as code
+
+pub compare_spec : {M : Type 1} → statement M
+compare_spec 𝓤 𝓛 𝓜 𝓡 wired E _ =
+    let H = 𝓛.H in let 𝓣 = tables 𝓤 H 𝓜 𝓡 𝓡.env in let E' : RattleType = param 0 E in let En = ended E in
+    let c = clauses E 𝓛 𝓜.mem 𝓡.returns in
+    let inst = layouts (a_type ∷ []) (E, tt) in let fn = inst_fn inst code.function in
+    let S : RattleType = Seen.the_row E' in
+    let hs : Stays En.signature.params En.kept = (stay_ref (0 ∷ []) tt (plain (λ _. S)), (stay_ref (1 ∷ []) tt (plain (λ _. S)), tt)) in
+    proved 𝓛 En hs c 𝓜 𝓡 (Goes-ref 𝓛 3 0 tt (plain (λ _. S)), (Goes-ref 𝓛 3 1 tt (plain (λ _. S)), tt))
+    (#self inst) fn (code.unfolded 𝓤 H 𝓜 𝓡 wired (E, tt))
+    (λ κs. (mut_vals, (mut_vals, tt))) (λ κs. (mut_Tells (named 0) κs.0 S, (mut_Tells (named 1) κs.1.0 S, tt))) (λ κs qs bounds a gh are.
+    let r = a.0 in let s = a.1.0 in let one : S.Denot = r.now in let other : S.Denot = s.now in
+    let u : Val = vptr r.ref_ptr.0 r.ref_ptr.1 in let v : Val = vptr s.ref_ptr.0 s.ref_ptr.1 in
+    let y : (walk_of 𝓛 En hs c).Ghost = ((κs, qs, bounds, a, (u ∷ [], (v ∷ [], tt))), gh) in
+    let Post : Val → SProp 𝓤 = (walk_of 𝓛 En hs c).post y in
+    let Told : Type 0 = (IsPrefix one.entries other.entries ⊎ IsPrefix other.entries one.entries) × (one.caller ≢ other.caller) in
+    qed 𝓛 (((‵ (flft κs.0 qs.0) ⊛ ‵ (flft κs.1.0 qs.1.0) ⊛ ‵ (flft κs.1.1.0 qs.1.1.0) ⊛ ‵ ftrue)
+    ⊛ ‵ (owns (types_at En.signature.params κs) a y.0.4)) ∷ raw (fact 𝓤 _) ∷ given _ (‵ ftrue) ∷ []) ∵
+    move ! (2 ∷ []) $ learn ! (λ same. drop ! $ split ! $ split ! $ move ! (1 ∷ []) $ split ! $
+    move ! (3 ∷ []) $ fsplit ! $ fsplit3 ! $ drop ! $ move ! (2 ∷ []) $ fsplit ! $ fsplit3 ! $ drop ! $
+    keep ! (3 ∷ 4 ∷ 7 ∷ 0 ∷ 1 ∷ 5 ∷ 6 ∷ []) $ fjoin3 ! $ move ! (1 ∷ 2 ∷ 3 ∷ []) $ fjoin3 ! $ move ! (1 ∷ 0 ∷ []) $
+    enter ! 𝓣.C 𝓣.Λ fn (u ∷ v ∷ []) Post $ alloc_all ! (λ l. pass_all ! refl ((tt, tt), ((tt, tt), tt)) $
+    use2 𝓛 (later (given Told (‵ (lent S r κs.0 qs.0 one) ⊛ ‵ (lent S s κs.1.0 qs.1.0 other))))
+    (both_move 𝓛 (Seen.the_type E') (Seen.the_type E') r κs.0 qs.0 s κs.1.0 qs.1.0 one other refl refl Told
+    (compares 𝓛 E'.coded one.log_id other.log_id one.caller other.caller one.entries other.entries same)) $
+    await ! tt $ learn ! (λ compared. split ! $
+    sets ! (of_opd ! (unit_lit !)) refl (tt, tt) $ returns ! (look_at ! 0 refl) $ free_all ! refl $
+    fsplit3 ! $ feq_i ! (List Val) (u ∷ []) (u ∷ []) refl $ fjoin3 ! $ move ! (2 ∷ []) $ fsplit3 ! $
+    feq_i ! (List Val) (v ∷ []) (v ∷ []) refl $ fjoin3 ! $
+    nothing ! $ move ! (1 ∷ 0 ∷ []) $ fjoin ! $ move ! (2 ∷ 0 ∷ []) $ fjoin ! $ feq_i ! (List Val) (vunit ∷ []) (vunit ∷ []) refl $
+    move ! (2 ∷ 4 ∷ []) $ join ! $ move ! (3 ∷ 0 ∷ []) $ join ! $ move ! (0 ∷ 2 ∷ 1 ∷ []) $
+    by ! (ends 𝓛 En hs c y vunit tt (one, (other, tt)) (tt, (tt, tt))
+    (and_told 𝓤 (refl, refl) (and_told 𝓤 compared.0 (told 𝓤 compared.1))))))))

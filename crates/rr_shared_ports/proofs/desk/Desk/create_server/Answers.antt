@@ -1,0 +1,12 @@
+use Rattle.rr_ports.specs.Factories.{CreatesServerBy}
+use Rattle.rr_shared_ports.specs.Turns.{chosen_whole}
+use Rattle.rr_protocol.specs.State.{empty_hub}
+use Rattle.rr_shared_ports.proofs.Turns.{makes_call}
+use Rattle.rr_shared_ports.proofs.desk.Desk.create_server.Goals as goal
+
+-- what is noted is the creation
+pub returns : goal.returns
+returns g c =
+    makes_call (empty_hub g.N.Naming.limits g.N.Naming.node_id) (λ before after. CreatesServerBy chosen_whole before c.args.factory c.created-created.result after)
+    c.self.inside.pen.entries c.self.inside.hub c.created-created.new.hub c.args.seat.now c.noted.new.seat c.noted.ensures.noted c.self.invariant.3
+    c.created-created.ensures.creates

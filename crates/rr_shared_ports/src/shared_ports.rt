@@ -1,0 +1,90 @@
+//! A hub of ports that threads share.
+ghost use Rattle.std.specs.Prelude.{◌≡◌, ◌≢◌, ◌⊎◌, []};
+ghost use mathlib.Core.List.{IsPrefix};
+
+use crate::desk::Desk;
+use crate::naming::Naming;
+use crate::seat::Seat;
+use crate::turn::Turn;
+use rr_log::Log;
+use rr_ports::{BackpressureFn, Body, Limits, UniqueNodeId};
+use std::marker::{Model, PhantomData};
+use std::sync::Mutex;
+
+/// A hub of ports under a lock, and the log of its calls, which exists in proofs alone.
+///
+/// Threads share it by reference. Each takes a seat, and calls its ports and handles with the hub, the runtime and the seat. Not in
+/// iceoryx2.
+#[derive(Drop)]
+pub struct SharedPorts<
+    N: Naming,
+    QB: Body,
+    QH: Default + Drop,
+    PB: Body,
+    PH: Default + Drop,
+    K: BackpressureFn,
+> {
+    pub(crate) limits: Limits,
+    pub(crate) node_id: UniqueNodeId,
+    pub(crate) inside: Mutex<Desk<N, QB, QH, PB, PH, K>>,
+    pub(crate) log: Log<Turn<QB, QH, PB, PH, K>>,
+}
+
+impl<N: Naming, QB: Body, QH: Default + Drop, PB: Body, PH: Default + Drop, K: BackpressureFn> Model
+    for SharedPorts<N, QB, QH, PB, PH, K> {
+    ghost use Rattle.std.specs.Prelude.{◌≡◌, None};
+    ghost use Rattle.rr_protocol.specs.Limits.{hub_refusal};
+
+    ghost Value = { Unit {0} };
+
+    ghost view = { λ h. tt };
+
+    ghost invariant = { λ h. (h.log ≡ N.log_id) × (h.limits ≡ N.limits) × (h.node_id.0 ≡ N.node_id) × (hub_refusal N.limits ≡ None) };
+}
+
+impl<
+    N: Naming,
+    QB: Body,
+    QH: Default + Drop,
+    PB: Body,
+    PH: Default + Drop,
+    K: BackpressureFn,
+> SharedPorts<N, QB, QH, PB, PH, K> {
+    /// Returns the limits that the hub was made with. Takes no lock. Not in iceoryx2.
+    pub fn limits(&self) -> Limits
+        ensures { result ≡ N.limits }
+    {
+        self.limits
+    }
+
+    /// Returns the node id that the hub was made with. Takes no lock. Not in iceoryx2.
+    pub fn node_id(&self) -> UniqueNodeId
+        ensures { result.0 ≡ N.node_id }
+    {
+        self.node_id
+    }
+
+    /// Makes a seat, which has seen nothing. There may be any number of them. Takes no lock. Not in iceoryx2.
+    pub fn seat(&self) -> Seat<N, QB, QH, PB, PH, K>
+        ensures { result.1 ≡ [] }
+    {
+        Seat {
+            seen: self.log.caller(),
+            of: PhantomData,
+        }
+    }
+
+    /// Compares what two seats have seen: the history of one of them begins that of the other. They are two callers. Changes nothing, and
+    /// takes no lock. Not in iceoryx2.
+    pub fn compare(
+        &self,
+        one: &mut Seat<N, QB, QH, PB, PH, K>,
+        other: &mut Seat<N, QB, QH, PB, PH, K>,
+    )
+        ensures same { (one.new ≡ one.old) × (other.new ≡ other.old) }
+        ensures begins { IsPrefix one.new.1 other.new.1 ⊎ IsPrefix other.new.1 one.new.1 }
+        ensures differ { one.old.0 ≢ other.old.0 }
+    {
+        self.log.compare(&mut one.seen, &mut other.seen);
+    }
+}

@@ -1,0 +1,48 @@
+//! The typed family, in which each message has one element.
+mod active_request;
+mod client;
+mod response;
+
+/// A shared hub whose requests and responses are single values.
+pub type SharedPorts<N, Q, QH, P, PH, K = rr_ports::NoHandler> = crate::SharedPorts<
+    N,
+    Option<Q>,
+    QH,
+    Option<P>,
+    PH,
+    K,
+>;
+
+/// Such a hub that has no name yet.
+pub type Opened<Q, QH, P, PH, K = rr_ports::NoHandler> = crate::Opened<
+    Option<Q>,
+    QH,
+    Option<P>,
+    PH,
+    K,
+>;
+
+/// A caller of such a hub.
+pub type Seat<N, Q, QH, P, PH, K = rr_ports::NoHandler> = crate::Seat<
+    N,
+    Option<Q>,
+    QH,
+    Option<P>,
+    PH,
+    K,
+>;
+
+/// A client whose requests are single values.
+pub type Client<N, Q> = crate::Claimed<N, rr_ports::typed::Client<Q>>;
+
+/// A server whose responses are single values.
+pub type Server<N, P> = crate::Claimed<N, rr_ports::typed::Server<P>>;
+
+/// A request of one value that was sent.
+pub type PendingResponse<N, Q> = crate::Claimed<N, rr_ports::typed::PendingResponse<Q>>;
+
+/// A request of one value that a server received.
+pub type ActiveRequest<N, Q> = crate::Claimed<N, rr_ports::typed::ActiveRequest<Q>>;
+
+/// A response of one value that was received.
+pub type Response<N, P> = crate::Claimed<N, rr_ports::typed::Response<P>>;

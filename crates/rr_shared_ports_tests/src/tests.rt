@@ -1,0 +1,2 @@
+//! Ports of a shared hub, in one thread and in several.
+mod exchange;
