@@ -1,9 +1,9 @@
 #!/usr/bin/env python3
-"""Measures the peak memory of round trips at a shared hub, by one thread and by four, with the program that the gate proved and built:
-it doesn't grow with them.
+"""Measures the peak memory of round trips at shared hubs, with the programs that the gate proved and built: by commands of one thread and
+of four (`rr_steady`), and through ports by two threads that sleep (`rr_threads`). It doesn't grow with them. Measures too what a server
+takes of a processor that waits for a second.
 
-    memory/peaks.py            after `rt ci`: crates/rr_steady/out/rr_steady
-    memory/peaks.py PROGRAM    another build of it
+    memory/peaks.py            after `rt ci`
 
 The last line is 'N passed, M failed'.
 """
@@ -16,7 +16,7 @@ HERE = os.path.dirname(os.path.abspath(__file__))
 ROOT = os.path.dirname(HERE)
 
 # By how many kilobytes the peak of many may be above that of few.
-ROOM = 64
+ROOM = 128
 
 
 # The peaks of equal runs differ by up to 240 kilobytes, and so the highest of so many runs is taken. Few have more runs than many: else
@@ -25,10 +25,10 @@ RUNS_OF_FEW, RUNS_OF_MANY = 40, 10
 
 
 class Form:
-    """A form of the program: the words before the number, how many few and many are, and what is printed for how many."""
+    """A form of a program: its words before the number, how many few and many are, and what is printed for how many."""
 
-    def __init__(self, words, few, many, output):
-        self.words, self.few, self.many, self.output = words, few, many, output
+    def __init__(self, program, words, few, many, output):
+        self.program, self.words, self.few, self.many, self.output = program, words, few, many, output
 
 
 def sum_of(count):
@@ -37,9 +37,13 @@ def sum_of(count):
 
 
 FORMS = [
-    Form([], 1_000, 300_000, lambda it: f"{it} round trips come to {sum_of(it)}"),
-    Form(["four"], 1_000, 100_000, lambda it: f"{it} exchanges of each of four threads come to {4 * sum_of(it)}"),
+    Form("rr_steady", [], 1_000, 300_000, lambda it: f"{it} round trips come to {sum_of(it)}"),
+    Form("rr_steady", ["four"], 1_000, 100_000, lambda it: f"{it} exchanges of each of four threads come to {4 * sum_of(it)}"),
+    Form("rr_threads", ["sleep"], 1_000, 100_000, lambda it: f"{it} exchanges by two threads that sleep"),
 ]
+
+# How many seconds of a processor an idle server may take.
+IDLE = 0.01
 
 
 class Tally:
@@ -56,36 +60,49 @@ class Tally:
             self.failed += 1
 
 
-def run(meter, program, form, count):
+def built(program):
+    """Returns the path of a program."""
+    return os.path.join(ROOT, "crates", program, "out", program)
+
+
+def run(meter, form, count):
     """Returns whether a run with so many ends well with the right sum, what it did, and its peak memory in kilobytes."""
-    ran = subprocess.run([meter, program, *form.words, str(count)], stdout=subprocess.PIPE, env={}, timeout=300)
+    ran = subprocess.run([meter, built(form.program), *form.words, str(count)], stdout=subprocess.PIPE, env={}, timeout=300)
     output, _, peak = ran.stdout.decode().rstrip("\n").rpartition("\n")
     is_right = ran.returncode == 0 and output == form.output(count)
     return is_right, f"status {ran.returncode}, {output!r}", int(peak or 0)
 
 
-def highest(meter, program, form, count, runs, tally):
-    """Runs the program so often. Notes whether each run is right. Returns the highest peak."""
-    ran = [run(meter, program, form, count) for _ in range(runs)]
+def highest(meter, form, count, runs, tally):
+    """Runs a program so often. Notes whether each run is right. Returns the highest peak."""
+    ran = [run(meter, form, count) for _ in range(runs)]
     peak = max(it[2] for it in ran)
     wrong = [said for is_right, said, _ in ran if not is_right]
     tally.note(not wrong, f"{wrong[0] if wrong else ran[0][1]}, a peak of {peak} kB")
     return peak
 
 
-def main(words):
-    program = words[0] if words else os.path.join(ROOT, "crates", "rr_steady", "out", "rr_steady")
+def idle():
+    """Lets a server wait for a second. Returns its status and how many seconds of a processor it took."""
+    child = subprocess.Popen([built("rr_threads"), "idle"], env={})
+    _, status, used = os.wait4(child.pid, 0)
+    return status, used.ru_utime + used.ru_stime
+
+
+def main():
     tally = Tally()
     with tempfile.TemporaryDirectory() as room:
         meter = os.path.join(room, "peak")
         subprocess.run(["cc", "-O1", "-Wall", "-Werror", "-o", meter, os.path.join(HERE, "peak.c")], check=True)
         for form in FORMS:
-            few = highest(meter, program, form, form.few, RUNS_OF_FEW, tally)
-            many = highest(meter, program, form, form.many, RUNS_OF_MANY, tally)
+            few = highest(meter, form, form.few, RUNS_OF_FEW, tally)
+            many = highest(meter, form, form.many, RUNS_OF_MANY, tally)
             tally.note(many <= few + ROOM, f"{form.many} take {many - few} kB more than {form.few}")
+    status, used = idle()
+    tally.note(status == 0 and used <= IDLE, f"status {status}, a server that waited for a second took {used * 1000:.1f} milliseconds")
     print(f"{tally.passed} passed, {tally.failed} failed")
     return 1 if tally.failed else 0
 
 
 if __name__ == "__main__":
-    sys.exit(main(sys.argv[1:]))
+    sys.exit(main())

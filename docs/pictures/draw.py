@@ -27,7 +27,8 @@ text { fill: #f0f6fc }
 # What stands on what, the lowest last: a name, and what it knows.
 LAYERS = [
     ("rr, rr_hello, rr_rpc, rr_jobs ..", "programs"),
-    ("rr_ports  rr_run  rr_shared  rr_locked", "iceoryx2's names; lists of commands; threads"),
+    ("rr_shared_ports  rr_shared  rr_locked", "threads: ports and commands under a lock"),
+    ("rr_ports  rr_run", "iceoryx2's names; lists of commands"),
     ("rr_hub", "the core: each call is a step of the message machine"),
     ("rr_creating .. rr_releasing", "the calls that have several steps, a crate for each kind"),
     ("rr_store", "ports, handles and messages: two sides and a table"),

@@ -1,6 +1,7 @@
 -- What is noted is a call, and leads to the hub's state.
-use Rattle.std.proofs.Common.{◌≡◌, ℕ, List, [], ◌∷◌, ◌++◌, ap, ◌∙◌, refl, subst, sym}
-use Rattle.rr_shared_ports.specs.Turns.{EndsIn, IsNoted, MakesCall, Seated, state_after}
+use Rattle.std.proofs.Common.{◌≡◌, ℕ, List, [], ◌∷◌, ◌++◌, ap, ◌∙◌, append_assoc, append-nil, refl, subst, sym}
+use mathlib.Core.List.{IsPrefix}
+use Rattle.rr_shared_ports.specs.Turns.{EndsInCall, EndsIn, IsNoted, MakesCall, Seated, state_after}
 
 -- the state after calls is where the last one led
 pub ends_in : {S : Type 0} (calls : List (ℕ × S)) (caller : ℕ) (after : S) → EndsIn after (calls ++ (caller, after) ∷ [])
@@ -19,3 +20,31 @@ makes_call start Call calls before after old new noted led call =
       noted.3,
       subst (λ s. Call s after) (sym led ∙ ap (state_after start) is) call,
     )
+
+-- what a seat had seen begins what it has seen after a call
+pub goes_on : {S : Type 0} (first : List (ℕ × S)) (old new : Seated S) (others : List (ℕ × S)) (after : S)
+    → new ≡ (old.0, (old.1 ++ others) ++ (old.0, after) ∷ []) → IsPrefix first old.1 → IsPrefix first new.1
+goes_on first old new others after is begins =
+    let last = (old.0, after) ∷ [] in (
+      (begins.0 ++ others) ++ last,
+      sym (append_assoc first (begins.0 ++ others) last) ∙ ap (λ calls. calls ++ last) (sym (append_assoc first begins.0 others) ∙ ap (λ calls. calls ++ others) begins.1)
+          ∙ sym (ap (λ seat. seat.1) is),
+    )
+
+-- the call is the last one then
+pub ends_in_call : {S : Type 0} (start : S) (Call : S → S → Type 0) (old new : Seated S) (others : List (ℕ × S)) (after : S)
+    → new ≡ (old.0, (old.1 ++ others) ++ (old.0, after) ∷ []) → Call (state_after start (old.1 ++ others)) after → EndsInCall start Call new
+ends_in_call start Call old new others after is call = (
+  old.1 ++ others,
+  after,
+  ap (λ seat. seat.1) is ∙ ap (λ caller. (old.1 ++ others) ++ (caller, after) ∷ []) (sym (ap (λ seat. seat.0) is)),
+  call,
+)
+
+-- a call is made by the seat whose it is
+pub caller_stays : {S : Type 0} (start : S) (Call : S → S → Type 0) (old new : Seated S) → MakesCall start Call old new → new.0 ≡ old.0
+caller_stays start Call old new made = ap (λ seat. seat.0) made.2
+
+-- and what that had seen begins what it has seen then
+pub seen_begins : {S : Type 0} (start : S) (Call : S → S → Type 0) (old new : Seated S) → MakesCall start Call old new → IsPrefix old.1 new.1
+seen_begins start Call old new made = goes_on old.1 old new made.0 made.1 made.2 ([], append-nil old.1)

@@ -5,8 +5,6 @@ use Rattle.rr_protocol.specs.declared.limits.Limits.{Limits}
 use Rattle.rr_protocol.specs.declared.error.HubCreateError.{HubCreateError}
 use Rattle.rr_protocol.specs.Codes.{limits_code}
 use Rattle.rr_protocol.specs.Limits.{hub_refusal}
-use Rattle.rr_protocol.specs.State.{State}
-use Rattle.rr_ports.specs.Facts.{numbers_left}
 use Rattle.rr_log.specs.Entries.{entries_of}
 use Rattle.rr_shared_ports.specs.declared.error.CallError.{CallError}
 use Rattle.rr_shared_ports.specs.declared.error.CallError.TheVariants.{Port, NumbersExhausted}
@@ -32,10 +30,6 @@ abbrev pub OpensHub : Limits → ℕ → Result Name HubCreateError → Type 0
 OpensHub limits node_id (Ok opened) = (hub_refusal limits ≡ None) × (opened.limits ≡ limits) × (opened.node_id ≡ node_id)
 OpensHub limits node_id (Err error) = hub_refusal limits ≡ Some error
 
--- a factory without an override chooses the pool of the worst case
-abbrev pub chosen_whole : Unit {0} → ℕ → ℕ → Type 0
-chosen_whole none worst_case slots = slots ≡ worst_case
-
 -- what a contract sees of a seat: who it is, and the states after the calls that it has seen, each with its caller
 abbrev pub Seated : Type 0 → Type 0
 Seated S = ℕ × List (ℕ × S)
@@ -53,6 +47,13 @@ MakesCall {S} start Call old new =
     × (entries_of old.0 others ≡ [])
     × Call (state_after start (old.1 ++ others)) after
 
+-- the last call that a seat has seen is its own, and leads from a state to the next
+abbrev pub EndsInCall : {S : Type 0} → S → (S → S → Type 0) → Seated S → Type 0
+EndsInCall {S} start Call seat =
+    (earlier : List (ℕ × S)) × (after : S)
+    × (seat.1 ≡ earlier ++ (seat.0, after) ∷ [])
+    × Call (state_after start earlier) after
+
 -- the last of these calls led to a state
 abbrev pub EndsIn : {S : Type 0} → S → List (ℕ × S) → Type 0
 EndsIn {S} after calls = (start : S) → state_after start calls ≡ after
@@ -64,10 +65,9 @@ IsNoted {S} calls after old new =
     × (new ≡ (old.0, calls ++ (old.0, after) ∷ []))
     × (entries_of old.0 others ≡ [])
 
-module _ {Q QH P PH K U E : Type 0} where
+module _ {S U E : Type 0} (numbers : S → ℕ) where
   -- a call of a port that may find no number left, and changes nothing then
-  abbrev pub Answered : (Result U E → State Q QH P PH K → State Q QH P PH K → Type 0) → Result U (CallError E)
-      → State Q QH P PH K → State Q QH P PH K → Type 0
+  abbrev pub Answered : (Result U E → S → S → Type 0) → Result U (CallError E) → S → S → Type 0
   Answered Call (Ok value) old new = Call (Ok value) old new
   Answered Call (Err (Port error)) old new = Call (Err error) old new
-  Answered Call (Err NumbersExhausted) old new = (numbers_left old ≡ 0) × (new ≡ old)
+  Answered Call (Err NumbersExhausted) old new = (numbers old ≡ 0) × (new ≡ old)

@@ -1,60 +1,92 @@
 //! Active requests of a shared hub.
-ghost use Rattle.std.specs.Prelude.{◌≡◌};
-ghost use Rattle.rr_protocol.specs.Releases.{after_release};
-ghost use Rattle.rr_protocol.specs.State.{empty_hub};
+ghost use Rattle.std.specs.Prelude.{◌≡◌, IsSomeAnd};
+ghost use Rattle.rr_protocol.specs.Counts.{is_alive};
+ghost use Rattle.rr_protocol.specs.Queries.{has_disconnect_hint};
+ghost use Rattle.rr_ports.specs.Facts.{Names};
+ghost use Rattle.rr_protocol.specs.declared.kind.Kind.TheVariants as kind;
+ghost use Rattle.rr_protocol.specs.State.{active_at, empty_hub};
 ghost use Rattle.rr_shared_ports.specs.Turns.{MakesCall};
 
 use crate::claimed::Claimed;
-use crate::claims::retired;
-use crate::desk::Desk;
 use crate::naming::Naming;
 use crate::seat::Seat;
 use crate::shared_ports::SharedPorts;
-use crate::turn::{Turn, noted};
-use rr_log::Log;
-use rr_ports::{ActiveRequest, BackpressureFn, Body};
+use rr_ports::{ActiveRequest, BackpressureFn, Body, Hub, UniqueClientId};
 use std::sync::Wait;
 
 impl<N: Naming, QB: Body> Claimed<N, ActiveRequest<QB>> {
-    /// Releases the active request. After `ActiveRequest::release` of `rr_ports`.
-    pub fn release<R: Wait, QH: Default + Drop, PB: Body, PH: Default + Drop, K: BackpressureFn>(
-        self,
-        hub: &SharedPorts<N, QB, QH, PB, PH, K>,
+    /// Returns which client sent the request. After `ActiveRequest::origin` of `rr_ports`.
+    pub fn origin<R: Wait, QH: Default + Drop, PB: Body, PH: Default + Drop, K: BackpressureFn>(
+        &self,
+        hub: &SharedPorts<N, Hub<QB, QH, PB, PH, K>>,
         rt: &R,
-        seat: &mut Seat<N, QB, QH, PB, PH, K>,
-    )
-        ensures { MakesCall (empty_hub N.limits N.node_id) (λ before after. after ≡ after_release before self) seat.old seat.new }
+        seat: &mut Seat<N, Hub<QB, QH, PB, PH, K>>,
+    ) -> UniqueClientId
+        ensures { MakesCall (empty_hub N.limits N.node_id) (λ before after. (after ≡ before) × IsSomeAnd (active_at before self.now) (λ active. result.0 ≡ active.message.client)) seat.old seat.new }
     {
-        hub.inside.lock(rt).release_active(&hub.log, seat, self);
+        let handle = self.handle();
+        hub.inside.lock(rt).looked(
+            &hub.log,
+            seat,
+            self,
+            |ports| -> UniqueClientId
+                requires { Names ports.now handle.now kind.ActiveRequest }
+                ensures { IsSomeAnd (active_at ports.now handle.entry.now) (λ active. result.0 ≡ active.message.client) }
+            { handle.origin(ports) },
+        )
     }
-}
 
-impl<N: Naming, QB: Body, QH: Default + Drop, PB: Body, PH: Default + Drop, K: BackpressureFn> Desk<
-    N,
-    QB,
-    QH,
-    PB,
-    PH,
-    K,
-> {
-    /// Releases the active request.
-    fn release_active(
-        &mut self,
-        log: &Log<Turn<QB, QH, PB, PH, K>>,
-        seat: &mut Seat<N, QB, QH, PB, PH, K>,
-        active: Claimed<N, ActiveRequest<QB>>,
-    )
-        requires { log.now ≡ N.log_id }
-        ensures { MakesCall (empty_hub N.limits N.node_id) (λ before after. after ≡ after_release before active) seat.old seat.new }
+    /// Returns whether the client still awaits responses. After `ActiveRequest::is_connected` of `rr_ports`.
+    pub fn is_connected<
+        R: Wait,
+        QH: Default + Drop,
+        PB: Body,
+        PH: Default + Drop,
+        K: BackpressureFn,
+    >(
+        &self,
+        hub: &SharedPorts<N, Hub<QB, QH, PB, PH, K>>,
+        rt: &R,
+        seat: &mut Seat<N, Hub<QB, QH, PB, PH, K>>,
+    ) -> bool
+        ensures { MakesCall (empty_hub N.limits N.node_id) (λ before after. (after ≡ before) × IsSomeAnd (active_at before self.now) (λ active. result ≡ is_alive before active.message.number)) seat.old seat.new }
     {
-        let Claimed {
-            handle,
-            claim,
-            of: _,
-        } = active;
-        self.keeper.look(&claim);
-        handle.release(&mut self.hub);
-        retired(&self.hub, &mut self.keeper, claim);
-        noted(&self.hub, log, &mut self.pen, seat);
+        let handle = self.handle();
+        hub.inside.lock(rt).looked(
+            &hub.log,
+            seat,
+            self,
+            |ports| -> bool
+                requires { Names ports.now handle.now kind.ActiveRequest }
+                ensures { IsSomeAnd (active_at ports.now handle.entry.now) (λ active. result ≡ is_alive ports.now active.message.number) }
+            { handle.is_connected(ports) },
+        )
+    }
+
+    /// Returns whether the client asked to end the stream. After `ActiveRequest::has_disconnect_hint` of `rr_ports`.
+    pub fn has_disconnect_hint<
+        R: Wait,
+        QH: Default + Drop,
+        PB: Body,
+        PH: Default + Drop,
+        K: BackpressureFn,
+    >(
+        &self,
+        hub: &SharedPorts<N, Hub<QB, QH, PB, PH, K>>,
+        rt: &R,
+        seat: &mut Seat<N, Hub<QB, QH, PB, PH, K>>,
+    ) -> bool
+        ensures { MakesCall (empty_hub N.limits N.node_id) (λ before after. (after ≡ before) × IsSomeAnd (active_at before self.now) (λ active. result ≡ has_disconnect_hint before active.message.number)) seat.old seat.new }
+    {
+        let handle = self.handle();
+        hub.inside.lock(rt).looked(
+            &hub.log,
+            seat,
+            self,
+            |ports| -> bool
+                requires { Names ports.now handle.now kind.ActiveRequest }
+                ensures { IsSomeAnd (active_at ports.now handle.entry.now) (λ active. result ≡ has_disconnect_hint ports.now active.message.number) }
+            { handle.has_disconnect_hint(ports) },
+        )
     }
 }

@@ -1,30 +1,23 @@
 //! What calls of the ports do to claims.
-#![tactic(auto, unfolding(rr_ports::specs::Facts::Keeps, rr_ports::specs::Facts::IsFree, rr_ports::specs::Facts::IsThere))]
-
 ghost use Rattle.std.specs.Prelude.{◌≡◌, ◌∷◌, []};
-ghost use Rattle.rr_ports.specs.Facts.{IsFree, Keeps, Names};
 
 use crate::claimed::Claimed;
 use crate::naming::Naming;
+use crate::ports::Ports;
 use rr_claims::{Claim, Keeper, Named, Says};
-use rr_ports::{BackpressureFn, Body, Handle, Hub};
+use rr_ports::Handle;
 use rr_protocol::Kind;
 use std::marker::{Model, PhantomData};
 
 /// A claim says of a hub that its number names something of this kind there.
 pub(crate) struct NamesKind;
 
-impl<QB: Body, QH: Default + Drop, PB: Body, PH: Default + Drop, K: BackpressureFn> Says<
-    Hub<QB, QH, PB, PH, K>,
-    Kind,
-> for NamesKind {
-    ghost use Rattle.rr_ports.specs.Facts.{Names};
-
-    ghost says = { λ hub number kind. Names hub number kind };
+impl<H: Ports> Says<H, Kind> for NamesKind {
+    ghost says = { λ hub number kind. H.names hub number kind };
 }
 
 /// The keeper of what is claimed of a hub.
-pub(crate) type HubKeeper<QB, QH, PB, PH, K> = Keeper<Hub<QB, QH, PB, PH, K>, Kind, NamesKind>;
+pub(crate) type HubKeeper<H> = Keeper<H, Kind, NamesKind>;
 
 /// A handle as that by which its number is claimed.
 #[derive(Drop)]
@@ -39,23 +32,15 @@ impl<'a, A: Handle> Named<Kind> for Numbered<'a, A> {
 }
 
 /// Claims what a call made, which leaves all else as it was.
-pub(crate) fn granted<
-    N: Naming,
-    A: Handle,
-    QB: Body,
-    QH: Default + Drop,
-    PB: Body,
-    PH: Default + Drop,
-    K: BackpressureFn,
->(
-    hub: &Hub<QB, QH, PB, PH, K>,
-    keeper: &mut HubKeeper<QB, QH, PB, PH, K>,
+pub(crate) fn granted<N: Naming, A: Handle, H: Ports>(
+    hub: &H,
+    keeper: &mut HubKeeper<H>,
     handle: A,
 ) -> Claimed<N, A>
     requires id { keeper.old.id ≡ N.keeper_id }
-    requires keeps { Keeps [] keeper.old.state hub.now }
-    requires free { IsFree [] keeper.old.state (A.number handle) }
-    requires kind { Names hub.now (A.number handle) A.kind }
+    requires keeps { H.keeps [] keeper.old.state hub.now }
+    requires free { H.is_free keeper.old.state (A.number handle) }
+    requires kind { H.names hub.now (A.number handle) A.kind }
     ensures id { keeper.new.id ≡ keeper.old.id }
     ensures state { keeper.new.state ≡ hub.now }
     ensures number { result ≡ A.number handle }
@@ -69,11 +54,8 @@ pub(crate) fn granted<
 }
 
 /// Keeps all claims, after a call that made nothing and ended nothing.
-pub(crate) fn kept<QB: Body, QH: Default + Drop, PB: Body, PH: Default + Drop, K: BackpressureFn>(
-    hub: &Hub<QB, QH, PB, PH, K>,
-    keeper: &mut HubKeeper<QB, QH, PB, PH, K>,
-)
-    requires keeps { Keeps [] keeper.old.state hub.now }
+pub(crate) fn kept<H: Ports>(hub: &H, keeper: &mut HubKeeper<H>)
+    requires keeps { H.keeps [] keeper.old.state hub.now }
     ensures id { keeper.new.id ≡ keeper.old.id }
     ensures state { keeper.new.state ≡ hub.now }
 {
@@ -81,17 +63,35 @@ pub(crate) fn kept<QB: Body, QH: Default + Drop, PB: Body, PH: Default + Drop, K
 }
 
 /// Gives a claim back, after a call that ended what it was on.
-pub(crate) fn retired<
-    QB: Body,
-    QH: Default + Drop,
-    PB: Body,
-    PH: Default + Drop,
-    K: BackpressureFn,
->(hub: &Hub<QB, QH, PB, PH, K>, keeper: &mut HubKeeper<QB, QH, PB, PH, K>, claim: Claim<Kind>)
+pub(crate) fn retired<H: Ports>(hub: &H, keeper: &mut HubKeeper<H>, claim: Claim<Kind>)
     requires id { claim.id ≡ keeper.old.id }
-    requires keeps { Keeps (claim.number ∷ []) keeper.old.state hub.now }
+    requires keeps { H.keeps (claim.number ∷ []) keeper.old.state hub.now }
     ensures id { keeper.new.id ≡ keeper.old.id }
     ensures state { keeper.new.state ≡ hub.now }
 {
     keeper.retire(hub, claim);
+}
+
+/// Gives a claim for one on what a call made of it.
+pub(crate) fn exchanged<N: Naming, A: Handle, H: Ports>(
+    hub: &H,
+    keeper: &mut HubKeeper<H>,
+    claim: Claim<Kind>,
+    handle: A,
+) -> Claimed<N, A>
+    requires id { keeper.old.id ≡ N.keeper_id }
+    requires claim { claim.id ≡ keeper.old.id }
+    requires keeps { H.keeps (claim.number ∷ []) keeper.old.state hub.now }
+    requires same { A.number handle ≡ claim.number }
+    requires kind { H.names hub.now (A.number handle) A.kind }
+    ensures id { keeper.new.id ≡ keeper.old.id }
+    ensures state { keeper.new.state ≡ hub.now }
+    ensures number { result ≡ A.number handle }
+{
+    let claim = keeper.exchange(hub, claim, &Numbered { handle: &handle });
+    Claimed {
+        handle,
+        claim,
+        of: PhantomData,
+    }
 }

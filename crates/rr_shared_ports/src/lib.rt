@@ -3,24 +3,33 @@
 #![tactic(auto)]
 
 mod active_request;
+mod calls;
 mod claimed;
 mod claims;
 mod client;
 mod desk;
 mod error;
+mod kept_hub;
 mod naming;
 mod opened;
 mod pending_response;
-mod response;
+mod ports;
+mod release;
+mod request_mut;
+mod response_mut;
 mod seat;
 mod server;
 mod shared_ports;
-mod turn;
+pub mod sliced;
 pub mod typed;
+mod waiting;
+mod waking;
 
 pub use claimed::Claimed;
-pub use error::CallError;
+pub use error::{CallError, WaitError};
 pub use naming::Naming;
 pub use opened::Opened;
+pub use ports::Ports;
+pub use release::Release;
 pub use seat::Seat;
 pub use shared_ports::SharedPorts;

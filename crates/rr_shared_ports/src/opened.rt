@@ -4,9 +4,11 @@ ghost use Rattle.rr_shared_ports.specs.Turns.{OpensHub};
 
 use crate::claims::HubKeeper;
 use crate::desk::Desk;
+use crate::kept_hub::KeptHub;
 use crate::naming::Naming;
+use crate::ports::Ports;
 use crate::shared_ports::SharedPorts;
-use crate::turn::Turn;
+use crate::waking::Waking;
 use rr_claims::Keeper;
 use rr_log::{Log, Pen};
 use rr_ports::{BackpressureFn, Body, Hub, HubCreateError, Limits, UniqueNodeId};
@@ -17,20 +19,18 @@ use std::sync::Mutex;
 /// A hub without ports, of which nothing is claimed and nothing was called, and which has no name yet. Contracts see which it is. Not in
 /// iceoryx2.
 #[derive(Drop)]
-pub struct Opened<QB: Body, QH: Default + Drop, PB: Body, PH: Default + Drop, K: BackpressureFn> {
+pub struct Opened<H: Ports> {
     limits: Limits,
     node_id: UniqueNodeId,
-    hub: Hub<QB, QH, PB, PH, K>,
-    keeper: HubKeeper<QB, QH, PB, PH, K>,
-    log: Log<Turn<QB, QH, PB, PH, K>>,
-    pen: Pen<Turn<QB, QH, PB, PH, K>>,
+    hub: H,
+    keeper: HubKeeper<H>,
+    log: Log<H>,
+    pen: Pen<H>,
 }
 
-impl<QB: Body, QH: Default + Drop, PB: Body, PH: Default + Drop, K: BackpressureFn> Model
-    for Opened<QB, QH, PB, PH, K> {
+impl<H: Ports> Model for Opened<H> {
     ghost use Rattle.std.specs.Prelude.{◌≡◌, [], None};
     ghost use Rattle.rr_protocol.specs.Limits.{hub_refusal};
-    ghost use Rattle.rr_protocol.specs.State.{empty_hub};
     ghost use Rattle.rr_log.specs.Entries.{whole};
     ghost use Rattle.rr_shared_ports.specs.Turns.{Name, name, name_code};
 
@@ -40,15 +40,11 @@ impl<QB: Body, QH: Default + Drop, PB: Body, PH: Default + Drop, K: Backpressure
 
     ghost view = { λ o. name o.keeper.id o.log o.limits o.node_id.0 };
 
-    ghost invariant = { λ o. (hub_refusal o.limits ≡ None) × (o.hub ≡ empty_hub o.limits o.node_id.0) × (o.keeper.state ≡ o.hub) × (o.pen ≡ whole o.log []) };
+    ghost invariant = { λ o. (hub_refusal o.limits ≡ None) × (o.hub ≡ H.empty o.limits o.node_id.0) × (o.keeper.state ≡ o.hub) × (o.pen ≡ whole o.log []) };
 }
 
 impl<QB: Body, QH: Default + Drop, PB: Body, PH: Default + Drop, K: BackpressureFn> Opened<
-    QB,
-    QH,
-    PB,
-    PH,
-    K,
+    Hub<QB, QH, PB, PH, K>,
 > {
     /// Makes a hub without ports. Takes no memory. Not in iceoryx2.
     ///
@@ -70,9 +66,11 @@ impl<QB: Body, QH: Default + Drop, PB: Body, PH: Default + Drop, K: Backpressure
             pen,
         })
     }
+}
 
+impl<H: Ports> Opened<H> {
     /// Returns the hub under a name, which its caller picks. Not in iceoryx2.
-    pub fn named<N: Naming>(self) -> SharedPorts<N, QB, QH, PB, PH, K>
+    pub fn named<N: Naming>(self) -> SharedPorts<N, H>
         requires keeper { self.keeper_id ≡ N.keeper_id }
         requires log { self.log_id ≡ N.log_id }
         requires limits { self.limits ≡ N.limits }
@@ -86,17 +84,17 @@ impl<QB: Body, QH: Default + Drop, PB: Body, PH: Default + Drop, K: Backpressure
             log,
             pen,
         } = self;
-        let desk = Desk {
-            hub,
+        let hub = KeptHub {
+            ports: hub,
             keeper,
-            pen,
             of: PhantomData,
         };
         SharedPorts {
             limits,
             node_id,
-            inside: Mutex::new(desk),
+            inside: Mutex::new(Desk { hub, pen }),
             log,
+            waking: Waking::new(),
         }
     }
 }

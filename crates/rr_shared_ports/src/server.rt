@@ -1,24 +1,26 @@
 //! Servers of a shared hub.
-ghost use Rattle.std.specs.Prelude.{◌≡◌};
+ghost use Rattle.std.specs.Prelude.{◌≡◌, ◌<◌, [], IfOk, IfSome, ℕ, ◌↔◌, IsTrue};
 ghost use Rattle.rr_ports.specs.Factories.{CreatesServerBy};
 ghost use Rattle.rr_protocol.specs.Settings.{server_defaults};
 ghost use Rattle.rr_protocol.specs.Receives.{ReceivesRequest};
-ghost use Rattle.rr_protocol.specs.Releases.{after_release};
 ghost use Rattle.rr_protocol.specs.State.{empty_hub};
-ghost use Rattle.rr_shared_ports.specs.Turns.{Answered, MakesCall, chosen_whole};
+ghost use Rattle.rr_ports.specs.Facts.{IsFree, Keeps, Names, numbers_left};
+ghost use Rattle.rr_protocol.specs.declared.kind.Kind.TheVariants as kind;
+ghost use Rattle.rr_shared_ports.specs.Turns.{Answered, MakesCall};
+ghost use Rattle.rr_protocol.specs.Queries.{HasRequests};
 
 use crate::claimed::Claimed;
-use crate::claims::{HubKeeper, granted, kept, retired};
-use crate::desk::Desk;
+use crate::claims::{granted, kept};
+use crate::desk::{Desk, noted};
 use crate::error::CallError;
+use crate::kept_hub::KeptHub;
 use crate::naming::Naming;
 use crate::seat::Seat;
 use crate::shared_ports::SharedPorts;
-use crate::turn::{Turn, noted};
 use rr_log::Log;
 use rr_ports::{
-    ActiveRequest, BackpressureFn, Body, Hub, PortFactoryServer, ReceiveError, Server,
-    ServerCreateError,
+    ActiveRequest, BackpressureFn, Body, ConnectionFailure, Hub, PortFactoryServer, Preallocation,
+    ReceiveError, Server, ServerCreateError, UniqueServerId,
 };
 use std::sync::Wait;
 
@@ -29,12 +31,12 @@ impl<
     PB: Body,
     PH: Default + Drop,
     K: BackpressureFn,
-> SharedPorts<N, QB, QH, PB, PH, K> {
+> SharedPorts<N, Hub<QB, QH, PB, PH, K>> {
     /// Returns a factory of servers with the default settings. After `Hub::server_builder` of `rr_ports`.
     pub fn server_builder<R: Wait>(&self, rt: &R) -> PortFactoryServer<PB, K>
         ensures { result ≡ record { settings = server_defaults; preallocation = tt } }
     {
-        self.inside.lock(rt).hub.server_builder()
+        self.inside.lock(rt).hub.ports.server_builder()
     }
 
     /// Creates a server as a factory says. After `PortFactoryServer::create` of `rr_ports`.
@@ -42,13 +44,14 @@ impl<
     /// # Errors
     ///
     /// As `PortFactoryServer::create`.
-    pub fn create_server<R: Wait>(
+    pub fn create_server<R: Wait, P: Preallocation + Drop>(
         &self,
         rt: &R,
-        seat: &mut Seat<N, QB, QH, PB, PH, K>,
-        factory: PortFactoryServer<PB, K>,
+        seat: &mut Seat<N, Hub<QB, QH, PB, PH, K>>,
+        factory: PortFactoryServer<PB, K, P>,
     ) -> Result<Claimed<N, Server<PB>>, ServerCreateError>
-        ensures { MakesCall (empty_hub N.limits N.node_id) (λ before after. CreatesServerBy chosen_whole before factory result after) seat.old seat.new }
+        requires { (worst_case : ℕ) → P.accepts factory.preallocation worst_case }
+        ensures { MakesCall (empty_hub N.limits N.node_id) (λ before after. CreatesServerBy P.chooses before factory result after) seat.old seat.new }
     {
         self.inside.lock(rt).create_server(&self.log, seat, factory)
     }
@@ -56,23 +59,20 @@ impl<
 
 impl<N: Naming, QB: Body, QH: Default + Drop, PB: Body, PH: Default + Drop, K: BackpressureFn> Desk<
     N,
-    QB,
-    QH,
-    PB,
-    PH,
-    K,
+    Hub<QB, QH, PB, PH, K>,
 > {
     /// Creates a server as a factory says.
-    fn create_server(
+    fn create_server<P: Preallocation + Drop>(
         &mut self,
-        log: &Log<Turn<QB, QH, PB, PH, K>>,
-        seat: &mut Seat<N, QB, QH, PB, PH, K>,
-        factory: PortFactoryServer<PB, K>,
+        log: &Log<Hub<QB, QH, PB, PH, K>>,
+        seat: &mut Seat<N, Hub<QB, QH, PB, PH, K>>,
+        factory: PortFactoryServer<PB, K, P>,
     ) -> Result<Claimed<N, Server<PB>>, ServerCreateError>
-        requires { log.now ≡ N.log_id }
-        ensures { MakesCall (empty_hub N.limits N.node_id) (λ before after. CreatesServerBy chosen_whole before factory result after) seat.old seat.new }
+        requires log { log.now ≡ N.log_id }
+        requires accepted { (worst_case : ℕ) → P.accepts factory.preallocation worst_case }
+        ensures { MakesCall (empty_hub N.limits N.node_id) (λ before after. CreatesServerBy P.chooses before factory result after) seat.old seat.new }
     {
-        let created = created(&mut self.hub, &mut self.keeper, factory);
+        let created = created(&mut self.hub, factory);
         noted(&self.hub, log, &mut self.pen, seat);
         created
     }
@@ -86,74 +86,31 @@ fn created<
     PB: Body,
     PH: Default + Drop,
     K: BackpressureFn,
+    P: Preallocation + Drop,
 >(
-    hub: &mut Hub<QB, QH, PB, PH, K>,
-    keeper: &mut HubKeeper<QB, QH, PB, PH, K>,
-    factory: PortFactoryServer<PB, K>,
+    hub: &mut KeptHub<N, Hub<QB, QH, PB, PH, K>>,
+    factory: PortFactoryServer<PB, K, P>,
 ) -> Result<Claimed<N, Server<PB>>, ServerCreateError>
-    requires id { keeper.old.id ≡ N.keeper_id }
-    requires state { keeper.old.state ≡ hub.old }
-    ensures id { keeper.new.id ≡ keeper.old.id }
-    ensures state { keeper.new.state ≡ hub.new }
-    ensures creates { CreatesServerBy chosen_whole hub.old factory result hub.new }
+    requires { (worst_case : ℕ) → P.accepts factory.preallocation worst_case }
+    ensures { CreatesServerBy P.chooses hub.old factory result hub.new }
 {
-    match factory.create(hub) {
-        Ok(server) => Ok(granted(hub, keeper, server)),
+    match factory.create(&mut hub.ports) {
+        Ok(server) => Ok(granted(&hub.ports, &mut hub.keeper, server)),
         Err(error) => {
-            kept(hub, keeper);
+            kept(&hub.ports, &mut hub.keeper);
             Err(error)
         }
     }
 }
 
 impl<N: Naming, PB: Body> Claimed<N, Server<PB>> {
-    /// Releases the server. After `Server::release` of `rr_ports`.
-    pub fn release<R: Wait, QB: Body, QH: Default + Drop, PH: Default + Drop, K: BackpressureFn>(
-        self,
-        hub: &SharedPorts<N, QB, QH, PB, PH, K>,
-        rt: &R,
-        seat: &mut Seat<N, QB, QH, PB, PH, K>,
-    )
-        ensures { MakesCall (empty_hub N.limits N.node_id) (λ before after. after ≡ after_release before self) seat.old seat.new }
+    /// Returns the server's id. Takes no lock. After `Server::id` of `rr_ports`.
+    pub fn id(&self) -> UniqueServerId
+        ensures { result.0 ≡ self.now }
     {
-        hub.inside.lock(rt).release_server(&hub.log, seat, self);
+        self.handle.id()
     }
-}
 
-impl<N: Naming, QB: Body, QH: Default + Drop, PB: Body, PH: Default + Drop, K: BackpressureFn> Desk<
-    N,
-    QB,
-    QH,
-    PB,
-    PH,
-    K,
-> {
-    /// Releases the server.
-    fn release_server(
-        &mut self,
-        log: &Log<Turn<QB, QH, PB, PH, K>>,
-        seat: &mut Seat<N, QB, QH, PB, PH, K>,
-        server: Claimed<N, Server<PB>>,
-    )
-        requires { log.now ≡ N.log_id }
-        ensures { MakesCall (empty_hub N.limits N.node_id) (λ before after. after ≡ after_release before server) seat.old seat.new }
-    {
-        let Claimed {
-            handle,
-            claim,
-            of: _,
-        } = server;
-        self.keeper.look(&claim);
-        handle.release(&mut self.hub);
-        retired(&self.hub, &mut self.keeper, claim);
-        noted(&self.hub, log, &mut self.pen, seat);
-    }
-}
-
-/// What a receive by a server returns.
-type Received<N, QB> = Result<Option<Claimed<N, ActiveRequest<QB>>>, CallError<ReceiveError>>;
-
-impl<N: Naming, PB: Body> Claimed<N, Server<PB>> {
     /// Receives a request, if one is queued. After `Server::receive` of `rr_ports`.
     ///
     /// # Errors
@@ -162,65 +119,61 @@ impl<N: Naming, PB: Body> Claimed<N, Server<PB>> {
     /// - `NumbersExhausted` if no number is left for the active request. Nothing changes.
     pub fn receive<R: Wait, QB: Body, QH: Default + Drop, PH: Default + Drop, K: BackpressureFn>(
         &self,
-        hub: &SharedPorts<N, QB, QH, PB, PH, K>,
+        hub: &SharedPorts<N, Hub<QB, QH, PB, PH, K>>,
         rt: &R,
-        seat: &mut Seat<N, QB, QH, PB, PH, K>,
+        seat: &mut Seat<N, Hub<QB, QH, PB, PH, K>>,
     ) -> Received<N, QB>
-        ensures { MakesCall (empty_hub N.limits N.node_id) (Answered (λ received before after. ReceivesRequest before self.now received after) result) seat.old seat.new }
+        ensures { MakesCall (empty_hub N.limits N.node_id) (Answered numbers_left (λ received before after. ReceivesRequest before self.now received after) result) seat.old seat.new }
     {
-        hub.inside.lock(rt).receive_request(&hub.log, seat, self)
+        let server = self.handle();
+        hub.inside.lock(rt).heard(
+            &hub.log,
+            seat,
+            self,
+            |ports| -> Result<Option<ActiveRequest<QB>>, ReceiveError>
+                requires kind { Names ports.old server.now kind.Server }
+                requires number { 0 < numbers_left ports.old }
+                ensures receives { ReceivesRequest ports.old server.entry.now result ports.new }
+                ensures keeps { Keeps [] ports.old ports.new }
+                ensures free { IfOk result (λ received. IfSome received (λ active. IsFree [] ports.old active)) }
+                ensures kind { IfOk result (λ received. IfSome received (λ active. Names ports.new active kind.ActiveRequest)) }
+            { server.receive(ports) },
+        )
     }
 }
 
-impl<N: Naming, QB: Body, QH: Default + Drop, PB: Body, PH: Default + Drop, K: BackpressureFn> Desk<
-    N,
-    QB,
-    QH,
-    PB,
-    PH,
-    K,
-> {
-    /// Receives a request, if one is queued.
-    fn receive_request(
-        &mut self,
-        log: &Log<Turn<QB, QH, PB, PH, K>>,
-        seat: &mut Seat<N, QB, QH, PB, PH, K>,
-        server: &Claimed<N, Server<PB>>,
-    ) -> Received<N, QB>
-        requires { log.now ≡ N.log_id }
-        ensures { MakesCall (empty_hub N.limits N.node_id) (Answered (λ received before after. ReceivesRequest before server.now received after) result) seat.old seat.new }
-    {
-        let received = heard(&mut self.hub, &mut self.keeper, server);
-        noted(&self.hub, log, &mut self.pen, seat);
-        received
-    }
-}
+/// What a receive by a server returns.
+type Received<N, QB> = Result<Option<Claimed<N, ActiveRequest<QB>>>, CallError<ReceiveError>>;
 
-/// Receives a request, if a number is left for it, and claims it.
-fn heard<N: Naming, QB: Body, QH: Default + Drop, PB: Body, PH: Default + Drop, K: BackpressureFn>(
-    hub: &mut Hub<QB, QH, PB, PH, K>,
-    keeper: &mut HubKeeper<QB, QH, PB, PH, K>,
-    server: &Claimed<N, Server<PB>>,
-) -> Received<N, QB>
-    requires id { keeper.old.id ≡ N.keeper_id }
-    requires state { keeper.old.state ≡ hub.old }
-    ensures id { keeper.new.id ≡ keeper.old.id }
-    ensures state { keeper.new.state ≡ hub.new }
-    ensures receives { Answered (λ received before after. ReceivesRequest before server.now received after) result hub.old hub.new }
-{
-    if hub.numbers_left() == 0 {
-        return Err(CallError::NumbersExhausted);
-    }
-    keeper.look(&server.claim);
-    match server.handle.receive(hub) {
-        Ok(Some(active)) => Ok(Some(granted(hub, keeper, active))),
-        Ok(None) => {
-            kept(hub, keeper);
-            Ok(None)
-        }
-        Err(error) => {
-            kept(hub, keeper);
-            Err(CallError::Port(error))
-        }
+impl<N: Naming, PB: Body> Claimed<N, Server<PB>> {
+    /// Returns whether a request is queued. After `Server::has_requests` of `rr_ports`.
+    ///
+    /// # Errors
+    ///
+    /// As `Server::has_requests`: none comes.
+    pub fn has_requests<
+        R: Wait,
+        QB: Body,
+        QH: Default + Drop,
+        PH: Default + Drop,
+        K: BackpressureFn,
+    >(
+        &self,
+        hub: &SharedPorts<N, Hub<QB, QH, PB, PH, K>>,
+        rt: &R,
+        seat: &mut Seat<N, Hub<QB, QH, PB, PH, K>>,
+    ) -> Result<bool, ConnectionFailure>
+        ensures { MakesCall (empty_hub N.limits N.node_id) (λ before after. (after ≡ before) × IfOk result (λ waits. IsTrue waits ↔ HasRequests before self.now)) seat.old seat.new }
+    {
+        let handle = self.handle();
+        hub.inside.lock(rt).looked(
+            &hub.log,
+            seat,
+            self,
+            |ports| -> Result<bool, ConnectionFailure>
+                requires { Names ports.now handle.now kind.Server }
+                ensures { IfOk result (λ waits. IsTrue waits ↔ HasRequests ports.now handle.entry.now) }
+            { handle.has_requests(ports) },
+        )
     }
 }

@@ -4,10 +4,11 @@ ghost use mathlib.Core.List.{IsPrefix};
 
 use crate::desk::Desk;
 use crate::naming::Naming;
+use crate::ports::Ports;
 use crate::seat::Seat;
-use crate::turn::Turn;
+use crate::waking::Waking;
 use rr_log::Log;
-use rr_ports::{BackpressureFn, Body, Limits, UniqueNodeId};
+use rr_ports::{Limits, UniqueNodeId};
 use std::marker::{Model, PhantomData};
 use std::sync::Mutex;
 
@@ -16,22 +17,15 @@ use std::sync::Mutex;
 /// Threads share it by reference. Each takes a seat, and calls its ports and handles with the hub, the runtime and the seat. Not in
 /// iceoryx2.
 #[derive(Drop)]
-pub struct SharedPorts<
-    N: Naming,
-    QB: Body,
-    QH: Default + Drop,
-    PB: Body,
-    PH: Default + Drop,
-    K: BackpressureFn,
-> {
+pub struct SharedPorts<N: Naming, H: Ports> {
     pub(crate) limits: Limits,
     pub(crate) node_id: UniqueNodeId,
-    pub(crate) inside: Mutex<Desk<N, QB, QH, PB, PH, K>>,
-    pub(crate) log: Log<Turn<QB, QH, PB, PH, K>>,
+    pub(crate) inside: Mutex<Desk<N, H>>,
+    pub(crate) log: Log<H>,
+    pub(crate) waking: Waking,
 }
 
-impl<N: Naming, QB: Body, QH: Default + Drop, PB: Body, PH: Default + Drop, K: BackpressureFn> Model
-    for SharedPorts<N, QB, QH, PB, PH, K> {
+impl<N: Naming, H: Ports> Model for SharedPorts<N, H> {
     ghost use Rattle.std.specs.Prelude.{◌≡◌, None};
     ghost use Rattle.rr_protocol.specs.Limits.{hub_refusal};
 
@@ -42,14 +36,7 @@ impl<N: Naming, QB: Body, QH: Default + Drop, PB: Body, PH: Default + Drop, K: B
     ghost invariant = { λ h. (h.log ≡ N.log_id) × (h.limits ≡ N.limits) × (h.node_id.0 ≡ N.node_id) × (hub_refusal N.limits ≡ None) };
 }
 
-impl<
-    N: Naming,
-    QB: Body,
-    QH: Default + Drop,
-    PB: Body,
-    PH: Default + Drop,
-    K: BackpressureFn,
-> SharedPorts<N, QB, QH, PB, PH, K> {
+impl<N: Naming, H: Ports> SharedPorts<N, H> {
     /// Returns the limits that the hub was made with. Takes no lock. Not in iceoryx2.
     pub fn limits(&self) -> Limits
         ensures { result ≡ N.limits }
@@ -65,7 +52,7 @@ impl<
     }
 
     /// Makes a seat, which has seen nothing. There may be any number of them. Takes no lock. Not in iceoryx2.
-    pub fn seat(&self) -> Seat<N, QB, QH, PB, PH, K>
+    pub fn seat(&self) -> Seat<N, H>
         ensures { result.1 ≡ [] }
     {
         Seat {
@@ -76,11 +63,7 @@ impl<
 
     /// Compares what two seats have seen: the history of one of them begins that of the other. They are two callers. Changes nothing, and
     /// takes no lock. Not in iceoryx2.
-    pub fn compare(
-        &self,
-        one: &mut Seat<N, QB, QH, PB, PH, K>,
-        other: &mut Seat<N, QB, QH, PB, PH, K>,
-    )
+    pub fn compare(&self, one: &mut Seat<N, H>, other: &mut Seat<N, H>)
         ensures same { (one.new ≡ one.old) × (other.new ≡ other.old) }
         ensures begins { IsPrefix one.new.1 other.new.1 ⊎ IsPrefix other.new.1 one.new.1 }
         ensures differ { one.old.0 ≢ other.old.0 }

@@ -1,23 +1,26 @@
-//! What an active request of the typed family says, and what is answered to it.
-ghost use Rattle.std.specs.Prelude.{◌≡◌, ◌∷◌, [], IsSomeAnd, option_and_then};
-ghost use Rattle.rr_ports.specs.Loaning.{SendsResponseCopy};
+//! What an active request says, and what is loaned for it and sent, in the typed family.
+ghost use Rattle.std.specs.Prelude.{◌≡◌, ◌∷◌, [], IsSomeAnd, option_and_then, ◌<◌};
+ghost use Rattle.std.specs.Fn.{FnOnceReturnsAt};
+ghost use Rattle.rr_ports.specs.Facts.{Names, Asks, Has, Keeps, numbers_left};
+ghost use Rattle.rr_protocol.specs.declared.kind.Kind.TheVariants as kind;
+ghost use Rattle.rr_ports.specs.Loaning.{IsOneDefault, LoansResponseComplete, SendsResponseCopy};
+ghost use Rattle.rr_protocol.specs.Loans.{LoansResponse};
 ghost use Rattle.rr_protocol.specs.Messages.{request_in};
 ghost use Rattle.rr_protocol.specs.State.{empty_hub, handle_at};
 ghost use Rattle.rr_shared_ports.specs.Turns.{Answered, MakesCall};
+ghost use Rattle.rr_ports.specs.Facts.{numbers_left};
 
 use crate::claimed::Claimed;
-use crate::claims::{HubKeeper, kept};
-use crate::desk::Desk;
 use crate::error::CallError;
 use crate::naming::Naming;
 use crate::seat::Seat;
 use crate::shared_ports::SharedPorts;
-use crate::turn::{Turn, noted};
-use rr_log::Log;
-use rr_ports::{ActiveRequest, BackpressureFn, Body, Hub, SendError};
+use rr_ports::{
+    ActiveRequest, BackpressureFn, Body, Hub, LoanError, ResponseMut, ResponseMutUninit, SendError,
+};
 use std::sync::Wait;
 
-impl<N: Naming, T: Copy> Claimed<N, ActiveRequest<Option<T>>> {
+impl<N: Naming, T: Drop> Claimed<N, ActiveRequest<Option<T>>> {
     /// Returns the payload of the request. Not in iceoryx2, which returns a reference.
     pub fn payload_copy<
         R: Wait,
@@ -27,109 +30,164 @@ impl<N: Naming, T: Copy> Claimed<N, ActiveRequest<Option<T>>> {
         K: BackpressureFn,
     >(
         &self,
-        hub: &SharedPorts<N, Option<T>, QH, PB, PH, K>,
+        hub: &SharedPorts<N, Hub<Option<T>, QH, PB, PH, K>>,
         rt: &R,
-        seat: &mut Seat<N, Option<T>, QH, PB, PH, K>,
+        seat: &mut Seat<N, Hub<Option<T>, QH, PB, PH, K>>,
     ) -> T
+    where
+        T: Copy,
         ensures { MakesCall (empty_hub N.limits N.node_id) (λ before after. (after ≡ before) × IsSomeAnd (option_and_then request_in (handle_at before self.now)) (λ m. m.content.elements ≡ result ∷ [])) seat.old seat.new }
     {
-        hub.inside.lock(rt).request_copy(&hub.log, seat, self)
+        let handle = self.handle();
+        hub.inside
+            .lock(rt)
+            .looked(&hub.log, seat, self, |ports| *handle.payload(ports))
     }
-}
 
-impl<N: Naming, T: Copy, QH: Default + Drop, PB: Body, PH: Default + Drop, K: BackpressureFn> Desk<
-    N,
-    Option<T>,
-    QH,
-    PB,
-    PH,
-    K,
-> {
-    /// Returns the payload of a request.
-    fn request_copy(
-        &mut self,
-        log: &Log<Turn<Option<T>, QH, PB, PH, K>>,
-        seat: &mut Seat<N, Option<T>, QH, PB, PH, K>,
-        active: &Claimed<N, ActiveRequest<Option<T>>>,
-    ) -> T
-        requires { log.now ≡ N.log_id }
-        ensures { MakesCall (empty_hub N.limits N.node_id) (λ before after. (after ≡ before) × IsSomeAnd (option_and_then request_in (handle_at before active.now)) (λ m. m.content.elements ≡ result ∷ [])) seat.old seat.new }
+    /// Lets a function read the payload of the request in place, under the lock. Not in iceoryx2, which returns a reference.
+    pub fn read<
+        R: Wait,
+        QH: Default + Drop,
+        PB: Body,
+        PH: Default + Drop,
+        K: BackpressureFn,
+        U,
+        F: FnOnce(&T) -> U,
+    >(
+        &self,
+        hub: &SharedPorts<N, Hub<Option<T>, QH, PB, PH, K>>,
+        rt: &R,
+        seat: &mut Seat<N, Hub<Option<T>, QH, PB, PH, K>>,
+        f: F,
+    ) -> U
+        requires { F.IsAlwaysCallable f }
+        ensures { MakesCall (empty_hub N.limits N.node_id) (λ before after. (after ≡ before) × (value : T) × IsSomeAnd (option_and_then request_in (handle_at before self.now)) (λ m. m.content.elements ≡ value ∷ []) × FnOnceReturnsAt F.FnOnce f value result) seat.old seat.new }
     {
-        self.keeper.look(&active.claim);
-        let payload = *active.handle.payload(&self.hub);
-        noted(&self.hub, log, &mut self.pen, seat);
-        payload
+        let handle = self.handle();
+        hub.inside.lock(rt).looked(
+            &hub.log,
+            seat,
+            self,
+            |ports| -> U
+                requires { Names ports.now handle.now kind.ActiveRequest × F.IsAlwaysCallable f }
+                ensures { (value : T) × IsSomeAnd (option_and_then request_in (handle_at ports.now handle.entry.now)) (λ m. m.content.elements ≡ value ∷ []) × FnOnceReturnsAt F.FnOnce f value result }
+            { f(handle.payload(ports)) },
+        )
     }
 }
 
 impl<N: Naming, QB: Body> Claimed<N, ActiveRequest<QB>> {
+    /// Loans a response whose payload is to be written. After `ActiveRequest::loan_uninit` of `rr_ports`.
+    ///
+    /// # Errors
+    ///
+    /// - `Port` as `ActiveRequest::loan_uninit`.
+    /// - `NumbersExhausted` if no number is left for the response. Nothing changes.
+    pub fn loan_uninit<R: Wait, QH: Default + Drop, PH: Default + Drop, K: BackpressureFn, T: Drop>(
+        &self,
+        hub: &SharedPorts<N, Hub<QB, QH, Option<T>, PH, K>>,
+        rt: &R,
+        seat: &mut Seat<N, Hub<QB, QH, Option<T>, PH, K>>,
+    ) -> Result<Claimed<N, ResponseMutUninit<Option<T>>>, CallError<LoanError>>
+        ensures { MakesCall (empty_hub N.limits N.node_id) (Answered numbers_left (λ loaned before after. LoansResponse PH.is_default before self.now 1 loaned after) result) seat.old seat.new }
+    {
+        let handle = self.handle();
+        hub.inside
+            .lock(rt)
+            .made(&hub.log, seat, self, |ports| handle.loan_uninit(ports))
+    }
+
+    /// Loans a response whose payload has the default value. After `ActiveRequest::loan` of `rr_ports`.
+    ///
+    /// # Errors
+    ///
+    /// - `Port` as `ActiveRequest::loan`.
+    /// - `NumbersExhausted` if no number is left for the response. Nothing changes.
+    pub fn loan<
+        R: Wait,
+        QH: Default + Drop,
+        PH: Default + Drop,
+        K: BackpressureFn,
+        T: Default + Drop,
+    >(
+        &self,
+        hub: &SharedPorts<N, Hub<QB, QH, Option<T>, PH, K>>,
+        rt: &R,
+        seat: &mut Seat<N, Hub<QB, QH, Option<T>, PH, K>>,
+    ) -> Result<Claimed<N, ResponseMut<Option<T>>>, CallError<LoanError>>
+        ensures { MakesCall (empty_hub N.limits N.node_id) (Answered numbers_left (λ loaned before after. LoansResponseComplete PH.is_default (IsOneDefault T.is_default) before self.now 1 loaned after) result) seat.old seat.new }
+    {
+        let handle = self.handle();
+        hub.inside
+            .lock(rt)
+            .made(&hub.log, seat, self, |ports| handle.loan(ports))
+    }
+
     /// Loans a response, writes a value and sends it. After `ActiveRequest::send_copy` of `rr_ports`.
     ///
     /// # Errors
     ///
     /// - `Port` as `ActiveRequest::send_copy`.
     /// - `NumbersExhausted` if no number is left for the response. Nothing changes, and the value is dropped.
-    pub fn send_copy<R: Wait, QH: Default + Drop, T: Drop, PH: Default + Drop, K: BackpressureFn>(
+    pub fn send_copy<R: Wait, QH: Default + Drop, PH: Default + Drop, K: BackpressureFn, T: Drop>(
         &self,
-        hub: &SharedPorts<N, QB, QH, Option<T>, PH, K>,
+        hub: &SharedPorts<N, Hub<QB, QH, Option<T>, PH, K>>,
         rt: &R,
-        seat: &mut Seat<N, QB, QH, Option<T>, PH, K>,
+        seat: &mut Seat<N, Hub<QB, QH, Option<T>, PH, K>>,
         value: T,
     ) -> Result<(), CallError<SendError>>
-        ensures { MakesCall (empty_hub N.limits N.node_id) (Answered (λ sent before after. SendsResponseCopy PH.is_default K.action before self.now value sent after) result) seat.old seat.new }
+        ensures { MakesCall (empty_hub N.limits N.node_id) (Answered numbers_left (λ sent before after. SendsResponseCopy PH.is_default K.action before self.now value sent after) result) seat.old seat.new }
     {
-        hub.inside
-            .lock(rt)
-            .send_response_copy(&hub.log, seat, self, value)
-    }
-}
-
-impl<N: Naming, QB: Body, QH: Default + Drop, T: Drop, PH: Default + Drop, K: BackpressureFn> Desk<
-    N,
-    QB,
-    QH,
-    Option<T>,
-    PH,
-    K,
-> {
-    /// Loans a response, writes a value and sends it.
-    fn send_response_copy(
-        &mut self,
-        log: &Log<Turn<QB, QH, Option<T>, PH, K>>,
-        seat: &mut Seat<N, QB, QH, Option<T>, PH, K>,
-        active: &Claimed<N, ActiveRequest<QB>>,
-        value: T,
-    ) -> Result<(), CallError<SendError>>
-        requires { log.now ≡ N.log_id }
-        ensures { MakesCall (empty_hub N.limits N.node_id) (Answered (λ sent before after. SendsResponseCopy PH.is_default K.action before active.now value sent after) result) seat.old seat.new }
-    {
-        let sent = sent(&mut self.hub, &mut self.keeper, active, value);
-        noted(&self.hub, log, &mut self.pen, seat);
+        let handle = self.handle();
+        let sent = hub.inside.lock(rt).numbered(
+            &hub.log,
+            seat,
+            self,
+            |ports| handle.send_copy(ports, value),
+        );
+        hub.waking.responses.wake();
         sent
     }
 }
 
-/// Loans a response, if a number is left for it, writes a value and sends it.
-fn sent<N: Naming, QB: Body, QH: Default + Drop, T: Drop, PH: Default + Drop, K: BackpressureFn>(
-    hub: &mut Hub<QB, QH, Option<T>, PH, K>,
-    keeper: &mut HubKeeper<QB, QH, Option<T>, PH, K>,
-    active: &Claimed<N, ActiveRequest<QB>>,
-    value: T,
-) -> Result<(), CallError<SendError>>
-    requires id { keeper.old.id ≡ N.keeper_id }
-    requires state { keeper.old.state ≡ hub.old }
-    ensures id { keeper.new.id ≡ keeper.old.id }
-    ensures state { keeper.new.state ≡ hub.new }
-    ensures sends { Answered (λ sent before after. SendsResponseCopy PH.is_default K.action before active.now value sent after) result hub.old hub.new }
-{
-    if hub.numbers_left() == 0 {
-        return Err(CallError::NumbersExhausted);
-    }
-    keeper.look(&active.claim);
-    let sent = active.handle.send_copy(hub, value);
-    kept(hub, keeper);
-    match sent {
-        Ok(()) => Ok(()),
-        Err(error) => Err(CallError::Port(error)),
+impl<N: Naming, T: Drop> Claimed<N, ActiveRequest<Option<T>>> {
+    /// Answers with what a function returns for the request's payload, which is lent to it under the lock. After `ActiveRequest::respond_with` of `rr_ports`.
+    ///
+    /// # Errors
+    ///
+    /// - `Port` as `ActiveRequest::respond_with`.
+    /// - `NumbersExhausted` if no number is left for the response. Nothing changes.
+    pub fn respond_with<
+        R: Wait,
+        QH: Default + Drop,
+        PH: Default + Drop,
+        K: BackpressureFn,
+        U: Drop,
+        F: FnOnce(&T) -> U,
+    >(
+        &self,
+        hub: &SharedPorts<N, Hub<Option<T>, QH, Option<U>, PH, K>>,
+        rt: &R,
+        seat: &mut Seat<N, Hub<Option<T>, QH, Option<U>, PH, K>>,
+        f: F,
+    ) -> Result<(), CallError<SendError>>
+        requires { F.IsAlwaysCallable f }
+        ensures { MakesCall (empty_hub N.limits N.node_id) (Answered numbers_left (λ sent before after. (asked : T) × (value : U) × Has before self.now (Asks (asked ∷ [])) × FnOnceReturnsAt F.FnOnce f asked value × SendsResponseCopy PH.is_default K.action before self.now value sent after) result) seat.old seat.new }
+    {
+        let handle = self.handle();
+        let sent = hub.inside.lock(rt).numbered(
+            &hub.log,
+            seat,
+            self,
+            |ports| -> Result<(), SendError>
+                requires kind { Names ports.old handle.now kind.ActiveRequest }
+                requires number { 0 < numbers_left ports.old }
+                requires callable { F.IsAlwaysCallable f }
+                ensures call { (asked : T) × (value : U) × Has ports.old handle.entry.now (Asks (asked ∷ [])) × FnOnceReturnsAt F.FnOnce f asked value × SendsResponseCopy PH.is_default K.action ports.old handle.entry.now value result ports.new }
+                ensures keeps { Keeps [] ports.old ports.new }
+            { handle.respond_with(ports, f) },
+        );
+        hub.waking.responses.wake();
+        sent
     }
 }

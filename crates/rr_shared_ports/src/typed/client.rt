@@ -1,25 +1,71 @@
-//! What a client of the typed family sends.
-ghost use Rattle.std.specs.Prelude.{◌≡◌};
-ghost use Rattle.rr_ports.specs.Loaning.{SendsCopy};
+//! What a client of the typed family loans and sends.
+ghost use Rattle.rr_ports.specs.Loaning.{IsOneDefault, LoansComplete, SendsCopy};
+ghost use Rattle.rr_ports.specs.Shortcuts.{TellsCopy};
+ghost use Rattle.rr_protocol.specs.Loans.{LoansRequest};
 ghost use Rattle.rr_protocol.specs.State.{empty_hub};
 ghost use Rattle.rr_shared_ports.specs.Turns.{Answered, MakesCall};
+ghost use Rattle.rr_ports.specs.Facts.{numbers_left};
 
 use crate::claimed::Claimed;
-use crate::claims::{HubKeeper, granted, kept};
-use crate::desk::Desk;
 use crate::error::CallError;
 use crate::naming::Naming;
 use crate::seat::Seat;
 use crate::shared_ports::SharedPorts;
-use crate::turn::{Turn, noted};
-use rr_log::Log;
-use rr_ports::{BackpressureFn, Body, Client, Hub, PendingResponse, RequestSendError};
+use rr_ports::{
+    BackpressureFn, Body, Client, Hub, LoanError, PendingResponse, RequestMut, RequestMutUninit,
+    RequestSendError,
+};
 use std::sync::Wait;
 
-/// What a send of a request returns.
-type Sent<N, T> = Result<Claimed<N, PendingResponse<Option<T>>>, CallError<RequestSendError>>;
-
 impl<N: Naming, T: Drop> Claimed<N, Client<Option<T>>> {
+    /// Loans a request whose payload is to be written. After `Client::loan_uninit` of `rr_ports`.
+    ///
+    /// # Errors
+    ///
+    /// - `Port` as `Client::loan_uninit`.
+    /// - `NumbersExhausted` if no number is left for the request. Nothing changes.
+    pub fn loan_uninit<
+        R: Wait,
+        QH: Default + Drop,
+        PB: Body,
+        PH: Default + Drop,
+        K: BackpressureFn,
+    >(
+        &self,
+        hub: &SharedPorts<N, Hub<Option<T>, QH, PB, PH, K>>,
+        rt: &R,
+        seat: &mut Seat<N, Hub<Option<T>, QH, PB, PH, K>>,
+    ) -> Result<Claimed<N, RequestMutUninit<Option<T>>>, CallError<LoanError>>
+        ensures { MakesCall (empty_hub N.limits N.node_id) (Answered numbers_left (λ loaned before after. LoansRequest QH.is_default before self.now 1 loaned after) result) seat.old seat.new }
+    {
+        let handle = self.handle();
+        hub.inside
+            .lock(rt)
+            .made(&hub.log, seat, self, |ports| handle.loan_uninit(ports))
+    }
+
+    /// Loans a request whose payload has the default value. After `Client::loan` of `rr_ports`.
+    ///
+    /// # Errors
+    ///
+    /// - `Port` as `Client::loan`.
+    /// - `NumbersExhausted` if no number is left for the request. Nothing changes.
+    pub fn loan<R: Wait, QH: Default + Drop, PB: Body, PH: Default + Drop, K: BackpressureFn>(
+        &self,
+        hub: &SharedPorts<N, Hub<Option<T>, QH, PB, PH, K>>,
+        rt: &R,
+        seat: &mut Seat<N, Hub<Option<T>, QH, PB, PH, K>>,
+    ) -> Result<Claimed<N, RequestMut<Option<T>>>, CallError<LoanError>>
+    where
+        T: Default,
+        ensures { MakesCall (empty_hub N.limits N.node_id) (Answered numbers_left (λ loaned before after. LoansComplete QH.is_default (IsOneDefault T.is_default) before self.now 1 loaned after) result) seat.old seat.new }
+    {
+        let handle = self.handle();
+        hub.inside
+            .lock(rt)
+            .made(&hub.log, seat, self, |ports| handle.loan(ports))
+    }
+
     /// Loans a request, writes a value and sends it. After `Client::send_copy` of `rr_ports`.
     ///
     /// # Errors
@@ -28,66 +74,45 @@ impl<N: Naming, T: Drop> Claimed<N, Client<Option<T>>> {
     /// - `NumbersExhausted` if no number is left for the request. Nothing changes, and the value is dropped.
     pub fn send_copy<R: Wait, QH: Default + Drop, PB: Body, PH: Default + Drop, K: BackpressureFn>(
         &self,
-        hub: &SharedPorts<N, Option<T>, QH, PB, PH, K>,
+        hub: &SharedPorts<N, Hub<Option<T>, QH, PB, PH, K>>,
         rt: &R,
-        seat: &mut Seat<N, Option<T>, QH, PB, PH, K>,
+        seat: &mut Seat<N, Hub<Option<T>, QH, PB, PH, K>>,
         value: T,
-    ) -> Sent<N, T>
-        ensures { MakesCall (empty_hub N.limits N.node_id) (Answered (λ sent before after. SendsCopy QH.is_default K.action before self.now value sent after) result) seat.old seat.new }
+    ) -> Result<Claimed<N, PendingResponse<Option<T>>>, CallError<RequestSendError>>
+        ensures { MakesCall (empty_hub N.limits N.node_id) (Answered numbers_left (λ sent before after. SendsCopy QH.is_default K.action before self.now value sent after) result) seat.old seat.new }
     {
-        hub.inside
-            .lock(rt)
-            .send_request_copy(&hub.log, seat, self, value)
-    }
-}
-
-impl<N: Naming, T: Drop, QH: Default + Drop, PB: Body, PH: Default + Drop, K: BackpressureFn> Desk<
-    N,
-    Option<T>,
-    QH,
-    PB,
-    PH,
-    K,
-> {
-    /// Loans a request, writes a value and sends it.
-    fn send_request_copy(
-        &mut self,
-        log: &Log<Turn<Option<T>, QH, PB, PH, K>>,
-        seat: &mut Seat<N, Option<T>, QH, PB, PH, K>,
-        client: &Claimed<N, Client<Option<T>>>,
-        value: T,
-    ) -> Sent<N, T>
-        requires { log.now ≡ N.log_id }
-        ensures { MakesCall (empty_hub N.limits N.node_id) (Answered (λ sent before after. SendsCopy QH.is_default K.action before client.now value sent after) result) seat.old seat.new }
-    {
-        let sent = sent(&mut self.hub, &mut self.keeper, client, value);
-        noted(&self.hub, log, &mut self.pen, seat);
+        let handle = self.handle();
+        let sent = hub.inside.lock(rt).made(
+            &hub.log,
+            seat,
+            self,
+            |ports| handle.send_copy(ports, value),
+        );
+        hub.waking.requests.wake();
         sent
     }
-}
 
-/// Loans a request, if a number is left for it, writes a value, sends it, and claims the pending response.
-fn sent<N: Naming, T: Drop, QH: Default + Drop, PB: Body, PH: Default + Drop, K: BackpressureFn>(
-    hub: &mut Hub<Option<T>, QH, PB, PH, K>,
-    keeper: &mut HubKeeper<Option<T>, QH, PB, PH, K>,
-    client: &Claimed<N, Client<Option<T>>>,
-    value: T,
-) -> Sent<N, T>
-    requires id { keeper.old.id ≡ N.keeper_id }
-    requires state { keeper.old.state ≡ hub.old }
-    ensures id { keeper.new.id ≡ keeper.old.id }
-    ensures state { keeper.new.state ≡ hub.new }
-    ensures sends { Answered (λ sent before after. SendsCopy QH.is_default K.action before client.now value sent after) result hub.old hub.new }
-{
-    if hub.numbers_left() == 0 {
-        return Err(CallError::NumbersExhausted);
-    }
-    keeper.look(&client.claim);
-    match client.handle.send_copy(hub, value) {
-        Ok(pending) => Ok(granted(hub, keeper, pending)),
-        Err(error) => {
-            kept(hub, keeper);
-            Err(CallError::Port(error))
-        }
+    /// Sends a value and waits for no answer. After `Client::tell` of `rr_ports`.
+    ///
+    /// # Errors
+    ///
+    /// - `Port` as `Client::tell`.
+    /// - `NumbersExhausted` if no number is left for the request. Nothing changes, and the value is dropped.
+    pub fn tell<R: Wait, QH: Default + Drop, PB: Body, PH: Default + Drop, K: BackpressureFn>(
+        &self,
+        hub: &SharedPorts<N, Hub<Option<T>, QH, PB, PH, K>>,
+        rt: &R,
+        seat: &mut Seat<N, Hub<Option<T>, QH, PB, PH, K>>,
+        value: T,
+    ) -> Result<(), CallError<RequestSendError>>
+        ensures { MakesCall (empty_hub N.limits N.node_id) (Answered numbers_left (λ told before after. TellsCopy QH.is_default K.action before self.now value told after) result) seat.old seat.new }
+    {
+        let handle = self.handle();
+        let sent = hub
+            .inside
+            .lock(rt)
+            .numbered(&hub.log, seat, self, |ports| handle.tell(ports, value));
+        hub.waking.requests.wake();
+        sent
     }
 }

@@ -1,20 +1,21 @@
 //! What a response of the typed family says.
 ghost use Rattle.std.specs.Prelude.{◌≡◌, ◌∷◌, [], IsSomeAnd, option_and_then};
+ghost use Rattle.std.specs.Fn.{FnOnceReturnsAt};
+ghost use Rattle.rr_ports.specs.Facts.{Keeps, Names};
+ghost use Rattle.rr_protocol.specs.declared.kind.Kind.TheVariants as kind;
 ghost use Rattle.rr_protocol.specs.Messages.{response_in};
+ghost use Rattle.rr_protocol.specs.Releases.{after_release};
 ghost use Rattle.rr_protocol.specs.State.{empty_hub, handle_at};
 ghost use Rattle.rr_shared_ports.specs.Turns.{MakesCall};
 
 use crate::claimed::Claimed;
-use crate::desk::Desk;
 use crate::naming::Naming;
 use crate::seat::Seat;
 use crate::shared_ports::SharedPorts;
-use crate::turn::{Turn, noted};
-use rr_log::Log;
-use rr_ports::{BackpressureFn, Body, Response};
+use rr_ports::{BackpressureFn, Body, Hub, Response};
 use std::sync::Wait;
 
-impl<N: Naming, T: Copy> Claimed<N, Response<Option<T>>> {
+impl<N: Naming, T: Drop> Claimed<N, Response<Option<T>>> {
     /// Returns the payload of the response. Not in iceoryx2, which returns a reference.
     pub fn payload_copy<
         R: Wait,
@@ -24,37 +25,75 @@ impl<N: Naming, T: Copy> Claimed<N, Response<Option<T>>> {
         K: BackpressureFn,
     >(
         &self,
-        hub: &SharedPorts<N, QB, QH, Option<T>, PH, K>,
+        hub: &SharedPorts<N, Hub<QB, QH, Option<T>, PH, K>>,
         rt: &R,
-        seat: &mut Seat<N, QB, QH, Option<T>, PH, K>,
+        seat: &mut Seat<N, Hub<QB, QH, Option<T>, PH, K>>,
     ) -> T
+    where
+        T: Copy,
         ensures { MakesCall (empty_hub N.limits N.node_id) (λ before after. (after ≡ before) × IsSomeAnd (option_and_then response_in (handle_at before self.now)) (λ m. m.content.elements ≡ result ∷ [])) seat.old seat.new }
     {
-        hub.inside.lock(rt).response_copy(&hub.log, seat, self)
+        let handle = self.handle();
+        hub.inside
+            .lock(rt)
+            .looked(&hub.log, seat, self, |ports| *handle.payload(ports))
     }
-}
 
-impl<N: Naming, QB: Body, QH: Default + Drop, T: Copy, PH: Default + Drop, K: BackpressureFn> Desk<
-    N,
-    QB,
-    QH,
-    Option<T>,
-    PH,
-    K,
-> {
-    /// Returns the payload of a response.
-    fn response_copy(
-        &mut self,
-        log: &Log<Turn<QB, QH, Option<T>, PH, K>>,
-        seat: &mut Seat<N, QB, QH, Option<T>, PH, K>,
-        response: &Claimed<N, Response<Option<T>>>,
-    ) -> T
-        requires { log.now ≡ N.log_id }
-        ensures { MakesCall (empty_hub N.limits N.node_id) (λ before after. (after ≡ before) × IsSomeAnd (option_and_then response_in (handle_at before response.now)) (λ m. m.content.elements ≡ result ∷ [])) seat.old seat.new }
+    /// Lets a function read the payload of the response in place, under the lock. Not in iceoryx2, which returns a reference.
+    pub fn read<
+        R: Wait,
+        QB: Body,
+        QH: Default + Drop,
+        PH: Default + Drop,
+        K: BackpressureFn,
+        U,
+        F: FnOnce(&T) -> U,
+    >(
+        &self,
+        hub: &SharedPorts<N, Hub<QB, QH, Option<T>, PH, K>>,
+        rt: &R,
+        seat: &mut Seat<N, Hub<QB, QH, Option<T>, PH, K>>,
+        f: F,
+    ) -> U
+        requires { F.IsAlwaysCallable f }
+        ensures { MakesCall (empty_hub N.limits N.node_id) (λ before after. (after ≡ before) × (value : T) × IsSomeAnd (option_and_then response_in (handle_at before self.now)) (λ m. m.content.elements ≡ value ∷ []) × FnOnceReturnsAt F.FnOnce f value result) seat.old seat.new }
     {
-        self.keeper.look(&response.claim);
-        let payload = *response.handle.payload(&self.hub);
-        noted(&self.hub, log, &mut self.pen, seat);
-        payload
+        let handle = self.handle();
+        hub.inside.lock(rt).looked(
+            &hub.log,
+            seat,
+            self,
+            |ports| -> U
+                requires { Names ports.now handle.now kind.Response × F.IsAlwaysCallable f }
+                ensures { (value : T) × IsSomeAnd (option_and_then response_in (handle_at ports.now handle.entry.now)) (λ m. m.content.elements ≡ value ∷ []) × FnOnceReturnsAt F.FnOnce f value result }
+            { f(handle.payload(ports)) },
+        )
+    }
+
+    /// Takes the payload out of the response, and releases it. After `Response::into_payload` of `rr_ports`.
+    pub fn into_payload<
+        R: Wait,
+        QB: Body,
+        QH: Default + Drop,
+        PH: Default + Drop,
+        K: BackpressureFn,
+    >(
+        self,
+        hub: &SharedPorts<N, Hub<QB, QH, Option<T>, PH, K>>,
+        rt: &R,
+        seat: &mut Seat<N, Hub<QB, QH, Option<T>, PH, K>>,
+    ) -> T
+        ensures { MakesCall (empty_hub N.limits N.node_id) (λ before after. (after ≡ after_release before self) × IsSomeAnd (option_and_then response_in (handle_at before self)) (λ m. m.content.elements ≡ result ∷ [])) seat.old seat.new }
+    {
+        hub.inside.lock(rt).ended(
+            &hub.log,
+            seat,
+            self,
+            |handle, ports| -> T
+                requires { Names ports.old handle kind.Response }
+                ensures call { (ports.new ≡ after_release ports.old handle) × IsSomeAnd (option_and_then response_in (handle_at ports.old handle)) (λ m. m.content.elements ≡ result ∷ []) }
+                ensures keeps { Keeps (handle ∷ []) ports.old ports.new }
+            { handle.into_payload(ports) },
+        )
     }
 }

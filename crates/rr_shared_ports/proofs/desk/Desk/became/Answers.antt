@@ -1,0 +1,14 @@
+use Rattle.std.proofs.Common.{◌≡◌}
+use Rattle.rr_shared_ports.specs.Calls.{Takes}
+use Rattle.rr_shared_ports.proofs.Turns.{makes_call}
+use Rattle.rr_shared_ports.proofs.desk.Desk.became.Goals as goal
+
+pub became-returned-requires-clause-exchanges : goal.became-returned-requires-clause-exchanges
+became-returned-requires-clause-exchanges g c κs within = c.requires.exchanges c.self.inside.hub
+
+-- what is noted is the call
+pub returns : goal.returns
+returns g c =
+    let Call : g.row.H.Denot → g.row.H.Denot → Type 0 = λ before after. (made : g.row.B.Denot) × Takes g.F.FnOnce g.A.Handle.number c.args.f c.args.claimed before made after × (c.became-returned.result ≡ g.B.Handle.number made) in
+    makes_call (g.H.Ports.empty g.N.Naming.limits g.N.Naming.node_id) Call c.self.inside.pen.entries c.self.inside.hub c.became-returned.new.hub c.args.seat.now c.noted.new.seat
+    c.noted.ensures.noted c.self.invariant.1 c.became-returned.ensures

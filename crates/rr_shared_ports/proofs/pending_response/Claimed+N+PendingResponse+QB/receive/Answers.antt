@@ -1,0 +1,12 @@
+use Rattle.std.proofs.Common.{rules}
+use Rattle.rr_protocol.specs.Receives.{ReceivesResponse}
+use Rattle.rr_shared_ports.proofs.Telling.{at, is_received}
+use Rattle.rr_shared_ports.proofs.pending_response.Claimed+N+PendingResponse+QB.receive.Goals as goal
+
+-- it is the call of the port
+pub returns : goal.returns
+returns g c =
+    let made = c.received.ensures in
+    let call = made.4 in
+    let by : ReceivesResponse call.1.shown.now c.handle-handle.result.now call.0 call.1.left.now = search rules in
+    (made.0, made.1, made.2, made.3, at (λ old n result new. ReceivesResponse old n result new) call.1.shows c.handle-handle.ensures (is_received call.0 c.received.result call.2) call.1.leaves by)

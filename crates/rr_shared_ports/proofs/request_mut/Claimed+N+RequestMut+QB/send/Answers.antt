@@ -1,0 +1,12 @@
+use Rattle.std.proofs.Common.{rules}
+use Rattle.rr_ports.specs.Sending.{SendsPending}
+use Rattle.rr_shared_ports.proofs.Telling.{at, is_made}
+use Rattle.rr_shared_ports.proofs.request_mut.Claimed+N+RequestMut+QB.send.Goals as goal
+
+-- it is the call of the port
+pub returns : goal.returns
+returns g c =
+    let made = c.turned-sent.ensures in
+    let call = made.4 in
+    let by : SendsPending g.K.BackpressureFn.action call.1.1.now call.1.0 call.0 call.1.2.now = search rules in
+    (made.0, made.1, made.2, made.3, at (λ old n result new. SendsPending g.K.BackpressureFn.action old n result new) call.1.5 call.1.4 (is_made call.0 c.turned-sent.result call.2) call.1.6 by)

@@ -1,0 +1,13 @@
+use Rattle.std.specs.Prelude.{IsSomeAnd, option_and_then}
+use Rattle.std.specs.Fn.{FnOnceReturnsAt}
+use Rattle.rr_protocol.specs.Messages.{request_in}
+use Rattle.rr_protocol.specs.State.{handle_at}
+use Rattle.rr_shared_ports.proofs.Telling.{at_state}
+use Rattle.rr_shared_ports.proofs.sliced.active_request.Claimed+N+ActiveRequest+SliceBody+T.read.Goals as goal
+
+-- it is the call of the port
+pub returns : goal.returns
+returns g c =
+    let made = c.looked.ensures in
+    let call = made.4.1 in
+    (made.0, made.1, made.2, made.3, (made.4.0, at_state (λ old n new. IsSomeAnd (option_and_then request_in (handle_at old n)) (λ m. FnOnceReturnsAt g.F.FnOnce c.args.f m.content.elements c.looked.result)) call.2 c.handle-handle.ensures call.2 call.1))

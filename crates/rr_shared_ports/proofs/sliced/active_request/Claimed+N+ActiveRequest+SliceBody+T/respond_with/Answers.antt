@@ -1,0 +1,22 @@
+use Rattle.std.proofs.Common.{refl, ⊎_elim}
+use Rattle.std.specs.Prelude.{List}
+use Rattle.rr_ports.specs.Facts.{Asks, Has, numbers_left}
+use Rattle.rr_ports.specs.Responding.{Makes, RespondsSlice}
+use Rattle.rr_shared_ports.proofs.Telling.{answered, at, exhausted}
+use Rattle.rr_shared_ports.proofs.sliced.active_request.Claimed+N+ActiveRequest+SliceBody+T.respond_with.Goals as goal
+
+-- it is the call of the port
+pub returns : goal.returns
+returns g c =
+    let made = c.numbered-sent.ensures in (
+      made.0,
+      made.1,
+      made.2,
+      made.3,
+      ⊎_elim
+          (λ told.
+          let call = told.2 in
+          answered numbers_left (λ result old new. (asked : List g.row.T.Denot) × Has old c.args.self.now (Asks asked) × RespondsSlice g.PH.Default.is_default g.K.BackpressureFn.action (Makes g.F.FnMut asked c.args.f) old c.args.self.now c.args.len result new) told.0 c.numbered-sent.result _ _ told.1
+          (at (λ old n result new. (asked : List g.row.T.Denot) × Has old n (Asks asked) × RespondsSlice g.PH.Default.is_default g.K.BackpressureFn.action (Makes g.F.FnMut asked c.args.f) old n c.args.len result new) call.shows c.handle-handle.ensures refl call.leaves call.met.0))
+          (λ none. exhausted numbers_left (λ result old new. (asked : List g.row.T.Denot) × Has old c.args.self.now (Asks asked) × RespondsSlice g.PH.Default.is_default g.K.BackpressureFn.action (Makes g.F.FnMut asked c.args.f) old c.args.self.now c.args.len result new) c.numbered-sent.result _ _ none) made.4,
+    )

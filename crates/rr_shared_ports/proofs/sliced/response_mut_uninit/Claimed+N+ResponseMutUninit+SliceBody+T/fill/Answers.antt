@@ -1,0 +1,12 @@
+use Rattle.std.specs.Prelude.{◌≡◌}
+use Rattle.rr_protocol.specs.State.{with_changed}
+use Rattle.rr_protocol.specs.Writing.{after_init, filled, with_response_content}
+use Rattle.rr_shared_ports.proofs.Telling.{at}
+use Rattle.rr_shared_ports.proofs.sliced.response_mut_uninit.Claimed+N+ResponseMutUninit+SliceBody+T.fill.Goals as goal
+
+-- it is the call of the port
+pub returns : goal.returns
+returns g c =
+    let made = c.became.ensures in
+    let call = made.4 in
+    (made.0, made.1, made.2, made.3, at (λ old n result new. (result ≡ n) × (new ≡ with_changed (with_changed old n (with_response_content (filled c.args.element))) n after_init)) call.1.5 call.1.4 call.2 call.1.6 call.1.3.0)

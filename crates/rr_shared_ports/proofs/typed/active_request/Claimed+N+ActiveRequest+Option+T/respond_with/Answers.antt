@@ -1,0 +1,23 @@
+use Rattle.std.proofs.Common.{refl, ⊎_elim}
+use Rattle.std.specs.Prelude.{◌∷◌, []}
+use Rattle.std.specs.Fn.{FnOnceReturnsAt}
+use Rattle.rr_ports.specs.Facts.{Asks, Has, numbers_left}
+use Rattle.rr_ports.specs.Loaning.{SendsResponseCopy}
+use Rattle.rr_shared_ports.proofs.Telling.{answered, at, exhausted}
+use Rattle.rr_shared_ports.proofs.typed.active_request.Claimed+N+ActiveRequest+Option+T.respond_with.Goals as goal
+
+-- it is the call of the port
+pub returns : goal.returns
+returns g c =
+    let made = c.numbered-sent.ensures in (
+      made.0,
+      made.1,
+      made.2,
+      made.3,
+      ⊎_elim
+          (λ told.
+          let call = told.2 in
+          answered numbers_left (λ result old new. (asked : g.row.T.Denot) × (value : g.row.U.Denot) × Has old c.args.self.now (Asks (asked ∷ [])) × FnOnceReturnsAt g.F.FnOnce c.args.f asked value × SendsResponseCopy g.PH.Default.is_default g.K.BackpressureFn.action old c.args.self.now value result new) told.0 c.numbered-sent.result _ _ told.1
+          (at (λ old n result new. (asked : g.row.T.Denot) × (value : g.row.U.Denot) × Has old n (Asks (asked ∷ [])) × FnOnceReturnsAt g.F.FnOnce c.args.f asked value × SendsResponseCopy g.PH.Default.is_default g.K.BackpressureFn.action old n value result new) call.shows c.handle-handle.ensures refl call.leaves call.met.0))
+          (λ none. exhausted numbers_left (λ result old new. (asked : g.row.T.Denot) × (value : g.row.U.Denot) × Has old c.args.self.now (Asks (asked ∷ [])) × FnOnceReturnsAt g.F.FnOnce c.args.f asked value × SendsResponseCopy g.PH.Default.is_default g.K.BackpressureFn.action old c.args.self.now value result new) c.numbered-sent.result _ _ none) made.4,
+    )

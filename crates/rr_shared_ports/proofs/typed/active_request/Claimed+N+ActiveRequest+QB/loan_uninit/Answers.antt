@@ -1,0 +1,22 @@
+use Rattle.std.proofs.Common.{rules, ⊎_elim}
+use Rattle.rr_protocol.specs.Loans.{LoansResponse}
+use Rattle.rr_ports.specs.Facts.{numbers_left}
+use Rattle.rr_shared_ports.proofs.Telling.{answered, at, exhausted, is_made}
+use Rattle.rr_shared_ports.proofs.typed.active_request.Claimed+N+ActiveRequest+QB.loan_uninit.Goals as goal
+
+-- it is the call of the port
+pub returns : goal.returns
+returns g c =
+    let made = c.made.ensures in (
+      made.0,
+      made.1,
+      made.2,
+      made.3,
+      ⊎_elim
+          (λ told.
+          let call = told.2 in
+          let by : LoansResponse g.PH.Default.is_default call.1.shown.now c.handle-handle.result.now 1 call.0 call.1.left.now = search rules in
+          answered numbers_left (λ result old new. LoansResponse g.PH.Default.is_default old c.args.self.now 1 result new) told.0 c.made.result _ _ told.1
+          (at (λ old n result new. LoansResponse g.PH.Default.is_default old n 1 result new) call.1.shows c.handle-handle.ensures (is_made call.0 told.0 call.2) call.1.leaves by))
+          (λ none. exhausted numbers_left (λ result old new. LoansResponse g.PH.Default.is_default old c.args.self.now 1 result new) c.made.result _ _ none) made.4,
+    )

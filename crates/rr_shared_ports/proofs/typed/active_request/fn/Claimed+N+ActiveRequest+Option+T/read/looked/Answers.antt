@@ -1,0 +1,6 @@
+use Rattle.std.proofs.Common.{refl}
+use Rattle.rr_shared_ports.proofs.typed.active_request.fn.Claimed+N+ActiveRequest+Option+T.read.looked.Goals as goal
+
+-- it returns what the function returns of the payload
+pub returns : goal.returns
+returns g c = (c.payload.result.now, c.payload.ensures.value, (c.payload.result, c.f.ensures, refl))

@@ -1,0 +1,22 @@
+use Rattle.std.proofs.Common.{refl, rules, ⊎_elim}
+use Rattle.rr_ports.specs.Shortcuts.{TellsCopy}
+use Rattle.rr_ports.specs.Facts.{numbers_left}
+use Rattle.rr_shared_ports.proofs.Telling.{answered, at, exhausted}
+use Rattle.rr_shared_ports.proofs.typed.client.Claimed+N+Client+Option+T.tell.Goals as goal
+
+-- it is the call of the port
+pub returns : goal.returns
+returns g c =
+    let made = c.numbered-sent.ensures in (
+      made.0,
+      made.1,
+      made.2,
+      made.3,
+      ⊎_elim
+          (λ told.
+          let call = told.2 in
+          let by : TellsCopy g.QH.Default.is_default g.K.BackpressureFn.action call.shown.now c.handle-handle.result.now c.args.value told.0 call.left.now = search rules in
+          answered numbers_left (λ result old new. TellsCopy g.QH.Default.is_default g.K.BackpressureFn.action old c.args.self.now c.args.value result new) told.0 c.numbered-sent.result _ _ told.1
+          (at (λ old n result new. TellsCopy g.QH.Default.is_default g.K.BackpressureFn.action old n c.args.value result new) call.shows c.handle-handle.ensures refl call.leaves by))
+          (λ none. exhausted numbers_left (λ result old new. TellsCopy g.QH.Default.is_default g.K.BackpressureFn.action old c.args.self.now c.args.value result new) c.numbered-sent.result _ _ none) made.4,
+    )

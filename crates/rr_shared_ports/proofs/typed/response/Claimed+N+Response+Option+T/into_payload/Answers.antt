@@ -1,0 +1,13 @@
+use Rattle.std.specs.Prelude.{◌≡◌, ◌∷◌, [], IsSomeAnd, option_and_then}
+use Rattle.rr_protocol.specs.Messages.{response_in}
+use Rattle.rr_protocol.specs.Releases.{after_release}
+use Rattle.rr_protocol.specs.State.{handle_at}
+use Rattle.rr_shared_ports.proofs.Telling.{at_state}
+use Rattle.rr_shared_ports.proofs.typed.response.Claimed+N+Response+Option+T.into_payload.Goals as goal
+
+-- it is the call of the port
+pub returns : goal.returns
+returns g c =
+    let made = c.ended.ensures in
+    let call = made.4 in
+    (made.0, made.1, made.2, made.3, at_state (λ old n new. (new ≡ after_release old n) × IsSomeAnd (option_and_then response_in (handle_at old n)) (λ m. m.content.elements ≡ c.ended.result ∷ [])) call.5 call.4 call.6 call.3.0)

@@ -1,0 +1,22 @@
+use Rattle.std.proofs.Common.{refl, rules, ⊎_elim}
+use Rattle.rr_ports.specs.Shortcuts.{HearsCopy}
+use Rattle.rr_ports.specs.Facts.{numbers_left}
+use Rattle.rr_shared_ports.proofs.Telling.{answered, at, exhausted}
+use Rattle.rr_shared_ports.proofs.typed.server.Claimed+N+Server+PB.receive_copy.Goals as goal
+
+-- it is the call of the port
+pub returns : goal.returns
+returns g c =
+    let made = c.numbered.ensures in (
+      made.0,
+      made.1,
+      made.2,
+      made.3,
+      ⊎_elim
+          (λ told.
+          let call = told.2 in
+          let by : HearsCopy call.shown.now c.handle-handle.result.now told.0 call.left.now = search rules in
+          answered numbers_left (λ result old new. HearsCopy old c.args.self.now result new) told.0 c.numbered.result _ _ told.1
+          (at (λ old n result new. HearsCopy old n result new) call.shows c.handle-handle.ensures refl call.leaves by))
+          (λ none. exhausted numbers_left (λ result old new. HearsCopy old c.args.self.now result new) c.numbered.result _ _ none) made.4,
+    )

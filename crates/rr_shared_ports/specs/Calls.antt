@@ -1,0 +1,62 @@
+-- What a call of a function on a handle and on a hub makes of it.
+use Rattle.std.specs.Prelude.{◌≡◌, ◌⊎◌, ℕ, List, Option, Some, None, Result, Ok, Err, IfOk, IfSome, [], ◌∷◌}
+use Rattle.std.specs.Fn.{Once}
+use denote.Ref.{MutBor}
+use Rattle.rr_protocol.specs.declared.kind.Kind.{Kind}
+use Rattle.rr_shared_ports.specs.declared.error.CallError.{CallError}
+use Rattle.rr_shared_ports.specs.declared.error.CallError.TheVariants.{Port, NumbersExhausted}
+
+module _ {F A S U : Type 0} (g : Once F (A × (MutBor S × Unit {0})) (U × (MutBor S × Unit {0}))) (number : A → ℕ) (f : F) where
+  -- a function that takes the handle may be called on the one under a number and on a hub in a state
+  abbrev pub CanTake : ℕ → S → Type 0
+  CanTake n state = (handle : A) (hub : MutBor S) → number handle ≡ n → hub.now ≡ state → g.pre f (handle, (hub, tt))
+
+  -- of these it returns this, and leaves that state
+  abbrev pub Takes : ℕ → S → U → S → Type 0
+  Takes n old returned new =
+      (handle : A) × (hub : MutBor S) × (left : MutBor S) × g.post f (handle, (hub, tt)) (returned, (left, tt))
+      × (number handle ≡ n) × (hub.now ≡ old) × (left.now ≡ new)
+
+module _ {B E : Type 0} (number : B → ℕ) where
+  -- what was made is known by its number; or nothing was made
+  abbrev pub IsMade : Result B E → Result ℕ E → Type 0
+  IsMade (Ok made) (Ok n) = n ≡ number made
+  IsMade (Err error) (Err same) = same ≡ error
+  IsMade (Ok made) (Err error) = ⊥
+  IsMade (Err error) (Ok n) = ⊥
+
+  -- what was received is known by its number; or nothing was
+  abbrev pub IsReceived : Result (Option B) E → Result (Option ℕ) E → Type 0
+  IsReceived (Ok (Some made)) (Ok (Some n)) = n ≡ number made
+  IsReceived (Ok None) (Ok None) = Unit
+  IsReceived (Err error) (Err same) = same ≡ error
+  IsReceived made received = ⊥
+
+  module _ {S : Type 0} (kind : Kind) where
+    -- a call keeps all that is known of numbers, and what it makes, if anything, is known by a free one
+    abbrev pub MakesFree : (List ℕ → S → S → Type 0) → (S → ℕ → Type 0) → (S → ℕ → Kind → Type 0) → S → Result B E → S → Type 0
+    MakesFree keeps is_free names old made new =
+        keeps [] old new × IfOk made (λ it. is_free old (number it)) × IfOk made (λ it. names new (number it) kind)
+
+    -- the same of what is received
+    abbrev pub ReceivesFree : (List ℕ → S → S → Type 0) → (S → ℕ → Type 0) → (S → ℕ → Kind → Type 0) → S → Result (Option B) E → S → Type 0
+    ReceivesFree keeps is_free names old received new =
+        keeps [] old new × IfOk received (λ made. IfSome made (λ it. is_free old (number it)))
+        × IfOk received (λ made. IfSome made (λ it. names new (number it) kind))
+
+    -- a call keeps all that is known of numbers but of one, and what it makes of that, if anything, is known by it
+    abbrev pub TurnsFree : (List ℕ → S → S → Type 0) → (S → ℕ → Kind → Type 0) → ℕ → S → Result B E → S → Type 0
+    TurnsFree keeps names n old made new = keeps (n ∷ []) old new × IfOk made (λ it. number it ≡ n) × IfOk made (λ it. names new (number it) kind)
+
+module _ {U E : Type 0} where
+  -- what a call of a port answered is what is returned
+  abbrev pub IsAnswer : Result U E → Result U (CallError E) → Type 0
+  IsAnswer (Ok answer) (Ok returned) = returned ≡ answer
+  IsAnswer (Err error) (Err (Port returned)) = returned ≡ error
+  IsAnswer answer returned = ⊥
+
+  -- a call of a port answered what is returned; or no number was left, and nothing changed
+  abbrev pub Tells : {S : Type 0} → (S → ℕ) → (Result U E → S → S → Type 0) → Result U (CallError E) → S → S → Type 0
+  Tells numbers Call returned old new =
+      ((answer : Result U E) × IsAnswer answer returned × Call answer old new)
+      ⊎ ((returned ≡ Err NumbersExhausted) × (numbers old ≡ 0) × (new ≡ old))

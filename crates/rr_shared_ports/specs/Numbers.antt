@@ -1,0 +1,22 @@
+-- What calls of ports keep of what numbers name.
+use Rattle.std.proofs.Common.{◌≡◌, ℕ, [], ◌∷◌}
+use Rattle.rr_protocol.specs.declared.kind.Kind.{Kind}
+use Rattle.rr_protocol.specs.State.{State}
+use Rattle.rr_ports.specs.Facts.{IsA, IsFree, IsThere, Keeps, Names}
+
+module _ {Q QH P PH K : Type 0} where
+  -- what keeps all that is known of numbers keeps what they name
+  pub stay_all : (old new : State Q QH P PH K) → Keeps [] old new → (n : ℕ) (kind : Kind) → Names old n kind → Names new n kind
+  unfolding Keeps
+  stay_all old new keeps n kind names = keeps n (IsA kind) tt names
+
+  -- but for one of them
+  pub stay_but : (m : ℕ) (old new : State Q QH P PH K) → Keeps (m ∷ []) old new
+      → (n : ℕ) (kind : Kind) → (n ≡ m → ⊥) → Names old n kind → Names new n kind
+  unfolding Keeps
+  stay_but m old new keeps n kind other names = keeps n (IsA kind) (other, tt) names
+
+  -- a free number names nothing
+  pub names_nothing : (state : State Q QH P PH K) (n : ℕ) → IsFree [] state n → (kind : Kind) → Names state n kind → ⊥
+  unfolding IsFree IsThere
+  names_nothing state n free kind names = free tt (IsA kind, names)

@@ -1,0 +1,71 @@
+//! What a shared hub is to its lock and to its claims.
+use rr_ports::{BackpressureFn, Body, Hub};
+
+/// A hub of ports that can be shared, as `Hub` of `rr_ports` is, of either family. Not in iceoryx2.
+pub trait Ports: Drop {
+    ghost use Rattle.std.specs.Prelude.{◌≡◌, ℕ, List, [], ◌∷◌};
+    ghost use Rattle.rr_protocol.specs.declared.kind.Kind.{Kind};
+    ghost use Rattle.rr_protocol.specs.declared.limits.Limits.{Limits};
+
+    /// A hub without ports, of these limits and of this node id.
+    ghost empty: { Limits → ℕ → Self };
+
+    /// A number names a port or a handle of this kind.
+    ghost names: { Self → ℕ → Kind → Type 0 };
+
+    /// What is known of numbers holds still, but for these.
+    ghost keeps: { List ℕ → Self → Self → Type 0 };
+
+    /// Nothing is known of a number.
+    ghost is_free: { Self → ℕ → Type 0 };
+
+    /// A port or a handle was released.
+    ghost ends: { Self → ℕ → Self → Type 0 };
+
+    /// How many numbers are left.
+    ghost numbers: { Self → ℕ };
+
+    /// Returns how many numbers are left.
+    fn numbers_left(&self) -> u64
+        ensures { result ≡ numbers self.now };
+
+    /// What keeps all keeps what numbers name.
+    ghost stays: { (old new : Self) → keeps [] old new → (n : ℕ) (kind : Kind) → names old n kind → names new n kind };
+
+    /// What keeps all but one number keeps what others name.
+    ghost stays_but: { (m : ℕ) (old new : Self) → keeps (m ∷ []) old new → (n : ℕ) (kind : Kind) → (n ≡ m → ⊥) → names old n kind → names new n kind };
+
+    /// A free number names nothing.
+    ghost unnamed: { (state : Self) (n : ℕ) → is_free state n → (kind : Kind) → names state n kind → ⊥ };
+}
+
+impl<QB: Body, QH: Default + Drop, PB: Body, PH: Default + Drop, K: BackpressureFn> Ports
+    for Hub<QB, QH, PB, PH, K> {
+    ghost use Rattle.std.specs.Prelude.{◌≡◌, []};
+    ghost use Rattle.rr_protocol.specs.Releases.{after_release};
+    ghost use Rattle.rr_protocol.specs.State.{empty_hub};
+    ghost use Rattle.rr_ports.specs.Facts.{IsFree, Keeps, Names, numbers_left};
+    ghost use Rattle.rr_shared_ports.specs.Numbers.{names_nothing, stay_all, stay_but};
+
+    ghost empty = { empty_hub };
+
+    ghost names = { Names };
+
+    ghost keeps = { Keeps };
+
+    ghost is_free = { IsFree [] };
+
+    ghost ends = { λ old n new. new ≡ after_release old n };
+
+    ghost numbers = { numbers_left };
+
+    fn numbers_left(&self) -> u64 {
+        self.numbers_left()
+    }
+
+    ghost stays = { stay_all };
+
+    ghost stays_but = { stay_but };
+
+    ghost unnamed = { names_nothing };
+}

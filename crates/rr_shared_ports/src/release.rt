@@ -1,0 +1,110 @@
+//! The end of ports and handles.
+ghost use Rattle.std.specs.Prelude.{◌∷◌, []};
+ghost use Rattle.rr_shared_ports.specs.Turns.{MakesCall};
+
+use crate::claimed::Claimed;
+use crate::naming::Naming;
+use crate::ports::Ports;
+use crate::seat::Seat;
+use crate::shared_ports::SharedPorts;
+use rr_ports::{
+    ActiveRequest, BackpressureFn, Body, Client, Handle, Hub, PendingResponse, RequestMut,
+    RequestMutUninit, Response, ResponseMut, ResponseMutUninit, Server,
+};
+use std::sync::Wait;
+
+/// A port or a handle that a hub can release. Not in iceoryx2.
+pub trait Release<H: Ports>: Handle {
+    /// Releases it, as `release` of its type in `rr_ports`.
+    fn end(self, hub: &mut H)
+        requires { H.names hub.old (Self.number self) Self.kind }
+        ensures released { H.ends hub.old (Self.number self) hub.new }
+        ensures keeps { H.keeps (Self.number self ∷ []) hub.old hub.new };
+}
+
+impl<N: Naming, A: Handle> Claimed<N, A> {
+    /// Releases a port or a handle. A port stays connected as long as one of its handles lives. Responses that were sent to a pending
+    /// response and not received go with it. After `release` of its type in `rr_ports`.
+    pub fn release<R: Wait, H: Ports>(self, hub: &SharedPorts<N, H>, rt: &R, seat: &mut Seat<N, H>)
+    where
+        A: Release<H>,
+        ensures { MakesCall (H.empty N.limits N.node_id) (λ before after. H.ends before self after) seat.old seat.new }
+    {
+        hub.inside
+            .lock(rt)
+            .ended(&hub.log, seat, self, |handle, ports| handle.end(ports));
+        hub.waking.responses.wake();
+    }
+}
+
+impl<QB: Body, QH: Default + Drop, PB: Body, PH: Default + Drop, K: BackpressureFn> Release<
+    Hub<QB, QH, PB, PH, K>,
+> for Client<QB> {
+    fn end(self, hub: &mut Hub<QB, QH, PB, PH, K>) {
+        self.release(hub);
+    }
+}
+
+impl<QB: Body, QH: Default + Drop, PB: Body, PH: Default + Drop, K: BackpressureFn> Release<
+    Hub<QB, QH, PB, PH, K>,
+> for Server<PB> {
+    fn end(self, hub: &mut Hub<QB, QH, PB, PH, K>) {
+        self.release(hub);
+    }
+}
+
+impl<QB: Body, QH: Default + Drop, PB: Body, PH: Default + Drop, K: BackpressureFn> Release<
+    Hub<QB, QH, PB, PH, K>,
+> for RequestMutUninit<QB> {
+    fn end(self, hub: &mut Hub<QB, QH, PB, PH, K>) {
+        self.release(hub);
+    }
+}
+
+impl<QB: Body, QH: Default + Drop, PB: Body, PH: Default + Drop, K: BackpressureFn> Release<
+    Hub<QB, QH, PB, PH, K>,
+> for RequestMut<QB> {
+    fn end(self, hub: &mut Hub<QB, QH, PB, PH, K>) {
+        self.release(hub);
+    }
+}
+
+impl<QB: Body, QH: Default + Drop, PB: Body, PH: Default + Drop, K: BackpressureFn> Release<
+    Hub<QB, QH, PB, PH, K>,
+> for PendingResponse<QB> {
+    fn end(self, hub: &mut Hub<QB, QH, PB, PH, K>) {
+        self.release(hub);
+    }
+}
+
+impl<QB: Body, QH: Default + Drop, PB: Body, PH: Default + Drop, K: BackpressureFn> Release<
+    Hub<QB, QH, PB, PH, K>,
+> for ActiveRequest<QB> {
+    fn end(self, hub: &mut Hub<QB, QH, PB, PH, K>) {
+        self.release(hub);
+    }
+}
+
+impl<QB: Body, QH: Default + Drop, PB: Body, PH: Default + Drop, K: BackpressureFn> Release<
+    Hub<QB, QH, PB, PH, K>,
+> for ResponseMutUninit<PB> {
+    fn end(self, hub: &mut Hub<QB, QH, PB, PH, K>) {
+        self.release(hub);
+    }
+}
+
+impl<QB: Body, QH: Default + Drop, PB: Body, PH: Default + Drop, K: BackpressureFn> Release<
+    Hub<QB, QH, PB, PH, K>,
+> for ResponseMut<PB> {
+    fn end(self, hub: &mut Hub<QB, QH, PB, PH, K>) {
+        self.release(hub);
+    }
+}
+
+impl<QB: Body, QH: Default + Drop, PB: Body, PH: Default + Drop, K: BackpressureFn> Release<
+    Hub<QB, QH, PB, PH, K>,
+> for Response<PB> {
+    fn end(self, hub: &mut Hub<QB, QH, PB, PH, K>) {
+        self.release(hub);
+    }
+}

@@ -1,0 +1,105 @@
+//! Who sleeps until something is queued.
+use std::hint::spin_loop;
+use std::sync::atomic::{AtomicBool, AtomicU64, Ordering};
+use std::sync::{Condvar, Wait};
+use std::time::Duration;
+
+/// How often a thread looks whether something was queued before it sleeps.
+const LOOKS: u64 = 256;
+
+/// Where those sleep who wait for requests, and those who wait for responses. Of waking no contract tells.
+#[derive(Drop)]
+pub(crate) struct Waking {
+    pub(crate) requests: Sleepers,
+    pub(crate) responses: Sleepers,
+    is_closed: AtomicBool,
+}
+
+impl Waking {
+    /// Nobody sleeps, and nothing is closed.
+    pub(crate) fn new() -> Waking {
+        Waking {
+            requests: Sleepers::new(),
+            responses: Sleepers::new(),
+            is_closed: AtomicBool::new(false),
+        }
+    }
+
+    /// Wakes all, who find the hub closed then.
+    pub(crate) fn close(&self) {
+        self.is_closed.store(true, Ordering::SeqCst);
+        self.requests.wake();
+        self.responses.wake();
+    }
+
+    /// Returns whether the hub was closed.
+    pub(crate) fn is_closed(&self) -> bool {
+        self.is_closed.load(Ordering::SeqCst)
+    }
+}
+
+/// Those who wait until something of one kind is queued.
+///
+/// Who waits comes in before it looks under the lock whether something is queued, and who queues something looks after that whether
+/// anyone is in: one of the two always sees the other. In the same way who sleeps is counted before it looks at the turns once more,
+/// and who wakes counts the turn before it looks whether anyone sleeps. So no wake-up is lost.
+#[derive(Drop)]
+pub(crate) struct Sleepers {
+    inside: AtomicU64,
+    turns: AtomicU64,
+    asleep: AtomicU64,
+    queued: Condvar,
+}
+
+impl Sleepers {
+    fn new() -> Sleepers {
+        Sleepers {
+            inside: AtomicU64::new(0),
+            turns: AtomicU64::new(0),
+            asleep: AtomicU64::new(0),
+            queued: Condvar::new(),
+        }
+    }
+
+    /// Comes in.
+    pub(crate) fn enter(&self) {
+        self.inside.fetch_add(1, Ordering::SeqCst);
+    }
+
+    /// Goes out.
+    pub(crate) fn leave(&self) {
+        self.inside.fetch_sub(1, Ordering::SeqCst);
+    }
+
+    /// Returns how often those who are in were woken.
+    pub(crate) fn turns(&self) -> u64 {
+        self.turns.load(Ordering::SeqCst)
+    }
+
+    /// Wakes all who are in, since something was queued.
+    pub(crate) fn wake(&self) {
+        if self.inside.load(Ordering::SeqCst) == 0 {
+            return;
+        }
+        self.turns.fetch_add(1, Ordering::SeqCst);
+        if self.asleep.load(Ordering::SeqCst) != 0 {
+            self.queued.notify_all();
+        }
+    }
+
+    /// Looks some times whether those who are in were woken more often than that, and then sleeps until they are, at most so long.
+    pub(crate) fn wait<R: Wait>(&self, rt: &R, turns: u64, most: Duration) {
+        for _ in 0..LOOKS {
+            if self.turns() != turns {
+                return;
+            }
+            spin_loop();
+        }
+        self.asleep.fetch_add(1, Ordering::SeqCst);
+        let notifications = self.queued.notifications();
+        if self.turns() == turns {
+            self.queued.sleep(rt, notifications, most);
+        }
+        self.asleep.fetch_sub(1, Ordering::SeqCst);
+    }
+}
