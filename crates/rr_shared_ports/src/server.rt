@@ -1,5 +1,5 @@
 //! Servers of a shared hub.
-ghost use Rattle.std.specs.Prelude.{◌≡◌, ◌<◌, [], IfOk, IfSome, ℕ, ◌↔◌, IsTrue};
+ghost use Rattle.std.specs.Prelude.{◌≡◌, ◌<◌, [], IfOk, IfSome, IsOk, ℕ, ◌↔◌, IsTrue};
 ghost use Rattle.rr_ports.specs.Factories.{CreatesServerBy};
 ghost use Rattle.rr_protocol.specs.Settings.{server_defaults};
 ghost use Rattle.rr_protocol.specs.Receives.{ReceivesRequest};
@@ -163,7 +163,7 @@ impl<N: Naming, PB: Body> Claimed<N, Server<PB>> {
         rt: &R,
         seat: &mut Seat<N, Hub<QB, QH, PB, PH, K>>,
     ) -> Result<bool, ConnectionFailure>
-        ensures { MakesCall (empty_hub N.limits N.node_id) (λ before after. (after ≡ before) × IfOk result (λ waits. IsTrue waits ↔ HasRequests before self.now)) seat.old seat.new }
+        ensures { MakesCall (empty_hub N.limits N.node_id) (λ before after. (after ≡ before) × IsOk result × IfOk result (λ waits. IsTrue waits ↔ HasRequests before self.now)) seat.old seat.new }
     {
         let handle = self.handle();
         hub.inside.lock(rt).looked(
@@ -172,7 +172,7 @@ impl<N: Naming, PB: Body> Claimed<N, Server<PB>> {
             self,
             |ports| -> Result<bool, ConnectionFailure>
                 requires { Names ports.now handle.now kind.Server }
-                ensures { IfOk result (λ waits. IsTrue waits ↔ HasRequests ports.now handle.entry.now) }
+                ensures { IsOk result × IfOk result (λ waits. IsTrue waits ↔ HasRequests ports.now handle.entry.now) }
             { handle.has_requests(ports) },
         )
     }

@@ -34,8 +34,11 @@ impl<N: Naming, PB: Body> Claimed<N, Server<PB>> {
         ensures { MakesCall (empty_hub N.limits N.node_id) (Answered numbers_left (λ received before after. HearsCopy before self.now received after) result) seat.old seat.new }
     {
         let handle = self.handle();
-        hub.inside
+        let received = hub
+            .inside
             .lock(rt)
-            .numbered(&hub.log, seat, self, |ports| handle.receive_copy(ports))
+            .numbered(&hub.log, seat, self, |ports| handle.receive_copy(ports));
+        hub.waking.responses.wake();
+        received
     }
 }

@@ -7,7 +7,7 @@ use Rattle.rr_shared_ports.proofs.typed.server.Claimed+N+Server+PB.receive_copy.
 -- it is the call of the port
 pub returns : goal.returns
 returns g c =
-    let made = c.numbered.ensures in (
+    let made = c.numbered-received.ensures in (
       made.0,
       made.1,
       made.2,
@@ -16,7 +16,7 @@ returns g c =
           (λ told.
           let call = told.2 in
           let by : HearsCopy call.shown.now c.handle-handle.result.now told.0 call.left.now = search rules in
-          answered numbers_left (λ result old new. HearsCopy old c.args.self.now result new) told.0 c.numbered.result _ _ told.1
+          answered numbers_left (λ result old new. HearsCopy old c.args.self.now result new) told.0 c.numbered-received.result _ _ told.1
           (at (λ old n result new. HearsCopy old n result new) call.shows c.handle-handle.ensures refl call.leaves by))
-          (λ none. exhausted numbers_left (λ result old new. HearsCopy old c.args.self.now result new) c.numbered.result _ _ none) made.4,
+          (λ none. exhausted numbers_left (λ result old new. HearsCopy old c.args.self.now result new) c.numbered-received.result _ _ none) made.4,
     )
