@@ -11,7 +11,7 @@ import re
 import sys
 
 ROOT = pathlib.Path(__file__).resolve().parent.parent
-CRATES = ["rr_ports", "rr_locked", "rr_log", "rr_claims", "rr_shared"]
+CRATES = ["rr_ports", "rr_locked", "rr_log", "rr_claims", "rr_shared", "rr_shared_ports"]
 TYPE = re.compile(r"^pub (?:struct|enum|trait) (\w+)")
 SOURCE = re.compile(r"\(`(\w+(?:::\w+)+)`\):$")
 IMPORT = re.compile(r"^(ghost use|use|type|const) ")

@@ -1,24 +1,28 @@
-//! A job dispatcher: a client hands out jobs at one locked hub, and four workers do them, each a server in a thread of its own.
+//! Threads at one shared hub: a dispatcher whose jobs four workers do, a stream that its client ends, and a service of four clients.
 //!
-//! A job is a number, and doing it is counting its divisors. Every request reaches every worker; a job is done by the worker whose
-//! turn it is, and the others let it go. The program prints how many jobs each worker did, and the sum of their answers.
+//! ```text
+//! 1000 jobs: their numbers have 7069 divisors, which come to 823081
+//! a stream: 100 values came, and the servers ended theirs
+//! 4 clients: 200 answers, which come to 10200
+//! ```
 #![tactic(auto)]
 
-mod client;
-mod failure;
-mod hub;
-mod worker;
-
-use crate::hub::do_jobs;
-use rr_locked::PARTS;
-use std::marker::Brand;
-use std::sync::ledger::Blank;
+mod clients;
+mod jobs;
+mod stream;
 
 fn main(rt: HostRuntime) -> anyhow::Result<()> {
-    let report = do_jobs::<Brand, HostRuntime>(&rt, rt.alloc(), Blank::new(PARTS))?;
-    for done in &report.done {
-        println!(rt; "a worker did {done} jobs")?;
-    }
-    println!(rt; "their answers come to {}", report.sum)?;
+    let jobs::Done { count, sum } = jobs::run(&rt, rt.alloc())?;
+    println!(rt;
+        "{} jobs: their numbers have {count} divisors, which come to {sum}",
+        jobs::JOBS
+    )?;
+    let values = stream::run(&rt, rt.alloc())?;
+    println!(rt; "a stream: {values} values came, and the servers ended theirs")?;
+    let clients::Served { answers, sum } = clients::run(&rt, rt.alloc())?;
+    println!(rt;
+        "{} clients: {answers} answers, which come to {sum}",
+        clients::CLIENTS
+    )?;
     Ok(())
 }

@@ -1,2 +1,4 @@
 pub mod Turns
 pub mod Telling
+pub mod Waits
+pub mod Lengths

@@ -1,8 +1,9 @@
 -- What a call of a function on a handle and on a hub makes of it.
-use Rattle.std.specs.Prelude.{◌≡◌, ◌⊎◌, ℕ, List, Option, Some, None, Result, Ok, Err, IfOk, IfSome, [], ◌∷◌}
+use Rattle.std.specs.Prelude.{◌≡◌, ◌⊎◌, ℕ, List, Option, Some, None, Result, Ok, Err, IfErr, IfOk, IfSome, [], ◌∷◌}
 use Rattle.std.specs.Fn.{Once}
 use denote.Ref.{MutBor}
 use Rattle.rr_protocol.specs.declared.kind.Kind.{Kind}
+use Rattle.rr_ports.specs.declared.try_send.Refused.{Refused}
 use Rattle.rr_shared_ports.specs.declared.error.CallError.{CallError}
 use Rattle.rr_shared_ports.specs.declared.error.CallError.TheVariants.{Port, NumbersExhausted}
 
@@ -47,6 +48,31 @@ module _ {B E : Type 0} (number : B → ℕ) where
     -- a call keeps all that is known of numbers but of one, and what it makes of that, if anything, is known by it
     abbrev pub TurnsFree : (List ℕ → S → S → Type 0) → (S → ℕ → Kind → Type 0) → ℕ → S → Result B E → S → Type 0
     TurnsFree keeps names n old made new = keeps (n ∷ []) old new × IfOk made (λ it. number it ≡ n) × IfOk made (λ it. names new (number it) kind)
+
+module _ {A B E : Type 0} (held : A → ℕ) (number : B → ℕ) where
+  -- what was made is known by its number; or what is given back is, with why
+  abbrev pub IsTried : Result B (Refused A E) → Result ℕ (Refused ℕ E) → Type 0
+  IsTried (Ok made) (Ok n) = n ≡ number made
+  IsTried (Err refused) (Err kept) = (kept.message ≡ held refused.message) × (kept.error ≡ refused.error)
+  IsTried (Ok made) (Err kept) = ⊥
+  IsTried (Err refused) (Ok n) = ⊥
+
+  -- a call keeps all that is known of numbers but of one, and what it makes of that, or gives back, is known by it
+  abbrev pub TriesFree : {S : Type 0} → Kind → Kind → (List ℕ → S → S → Type 0) → (S → ℕ → Kind → Type 0) → ℕ → S → Result B (Refused A E) → S → Type 0
+  TriesFree before after keeps names n old made new =
+      keeps (n ∷ []) old new × IfOk made (λ it. (number it ≡ n) × names new n after) × IfErr made (λ refused. (held refused.message ≡ n) × names new n before)
+
+module _ {A U E : Type 0} (held : A → ℕ) where
+  -- what was returned is returned; or what is given back is known by its number, with why
+  abbrev pub IsSpent : Result U (Refused A E) → Result U (Refused ℕ E) → Type 0
+  IsSpent (Ok answer) (Ok returned) = returned ≡ answer
+  IsSpent (Err refused) (Err kept) = (kept.message ≡ held refused.message) × (kept.error ≡ refused.error)
+  IsSpent (Ok answer) (Err kept) = ⊥
+  IsSpent (Err refused) (Ok returned) = ⊥
+
+  -- a call keeps all that is known of numbers but of one, and what it gives back, if anything, is known by that
+  abbrev pub SpendsFree : {S : Type 0} → Kind → (List ℕ → S → S → Type 0) → (S → ℕ → Kind → Type 0) → ℕ → S → Result U (Refused A E) → S → Type 0
+  SpendsFree kind keeps names n old spent new = keeps (n ∷ []) old new × IfErr spent (λ refused. (held refused.message ≡ n) × names new n kind)
 
 module _ {U E : Type 0} where
   -- what a call of a port answered is what is returned

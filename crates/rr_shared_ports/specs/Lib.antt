@@ -1,3 +1,5 @@
 pub mod Turns
 pub mod Calls
 pub mod Numbers
+pub mod Tries
+pub mod Waits

@@ -25,8 +25,8 @@ impl<N: Naming, QB: Body> Claimed<N, ActiveRequest<QB>> {
         ensures { MakesCall (empty_hub N.limits N.node_id) (λ before after. (after ≡ before) × IsSomeAnd (active_at before self.now) (λ active. result.0 ≡ active.message.client)) seat.old seat.new }
     {
         let handle = self.handle();
-        hub.inside.lock(rt).looked(
-            &hub.log,
+        hub.looked(
+            rt,
             seat,
             self,
             |ports| -> UniqueClientId
@@ -52,8 +52,8 @@ impl<N: Naming, QB: Body> Claimed<N, ActiveRequest<QB>> {
         ensures { MakesCall (empty_hub N.limits N.node_id) (λ before after. (after ≡ before) × IsSomeAnd (active_at before self.now) (λ active. result ≡ is_alive before active.message.number)) seat.old seat.new }
     {
         let handle = self.handle();
-        hub.inside.lock(rt).looked(
-            &hub.log,
+        hub.looked(
+            rt,
             seat,
             self,
             |ports| -> bool
@@ -79,8 +79,8 @@ impl<N: Naming, QB: Body> Claimed<N, ActiveRequest<QB>> {
         ensures { MakesCall (empty_hub N.limits N.node_id) (λ before after. (after ≡ before) × IsSomeAnd (active_at before self.now) (λ active. result ≡ has_disconnect_hint before active.message.number)) seat.old seat.new }
     {
         let handle = self.handle();
-        hub.inside.lock(rt).looked(
-            &hub.log,
+        hub.looked(
+            rt,
             seat,
             self,
             |ports| -> bool

@@ -1,16 +1,36 @@
-//! What calls of ports do to a hub and to what is claimed of it. Each takes the call as a function on the handle and the hub.
+//! What calls of ports do to a hub and to what is claimed of it. Each takes the call as a function on the hub, and on the handle too
+//! where the call takes it.
 ghost use Rattle.std.specs.Fn.{FnOnceReturnsAt, FnOnceReturnsAtMut, FnOnceTakesAt, FnOnceTakesAtMut};
 ghost use Rattle.std.specs.Prelude.{◌≡◌, ◌<◌, ◌∷◌, [], Option, Result};
-ghost use Rattle.rr_shared_ports.specs.Calls.{CanTake, IsMade, IsReceived, MakesFree, ReceivesFree, Takes, Tells, TurnsFree};
+ghost use Rattle.rr_shared_ports.specs.Calls.{CanTake, IsMade, IsReceived, IsSpent, IsTried, MakesFree, ReceivesFree, SpendsFree, Takes, Tells, TriesFree, TurnsFree};
 
 use crate::claimed::Claimed;
-use crate::claims::{exchanged, granted, kept, retired};
+use crate::claims::{exchanged, granted, kept, renewed, retired};
 use crate::error::CallError;
 use crate::kept_hub::KeptHub;
 use crate::naming::Naming;
 use crate::ports::Ports;
-use rr_ports::Handle;
+use rr_ports::{Handle, Refused};
 use std::fmt::Display;
+
+/// Makes a port, and claims it.
+#[inline(always)]
+pub(crate) fn created<N: Naming, B: Handle, H: Ports, E, F: FnOnce(&mut H) -> Result<B, E>>(
+    hub: &mut KeptHub<N, H>,
+    f: F,
+) -> Result<Claimed<N, B>, E>
+    requires callable { FnOnceTakesAtMut F.FnOnce f hub.old }
+    requires makes { (made : Result B E) (after : H) → FnOnceReturnsAtMut F.FnOnce f hub.old made after → MakesFree B.number B.kind H.keeps H.is_free H.names hub.old made after }
+    ensures { (made : Result B E) × FnOnceReturnsAtMut F.FnOnce f hub.old made hub.new × IsMade B.number made result }
+{
+    match f(&mut hub.ports) {
+        Ok(made) => Ok(granted(&hub.ports, &mut hub.keeper, made)),
+        Err(error) => {
+            kept(&hub.ports, &mut hub.keeper);
+            Err(error)
+        }
+    }
+}
 
 /// Looks at a hub.
 #[inline(always)]
@@ -225,5 +245,89 @@ pub(crate) fn heard<
     match received(hub, claimed, f) {
         Ok(received) => Ok(received),
         Err(error) => Err(CallError::Port(error)),
+    }
+}
+
+/// Changes what a handle names, which is of the same kind after it.
+#[inline(always)]
+pub(crate) fn rewritten<N: Naming, A: Handle, H: Ports, U, F: FnOnce(&mut H) -> U>(
+    hub: &mut KeptHub<N, H>,
+    claimed: &Claimed<N, A>,
+    f: F,
+) -> U
+    requires callable { H.names hub.old claimed.now A.kind → FnOnceTakesAtMut F.FnOnce f hub.old }
+    requires rewrites { (returned : U) (after : H) → FnOnceReturnsAtMut F.FnOnce f hub.old returned after → H.keeps (claimed.now ∷ []) hub.old after × H.names after claimed.now A.kind }
+    ensures { FnOnceReturnsAtMut F.FnOnce f hub.old result hub.new }
+{
+    hub.keeper.look(&claimed.claim);
+    let returned = f(&mut hub.ports);
+    renewed(&hub.ports, &mut hub.keeper, &claimed.claim);
+    returned
+}
+
+/// Makes a handle another one, or gives it back, and gives its claim for one on what it is then.
+#[inline(always)]
+pub(crate) fn tried<
+    N: Naming,
+    A: Handle,
+    B: Handle,
+    H: Ports,
+    E,
+    F: FnOnce(A, &mut H) -> Result<B, Refused<A, E>>,
+>(
+    hub: &mut KeptHub<N, H>,
+    claimed: Claimed<N, A>,
+    f: F,
+) -> Result<Claimed<N, B>, Refused<Claimed<N, A>, E>>
+    requires callable { H.names hub.old claimed A.kind → CanTake F.FnOnce A.number f claimed hub.old }
+    requires tries { (made : Result B (Refused A E)) (after : H) → Takes F.FnOnce A.number f claimed hub.old made after → TriesFree A.number B.number A.kind B.kind H.keeps H.names claimed hub.old made after }
+    ensures { (made : Result B (Refused A E)) × Takes F.FnOnce A.number f claimed hub.old made hub.new × IsTried A.number B.number made result }
+{
+    let Claimed {
+        handle,
+        claim,
+        of: _,
+    } = claimed;
+    hub.keeper.look(&claim);
+    match f(handle, &mut hub.ports) {
+        Ok(made) => Ok(exchanged(&hub.ports, &mut hub.keeper, claim, made)),
+        Err(refused) => {
+            let Refused { message, error } = refused;
+            let message = exchanged(&hub.ports, &mut hub.keeper, claim, message);
+            Err(Refused { message, error })
+        }
+    }
+}
+
+/// Ends a handle, and gives its claim back, or gives both back.
+#[inline(always)]
+pub(crate) fn spent<
+    N: Naming,
+    A: Handle,
+    H: Ports,
+    U,
+    E,
+    F: FnOnce(A, &mut H) -> Result<U, Refused<A, E>>,
+>(hub: &mut KeptHub<N, H>, claimed: Claimed<N, A>, f: F) -> Result<U, Refused<Claimed<N, A>, E>>
+    requires callable { H.names hub.old claimed A.kind → CanTake F.FnOnce A.number f claimed hub.old }
+    requires spends { (spent : Result U (Refused A E)) (after : H) → Takes F.FnOnce A.number f claimed hub.old spent after → SpendsFree A.number A.kind H.keeps H.names claimed hub.old spent after }
+    ensures { (spent : Result U (Refused A E)) × Takes F.FnOnce A.number f claimed hub.old spent hub.new × IsSpent A.number spent result }
+{
+    let Claimed {
+        handle,
+        claim,
+        of: _,
+    } = claimed;
+    hub.keeper.look(&claim);
+    match f(handle, &mut hub.ports) {
+        Ok(answer) => {
+            retired(&hub.ports, &mut hub.keeper, claim);
+            Ok(answer)
+        }
+        Err(refused) => {
+            let Refused { message, error } = refused;
+            let message = exchanged(&hub.ports, &mut hub.keeper, claim, message);
+            Err(Refused { message, error })
+        }
     }
 }

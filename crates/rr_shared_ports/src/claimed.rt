@@ -15,6 +15,39 @@ use std::sync::Wait;
 
 /// A port or a handle of a shared hub, with the claim that it is there, which no other thread's call takes away. Contracts see its
 /// number. It has the bytes of the handle alone, and is not dropped: `release` ends it. Not in iceoryx2.
+///
+/// # Examples
+///
+/// Asks for a number, and waits for the answer (`rr_jobs::clients`):
+///
+/// ```
+/// use rr_shared_ports::Naming;
+/// use rr_shared_ports::typed::{Client, Seat, SharedPorts};
+/// use std::sync::Wait;
+///
+/// type Hub<N> = SharedPorts<N, u64, (), u64, ()>;
+///
+/// type Caller<N> = Seat<N, u64, (), u64, ()>;
+///
+/// fn ask<N: Naming, R: Wait>(
+///     rt: &R,
+///     hub: &Hub<N>,
+///     seat: &mut Caller<N>,
+///     client: &Client<N, u64>,
+///     asked: u64,
+/// ) -> u64 {
+///     let Ok(pending) = client.send_copy(hub, rt, seat, asked) else {
+///         return 0;
+///     };
+///     let answer = match pending.receive_wait(hub, rt, seat) {
+///         Ok(Some(response)) => response.into_payload(hub, rt, seat),
+///         Ok(None) => 0,
+///         Err(_) => 0,
+///     };
+///     pending.release(hub, rt, seat);
+///     answer
+/// }
+/// ```
 #[must_use]
 pub struct Claimed<N: Naming, A: Handle> {
     pub(crate) handle: A,
@@ -53,6 +86,6 @@ impl<N: Naming, A: Handle> Claimed<N, A> {
         requires { (state : H) → H.names state self.now A.kind → FnOnceTakesAt F.FnOnce f state }
         ensures { MakesCall (H.empty N.limits N.node_id) (λ before after. (after ≡ before) × FnOnceReturnsAt F.FnOnce f before result) seat.old seat.new }
     {
-        hub.inside.lock(rt).looked(&hub.log, seat, self, f)
+        hub.looked(rt, seat, self, f)
     }
 }

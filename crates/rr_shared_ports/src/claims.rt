@@ -62,6 +62,17 @@ pub(crate) fn kept<H: Ports>(hub: &H, keeper: &mut HubKeeper<H>)
     keeper.change(hub);
 }
 
+/// Keeps all claims, after a call that changed what one of them is on.
+pub(crate) fn renewed<H: Ports>(hub: &H, keeper: &mut HubKeeper<H>, claim: &Claim<Kind>)
+    requires named { H.names keeper.old.state claim.now.number claim.now.what }
+    requires keeps { H.keeps (claim.now.number ∷ []) keeper.old.state hub.now }
+    requires names { H.names hub.now claim.now.number claim.now.what }
+    ensures id { keeper.new.id ≡ keeper.old.id }
+    ensures state { keeper.new.state ≡ hub.now }
+{
+    keeper.change(hub);
+}
+
 /// Gives a claim back, after a call that ended what it was on.
 pub(crate) fn retired<H: Ports>(hub: &H, keeper: &mut HubKeeper<H>, claim: Claim<Kind>)
     requires id { claim.id ≡ keeper.old.id }

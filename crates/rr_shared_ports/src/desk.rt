@@ -1,7 +1,7 @@
 //! What lies under the lock, and the calls of seats.
 ghost use Rattle.std.specs.Fn.{FnOnceReturnsAt, FnOnceReturnsAtMut, FnOnceTakesAt, FnOnceTakesAtMut};
 ghost use Rattle.std.specs.Prelude.{◌≡◌, ◌<◌, ◌∷◌, [], Option, Result};
-ghost use Rattle.rr_shared_ports.specs.Calls.{CanTake, IsMade, IsReceived, MakesFree, ReceivesFree, Takes, Tells, TurnsFree};
+ghost use Rattle.rr_shared_ports.specs.Calls.{CanTake, IsMade, IsReceived, IsSpent, IsTried, MakesFree, ReceivesFree, SpendsFree, Takes, Tells, TriesFree, TurnsFree};
 ghost use Rattle.rr_shared_ports.specs.Turns.{EndsIn, IsNoted, MakesCall};
 
 use crate::calls;
@@ -12,7 +12,7 @@ use crate::naming::Naming;
 use crate::ports::Ports;
 use crate::seat::Seat;
 use rr_log::{Log, Pen};
-use rr_ports::Handle;
+use rr_ports::{Handle, Refused};
 use std::fmt::Display;
 use std::marker::Model;
 
@@ -51,6 +51,24 @@ pub(crate) fn noted<N: Naming, H: Ports>(
 }
 
 impl<N: Naming, H: Ports> Desk<N, H> {
+    /// Makes a port, and claims it.
+    #[inline(always)]
+    pub(crate) fn created<B: Handle, E, F: FnOnce(&mut H) -> Result<B, E>>(
+        &mut self,
+        log: &Log<H>,
+        seat: &mut Seat<N, H>,
+        f: F,
+    ) -> Result<Claimed<N, B>, E>
+        requires log { log.now ≡ N.log_id }
+        requires callable { (state : H) → FnOnceTakesAtMut F.FnOnce f state }
+        requires makes { (state : H) → (made : Result B E) (after : H) → FnOnceReturnsAtMut F.FnOnce f state made after → MakesFree B.number B.kind H.keeps H.is_free H.names state made after }
+        ensures { MakesCall (H.empty N.limits N.node_id) (λ before after. (made : Result B E) × FnOnceReturnsAtMut F.FnOnce f before made after × IsMade B.number made result) seat.old seat.new }
+    {
+        let returned = calls::created(&mut self.hub, f);
+        noted(&self.hub, log, &mut self.pen, seat);
+        returned
+    }
+
     /// Looks at a hub.
     #[inline(always)]
     pub(crate) fn looked<A: Handle, U, F: FnOnce(&H) -> U>(
@@ -222,6 +240,63 @@ impl<N: Naming, H: Ports> Desk<N, H> {
         ensures { MakesCall (H.empty N.limits N.node_id) (Tells H.numbers (λ answer before after. (received : Result (Option B) E) × FnOnceReturnsAtMut F.FnOnce f before received after × IsReceived B.number received answer) result) seat.old seat.new }
     {
         let returned = calls::heard(&mut self.hub, claimed, f);
+        noted(&self.hub, log, &mut self.pen, seat);
+        returned
+    }
+
+    /// Changes what a handle names, which is of the same kind after it.
+    #[inline(always)]
+    pub(crate) fn rewritten<A: Handle, U, F: FnOnce(&mut H) -> U>(
+        &mut self,
+        log: &Log<H>,
+        seat: &mut Seat<N, H>,
+        claimed: &Claimed<N, A>,
+        f: F,
+    ) -> U
+        requires log { log.now ≡ N.log_id }
+        requires callable { (state : H) → H.names state claimed.now A.kind → FnOnceTakesAtMut F.FnOnce f state }
+        requires rewrites { (state : H) → (returned : U) (after : H) → FnOnceReturnsAtMut F.FnOnce f state returned after → H.keeps (claimed.now ∷ []) state after × H.names after claimed.now A.kind }
+        ensures { MakesCall (H.empty N.limits N.node_id) (λ before after. FnOnceReturnsAtMut F.FnOnce f before result after) seat.old seat.new }
+    {
+        let returned = calls::rewritten(&mut self.hub, claimed, f);
+        noted(&self.hub, log, &mut self.pen, seat);
+        returned
+    }
+
+    /// Makes a handle another one, or gives it back, and gives its claim for one on what it is then.
+    #[inline(always)]
+    pub(crate) fn tried<A: Handle, B: Handle, E, F: FnOnce(A, &mut H) -> Result<B, Refused<A, E>>>(
+        &mut self,
+        log: &Log<H>,
+        seat: &mut Seat<N, H>,
+        claimed: Claimed<N, A>,
+        f: F,
+    ) -> Result<Claimed<N, B>, Refused<Claimed<N, A>, E>>
+        requires log { log.now ≡ N.log_id }
+        requires callable { (state : H) → H.names state claimed A.kind → CanTake F.FnOnce A.number f claimed state }
+        requires tries { (state : H) → (made : Result B (Refused A E)) (after : H) → Takes F.FnOnce A.number f claimed state made after → TriesFree A.number B.number A.kind B.kind H.keeps H.names claimed state made after }
+        ensures { MakesCall (H.empty N.limits N.node_id) (λ before after. (made : Result B (Refused A E)) × Takes F.FnOnce A.number f claimed before made after × IsTried A.number B.number made result) seat.old seat.new }
+    {
+        let returned = calls::tried(&mut self.hub, claimed, f);
+        noted(&self.hub, log, &mut self.pen, seat);
+        returned
+    }
+
+    /// Ends a handle, and gives its claim back, or gives both back.
+    #[inline(always)]
+    pub(crate) fn spent<A: Handle, U, E, F: FnOnce(A, &mut H) -> Result<U, Refused<A, E>>>(
+        &mut self,
+        log: &Log<H>,
+        seat: &mut Seat<N, H>,
+        claimed: Claimed<N, A>,
+        f: F,
+    ) -> Result<U, Refused<Claimed<N, A>, E>>
+        requires log { log.now ≡ N.log_id }
+        requires callable { (state : H) → H.names state claimed A.kind → CanTake F.FnOnce A.number f claimed state }
+        requires spends { (state : H) → (spent : Result U (Refused A E)) (after : H) → Takes F.FnOnce A.number f claimed state spent after → SpendsFree A.number A.kind H.keeps H.names claimed state spent after }
+        ensures { MakesCall (H.empty N.limits N.node_id) (λ before after. (spent : Result U (Refused A E)) × Takes F.FnOnce A.number f claimed before spent after × IsSpent A.number spent result) seat.old seat.new }
+    {
+        let returned = calls::spent(&mut self.hub, claimed, f);
         noted(&self.hub, log, &mut self.pen, seat);
         returned
     }

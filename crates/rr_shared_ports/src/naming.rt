@@ -5,6 +5,42 @@ use std::marker::Brand;
 ///
 /// Hubs, handles and seats name it in their types, so that a handle of one hub can't be used at another. A caller picks `Brand`, and
 /// says in its proof which hub that is. Not in iceoryx2.
+///
+/// # Examples
+///
+/// Is generic in the name of its hub, which its caller picks (`rr_jobs::clients`):
+///
+/// ```
+/// use rr_shared_ports::Naming;
+/// use rr_shared_ports::typed::{Seat, Server, SharedPorts};
+/// use std::sync::Wait;
+///
+/// type Hub<N> = SharedPorts<N, u64, (), u64, ()>;
+///
+/// type Caller<N> = Seat<N, u64, (), u64, ()>;
+///
+/// fn serve<N: Naming, R: Wait>(
+///     rt: &R,
+///     hub: &Hub<N>,
+///     seat: &mut Caller<N>,
+///     server: &Server<N, u64>,
+/// ) -> u64 {
+///     let mut answers = 0u64;
+///     for _ in rt.forever() {
+///         let Ok(active) = server.receive_wait(hub, rt, seat) else {
+///             return answers;
+///         };
+///         if active
+///             .respond_with(hub, rt, seat, |asked| asked.wrapping_mul(2))
+///             .is_ok()
+///         {
+///             answers = answers.wrapping_add(1);
+///         }
+///         active.release(hub, rt, seat);
+///     }
+///     unreachable!()
+/// }
+/// ```
 pub trait Naming: Send + Sync {
     ghost use Rattle.std.specs.Prelude.{ℕ};
     ghost use Rattle.rr_protocol.specs.declared.limits.Limits.{Limits};

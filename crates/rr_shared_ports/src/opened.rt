@@ -18,6 +18,32 @@ use std::sync::Mutex;
 
 /// A hub without ports, of which nothing is claimed and nothing was called, and which has no name yet. Contracts see which it is. Not in
 /// iceoryx2.
+///
+/// # Examples
+///
+/// Opens a hub, and has another function name it (`rr_threads::idle`):
+///
+/// ```
+/// use anyhow::bail;
+/// use rr_ports::{Limits, UniqueNodeId};
+/// use rr_shared_ports::WaitError;
+/// use rr_shared_ports::typed::Opened;
+/// use std::alloc::Global;
+/// use std::marker::Brand;
+/// use std::sync::Wait;
+/// use std::thread::Threads;
+/// use std::time::Clock;
+///
+/// type OpenedHub = Opened<u64, (), u64, ()>;
+///
+/// fn idle<R: Threads + Wait + Clock + Sync>(rt: &R, alloc: Global) -> anyhow::Result<()> {
+///     let opened = OpenedHub::new(alloc, Limits::SMALLEST, UniqueNodeId(7))?;
+///     match wait_for_close::<Brand, R>(rt, opened)? {
+///         Some(WaitError::Closed) => Ok(()),
+///         ended => bail!("the wait ended with {ended:?}"),
+///     }
+/// }
+/// ```
 #[derive(Drop)]
 pub struct Opened<H: Ports> {
     limits: Limits,

@@ -32,8 +32,8 @@ impl<N: Naming, QB: Body> Claimed<N, PendingResponse<QB>> {
         ensures { MakesCall (empty_hub N.limits N.node_id) (λ before after. after ≡ with_changed before self.now with_hint) seat.old seat.new }
     {
         let handle = self.handle();
-        hub.inside.lock(rt).changed(
-            &hub.log,
+        hub.changed(
+            rt,
             seat,
             self,
             |ports| -> ()
@@ -60,8 +60,8 @@ impl<N: Naming, QB: Body> Claimed<N, PendingResponse<QB>> {
         ensures { MakesCall (empty_hub N.limits N.node_id) (λ before after. (after ≡ before) × IsSomeAnd (pending_at before self.now) (λ pending. result ≡ nat_lt 0 (length pending.servers))) seat.old seat.new }
     {
         let handle = self.handle();
-        hub.inside.lock(rt).looked(
-            &hub.log,
+        hub.looked(
+            rt,
             seat,
             self,
             |ports| -> bool
@@ -87,8 +87,8 @@ impl<N: Naming, QB: Body> Claimed<N, PendingResponse<QB>> {
         ensures { MakesCall (empty_hub N.limits N.node_id) (λ before after. (after ≡ before) × IsSomeAnd (pending_at before self.now) (λ pending. result ≡ pending.connections)) seat.old seat.new }
     {
         let handle = self.handle();
-        hub.inside.lock(rt).looked(
-            &hub.log,
+        hub.looked(
+            rt,
             seat,
             self,
             |ports| -> usize
@@ -114,8 +114,8 @@ impl<N: Naming, QB: Body> Claimed<N, PendingResponse<QB>> {
         ensures { MakesCall (empty_hub N.limits N.node_id) (λ before after. (after ≡ before) × IsSomeAnd (pending_at before self.now) (λ pending. IsTrue result ↔ HasResponse before pending)) seat.old seat.new }
     {
         let handle = self.handle();
-        hub.inside.lock(rt).looked(
-            &hub.log,
+        hub.looked(
+            rt,
             seat,
             self,
             |ports| -> bool
@@ -139,8 +139,8 @@ impl<N: Naming, QB: Body> Claimed<N, PendingResponse<QB>> {
         ensures { MakesCall (empty_hub N.limits N.node_id) (λ before after. ReceivesResponse before self.now result after) seat.old seat.new }
     {
         let handle = self.handle();
-        hub.inside
-            .lock(rt)
-            .received(&hub.log, seat, self, |ports| handle.receive(ports))
+        let received = hub.received(rt, seat, self, |ports| handle.receive(ports));
+        hub.waking.room.wake();
+        received
     }
 }

@@ -2,6 +2,27 @@
 use rr_ports::{BackpressureFn, Body, Hub};
 
 /// A hub of ports that can be shared, as `Hub` of `rr_ports` is, of either family. Not in iceoryx2.
+///
+/// # Examples
+///
+/// Tells that two callers have seen one history, at a hub of any type (`rr_shared_ports_tests::tests::exchange`):
+///
+/// ```
+/// ghost use Rattle.std.specs.Prelude.{◌⊎◌};
+/// ghost use mathlib.Core.List.{IsPrefix};
+///
+/// use rr_shared_ports::{Naming, Ports};
+///
+/// fn meet<N: Naming, H: Ports>(
+///     hub: &rr_shared_ports::SharedPorts<N, H>,
+///     one: &mut rr_shared_ports::Seat<N, H>,
+///     other: &mut rr_shared_ports::Seat<N, H>,
+/// )
+///     ensures { IsPrefix one.new.1 other.new.1 ⊎ IsPrefix other.new.1 one.new.1 }
+/// {
+///     hub.compare(one, other);
+/// }
+/// ```
 pub trait Ports: Drop {
     ghost use Rattle.std.specs.Prelude.{◌≡◌, ℕ, List, [], ◌∷◌};
     ghost use Rattle.rr_protocol.specs.declared.kind.Kind.{Kind};
@@ -35,6 +56,9 @@ pub trait Ports: Drop {
     /// What keeps all but one number keeps what others name.
     ghost stays_but: { (m : ℕ) (old new : Self) → keeps (m ∷ []) old new → (n : ℕ) (kind : Kind) → (n ≡ m → ⊥) → names old n kind → names new n kind };
 
+    /// What keeps all but one number, which names what it named, keeps what numbers name.
+    ghost renewed: { (m : ℕ) (kind : Kind) (old new : Self) → keeps (m ∷ []) old new → names old m kind → names new m kind → (n : ℕ) (other : Kind) → names old n other → names new n other };
+
     /// A free number names nothing.
     ghost unnamed: { (state : Self) (n : ℕ) → is_free state n → (kind : Kind) → names state n kind → ⊥ };
 }
@@ -45,7 +69,7 @@ impl<QB: Body, QH: Default + Drop, PB: Body, PH: Default + Drop, K: Backpressure
     ghost use Rattle.rr_protocol.specs.Releases.{after_release};
     ghost use Rattle.rr_protocol.specs.State.{empty_hub};
     ghost use Rattle.rr_ports.specs.Facts.{IsFree, Keeps, Names, numbers_left};
-    ghost use Rattle.rr_shared_ports.specs.Numbers.{names_nothing, stay_all, stay_but};
+    ghost use Rattle.rr_shared_ports.specs.Numbers.{names_nothing, stay_all, stay_but, stay_renewed};
 
     ghost empty = { empty_hub };
 
@@ -66,6 +90,8 @@ impl<QB: Body, QH: Default + Drop, PB: Body, PH: Default + Drop, K: Backpressure
     ghost stays = { stay_all };
 
     ghost stays_but = { stay_but };
+
+    ghost renewed = { stay_renewed };
 
     ghost unnamed = { names_nothing };
 }

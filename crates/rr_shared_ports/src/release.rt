@@ -14,6 +14,26 @@ use rr_ports::{
 use std::sync::Wait;
 
 /// A port or a handle that a hub can release. Not in iceoryx2.
+///
+/// # Examples
+///
+/// Releases ports or handles of any type (`rr_shared_ports_tests::tests::exchange`):
+///
+/// ```
+/// use rr_shared_ports::{Claimed, Naming, Ports, Release};
+/// use std::sync::Wait;
+///
+/// fn release_both<N: Naming, R: Wait, H: Ports, A: Release<H>, B: Release<H>>(
+///     rt: &R,
+///     hub: &rr_shared_ports::SharedPorts<N, H>,
+///     seat: &mut rr_shared_ports::Seat<N, H>,
+///     one: Claimed<N, A>,
+///     other: Claimed<N, B>,
+/// ) {
+///     one.release(hub, rt, seat);
+///     other.release(hub, rt, seat);
+/// }
+/// ```
 pub trait Release<H: Ports>: Handle {
     /// Releases it, as `release` of its type in `rr_ports`.
     fn end(self, hub: &mut H)
@@ -30,10 +50,9 @@ impl<N: Naming, A: Handle> Claimed<N, A> {
         A: Release<H>,
         ensures { MakesCall (H.empty N.limits N.node_id) (λ before after. H.ends before self after) seat.old seat.new }
     {
-        hub.inside
-            .lock(rt)
-            .ended(&hub.log, seat, self, |handle, ports| handle.end(ports));
+        hub.ended(rt, seat, self, |handle, ports| handle.end(ports));
         hub.waking.responses.wake();
+        hub.waking.room.wake();
     }
 }
 

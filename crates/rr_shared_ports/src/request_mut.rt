@@ -24,10 +24,7 @@ impl<N: Naming, QB: Body> Claimed<N, RequestMut<QB>> {
     ) -> Result<Claimed<N, PendingResponse<QB>>, RequestSendError>
         ensures { MakesCall (empty_hub N.limits N.node_id) (λ before after. SendsPending K.action before self result after) seat.old seat.new }
     {
-        let sent = hub
-            .inside
-            .lock(rt)
-            .turned(&hub.log, seat, self, |handle, ports| handle.send(ports));
+        let sent = hub.turned(rt, seat, self, |handle, ports| handle.send(ports));
         hub.waking.requests.wake();
         sent
     }

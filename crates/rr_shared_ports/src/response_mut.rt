@@ -24,10 +24,7 @@ impl<N: Naming, PB: Body> Claimed<N, ResponseMut<PB>> {
     ) -> Result<(), SendError>
         ensures { MakesCall (empty_hub N.limits N.node_id) (λ before after. SendsResponse K.action before self result after) seat.old seat.new }
     {
-        let sent = hub
-            .inside
-            .lock(rt)
-            .ended(&hub.log, seat, self, |handle, ports| handle.send(ports));
+        let sent = hub.ended(rt, seat, self, |handle, ports| handle.send(ports));
         hub.waking.responses.wake();
         sent
     }

@@ -10,14 +10,10 @@ ghost use Rattle.rr_shared_ports.specs.Turns.{Answered, MakesCall};
 ghost use Rattle.rr_protocol.specs.Queries.{HasRequests};
 
 use crate::claimed::Claimed;
-use crate::claims::{granted, kept};
-use crate::desk::{Desk, noted};
 use crate::error::CallError;
-use crate::kept_hub::KeptHub;
 use crate::naming::Naming;
 use crate::seat::Seat;
 use crate::shared_ports::SharedPorts;
-use rr_log::Log;
 use rr_ports::{
     ActiveRequest, BackpressureFn, Body, ConnectionFailure, Hub, PortFactoryServer, Preallocation,
     ReceiveError, Server, ServerCreateError, UniqueServerId,
@@ -53,53 +49,17 @@ impl<
         requires { (worst_case : ℕ) → P.accepts factory.preallocation worst_case }
         ensures { MakesCall (empty_hub N.limits N.node_id) (λ before after. CreatesServerBy P.chooses before factory result after) seat.old seat.new }
     {
-        self.inside.lock(rt).create_server(&self.log, seat, factory)
-    }
-}
-
-impl<N: Naming, QB: Body, QH: Default + Drop, PB: Body, PH: Default + Drop, K: BackpressureFn> Desk<
-    N,
-    Hub<QB, QH, PB, PH, K>,
-> {
-    /// Creates a server as a factory says.
-    fn create_server<P: Preallocation + Drop>(
-        &mut self,
-        log: &Log<Hub<QB, QH, PB, PH, K>>,
-        seat: &mut Seat<N, Hub<QB, QH, PB, PH, K>>,
-        factory: PortFactoryServer<PB, K, P>,
-    ) -> Result<Claimed<N, Server<PB>>, ServerCreateError>
-        requires log { log.now ≡ N.log_id }
-        requires accepted { (worst_case : ℕ) → P.accepts factory.preallocation worst_case }
-        ensures { MakesCall (empty_hub N.limits N.node_id) (λ before after. CreatesServerBy P.chooses before factory result after) seat.old seat.new }
-    {
-        let created = created(&mut self.hub, factory);
-        noted(&self.hub, log, &mut self.pen, seat);
-        created
-    }
-}
-
-/// Creates a server, and claims it.
-fn created<
-    N: Naming,
-    QB: Body,
-    QH: Default + Drop,
-    PB: Body,
-    PH: Default + Drop,
-    K: BackpressureFn,
-    P: Preallocation + Drop,
->(
-    hub: &mut KeptHub<N, Hub<QB, QH, PB, PH, K>>,
-    factory: PortFactoryServer<PB, K, P>,
-) -> Result<Claimed<N, Server<PB>>, ServerCreateError>
-    requires { (worst_case : ℕ) → P.accepts factory.preallocation worst_case }
-    ensures { CreatesServerBy P.chooses hub.old factory result hub.new }
-{
-    match factory.create(&mut hub.ports) {
-        Ok(server) => Ok(granted(&hub.ports, &mut hub.keeper, server)),
-        Err(error) => {
-            kept(&hub.ports, &mut hub.keeper);
-            Err(error)
-        }
+        self.created(
+            rt,
+            seat,
+            |ports| -> Result<Server<PB>, ServerCreateError>
+                requires { (worst_case : ℕ) → P.accepts factory.preallocation worst_case }
+                ensures call { CreatesServerBy P.chooses ports.old factory result ports.new }
+                ensures keeps { Keeps [] ports.old ports.new }
+                ensures free { IfOk result (λ server. IsFree [] ports.old server) }
+                ensures kind { IfOk result (λ server. Names ports.new server kind.Server) }
+            { factory.create(ports) },
+        )
     }
 }
 
@@ -126,8 +86,8 @@ impl<N: Naming, PB: Body> Claimed<N, Server<PB>> {
         ensures { MakesCall (empty_hub N.limits N.node_id) (Answered numbers_left (λ received before after. ReceivesRequest before self.now received after) result) seat.old seat.new }
     {
         let server = self.handle();
-        hub.inside.lock(rt).heard(
-            &hub.log,
+        let received = hub.heard(
+            rt,
             seat,
             self,
             |ports| -> Result<Option<ActiveRequest<QB>>, ReceiveError>
@@ -138,7 +98,9 @@ impl<N: Naming, PB: Body> Claimed<N, Server<PB>> {
                 ensures free { IfOk result (λ received. IfSome received (λ active. IsFree [] ports.old active)) }
                 ensures kind { IfOk result (λ received. IfSome received (λ active. Names ports.new active kind.ActiveRequest)) }
             { server.receive(ports) },
-        )
+        );
+        hub.waking.room.wake();
+        received
     }
 }
 
@@ -166,8 +128,8 @@ impl<N: Naming, PB: Body> Claimed<N, Server<PB>> {
         ensures { MakesCall (empty_hub N.limits N.node_id) (λ before after. (after ≡ before) × IsOk result × IfOk result (λ waits. IsTrue waits ↔ HasRequests before self.now)) seat.old seat.new }
     {
         let handle = self.handle();
-        hub.inside.lock(rt).looked(
-            &hub.log,
+        hub.looked(
+            rt,
             seat,
             self,
             |ports| -> Result<bool, ConnectionFailure>

@@ -16,6 +16,57 @@ use std::sync::Mutex;
 ///
 /// Threads share it by reference. Each takes a seat, and calls its ports and handles with the hub, the runtime and the seat. Not in
 /// iceoryx2.
+///
+/// # Examples
+///
+/// Lets a server answer in this thread, and each client ask in another (`rr_jobs::clients`):
+///
+/// ```
+/// use rr_shared_ports::Naming;
+/// use rr_shared_ports::typed::{Opened, SharedPorts};
+/// use std::alloc::Global;
+/// use std::sync::Wait;
+/// use std::thread;
+/// use std::thread::Threads;
+/// use std::time::Clock;
+///
+/// const CLIENTS: usize = 4;
+///
+/// fn serve_all<N: Naming, R: Threads + Wait + Sync + Clock>(
+///     rt: &R,
+///     alloc: Global,
+///     opened: Opened<u64, (), u64, ()>,
+/// ) -> anyhow::Result<Served>
+///     requires keeper { opened.keeper_id ≡ N.keeper_id }
+///     requires log { opened.log_id ≡ N.log_id }
+///     requires limits { opened.limits ≡ N.limits }
+///     requires node_id { opened.node_id ≡ N.node_id }
+/// {
+///     let hub = opened.named::<N>();
+///     let mut seat = hub.seat();
+///     let server = hub.create_server(rt, &mut seat, hub.server_builder(rt))?;
+///     let (answers, asked) = thread::join(
+///         rt,
+///         || serve(rt, &hub, &mut seat, &server),
+///         || {
+///             let asked = thread::map_indices(
+///                 rt,
+///                 alloc,
+///                 CLIENTS,
+///                 &|place| ask_all(rt, &hub, place as u64),
+///             );
+///             hub.close();
+///             asked
+///         },
+///     );
+///     server.release(&hub, rt, &mut seat);
+///     let mut sum = 0u64;
+///     for part in asked? {
+///         sum = sum.wrapping_add(part?);
+///     }
+///     Ok(Served { answers, sum })
+/// }
+/// ```
 #[derive(Drop)]
 pub struct SharedPorts<N: Naming, H: Ports> {
     pub(crate) limits: Limits,

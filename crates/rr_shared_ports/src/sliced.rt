@@ -4,6 +4,8 @@ mod client;
 mod request_mut_uninit;
 mod response;
 mod response_mut_uninit;
+mod write_request;
+mod write_response;
 
 /// A shared hub whose requests and responses are slices.
 pub type SharedPorts<N, Q, QH, P, PH, K = rr_ports::NoHandler> = crate::SharedPorts<

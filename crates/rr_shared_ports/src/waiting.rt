@@ -1,25 +1,27 @@
 //! Receives that wait until something comes. They look some times, and then sleep.
-ghost use Rattle.std.specs.Prelude.{◌≡◌, IfOk, Ok, Some};
+ghost use Rattle.std.specs.Prelude.{◌≡◌, None, Some};
 ghost use mathlib.Core.List.{IsPrefix};
+ghost use Rattle.rr_ports.specs.Facts.{numbers_left};
 ghost use Rattle.rr_protocol.specs.Receives.{ReceivesRequest, ReceivesResponse};
 ghost use Rattle.rr_protocol.specs.State.{empty_hub};
-ghost use Rattle.rr_shared_ports.specs.Turns.{Answered, EndsInCall};
+ghost use Rattle.rr_shared_ports.specs.Turns.{Answered};
+ghost use Rattle.rr_shared_ports.specs.Waits.{Waits};
 
 use crate::claimed::Claimed;
+use crate::deadline::{Deadline, Never, Timeout};
 use crate::error::{CallError, WaitError};
 use crate::naming::Naming;
 use crate::ports::Ports;
 use crate::seat::Seat;
 use crate::shared_ports::SharedPorts;
-use rr_ports::{ActiveRequest, BackpressureFn, Body, Hub, PendingResponse, Response, Server};
+use rr_ports::{
+    ActiveRequest, BackpressureFn, Body, Hub, PendingResponse, ReceiveError, Response, Server,
+};
 use std::sync::Wait;
-use std::time::Duration;
-
-/// For how long a thread sleeps at most before it looks again, in seconds.
-const NAP: u64 = 3600;
+use std::time::{Clock, Duration};
 
 impl<N: Naming, H: Ports> SharedPorts<N, H> {
-    /// Wakes all who wait, and lets waits end with `Closed` from then on where nothing is queued. Other calls go on as before. Not in
+    /// Wakes all who wait, and lets waits end with `Closed` from then on where they would sleep. Other calls go on as before. Not in
     /// iceoryx2.
     pub fn close(&self) {
         self.waking.close();
@@ -27,7 +29,7 @@ impl<N: Naming, H: Ports> SharedPorts<N, H> {
 }
 
 /// What a wait of a server returns.
-type Heard<N, QB> = Result<Claimed<N, ActiveRequest<QB>>, WaitError>;
+type Heard<N, QB> = Result<Claimed<N, ActiveRequest<QB>>, WaitError<CallError<ReceiveError>>>;
 
 impl<N: Naming, PB: Body> Claimed<N, Server<PB>> {
     /// Receives a request, and waits until one is queued. Not in iceoryx2.
@@ -50,45 +52,104 @@ impl<N: Naming, PB: Body> Claimed<N, Server<PB>> {
     ) -> Heard<N, QB>
         ensures same { seat.new.0 ≡ seat.old.0 }
         ensures seen { IsPrefix seat.old.1 seat.new.1 }
-        ensures call { IfOk result (λ active. EndsInCall (empty_hub N.limits N.node_id) (λ before after. ReceivesRequest before self.now (Ok (Some active)) after) seat.new) }
+        ensures call { Waits (empty_hub N.limits N.node_id) (Answered numbers_left (λ received before after. ReceivesRequest before self.now received after)) None Some result seat.new }
     {
-        hub.waking.requests.enter();
-        let heard = self.hear(hub, rt, seat);
-        hub.waking.requests.leave();
-        heard
+        self.hear(hub, rt, seat, &Never)
     }
 
-    /// Receives until a request comes.
-    fn hear<R: Wait, QB: Body, QH: Default + Drop, PH: Default + Drop, K: BackpressureFn>(
+    /// Receives a request, and waits until one is queued, at most so long by the clock of the runtime. Not in iceoryx2.
+    ///
+    /// # Errors
+    ///
+    /// - `Call` as `receive`.
+    /// - `Closed` if `close` was called, and no request is queued.
+    /// - `TimedOut` if the time is over or the clock can't be read, and no request is queued.
+    pub fn receive_timeout<
+        R: Wait + Clock,
+        QB: Body,
+        QH: Default + Drop,
+        PH: Default + Drop,
+        K: BackpressureFn,
+    >(
         &self,
         hub: &SharedPorts<N, Hub<QB, QH, PB, PH, K>>,
         rt: &R,
         seat: &mut Seat<N, Hub<QB, QH, PB, PH, K>>,
+        most: Duration,
     ) -> Heard<N, QB>
         ensures same { seat.new.0 ≡ seat.old.0 }
         ensures seen { IsPrefix seat.old.1 seat.new.1 }
-        ensures call { IfOk result (λ active. EndsInCall (empty_hub N.limits N.node_id) (λ before after. ReceivesRequest before self.now (Ok (Some active)) after) seat.new) }
+        ensures call { Waits (empty_hub N.limits N.node_id) (Answered numbers_left (λ received before after. ReceivesRequest before self.now received after)) None Some result seat.new }
+    {
+        self.hear(hub, rt, seat, &Timeout::after(rt, most))
+    }
+
+    /// Receives a request, among those who wait for one.
+    fn hear<
+        R: Wait,
+        QB: Body,
+        QH: Default + Drop,
+        PH: Default + Drop,
+        K: BackpressureFn,
+        D: Deadline<R>,
+    >(
+        &self,
+        hub: &SharedPorts<N, Hub<QB, QH, PB, PH, K>>,
+        rt: &R,
+        seat: &mut Seat<N, Hub<QB, QH, PB, PH, K>>,
+        deadline: &D,
+    ) -> Heard<N, QB>
+        ensures same { seat.new.0 ≡ seat.old.0 }
+        ensures seen { IsPrefix seat.old.1 seat.new.1 }
+        ensures call { Waits (empty_hub N.limits N.node_id) (Answered numbers_left (λ received before after. ReceivesRequest before self.now received after)) None Some result seat.new }
+    {
+        hub.waking.requests.enter();
+        let received = self.hear_again(hub, rt, seat, deadline);
+        hub.waking.requests.leave();
+        received
+    }
+
+    /// Receives again and again, and sleeps in between.
+    fn hear_again<
+        R: Wait,
+        QB: Body,
+        QH: Default + Drop,
+        PH: Default + Drop,
+        K: BackpressureFn,
+        D: Deadline<R>,
+    >(
+        &self,
+        hub: &SharedPorts<N, Hub<QB, QH, PB, PH, K>>,
+        rt: &R,
+        seat: &mut Seat<N, Hub<QB, QH, PB, PH, K>>,
+        deadline: &D,
+    ) -> Heard<N, QB>
+        ensures same { seat.new.0 ≡ seat.old.0 }
+        ensures seen { IsPrefix seat.old.1 seat.new.1 }
+        ensures call { Waits (empty_hub N.limits N.node_id) (Answered numbers_left (λ received before after. ReceivesRequest before self.now received after)) None Some result seat.new }
     {
         let sleepers = &hub.waking.requests;
         for _ in rt.forever() {
             let turns = sleepers.turns();
-            let is_closed = hub.waking.is_closed();
+            let pause = hub.waking.pause(rt, deadline);
             match self.receive(hub, rt, seat) {
                 Ok(Some(active)) => return Ok(active),
-                Ok(None) if is_closed => return Err(WaitError::Closed),
-                Ok(None) => sleepers.wait(rt, turns, Duration::from_secs(NAP)),
+                Ok(None) => match pause {
+                    Ok(pause) => sleepers.wait(rt, turns, pause),
+                    Err(error) => return Err(error),
+                },
                 Err(error) => return Err(WaitError::Call(error)),
             }
         }
-        Err(WaitError::Closed)
+        unreachable!()
     }
 }
 
 /// What a wait of a pending response returns.
-type Answer<N, PB> = Result<Option<Claimed<N, Response<PB>>>, WaitError>;
+type Answer<N, PB> = Result<Option<Claimed<N, Response<PB>>>, WaitError<ReceiveError>>;
 
 impl<N: Naming, QB: Body> Claimed<N, PendingResponse<QB>> {
-    /// Receives a response, and waits until one is queued or no server may answer any more. Returns `None` then. Not in iceoryx2.
+    /// Receives a response, and waits until one is queued, or returns `None` once no connected server may answer any more. Not in iceoryx2.
     ///
     /// # Errors
     ///
@@ -108,40 +169,97 @@ impl<N: Naming, QB: Body> Claimed<N, PendingResponse<QB>> {
     ) -> Answer<N, PB>
         ensures same { seat.new.0 ≡ seat.old.0 }
         ensures seen { IsPrefix seat.old.1 seat.new.1 }
-        ensures call { IfOk result (λ received. EndsInCall (empty_hub N.limits N.node_id) (λ before after. ReceivesResponse before self.now (Ok received) after) seat.new) }
+        ensures call { Waits (empty_hub N.limits N.node_id) (λ received before after. ReceivesResponse before self.now received after) None (λ received. received) result seat.new }
     {
-        hub.waking.responses.enter();
-        let answer = self.await_response(hub, rt, seat);
-        hub.waking.responses.leave();
-        answer
+        self.await_response(hub, rt, seat, &Never)
     }
 
-    /// Receives until a response comes, or none can.
-    fn await_response<R: Wait, QH: Default + Drop, PB: Body, PH: Default + Drop, K: BackpressureFn>(
+    /// Receives a response, and waits until one is queued, or returns `None` once no connected server may answer any more, at most so long by the clock of the runtime. Not in iceoryx2.
+    ///
+    /// # Errors
+    ///
+    /// - `Call` as `receive`.
+    /// - `Closed` if `close` was called, and no response is queued.
+    /// - `TimedOut` if the time is over or the clock can't be read, and no response is queued.
+    pub fn receive_timeout<
+        R: Wait + Clock,
+        QH: Default + Drop,
+        PB: Body,
+        PH: Default + Drop,
+        K: BackpressureFn,
+    >(
         &self,
         hub: &SharedPorts<N, Hub<QB, QH, PB, PH, K>>,
         rt: &R,
         seat: &mut Seat<N, Hub<QB, QH, PB, PH, K>>,
+        most: Duration,
     ) -> Answer<N, PB>
         ensures same { seat.new.0 ≡ seat.old.0 }
         ensures seen { IsPrefix seat.old.1 seat.new.1 }
-        ensures call { IfOk result (λ received. EndsInCall (empty_hub N.limits N.node_id) (λ before after. ReceivesResponse before self.now (Ok received) after) seat.new) }
+        ensures call { Waits (empty_hub N.limits N.node_id) (λ received before after. ReceivesResponse before self.now received after) None (λ received. received) result seat.new }
+    {
+        self.await_response(hub, rt, seat, &Timeout::after(rt, most))
+    }
+
+    /// Receives a response, among those who wait for one.
+    fn await_response<
+        R: Wait,
+        QH: Default + Drop,
+        PB: Body,
+        PH: Default + Drop,
+        K: BackpressureFn,
+        D: Deadline<R>,
+    >(
+        &self,
+        hub: &SharedPorts<N, Hub<QB, QH, PB, PH, K>>,
+        rt: &R,
+        seat: &mut Seat<N, Hub<QB, QH, PB, PH, K>>,
+        deadline: &D,
+    ) -> Answer<N, PB>
+        ensures same { seat.new.0 ≡ seat.old.0 }
+        ensures seen { IsPrefix seat.old.1 seat.new.1 }
+        ensures call { Waits (empty_hub N.limits N.node_id) (λ received before after. ReceivesResponse before self.now received after) None (λ received. received) result seat.new }
+    {
+        hub.waking.responses.enter();
+        let received = self.await_again(hub, rt, seat, deadline);
+        hub.waking.responses.leave();
+        received
+    }
+
+    /// Receives again and again, and sleeps in between.
+    fn await_again<
+        R: Wait,
+        QH: Default + Drop,
+        PB: Body,
+        PH: Default + Drop,
+        K: BackpressureFn,
+        D: Deadline<R>,
+    >(
+        &self,
+        hub: &SharedPorts<N, Hub<QB, QH, PB, PH, K>>,
+        rt: &R,
+        seat: &mut Seat<N, Hub<QB, QH, PB, PH, K>>,
+        deadline: &D,
+    ) -> Answer<N, PB>
+        ensures same { seat.new.0 ≡ seat.old.0 }
+        ensures seen { IsPrefix seat.old.1 seat.new.1 }
+        ensures call { Waits (empty_hub N.limits N.node_id) (λ received before after. ReceivesResponse before self.now received after) None (λ received. received) result seat.new }
     {
         let sleepers = &hub.waking.responses;
         for _ in rt.forever() {
             let turns = sleepers.turns();
-            let is_closed = hub.waking.is_closed();
+            let pause = hub.waking.pause(rt, deadline);
             let is_connected = self.is_connected(hub, rt, seat);
             match self.receive(hub, rt, seat) {
                 Ok(Some(response)) => return Ok(Some(response)),
-                Ok(None) if is_closed => return Err(WaitError::Closed),
-                Ok(None) if is_connected => {
-                    sleepers.wait(rt, turns, Duration::from_secs(NAP));
-                }
-                Ok(None) => return Ok(None),
-                Err(error) => return Err(WaitError::Call(CallError::Port(error))),
+                Ok(None) if !is_connected => return Ok(None),
+                Ok(None) => match pause {
+                    Ok(pause) => sleepers.wait(rt, turns, pause),
+                    Err(error) => return Err(error),
+                },
+                Err(error) => return Err(WaitError::Call(error)),
             }
         }
-        Err(WaitError::Closed)
+        unreachable!()
     }
 }

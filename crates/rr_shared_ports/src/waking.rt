@@ -1,4 +1,10 @@
-//! Who sleeps until something is queued.
+//! Who sleeps until something is queued, or until there is room.
+ghost use Rattle.std.specs.Prelude.{IfErr};
+ghost use Rattle.rr_shared_ports.specs.Waits.{IsOver};
+
+use crate::deadline::Deadline;
+use crate::error::WaitError;
+use std::fmt::Display;
 use std::hint::spin_loop;
 use std::sync::atomic::{AtomicBool, AtomicU64, Ordering};
 use std::sync::{Condvar, Wait};
@@ -7,11 +13,12 @@ use std::time::Duration;
 /// How often a thread looks whether something was queued before it sleeps.
 const LOOKS: u64 = 256;
 
-/// Where those sleep who wait for requests, and those who wait for responses. Of waking no contract tells.
+/// Where those sleep who wait for requests, for responses, and for room in a queue. Of waking no contract tells.
 #[derive(Drop)]
 pub(crate) struct Waking {
     pub(crate) requests: Sleepers,
     pub(crate) responses: Sleepers,
+    pub(crate) room: Sleepers,
     is_closed: AtomicBool,
 }
 
@@ -21,6 +28,7 @@ impl Waking {
         Waking {
             requests: Sleepers::new(),
             responses: Sleepers::new(),
+            room: Sleepers::new(),
             is_closed: AtomicBool::new(false),
         }
     }
@@ -30,15 +38,33 @@ impl Waking {
         self.is_closed.store(true, Ordering::SeqCst);
         self.requests.wake();
         self.responses.wake();
+        self.room.wake();
     }
 
-    /// Returns whether the hub was closed.
-    pub(crate) fn is_closed(&self) -> bool {
-        self.is_closed.load(Ordering::SeqCst)
+    /// Returns for how long a wait may sleep if nothing has come.
+    ///
+    /// # Errors
+    ///
+    /// - `Closed` if the hub was closed.
+    /// - `TimedOut` if the wait is over.
+    pub(crate) fn pause<R, D: Deadline<R>, E: Display>(
+        &self,
+        rt: &R,
+        deadline: &D,
+    ) -> Result<Duration, WaitError<E>>
+        ensures { IfErr result IsOver }
+    {
+        if self.is_closed.load(Ordering::SeqCst) {
+            return Err(WaitError::Closed);
+        }
+        match deadline.nap(rt) {
+            Some(nap) => Ok(nap),
+            None => Err(WaitError::TimedOut),
+        }
     }
 }
 
-/// Those who wait until something of one kind is queued.
+/// Those who wait until something of one kind is queued, or until there is room.
 ///
 /// Who waits comes in before it looks under the lock whether something is queued, and who queues something looks after that whether
 /// anyone is in: one of the two always sees the other. In the same way who sleeps is counted before it looks at the turns once more,

@@ -2,9 +2,9 @@
 ghost use Rattle.std.specs.Prelude.{◌≡◌};
 
 use anyhow::bail;
-use rr_ports::{Limits, UniqueNodeId};
+use rr_ports::{Limits, ReceiveError, UniqueNodeId};
 use rr_shared_ports::typed::{Opened, Seat, Server, SharedPorts};
-use rr_shared_ports::{Naming, WaitError};
+use rr_shared_ports::{CallError, Naming, WaitError};
 use std::alloc::Global;
 use std::marker::Brand;
 use std::sync::Wait;
@@ -18,13 +18,16 @@ type Hub<N> = SharedPorts<N, u64, (), u64, ()>;
 /// Such a hub without a name.
 type OpenedHub = Opened<u64, (), u64, ()>;
 
+/// Why a wait of a server ended.
+type Ended = WaitError<CallError<ReceiveError>>;
+
 /// Waits for a request. Returns why none came.
 fn wait<N: Naming, R: Wait>(
     rt: &R,
     hub: &Hub<N>,
     seat: &mut Seat<N, u64, (), u64, ()>,
     server: &Server<N, u64>,
-) -> Option<WaitError> {
+) -> Option<Ended> {
     match server.receive_wait(hub, rt, seat) {
         Ok(active) => {
             active.release(hub, rt, seat);
@@ -44,7 +47,7 @@ fn close_later<N: Naming, R: Clock>(rt: &R, hub: &Hub<N>) {
 fn wait_for_close<N: Naming, R: Threads + Wait + Clock + Sync>(
     rt: &R,
     opened: OpenedHub,
-) -> anyhow::Result<Option<WaitError>>
+) -> anyhow::Result<Option<Ended>>
     requires keeper { opened.keeper_id ≡ N.keeper_id }
     requires log { opened.log_id ≡ N.log_id }
     requires limits { opened.limits ≡ N.limits }

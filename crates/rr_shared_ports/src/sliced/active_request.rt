@@ -43,8 +43,8 @@ impl<N: Naming, T: Drop> Claimed<N, ActiveRequest<SliceBody<T>>> {
         ensures { MakesCall (empty_hub N.limits N.node_id) (λ before after. (after ≡ before) × IsSomeAnd (option_and_then request_in (handle_at before self.now)) (λ m. FnOnceReturnsAt F.FnOnce f m.content.elements result)) seat.old seat.new }
     {
         let handle = self.handle();
-        hub.inside.lock(rt).looked(
-            &hub.log,
+        hub.looked(
+            rt,
             seat,
             self,
             |ports| -> U
@@ -78,12 +78,7 @@ impl<N: Naming, QB: Body> Claimed<N, ActiveRequest<QB>> {
         ensures { MakesCall (empty_hub N.limits N.node_id) (Answered numbers_left (λ loaned before after. LoansResponse PH.is_default before self.now len loaned after) result) seat.old seat.new }
     {
         let handle = self.handle();
-        hub.inside.lock(rt).made(
-            &hub.log,
-            seat,
-            self,
-            |ports| handle.loan_slice_uninit(ports, len),
-        )
+        hub.made(rt, seat, self, |ports| handle.loan_slice_uninit(ports, len))
     }
 
     /// Loans a response of `len` elements with the default value. After `ActiveRequest::loan_slice` of `rr_ports`.
@@ -108,7 +103,7 @@ impl<N: Naming, QB: Body> Claimed<N, ActiveRequest<QB>> {
         ensures { MakesCall (empty_hub N.limits N.node_id) (Answered numbers_left (λ loaned before after. LoansResponseComplete PH.is_default (AreDefaults T.is_default len) before self.now len loaned after) result) seat.old seat.new }
     {
         let handle = self.handle();
-        hub.inside.lock(rt).made(&hub.log, seat, self, |ports| handle.loan_slice(ports, len))
+        hub.made(rt, seat, self, |ports| handle.loan_slice(ports, len))
     }
 
     /// Loans a response of as many elements as these, writes copies of them and sends it. After `ActiveRequest::send_slice` of `rr_ports`.
@@ -127,12 +122,7 @@ impl<N: Naming, QB: Body> Claimed<N, ActiveRequest<QB>> {
         ensures { MakesCall (empty_hub N.limits N.node_id) (Answered numbers_left (λ sent before after. SendsResponseSlice PH.is_default K.action before self.now elements.now sent after) result) seat.old seat.new }
     {
         let handle = self.handle();
-        let sent = hub.inside.lock(rt).numbered(
-            &hub.log,
-            seat,
-            self,
-            |ports| handle.send_slice(ports, elements),
-        );
+        let sent = hub.numbered(rt, seat, self, |ports| handle.send_slice(ports, elements));
         hub.waking.responses.wake();
         sent
     }
@@ -164,8 +154,8 @@ impl<N: Naming, T: Drop> Claimed<N, ActiveRequest<SliceBody<T>>> {
         ensures { MakesCall (empty_hub N.limits N.node_id) (Answered numbers_left (λ sent before after. (asked : List T) × Has before self.now (Asks asked) × RespondsSlice PH.is_default K.action (Makes F.FnMut asked f) before self.now len sent after) result) seat.old seat.new }
     {
         let handle = self.handle();
-        let sent = hub.inside.lock(rt).numbered(
-            &hub.log,
+        let sent = hub.numbered(
+            rt,
             seat,
             self,
             |ports| -> Result<(), SendError>

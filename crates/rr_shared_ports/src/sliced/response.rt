@@ -35,8 +35,8 @@ impl<N: Naming, T: Drop> Claimed<N, Response<SliceBody<T>>> {
         ensures { MakesCall (empty_hub N.limits N.node_id) (λ before after. (after ≡ before) × IsSomeAnd (option_and_then response_in (handle_at before self.now)) (λ m. FnOnceReturnsAt F.FnOnce f m.content.elements result)) seat.old seat.new }
     {
         let handle = self.handle();
-        hub.inside.lock(rt).looked(
-            &hub.log,
+        hub.looked(
+            rt,
             seat,
             self,
             |ports| -> U

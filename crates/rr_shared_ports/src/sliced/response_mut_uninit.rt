@@ -25,8 +25,8 @@ impl<N: Naming, T: Copy> Claimed<N, ResponseMutUninit<SliceBody<T>>> {
     ) -> Claimed<N, ResponseMut<SliceBody<T>>>
         ensures { MakesCall (empty_hub N.limits N.node_id) (λ before after. (result ≡ self) × (after ≡ with_changed (with_changed before self (with_response_content (filled element))) self after_init)) seat.old seat.new }
     {
-        hub.inside.lock(rt).became(
-            &hub.log,
+        hub.became(
+            rt,
             seat,
             self,
             |handle, ports| -> ResponseMut<SliceBody<T>>
@@ -58,8 +58,8 @@ impl<N: Naming, T: Drop> Claimed<N, ResponseMutUninit<SliceBody<T>>> {
         requires { (len : ℕ) → CallableInOrder F.pre F.step f len }
         ensures { MakesCall (empty_hub N.limits N.node_id) (λ before after. (result ≡ self) × FillsResponse F.step f before after self) seat.old seat.new }
     {
-        hub.inside.lock(rt).became(
-            &hub.log,
+        hub.became(
+            rt,
             seat,
             self,
             |handle, ports| -> ResponseMut<SliceBody<T>>

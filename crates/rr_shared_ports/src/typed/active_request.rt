@@ -39,9 +39,7 @@ impl<N: Naming, T: Drop> Claimed<N, ActiveRequest<Option<T>>> {
         ensures { MakesCall (empty_hub N.limits N.node_id) (λ before after. (after ≡ before) × IsSomeAnd (option_and_then request_in (handle_at before self.now)) (λ m. m.content.elements ≡ result ∷ [])) seat.old seat.new }
     {
         let handle = self.handle();
-        hub.inside
-            .lock(rt)
-            .looked(&hub.log, seat, self, |ports| *handle.payload(ports))
+        hub.looked(rt, seat, self, |ports| *handle.payload(ports))
     }
 
     /// Lets a function read the payload of the request in place, under the lock. Not in iceoryx2, which returns a reference.
@@ -64,8 +62,8 @@ impl<N: Naming, T: Drop> Claimed<N, ActiveRequest<Option<T>>> {
         ensures { MakesCall (empty_hub N.limits N.node_id) (λ before after. (after ≡ before) × (value : T) × IsSomeAnd (option_and_then request_in (handle_at before self.now)) (λ m. m.content.elements ≡ value ∷ []) × FnOnceReturnsAt F.FnOnce f value result) seat.old seat.new }
     {
         let handle = self.handle();
-        hub.inside.lock(rt).looked(
-            &hub.log,
+        hub.looked(
+            rt,
             seat,
             self,
             |ports| -> U
@@ -92,9 +90,7 @@ impl<N: Naming, QB: Body> Claimed<N, ActiveRequest<QB>> {
         ensures { MakesCall (empty_hub N.limits N.node_id) (Answered numbers_left (λ loaned before after. LoansResponse PH.is_default before self.now 1 loaned after) result) seat.old seat.new }
     {
         let handle = self.handle();
-        hub.inside
-            .lock(rt)
-            .made(&hub.log, seat, self, |ports| handle.loan_uninit(ports))
+        hub.made(rt, seat, self, |ports| handle.loan_uninit(ports))
     }
 
     /// Loans a response whose payload has the default value. After `ActiveRequest::loan` of `rr_ports`.
@@ -118,9 +114,7 @@ impl<N: Naming, QB: Body> Claimed<N, ActiveRequest<QB>> {
         ensures { MakesCall (empty_hub N.limits N.node_id) (Answered numbers_left (λ loaned before after. LoansResponseComplete PH.is_default (IsOneDefault T.is_default) before self.now 1 loaned after) result) seat.old seat.new }
     {
         let handle = self.handle();
-        hub.inside
-            .lock(rt)
-            .made(&hub.log, seat, self, |ports| handle.loan(ports))
+        hub.made(rt, seat, self, |ports| handle.loan(ports))
     }
 
     /// Loans a response, writes a value and sends it. After `ActiveRequest::send_copy` of `rr_ports`.
@@ -139,12 +133,7 @@ impl<N: Naming, QB: Body> Claimed<N, ActiveRequest<QB>> {
         ensures { MakesCall (empty_hub N.limits N.node_id) (Answered numbers_left (λ sent before after. SendsResponseCopy PH.is_default K.action before self.now value sent after) result) seat.old seat.new }
     {
         let handle = self.handle();
-        let sent = hub.inside.lock(rt).numbered(
-            &hub.log,
-            seat,
-            self,
-            |ports| handle.send_copy(ports, value),
-        );
+        let sent = hub.numbered(rt, seat, self, |ports| handle.send_copy(ports, value));
         hub.waking.responses.wake();
         sent
     }
@@ -175,8 +164,8 @@ impl<N: Naming, T: Drop> Claimed<N, ActiveRequest<Option<T>>> {
         ensures { MakesCall (empty_hub N.limits N.node_id) (Answered numbers_left (λ sent before after. (asked : T) × (value : U) × Has before self.now (Asks (asked ∷ [])) × FnOnceReturnsAt F.FnOnce f asked value × SendsResponseCopy PH.is_default K.action before self.now value sent after) result) seat.old seat.new }
     {
         let handle = self.handle();
-        let sent = hub.inside.lock(rt).numbered(
-            &hub.log,
+        let sent = hub.numbered(
+            rt,
             seat,
             self,
             |ports| -> Result<(), SendError>

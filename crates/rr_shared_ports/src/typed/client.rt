@@ -39,9 +39,7 @@ impl<N: Naming, T: Drop> Claimed<N, Client<Option<T>>> {
         ensures { MakesCall (empty_hub N.limits N.node_id) (Answered numbers_left (λ loaned before after. LoansRequest QH.is_default before self.now 1 loaned after) result) seat.old seat.new }
     {
         let handle = self.handle();
-        hub.inside
-            .lock(rt)
-            .made(&hub.log, seat, self, |ports| handle.loan_uninit(ports))
+        hub.made(rt, seat, self, |ports| handle.loan_uninit(ports))
     }
 
     /// Loans a request whose payload has the default value. After `Client::loan` of `rr_ports`.
@@ -61,9 +59,7 @@ impl<N: Naming, T: Drop> Claimed<N, Client<Option<T>>> {
         ensures { MakesCall (empty_hub N.limits N.node_id) (Answered numbers_left (λ loaned before after. LoansComplete QH.is_default (IsOneDefault T.is_default) before self.now 1 loaned after) result) seat.old seat.new }
     {
         let handle = self.handle();
-        hub.inside
-            .lock(rt)
-            .made(&hub.log, seat, self, |ports| handle.loan(ports))
+        hub.made(rt, seat, self, |ports| handle.loan(ports))
     }
 
     /// Loans a request, writes a value and sends it. After `Client::send_copy` of `rr_ports`.
@@ -82,12 +78,7 @@ impl<N: Naming, T: Drop> Claimed<N, Client<Option<T>>> {
         ensures { MakesCall (empty_hub N.limits N.node_id) (Answered numbers_left (λ sent before after. SendsCopy QH.is_default K.action before self.now value sent after) result) seat.old seat.new }
     {
         let handle = self.handle();
-        let sent = hub.inside.lock(rt).made(
-            &hub.log,
-            seat,
-            self,
-            |ports| handle.send_copy(ports, value),
-        );
+        let sent = hub.made(rt, seat, self, |ports| handle.send_copy(ports, value));
         hub.waking.requests.wake();
         sent
     }
@@ -108,10 +99,7 @@ impl<N: Naming, T: Drop> Claimed<N, Client<Option<T>>> {
         ensures { MakesCall (empty_hub N.limits N.node_id) (Answered numbers_left (λ told before after. TellsCopy QH.is_default K.action before self.now value told after) result) seat.old seat.new }
     {
         let handle = self.handle();
-        let sent = hub
-            .inside
-            .lock(rt)
-            .numbered(&hub.log, seat, self, |ports| handle.tell(ports, value));
+        let sent = hub.numbered(rt, seat, self, |ports| handle.tell(ports, value));
         hub.waking.requests.wake();
         sent
     }

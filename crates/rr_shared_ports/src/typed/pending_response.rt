@@ -31,8 +31,8 @@ impl<N: Naming, QB: Body> Claimed<N, PendingResponse<QB>> {
         ensures { MakesCall (empty_hub N.limits N.node_id) (λ before after. ReceivesCopy before self.now result after) seat.old seat.new }
     {
         let handle = self.handle();
-        hub.inside
-            .lock(rt)
-            .changed(&hub.log, seat, self, |ports| handle.receive_copy(ports))
+        let received = hub.changed(rt, seat, self, |ports| handle.receive_copy(ports));
+        hub.waking.room.wake();
+        received
     }
 }

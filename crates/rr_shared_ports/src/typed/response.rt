@@ -34,9 +34,7 @@ impl<N: Naming, T: Drop> Claimed<N, Response<Option<T>>> {
         ensures { MakesCall (empty_hub N.limits N.node_id) (λ before after. (after ≡ before) × IsSomeAnd (option_and_then response_in (handle_at before self.now)) (λ m. m.content.elements ≡ result ∷ [])) seat.old seat.new }
     {
         let handle = self.handle();
-        hub.inside
-            .lock(rt)
-            .looked(&hub.log, seat, self, |ports| *handle.payload(ports))
+        hub.looked(rt, seat, self, |ports| *handle.payload(ports))
     }
 
     /// Lets a function read the payload of the response in place, under the lock. Not in iceoryx2, which returns a reference.
@@ -59,8 +57,8 @@ impl<N: Naming, T: Drop> Claimed<N, Response<Option<T>>> {
         ensures { MakesCall (empty_hub N.limits N.node_id) (λ before after. (after ≡ before) × (value : T) × IsSomeAnd (option_and_then response_in (handle_at before self.now)) (λ m. m.content.elements ≡ value ∷ []) × FnOnceReturnsAt F.FnOnce f value result) seat.old seat.new }
     {
         let handle = self.handle();
-        hub.inside.lock(rt).looked(
-            &hub.log,
+        hub.looked(
+            rt,
             seat,
             self,
             |ports| -> U
@@ -85,8 +83,8 @@ impl<N: Naming, T: Drop> Claimed<N, Response<Option<T>>> {
     ) -> T
         ensures { MakesCall (empty_hub N.limits N.node_id) (λ before after. (after ≡ after_release before self) × IsSomeAnd (option_and_then response_in (handle_at before self)) (λ m. m.content.elements ≡ result ∷ [])) seat.old seat.new }
     {
-        hub.inside.lock(rt).ended(
-            &hub.log,
+        hub.ended(
+            rt,
             seat,
             self,
             |handle, ports| -> T

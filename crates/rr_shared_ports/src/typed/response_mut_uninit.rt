@@ -30,8 +30,8 @@ impl<N: Naming, T: Drop> Claimed<N, ResponseMutUninit<Option<T>>> {
     ) -> Claimed<N, ResponseMut<Option<T>>>
         ensures { MakesCall (empty_hub N.limits N.node_id) (λ before after. (result ≡ self) × (after ≡ with_changed (with_changed before self (with_response_content (with_elements (value ∷ [])))) self after_init)) seat.old seat.new }
     {
-        hub.inside.lock(rt).became(
-            &hub.log,
+        hub.became(
+            rt,
             seat,
             self,
             |handle, ports| -> ResponseMut<Option<T>>

@@ -34,11 +34,9 @@ impl<N: Naming, PB: Body> Claimed<N, Server<PB>> {
         ensures { MakesCall (empty_hub N.limits N.node_id) (Answered numbers_left (λ received before after. HearsCopy before self.now received after) result) seat.old seat.new }
     {
         let handle = self.handle();
-        let received = hub
-            .inside
-            .lock(rt)
-            .numbered(&hub.log, seat, self, |ports| handle.receive_copy(ports));
+        let received = hub.numbered(rt, seat, self, |ports| handle.receive_copy(ports));
         hub.waking.responses.wake();
+        hub.waking.room.wake();
         received
     }
 }

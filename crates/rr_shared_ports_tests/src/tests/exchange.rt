@@ -1,9 +1,10 @@
 //! A client in one thread, and a server in another.
-ghost use Rattle.std.specs.Prelude.{◌≡◌};
+ghost use Rattle.std.specs.Prelude.{◌≡◌, ◌⊎◌};
+ghost use mathlib.Core.List.{IsPrefix};
 
-use rr_ports::{Limits, UniqueNodeId};
-use rr_shared_ports::Naming;
+use rr_ports::{Limits, RequestSendError, UniqueNodeId};
 use rr_shared_ports::typed::{Client, Opened, PendingResponse, Seat, Server, SharedPorts};
+use rr_shared_ports::{CallError, Claimed, Naming, Ports, Release};
 use std::marker::Brand;
 use std::sync::Wait;
 use std::test::Fail;
@@ -36,21 +37,44 @@ fn answer<N: Naming, R: Wait>(
 }
 
 /// Sends a number, and receives until a response comes. Returns what that says.
+///
+/// # Errors
+///
+/// As `Client::send_copy`.
 fn ask<N: Naming, R: Wait>(
     rt: &R,
     hub: &Shared<N>,
     seat: &mut Caller<N>,
     client: &Client<N, u64>,
     asked: u64,
-) -> Option<u64> {
-    match client.send_copy(hub, rt, seat, asked) {
-        Ok(pending) => {
-            let answer = wait(rt, hub, seat, &pending);
-            pending.release(hub, rt, seat);
-            answer
-        }
-        Err(_) => None,
-    }
+) -> Result<Option<u64>, CallError<RequestSendError>> {
+    let pending = client.send_copy(hub, rt, seat, asked)?;
+    let answer = wait(rt, hub, seat, &pending);
+    pending.release(hub, rt, seat);
+    Ok(answer)
+}
+
+/// Tells that two callers have seen one history, at a hub of any type.
+fn meet<N: Naming, H: Ports>(
+    hub: &rr_shared_ports::SharedPorts<N, H>,
+    one: &mut rr_shared_ports::Seat<N, H>,
+    other: &mut rr_shared_ports::Seat<N, H>,
+)
+    ensures { IsPrefix one.new.1 other.new.1 ⊎ IsPrefix other.new.1 one.new.1 }
+{
+    hub.compare(one, other);
+}
+
+/// Releases two ports or handles, of any type.
+fn release_both<N: Naming, R: Wait, H: Ports, A: Release<H>, B: Release<H>>(
+    rt: &R,
+    hub: &rr_shared_ports::SharedPorts<N, H>,
+    seat: &mut rr_shared_ports::Seat<N, H>,
+    one: Claimed<N, A>,
+    other: Claimed<N, B>,
+) {
+    one.release(hub, rt, seat);
+    other.release(hub, rt, seat);
 }
 
 /// Receives until a response comes.
@@ -74,7 +98,7 @@ fn wait<N: Naming, R: Wait>(
     None
 }
 
-/// Asks so often. Returns the sum of the answers.
+/// Asks so often, or until no number is left. Returns the sum of the answers.
 fn ask_all<N: Naming, R: Wait>(
     rt: &R,
     hub: &Shared<N>,
@@ -84,7 +108,11 @@ fn ask_all<N: Naming, R: Wait>(
 ) -> u64 {
     let mut sum = 0u64;
     for asked in 0..trips {
-        sum = sum.wrapping_add(ask(rt, hub, seat, client, asked).unwrap_or(0));
+        match ask(rt, hub, seat, client, asked) {
+            Ok(answer) => sum = sum.wrapping_add(answer.unwrap_or(0)),
+            Err(CallError::Port(_refused)) => {}
+            Err(CallError::NumbersExhausted) => return sum,
+        }
     }
     sum
 }
@@ -128,8 +156,8 @@ fn two<N: Naming, R: Threads + Wait + Sync>(rt: &R, opened: Numbers, trips: u64)
                 || ask_all(rt, &hub, &mut asking, &client, trips),
                 || answer_all(rt, &hub, &mut answering, &server, trips),
             );
-            client.release(&hub, rt, &mut asking);
-            server.release(&hub, rt, &mut answering);
+            meet(&hub, &mut asking, &mut answering);
+            release_both(rt, &hub, &mut asking, client, server);
             sums
         }
         (Ok(client), Err(_)) => {

@@ -1,9 +1,11 @@
 //! Threads that wait for each other, and how waits end.
 ghost use Rattle.std.specs.Prelude.{◌≡◌};
 
-use rr_ports::{Limits, UniqueNodeId};
-use rr_shared_ports::typed::{Client, Opened, PendingResponse, Seat, Server, SharedPorts};
-use rr_shared_ports::{Naming, WaitError};
+use rr_ports::{Limits, ReceiveError, UniqueNodeId};
+use rr_shared_ports::typed::{
+    ActiveRequest, Client, Opened, PendingResponse, Seat, Server, SharedPorts,
+};
+use rr_shared_ports::{CallError, Naming, WaitError};
 use std::marker::Brand;
 use std::sync::Wait;
 use std::test::Fail;
@@ -97,7 +99,7 @@ fn wait_in_vain<N: Naming, R: Wait>(
     hub: &Shared<N>,
     seat: &mut Caller<N>,
     client: &Client<N, u64>,
-) -> Option<WaitError> {
+) -> Option<WaitError<ReceiveError>> {
     match client.send_copy(hub, rt, seat, 5) {
         Ok(pending) => {
             let ended = match pending.receive_wait(hub, rt, seat) {
@@ -115,13 +117,20 @@ fn wait_in_vain<N: Naming, R: Wait>(
     }
 }
 
-/// Receives the request, and waits for another one, which is never sent. Returns how the wait ended.
+/// How a wait of a server ended, and the request that it has still.
+type Kept<N> = (
+    Option<WaitError<CallError<ReceiveError>>>,
+    Option<ActiveRequest<N, u64>>,
+);
+
+/// Receives the request, and waits for another one, which is never sent. Returns how the wait ended, and the request: were it released, a
+/// wait for a response to it would end for that.
 fn wait_for_another<N: Naming, R: Wait>(
     rt: &R,
     hub: &Shared<N>,
     seat: &mut Caller<N>,
     server: &Server<N, u64>,
-) -> Option<WaitError> {
+) -> Kept<N> {
     match server.receive_wait(hub, rt, seat) {
         Ok(active) => {
             let ended = match server.receive_wait(hub, rt, seat) {
@@ -131,10 +140,9 @@ fn wait_for_another<N: Naming, R: Wait>(
                 }
                 Err(error) => Some(error),
             };
-            active.release(hub, rt, seat);
-            ended
+            (ended, Some(active))
         }
-        Err(error) => Some(error),
+        Err(error) => (Some(error), None),
     }
 }
 
@@ -199,7 +207,7 @@ fn two_in_vain<N: Naming, R: Threads + Wait + Clock + Sync>(
 ) -> (u64, u64) {
     let mut asking = hub.seat();
     let mut answering = hub.seat();
-    let (asked, answered) = thread::join(
+    let (asked, (answered, active)) = thread::join(
         rt,
         || wait_in_vain(rt, hub, &mut asking, client),
         || {
@@ -211,6 +219,10 @@ fn two_in_vain<N: Naming, R: Threads + Wait + Clock + Sync>(
             answered
         },
     );
+    match active {
+        Some(active) => active.release(hub, rt, &mut answering),
+        None => {}
+    }
     (
         (asked == Some(WaitError::Closed)).into(),
         (answered == Some(WaitError::Closed)).into(),

@@ -6,7 +6,7 @@ use Rattle.rr_shared_ports.proofs.typed.pending_response.Claimed+N+PendingRespon
 -- it is the call of the port
 pub returns : goal.returns
 returns g c =
-    let made = c.changed.ensures in
+    let made = c.changed-received.ensures in
     let call = made.4 in
-    let by : ReceivesCopy call.shown.now c.handle-handle.result.now c.changed.result call.left.now = search rules in
-    (made.0, made.1, made.2, made.3, at_state (λ old n new. ReceivesCopy old n c.changed.result new) call.shows c.handle-handle.ensures call.leaves by)
+    let by : ReceivesCopy call.shown.now c.handle-handle.result.now c.changed-received.result call.left.now = search rules in
+    (made.0, made.1, made.2, made.3, at_state (λ old n new. ReceivesCopy old n c.changed-received.result new) call.shows c.handle-handle.ensures call.leaves by)

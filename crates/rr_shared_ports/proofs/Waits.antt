@@ -1,0 +1,35 @@
+-- What a call of a wait leaves.
+use Rattle.std.proofs.Common.{◌≡◌, ℕ, List, Result, Ok, Err, subst}
+use mathlib.Core.List.{IsPrefix}
+use Rattle.rr_ports.specs.declared.try_send.Refused.{Refused}
+use Rattle.rr_shared_ports.specs.declared.error.WaitError.{WaitError}
+use Rattle.rr_shared_ports.specs.declared.error.WaitError.TheVariants as wait
+use Rattle.rr_shared_ports.specs.Turns.{EndsInCall, MakesCall, Seated}
+use Rattle.rr_shared_ports.specs.Waits.{IsOver, Refuses, SendRefuses}
+use Rattle.rr_shared_ports.proofs.Turns.{ends_in_call, goes_on}
+
+module _ {S : Type 0} (start : S) where
+  -- what begins what a seat has seen begins what it has seen after a call
+  pub still_begins : (Call : S → S → Type 0) (first : List (ℕ × S)) (old new : Seated S) → MakesCall start Call old new → IsPrefix first old.1
+      → IsPrefix first new.1
+  still_begins Call first old new made = goes_on first old new made.0 made.1 made.2
+
+  -- a call is the last one, with the result that it returned
+  pub ends_as : {R : Type 0} (Call : R → S → S → Type 0) (result returned : R) (old new : Seated S) → result ≡ returned → MakesCall start (Call result) old new
+      → EndsInCall start (Call returned) new
+  ends_as Call result returned old new is made = subst (λ r. EndsInCall start (Call r) new) is (ends_in_call start (Call result) old new made.0 made.1 made.2 made.4)
+
+  module _ {U E : Type 0} where
+    -- a wait that was over ends in a call that received nothing
+    pub refuses_over : (Call : Result U E → S → S → Type 0) (nothing : U) (error : WaitError E) (seat : Seated S) → IsOver error
+        → EndsInCall start (Call (Ok nothing)) seat → Refuses start Call nothing error seat
+    refuses_over Call nothing (wait.Call error) seat over ends = elim over [ ]
+    refuses_over Call nothing wait.Closed seat over ends = ends
+    refuses_over Call nothing wait.TimedOut seat over ends = ends
+
+    -- and one for room in a send that was refused
+    pub send_refuses_over : (Call : Result U (Refused ℕ E) → S → S → Type 0) (full : E) (n : ℕ) (error : WaitError E) (seat : Seated S) → IsOver error
+        → EndsInCall start (Call (Err (record { message = n; error = full }))) seat → SendRefuses start Call full n error seat
+    send_refuses_over Call full n (wait.Call error) seat over ends = elim over [ ]
+    send_refuses_over Call full n wait.Closed seat over ends = ends
+    send_refuses_over Call full n wait.TimedOut seat over ends = ends

@@ -1,0 +1,13 @@
+use Rattle.std.specs.Prelude.{◌≡◌}
+use Rattle.std.specs.Fn.{FnOnceReturnsAtMut}
+use Rattle.rr_ports.specs.Updates.{UpdatesRequest}
+use Rattle.rr_protocol.specs.Writing.{with_user_header}
+use Rattle.rr_shared_ports.proofs.Telling.{at_state}
+use Rattle.rr_shared_ports.proofs.lend.Claimed+N+RequestMut+QB.update_user_header.Goals as goal
+
+-- it is the call of the port
+pub returns : goal.returns
+returns g c =
+    let made = c.changed.ensures in
+    let call = made.4 in
+    (made.0, made.1, made.2, made.3, at_state (λ old n new. UpdatesRequest (λ c header. c.user_header ≡ header) with_user_header (FnOnceReturnsAtMut g.F.FnOnce c.args.f) old new n) call.shows c.handle-handle.ensures call.leaves call.met.0)

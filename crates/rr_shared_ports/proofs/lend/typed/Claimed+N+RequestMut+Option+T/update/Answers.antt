@@ -1,0 +1,13 @@
+use Rattle.std.specs.Prelude.{◌≡◌, ◌∷◌, []}
+use Rattle.std.specs.Fn.{FnOnceReturnsAtMut}
+use Rattle.rr_ports.specs.Updates.{UpdatesRequest}
+use Rattle.rr_protocol.specs.Writing.{with_elements}
+use Rattle.rr_shared_ports.proofs.Telling.{at_state}
+use Rattle.rr_shared_ports.proofs.lend.typed.Claimed+N+RequestMut+Option+T.update.Goals as goal
+
+-- it is the call of the port
+pub returns : goal.returns
+returns g c =
+    let made = c.rewritten.ensures in
+    let call = made.4 in
+    (made.0, made.1, made.2, made.3, at_state (λ old n new. UpdatesRequest (λ c value. c.elements ≡ value ∷ []) (λ value. with_elements (value ∷ [])) (FnOnceReturnsAtMut g.F.FnOnce c.args.f) old new n) call.shows c.handle-handle.ensures call.leaves call.met.0)

@@ -1,0 +1,10 @@
+use Rattle.rr_ports.specs.Factories.{CreatesServerBy}
+use Rattle.rr_shared_ports.proofs.Telling.{at_made, is_made}
+use Rattle.rr_shared_ports.proofs.server.SharedPorts+N+Hub+QB+QH+PB+PH+K.create_server.Goals as goal
+
+-- it is the call of the port
+pub returns : goal.returns
+returns g c =
+    let made = c.created.ensures in
+    let call = made.4 in
+    (made.0, made.1, made.2, made.3, at_made (λ old result new. CreatesServerBy g.P.Preallocation.chooses old c.args.factory result new) call.1.shows (is_made call.0 c.created.result call.2) call.1.leaves call.1.met.0)

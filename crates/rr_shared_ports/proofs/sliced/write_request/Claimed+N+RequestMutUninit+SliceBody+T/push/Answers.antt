@@ -1,0 +1,12 @@
+use Rattle.rr_protocol.specs.State.{with_changed}
+use Rattle.rr_protocol.specs.Writing.{with_element, with_request_content}
+use Rattle.rr_shared_ports.specs.Tries.{Pushes, RequestIsComplete}
+use Rattle.rr_shared_ports.proofs.Telling.{at_state}
+use Rattle.rr_shared_ports.proofs.sliced.write_request.Claimed+N+RequestMutUninit+SliceBody+T.push.Goals as goal
+
+-- it is the call of the port
+pub returns : goal.returns
+returns g c =
+    let made = c.rewritten.ensures in
+    let call = made.4 in
+    (made.0, made.1, made.2, made.3, at_state (λ old n new. Pushes RequestIsComplete (λ s n x. with_changed s n (with_request_content (with_element x))) old n c.args.element c.rewritten.result new) call.shows c.handle-handle.ensures call.leaves call.met.0)

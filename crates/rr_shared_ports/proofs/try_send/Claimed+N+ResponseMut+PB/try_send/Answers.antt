@@ -1,0 +1,10 @@
+use Rattle.rr_shared_ports.specs.Tries.{TriesResponse}
+use Rattle.rr_shared_ports.proofs.Telling.{at, is_spent}
+use Rattle.rr_shared_ports.proofs.try_send.Claimed+N+ResponseMut+PB.try_send.Goals as goal
+
+-- it is the call of the port
+pub returns : goal.returns
+returns g c =
+    let made = c.spent-sent.ensures in
+    let call = made.4 in
+    (made.0, made.1, made.2, made.3, at (λ old n result new. TriesResponse g.K.BackpressureFn.action old n result new) call.1.5 call.1.4 (is_spent call.0 c.spent-sent.result call.2) call.1.6 call.1.3.0)

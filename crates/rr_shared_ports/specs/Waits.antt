@@ -1,0 +1,36 @@
+-- What a wait ends with.
+use Rattle.std.specs.Prelude.{ℕ, Result, Ok, Err}
+use Rattle.rr_ports.specs.declared.try_send.Refused.{Refused}
+use Rattle.rr_shared_ports.specs.declared.error.WaitError.{WaitError}
+use Rattle.rr_shared_ports.specs.declared.error.WaitError.TheVariants as wait
+use Rattle.rr_shared_ports.specs.Turns.{EndsInCall, Seated}
+
+-- a wait was over before what was waited for came
+abbrev pub IsOver : {E : Type 0} → WaitError E → Type 0
+IsOver (wait.Call error) = ⊥
+IsOver wait.Closed = Unit
+IsOver wait.TimedOut = Unit
+
+module _ {S U E : Type 0} (start : S) (Call : Result U E → S → S → Type 0) (nothing : U) where
+  -- the last call is the one that was refused; or it was not refused, and nothing came
+  abbrev pub Refuses : WaitError E → Seated S → Type 0
+  Refuses (wait.Call error) seat = EndsInCall start (Call (Err error)) seat
+  Refuses wait.Closed seat = EndsInCall start (Call (Ok nothing)) seat
+  Refuses wait.TimedOut seat = EndsInCall start (Call (Ok nothing)) seat
+
+  -- the last call is the one that received what the wait returns
+  abbrev pub Waits : {V : Type 0} → (V → U) → Result V (WaitError E) → Seated S → Type 0
+  Waits received (Ok value) seat = EndsInCall start (Call (Ok (received value))) seat
+  Waits received (Err error) seat = Refuses error seat
+
+module _ {S U E : Type 0} (start : S) (Call : Result U (Refused ℕ E) → S → S → Type 0) (full : E) where
+  -- the last call is the one that was refused; where the wait was over, since there was no room
+  abbrev pub SendRefuses : ℕ → WaitError E → Seated S → Type 0
+  SendRefuses n (wait.Call error) seat = EndsInCall start (Call (Err (record { message = n; error = error }))) seat
+  SendRefuses n wait.Closed seat = EndsInCall start (Call (Err (record { message = n; error = full }))) seat
+  SendRefuses n wait.TimedOut seat = EndsInCall start (Call (Err (record { message = n; error = full }))) seat
+
+  -- the last call is the one that sent the message, or gave it back
+  abbrev pub WaitsToSend : Result U (Refused ℕ (WaitError E)) → Seated S → Type 0
+  WaitsToSend (Ok sent) seat = EndsInCall start (Call (Ok sent)) seat
+  WaitsToSend (Err refused) seat = SendRefuses refused.message refused.error seat

@@ -1,0 +1,247 @@
+//! The calls of seats: each takes the lock once.
+ghost use Rattle.std.specs.Fn.{FnOnceReturnsAt, FnOnceReturnsAtMut, FnOnceTakesAt, FnOnceTakesAtMut};
+ghost use Rattle.std.specs.Prelude.{◌≡◌, ◌<◌, ◌∷◌, [], Option, Result};
+ghost use Rattle.rr_shared_ports.specs.Calls.{CanTake, IsMade, IsReceived, IsSpent, IsTried, MakesFree, ReceivesFree, SpendsFree, Takes, Tells, TriesFree, TurnsFree};
+ghost use Rattle.rr_shared_ports.specs.Turns.{MakesCall};
+
+use crate::claimed::Claimed;
+use crate::error::CallError;
+use crate::naming::Naming;
+use crate::ports::Ports;
+use crate::seat::Seat;
+use crate::shared_ports::SharedPorts;
+use rr_ports::{Handle, Refused};
+use std::fmt::Display;
+use std::sync::Wait;
+
+impl<N: Naming, H: Ports> SharedPorts<N, H> {
+    /// Makes a port, and claims it.
+    #[inline(always)]
+    pub(crate) fn created<R: Wait, B: Handle, E, F: FnOnce(&mut H) -> Result<B, E>>(
+        &self,
+        rt: &R,
+        seat: &mut Seat<N, H>,
+        f: F,
+    ) -> Result<Claimed<N, B>, E>
+        requires callable { (state : H) → FnOnceTakesAtMut F.FnOnce f state }
+        requires makes { (state : H) → (made : Result B E) (after : H) → FnOnceReturnsAtMut F.FnOnce f state made after → MakesFree B.number B.kind H.keeps H.is_free H.names state made after }
+        ensures { MakesCall (H.empty N.limits N.node_id) (λ before after. (made : Result B E) × FnOnceReturnsAtMut F.FnOnce f before made after × IsMade B.number made result) seat.old seat.new }
+    {
+        self.inside.lock(rt).created(&self.log, seat, f)
+    }
+
+    /// Looks at a hub.
+    #[inline(always)]
+    pub(crate) fn looked<R: Wait, A: Handle, U, F: FnOnce(&H) -> U>(
+        &self,
+        rt: &R,
+        seat: &mut Seat<N, H>,
+        claimed: &Claimed<N, A>,
+        f: F,
+    ) -> U
+        requires callable { (state : H) → H.names state claimed.now A.kind → FnOnceTakesAt F.FnOnce f state }
+        ensures { MakesCall (H.empty N.limits N.node_id) (λ before after. (after ≡ before) × (FnOnceReturnsAt F.FnOnce f before result)) seat.old seat.new }
+    {
+        self.inside.lock(rt).looked(&self.log, seat, claimed, f)
+    }
+
+    /// Changes a hub by a call that ends nothing.
+    #[inline(always)]
+    pub(crate) fn changed<R: Wait, A: Handle, U, F: FnOnce(&mut H) -> U>(
+        &self,
+        rt: &R,
+        seat: &mut Seat<N, H>,
+        claimed: &Claimed<N, A>,
+        f: F,
+    ) -> U
+        requires callable { (state : H) → H.names state claimed.now A.kind → FnOnceTakesAtMut F.FnOnce f state }
+        requires keeps { (state : H) → (returned : U) (after : H) → FnOnceReturnsAtMut F.FnOnce f state returned after → H.keeps [] state after }
+        ensures { MakesCall (H.empty N.limits N.node_id) (λ before after. FnOnceReturnsAtMut F.FnOnce f before result after) seat.old seat.new }
+    {
+        self.inside.lock(rt).changed(&self.log, seat, claimed, f)
+    }
+
+    /// Makes a call that needs a number and makes nothing that stays, if a number is left.
+    #[inline(always)]
+    pub(crate) fn numbered<R: Wait, A: Handle, U, E: Display, F: FnOnce(&mut H) -> Result<U, E>>(
+        &self,
+        rt: &R,
+        seat: &mut Seat<N, H>,
+        claimed: &Claimed<N, A>,
+        f: F,
+    ) -> Result<U, CallError<E>>
+        requires callable { (state : H) → H.names state claimed.now A.kind → 0 < H.numbers state → FnOnceTakesAtMut F.FnOnce f state }
+        requires keeps { (state : H) → (returned : Result U E) (after : H) → FnOnceReturnsAtMut F.FnOnce f state returned after → H.keeps [] state after }
+        ensures { MakesCall (H.empty N.limits N.node_id) (Tells H.numbers (λ answer before after. FnOnceReturnsAtMut F.FnOnce f before answer after) result) seat.old seat.new }
+    {
+        self.inside.lock(rt).numbered(&self.log, seat, claimed, f)
+    }
+
+    /// Makes a handle, if a number is left, and claims it.
+    #[inline(always)]
+    pub(crate) fn made<
+        R: Wait,
+        A: Handle,
+        B: Handle,
+        E: Display,
+        F: FnOnce(&mut H) -> Result<B, E>,
+    >(
+        &self,
+        rt: &R,
+        seat: &mut Seat<N, H>,
+        claimed: &Claimed<N, A>,
+        f: F,
+    ) -> Result<Claimed<N, B>, CallError<E>>
+        requires callable { (state : H) → H.names state claimed.now A.kind → 0 < H.numbers state → FnOnceTakesAtMut F.FnOnce f state }
+        requires makes { (state : H) → (made : Result B E) (after : H) → FnOnceReturnsAtMut F.FnOnce f state made after → MakesFree B.number B.kind H.keeps H.is_free H.names state made after }
+        ensures { MakesCall (H.empty N.limits N.node_id) (Tells H.numbers (λ answer before after. (made : Result B E) × FnOnceReturnsAtMut F.FnOnce f before made after × IsMade B.number made answer) result) seat.old seat.new }
+    {
+        self.inside.lock(rt).made(&self.log, seat, claimed, f)
+    }
+
+    /// Receives a handle, if one comes, and claims it.
+    #[inline(always)]
+    pub(crate) fn received<
+        R: Wait,
+        A: Handle,
+        B: Handle,
+        E,
+        F: FnOnce(&mut H) -> Result<Option<B>, E>,
+    >(
+        &self,
+        rt: &R,
+        seat: &mut Seat<N, H>,
+        claimed: &Claimed<N, A>,
+        f: F,
+    ) -> Result<Option<Claimed<N, B>>, E>
+        requires callable { (state : H) → H.names state claimed.now A.kind → FnOnceTakesAtMut F.FnOnce f state }
+        requires receives { (state : H) → (received : Result (Option B) E) (after : H) → FnOnceReturnsAtMut F.FnOnce f state received after → ReceivesFree B.number B.kind H.keeps H.is_free H.names state received after }
+        ensures { MakesCall (H.empty N.limits N.node_id) (λ before after. (received : Result (Option B) E) × FnOnceReturnsAtMut F.FnOnce f before received after × IsReceived B.number received result) seat.old seat.new }
+    {
+        self.inside.lock(rt).received(&self.log, seat, claimed, f)
+    }
+
+    /// Makes a handle another one, or ends it, and gives its claim for one on what it is then.
+    #[inline(always)]
+    pub(crate) fn turned<R: Wait, A: Handle, B: Handle, E, F: FnOnce(A, &mut H) -> Result<B, E>>(
+        &self,
+        rt: &R,
+        seat: &mut Seat<N, H>,
+        claimed: Claimed<N, A>,
+        f: F,
+    ) -> Result<Claimed<N, B>, E>
+        requires callable { (state : H) → H.names state claimed A.kind → CanTake F.FnOnce A.number f claimed state }
+        requires exchanges { (state : H) → (made : Result B E) (after : H) → Takes F.FnOnce A.number f claimed state made after → TurnsFree B.number B.kind H.keeps H.names claimed state made after }
+        ensures { MakesCall (H.empty N.limits N.node_id) (λ before after. (made : Result B E) × Takes F.FnOnce A.number f claimed before made after × IsMade B.number made result) seat.old seat.new }
+    {
+        self.inside.lock(rt).turned(&self.log, seat, claimed, f)
+    }
+
+    /// Ends a handle, and gives its claim back.
+    #[inline(always)]
+    pub(crate) fn ended<R: Wait, A: Handle, U, F: FnOnce(A, &mut H) -> U>(
+        &self,
+        rt: &R,
+        seat: &mut Seat<N, H>,
+        claimed: Claimed<N, A>,
+        f: F,
+    ) -> U
+        requires callable { (state : H) → H.names state claimed A.kind → CanTake F.FnOnce A.number f claimed state }
+        requires keeps { (state : H) → (returned : U) (after : H) → Takes F.FnOnce A.number f claimed state returned after → H.keeps (claimed ∷ []) state after }
+        ensures { MakesCall (H.empty N.limits N.node_id) (λ before after. Takes F.FnOnce A.number f claimed before result after) seat.old seat.new }
+    {
+        self.inside.lock(rt).ended(&self.log, seat, claimed, f)
+    }
+
+    /// Makes a handle another one, and gives its claim for one on what it is then.
+    #[inline(always)]
+    pub(crate) fn became<R: Wait, A: Handle, B: Handle, F: FnOnce(A, &mut H) -> B>(
+        &self,
+        rt: &R,
+        seat: &mut Seat<N, H>,
+        claimed: Claimed<N, A>,
+        f: F,
+    ) -> Claimed<N, B>
+        requires callable { (state : H) → H.names state claimed A.kind → CanTake F.FnOnce A.number f claimed state }
+        requires exchanges { (state : H) → (made : B) (after : H) → Takes F.FnOnce A.number f claimed state made after → H.keeps (claimed ∷ []) state after × (B.number made ≡ claimed) × H.names after (B.number made) B.kind }
+        ensures { MakesCall (H.empty N.limits N.node_id) (λ before after. (made : B) × Takes F.FnOnce A.number f claimed before made after × (result ≡ B.number made)) seat.old seat.new }
+    {
+        self.inside.lock(rt).became(&self.log, seat, claimed, f)
+    }
+
+    /// Receives a handle, if a number is left and one comes, and claims it.
+    #[inline(always)]
+    pub(crate) fn heard<
+        R: Wait,
+        A: Handle,
+        B: Handle,
+        E: Display,
+        F: FnOnce(&mut H) -> Result<Option<B>, E>,
+    >(
+        &self,
+        rt: &R,
+        seat: &mut Seat<N, H>,
+        claimed: &Claimed<N, A>,
+        f: F,
+    ) -> Result<Option<Claimed<N, B>>, CallError<E>>
+        requires callable { (state : H) → H.names state claimed.now A.kind → 0 < H.numbers state → FnOnceTakesAtMut F.FnOnce f state }
+        requires receives { (state : H) → (received : Result (Option B) E) (after : H) → FnOnceReturnsAtMut F.FnOnce f state received after → ReceivesFree B.number B.kind H.keeps H.is_free H.names state received after }
+        ensures { MakesCall (H.empty N.limits N.node_id) (Tells H.numbers (λ answer before after. (received : Result (Option B) E) × FnOnceReturnsAtMut F.FnOnce f before received after × IsReceived B.number received answer) result) seat.old seat.new }
+    {
+        self.inside.lock(rt).heard(&self.log, seat, claimed, f)
+    }
+
+    /// Changes what a handle names, which is of the same kind after it.
+    #[inline(always)]
+    pub(crate) fn rewritten<R: Wait, A: Handle, U, F: FnOnce(&mut H) -> U>(
+        &self,
+        rt: &R,
+        seat: &mut Seat<N, H>,
+        claimed: &Claimed<N, A>,
+        f: F,
+    ) -> U
+        requires callable { (state : H) → H.names state claimed.now A.kind → FnOnceTakesAtMut F.FnOnce f state }
+        requires rewrites { (state : H) → (returned : U) (after : H) → FnOnceReturnsAtMut F.FnOnce f state returned after → H.keeps (claimed.now ∷ []) state after × H.names after claimed.now A.kind }
+        ensures { MakesCall (H.empty N.limits N.node_id) (λ before after. FnOnceReturnsAtMut F.FnOnce f before result after) seat.old seat.new }
+    {
+        self.inside.lock(rt).rewritten(&self.log, seat, claimed, f)
+    }
+
+    /// Makes a handle another one, or gives it back, and gives its claim for one on what it is then.
+    #[inline(always)]
+    pub(crate) fn tried<
+        R: Wait,
+        A: Handle,
+        B: Handle,
+        E,
+        F: FnOnce(A, &mut H) -> Result<B, Refused<A, E>>,
+    >(
+        &self,
+        rt: &R,
+        seat: &mut Seat<N, H>,
+        claimed: Claimed<N, A>,
+        f: F,
+    ) -> Result<Claimed<N, B>, Refused<Claimed<N, A>, E>>
+        requires callable { (state : H) → H.names state claimed A.kind → CanTake F.FnOnce A.number f claimed state }
+        requires tries { (state : H) → (made : Result B (Refused A E)) (after : H) → Takes F.FnOnce A.number f claimed state made after → TriesFree A.number B.number A.kind B.kind H.keeps H.names claimed state made after }
+        ensures { MakesCall (H.empty N.limits N.node_id) (λ before after. (made : Result B (Refused A E)) × Takes F.FnOnce A.number f claimed before made after × IsTried A.number B.number made result) seat.old seat.new }
+    {
+        self.inside.lock(rt).tried(&self.log, seat, claimed, f)
+    }
+
+    /// Ends a handle, and gives its claim back, or gives both back.
+    #[inline(always)]
+    pub(crate) fn spent<R: Wait, A: Handle, U, E, F: FnOnce(A, &mut H) -> Result<U, Refused<A, E>>>(
+        &self,
+        rt: &R,
+        seat: &mut Seat<N, H>,
+        claimed: Claimed<N, A>,
+        f: F,
+    ) -> Result<U, Refused<Claimed<N, A>, E>>
+        requires callable { (state : H) → H.names state claimed A.kind → CanTake F.FnOnce A.number f claimed state }
+        requires spends { (state : H) → (spent : Result U (Refused A E)) (after : H) → Takes F.FnOnce A.number f claimed state spent after → SpendsFree A.number A.kind H.keeps H.names claimed state spent after }
+        ensures { MakesCall (H.empty N.limits N.node_id) (λ before after. (spent : Result U (Refused A E)) × Takes F.FnOnce A.number f claimed before spent after × IsSpent A.number spent result) seat.old seat.new }
+    {
+        self.inside.lock(rt).spent(&self.log, seat, claimed, f)
+    }
+}
