@@ -54,7 +54,8 @@ module _ {Q QH P PH : Type 0} where
   response_content_role change (Response m) = refl
 
 module _ {Q QH P PH K : Type 0} where
-  with_changed_reached : (s : State Q QH P PH K) (n : ℕ) (change : Handle Q QH P PH → Handle Q QH P PH)
+  -- a handle changed that keeps its role
+  pub with_changed_reached : (s : State Q QH P PH K) (n : ℕ) (change : Handle Q QH P PH → Handle Q QH P PH)
       → ((h : Handle Q QH P PH) → role_of (change h) ≡ role_of h) → IsReached s → IsReached (with_changed s n change)
   with_changed_reached s n change same fits =
       subst (λ r. Fits s.limits s.clients s.servers r s.requests s.responses s.next) (sym (roles-changed change same s.handles n)) fits

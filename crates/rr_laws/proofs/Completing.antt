@@ -66,9 +66,10 @@ module _ {T H K : Type 0} where
   unasked_answers history server p not k = any_never (λ a. list_any (is_active_of server a p) history)
       (λ a. fails (list_any (is_active_of server a p) history) (not a)) (filter_map (lender_of k) history)
 
+module _ {T H Q QH P PH K : Type 0} where
   -- nothing new was received
-  pub new_unasked : (history : List (Event T H K)) (s : State T H T H K) → Completes history s → (server p : ℕ) → IsNew s server p → (a : ℕ)
-      → WasReceived history server a p → ⊥
+  pub new_unasked : (history : List (Event T H K)) (s : State Q QH P PH K) → Completes history s → (server p : ℕ) → IsNew s server p
+      → (a : ℕ) → WasReceived history server a p → ⊥
   new_unasked history s completes server p new a was =
       let way = completes.under_way a server p was in
       ⊎_elim
@@ -79,8 +80,8 @@ module _ {T H K : Type 0} where
       request)
       new
 
-module _ {T H K : Type 0} {Begins : ℕ → ℕ → Type 0} {Ends : ℕ → Type 0} {GoesOn : ℕ → ℕ → List ℕ → List ℕ → Type 0}
-    (history : List (Event T H K)) (event : Event T H K) (old new : State T H T H K) (fits : IsReached old)
+module _ {T H Q QH P PH K : Type 0} {Begins : ℕ → ℕ → Type 0} {Ends : ℕ → Type 0} {GoesOn : ℕ → ℕ → List ℕ → List ℕ → Type 0}
+    (history : List (Event T H K)) (event : Event T H K) (old new : State Q QH P PH K) (fits : IsReached old)
     (completes : Completes history old) (settles : Settles Begins Ends GoesOn old new) (limits : new.limits ≡ old.limits) where
   -- what was under way is
   pub way_later : (server p : ℕ) → IsUnderWay old server p → IsUnderWay new server p
@@ -145,7 +146,8 @@ module _ {T H K : Type 0} {Begins : ℕ → ℕ → Type 0} {Ends : ℕ → Type
       parts : (f : Event T H K → Bool) → list_any f (history ++ event ∷ []) ≡ true → (list_any f history ≡ true) ⊎ (f event ≡ true)
       parts f e = either_part (list_any f history) (f event) (sym (list_any-append f history (event ∷ [])) ∙ e)
 
-module _ {T H K : Type 0} (history : List (Event T H K)) (event : Event T H K) (old new : State T H T H K) (follows : Follows history old)
+module _ {T H Q QH P PH K : Type 0} (history : List (Event T H K)) (event : Event T H K) (old new : State Q QH P PH K)
+    (follows : Follows history old)
     (comes : EventFits history old.next new.next event) where
   -- what was sent, where the event sends nothing
   pub sent_same : (server p : ℕ) → sent_by event ≡ None → sent_for (history ++ event ∷ []) server p ≡ sent_for history server p

@@ -21,7 +21,8 @@ use Rattle.rr_laws.proofs.FollowingSends.{sent_one_more, responded_more, respond
 use Rattle.rr_laws.proofs.SettlingResponses.{WaitsForRoom, Appends, MayAppend}
 use Rattle.rr_laws.proofs.Completing.{prefix_same, completes_on, sent_same, new_whole, whole_stays, first_stays}
 
-module _ {T H K : Type 0} (history : List (Event T H K)) (event : Event T H K) (old new : State T H T H K) (fits : IsReached old)
+module _ {T H Q QH P PH K : Type 0} (history : List (Event T H K)) (event : Event T H K) (old new : State Q QH P PH K)
+    (fits : IsReached old)
     (completes : Completes history old) (limits : new.limits ≡ old.limits)
     (follows : Follows history old) (after : Follows (history ++ event ∷ []) new) (comes : EventFits history old.next new.next event) where
   -- the limits stay as they were
@@ -51,7 +52,7 @@ module _ {T H K : Type 0} (history : List (Event T H K)) (event : Event T H K) (
       (completes.first (no_overflow_before no_overflow) server p made))
 
   -- after a send of a response, of which a server that waits for room puts each at the end
-  pub completes_sent : (x : State T H T H K) (server p k : ℕ) → IsSend event k → WasSent (history ++ event ∷ []) server p k
+  pub completes_sent : (x : State Q QH P PH K) (server p k : ℕ) → IsSend event k → WasSent (history ++ event ∷ []) server p k
       → ((n : ℕ) → creates_waiting n event ≡ false) → ((s a q : ℕ) → is_active_of s a q event ≡ false) →
       Settles (λ s q. ⊥) (λ n. ⊥) (Appends x server p k) old new → Moves (λ n role. ⊥) (MayAppend x server p k) old new
       → (IsServing x server p → IsServing old server p) →
@@ -122,7 +123,7 @@ module _ {T H K : Type 0} (history : List (Event T H K)) (event : Event T H K) (
               is))
           go false is = append-nil _
 
-module _ {T H K : Type 0} (history : List (Event T H K)) (old new : State T H T H K) (fits : IsReached old)
+module _ {T H Q QH P PH K : Type 0} (history : List (Event T H K)) (old new : State Q QH P PH K) (fits : IsReached old)
     (completes : Completes history old) (limits : new.limits ≡ old.limits) (follows : Follows history old) (server p k : ℕ)
     (comes : EventFits history old.next new.next (Command.Receive p, Reply.Response k)) where
   -- after a request received the first response of a list

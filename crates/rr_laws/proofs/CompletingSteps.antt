@@ -1,142 +1,64 @@
 -- Each step keeps that a request has received all that does not stand in a list.
-use Rattle.std.proofs.Common.{◌≡◌, ℕ, ◌<◌, true, false, eqb, List, [], ◌∷◌, ◌++◌, Option, Some, None, MatchOption, Result, Ok, Err, refl, sym, ap, ◌∙◌, subst, ⊎_elim, inl, inr, arith}
-use Rattle.std.specs.Prelude.{find, IsSomeAnd}
-use Rattle.std.proofs.lemmas.Bool.{eq-eqb, eqb-true}
+use Rattle.std.proofs.Common.{◌≡◌, ℕ, true, false, eqb, List, [], ◌∷◌, ◌++◌, Option, Some, None, MatchOption, Result, Ok, Err, refl, sym, ap, ◌∙◌, subst, ⊎_elim, inl, inr, arith}
+use Rattle.std.specs.Prelude.{find}
 use Rattle.rr_slots.specs.declared.family.Family.{Family}
 use Rattle.rr_protocol.specs.declared.settings.BackpressureAction.{BackpressureAction}
-use Rattle.rr_protocol.specs.declared.settings.ServerSettings.{ServerSettings}
 use Rattle.rr_protocol.specs.declared.error.LoanError.{LoanError}
 use Rattle.rr_protocol.specs.declared.error.RequestSendError.{RequestSendError}
 use Rattle.rr_protocol.specs.declared.error.SendError.{SendError}
-use Rattle.rr_protocol.specs.declared.error.ReceiveError.{ReceiveError}
 use Rattle.rr_protocol.specs.Messages.{with_hint}
 use Rattle.rr_protocol.specs.Writing.{with_element, with_element_at, with_user_header, after_init}
 use Rattle.rr_protocol.specs.Ports.{Server}
-use Rattle.rr_protocol.specs.State.{State, client_at, active_at, pending_at, handle_at}
-use Rattle.rr_protocol.specs.Creation.{CreatesServer}
+use Rattle.rr_protocol.specs.State.{State, client_at, handle_at}
 use Rattle.rr_protocol.specs.Loans.{LoansRequest, LoansResponse}
 use Rattle.rr_protocol.specs.Sends.{SendsRequest, SendsResponse}
-use Rattle.rr_protocol.specs.Receives.{ReceivesRequest, ReceivesResponse}
-use Rattle.rr_protocol.specs.Releases.{after_release}
 use Rattle.rr_commands.specs.declared.command.Command.{Command}
 use Rattle.rr_commands.specs.declared.reply.Reply.{Reply}
 use Rattle.rr_commands.specs.Refusals.{refusal}
-use Rattle.rr_commands.specs.Step.{client_settings, server_settings, with_complete, Loans, Acts, Step}
+use Rattle.rr_commands.specs.Step.{client_settings, with_complete, Loans, Acts, Step}
 use Rattle.rr_commands.specs.AnswerRule.{Event, creates_waiting}
 use Rattle.rr_laws.specs.Reached.{IsReached}
 use Rattle.rr_laws.specs.Apart.{IsApart}
 use Rattle.rr_laws.specs.Left.{IsLeftFit}
-use Rattle.rr_laws.specs.Following.{queued, Moves, MovesQuietly, Follows}
+use Rattle.rr_laws.specs.Following.{MovesQuietly, Follows}
 use Rattle.rr_laws.specs.Settling.{IsNew, Settles}
-use Rattle.rr_laws.specs.Completing.{IsUnderWay, Completes}
+use Rattle.rr_laws.specs.Completing.{Completes}
+use Rattle.rr_laws.specs.Standing.{Stands}
 use Rattle.rr_laws.proofs.Opening.{some_and, open_active}
-use Rattle.rr_laws.proofs.Connected.{has_below}
 use Rattle.rr_laws.proofs.Loaning.{loans_request_reached}
 use Rattle.rr_laws.proofs.Changing.{init_role, hint_role, complete_reached}
 use Rattle.rr_laws.proofs.ApartSends.{loans_request_apart}
 use Rattle.rr_laws.proofs.ApartSteps.{complete_apart}
 use Rattle.rr_laws.proofs.LeftSteps.{loans_request_left, loans_response_left}
-use Rattle.rr_laws.proofs.Occurring.{false_is_true}
-use Rattle.rr_laws.proofs.Telling.{speaks, is_refusing, IsSilent, silent, refusing_silent, refusing_creates_none, refusal_refuses, three_true}
-use Rattle.rr_laws.proofs.Growing.{loaned_below}
-use Rattle.rr_laws.proofs.Coming.{IsLoan, silent_comes, loan_comes, received_comes, responded_comes}
-use Rattle.rr_laws.proofs.Following.{GainsLoan}
-use Rattle.rr_laws.proofs.FollowingSteps.{both, unmoved, changed_quietly, complete_quietly, written, creates_client_quietly, creates_server_quietly, copy_moves, refused_loan, sent_now, loaned_response_complete, copied_now, not_copied, copied_request}
-use Rattle.rr_laws.proofs.Histories.{first_was_sent}
-use Rattle.rr_laws.proofs.Moving.{then_quietly}
-use Rattle.rr_laws.proofs.MovingReleases.{after_release_quietly}
+use Rattle.rr_laws.proofs.Telling.{speaks, is_refusing, IsSilent, silent, refusing_silent, refusing_creates_none, refusal_refuses}
+use Rattle.rr_laws.proofs.FollowingCalls.{both, unmoved, changed_quietly, creates_client_quietly, loan_tells}
+use Rattle.rr_laws.proofs.FollowingSteps.{complete_quietly, written, copy_moves, refused_loan, loaned_response_complete, copied_now, not_copied, copied_request}
 use Rattle.rr_laws.proofs.MovingSends.{loaned_request_moves, sent_request_quietly, sent_response_moves, unsent_response_moves}
-use Rattle.rr_laws.proofs.MovingReceives.{loaned_response_moves, received_request_moves, no_request_quietly, refused_request_quietly, received_response_moves}
 use Rattle.rr_laws.proofs.Settling.{then_settles, settles_after}
-use Rattle.rr_laws.proofs.SettlingHandles.{after_release_settles}
-use Rattle.rr_laws.proofs.SettlingSends.{listed_below, loaned_request_settles, loaned_response_settles, sent_request_settles, received_request_settles}
+use Rattle.rr_laws.proofs.SettlingSends.{loaned_request_settles, loaned_response_settles, sent_request_settles}
 use Rattle.rr_laws.proofs.SettlingResponses.{sent_response_settles, unsent_response_settles}
-use Rattle.rr_laws.proofs.SettlingServers.{new_server_settles, received_listed, created_waits}
-use Rattle.rr_laws.proofs.CompletingEvents.{completes_quietly, completes_sent, completes_responded}
+use Rattle.rr_laws.proofs.CompletingEvents.{completes_sent}
 use Rattle.rr_laws.proofs.SettlingWrites.{SettlesQuietly, unsettled, changed_settles, complete_settles, written_settles, creates_client_settles}
+use Rattle.rr_laws.proofs.CompletingCalls.{Steps, quiet_completes, unchanged_completes, server_completes, release_completes, loan_completes, sent_completes, request_completes, response_completes, nothing_completes, refused_completes}
 
 module _ {T H K : Type 0} (action : K → ℕ → ℕ → BackpressureAction) (IsDefaultElement : T → Type 0) (IsDefaultHeader : H → Type 0)
     (family : Family) (history : List (Event T H K)) (old : State T H T H K)
     (fits : IsReached old) (apart : IsApart old) (left : IsLeftFit old) (follows : Follows history old)
     (completes : Completes history old) where
-  -- what is known of a step's new state: that it follows, and has the same limits
-  abbrev Steps : Command T H K → Reply T H → State T H T H K → Type 0
-  Steps command reply new = Follows (history ++ (command, reply) ∷ []) new × (new.limits ≡ old.limits)
+  stands : Stands history old
+  stands = record { fits = fits; apart = apart; left = left; follows = follows; completes = completes }
 
   -- after an event that tells nothing, and creates and releases no server
   quietly : (command : Command T H K) (reply : Reply T H) (new : State T H T H K) → IsSilent (command, reply)
-      → ((n : ℕ) → creates_waiting n (command, reply) ≡ false) → Steps command reply new → MovesQuietly old new → SettlesQuietly old new →
-      Completes (history ++ (command, reply) ∷ []) new
+      → ((n : ℕ) → creates_waiting n (command, reply) ≡ false) → Steps history old command reply new → MovesQuietly old new
+      → SettlesQuietly old new → Completes (history ++ (command, reply) ∷ []) new
   quietly command reply new quiet plain steps moves settles =
-      completes_quietly history (command, reply) old new fits completes steps.1 follows steps.0
-      (silent_comes history (command, reply) old.next new.next quiet moves.next) settles moves quiet.sends quiet.receives
-      (λ a server p is. absurd (false_is_true (sym (quiet.activates server a p) ∙ is)))
-      (λ n is. absurd (false_is_true (sym (plain n) ∙ is))) (λ n e. absurd e)
-
-  -- after such an event that changes nothing
-  unchanged : (command : Command T H K) (reply : Reply T H) (new : State T H T H K) → IsSilent (command, reply)
-      → ((n : ℕ) → creates_waiting n (command, reply) ≡ false) → Steps command reply new → new ≡ old
-      → Completes (history ++ (command, reply) ∷ []) new
-  unchanged command reply new quiet plain steps same = quietly command reply new quiet plain steps (unmoved old new same)
-      (unsettled old new same)
+      quiet_completes history old stands command reply new quiet plain steps moves settles
 
   kept : (command : Command T H K) (reply : Reply T H) (new : State T H T H K) → speaks (command, reply) ≡ false
-      → ((n : ℕ) → creates_waiting n (command, reply) ≡ false) → Steps command reply new → new ≡ old
+      → ((n : ℕ) → creates_waiting n (command, reply) ≡ false) → Steps history old command reply new → new ≡ old
       → Completes (history ++ (command, reply) ∷ []) new
-  kept command reply new quiet = unchanged command reply new (silent command reply quiet)
-
-  -- a server is created, or not
-  created : (settings : ServerSettings K) (n : ℕ) (new : State T H T H K) → Steps (Command.CreateServer settings) (Reply.Created n) new
-      → CreatesServer old (server_settings family settings) (Ok n) new →
-      Completes (history ++ (Command.CreateServer settings, Reply.Created n) ∷ []) new
-  created settings n new steps made =
-      let quiet : IsSilent {T = T} {H = H} {K = K} (Command.CreateServer settings, Reply.Created n) = silent _ _ refl in
-      let moves = creates_server_quietly old (server_settings family settings) (Ok n) new made in
-      completes_quietly history (Command.CreateServer settings, Reply.Created n) old new fits completes steps.1 follows steps.0
-      (silent_comes history (Command.CreateServer settings, Reply.Created n) old.next new.next quiet moves.next)
-      {Ends = λ k. ⊥}
-      (subst (λ (x : State T H T H K). SettlesQuietly old x) (sym made.2)
-      (new_server_settles old _ _ fits (omega arith) refl refl refl refl refl))
-      moves refl (λ p. refl) (λ a server p is. absurd (false_is_true is)) (λ k is. created_waits family old fits settings n new made k is)
-      (λ k e. absurd e)
-
-  -- a release
-  released : (n : ℕ) (new : State T H T H K) → Steps (Command.Release n) Reply.Done new → new ≡ after_release old n
-      → Completes (history ++ (Command.Release n, Reply.Done) ∷ []) new
-  released n new steps is =
-      let quiet : IsSilent {T = T} {H = H} {K = K} (Command.Release n, Reply.Done) = silent _ _ refl in
-      let moves = subst (λ (x : State T H T H K). MovesQuietly old x) (sym is) (after_release_quietly old n fits) in
-      completes_quietly history (Command.Release n, Reply.Done) old new fits completes steps.1 follows steps.0
-      (silent_comes history (Command.Release n, Reply.Done) old.next new.next quiet moves.next)
-      {Ends = λ k. k ≡ n}
-      (subst (λ (x : State T H T H K). Settles (IsNew old) (λ k. k ≡ n) (λ server p before after. after ≡ before) old x) (sym is)
-      (after_release_settles old n fits apart.channels left (λ none. refl)))
-      moves refl (λ p. refl) (λ a server p is. absurd (false_is_true is)) (λ k is. absurd (false_is_true is)) (λ k e. eq-eqb n k (sym e))
-
-  -- a loan
-  loan : (command : Command T H K) (reply : Reply T H) (n len k : ℕ) (mid : State T H T H K) → IsLoan (command, reply) n k
-      → ((n : ℕ) → creates_waiting n (command, reply) ≡ false) → Loans action IsDefaultElement IsDefaultHeader family old n len (Ok k) mid →
-      (new : State T H T H K) → MovesQuietly mid new → Settles (IsNew old) (λ n. ⊥) (λ server p before after. after ≡ before) mid new
-      → Steps command reply new → Completes (history ++ (command, reply) ∷ []) new
-  loan command reply n len k mid is plain loans new moves settles steps = ⊎_elim
-      (λ request.
-      let moved = loaned_request_moves {Gains = GainsLoan history n k} IsDefaultHeader old fits n len k mid request in
-      this (then_quietly old mid new moved.0 moves) (then_settles old mid new
-      (loaned_request_settles IsDefaultHeader old fits n len k mid request) settles) moved.1
-      (omega (arith, moved.2, moves.next)) moved.3)
-      (λ response.
-      let moved = loaned_response_moves IsDefaultHeader old fits history follows.held n len k mid response in
-      this (then_quietly old mid new moved.0 moves) (then_settles old mid new
-      (loaned_response_settles IsDefaultHeader old n len k mid response) settles) moved.1 (omega (arith, moved.2, moves.next)) moved.3)
-      loans
-    where
-      this : Moves (GainsLoan history n k) (λ server p before after. after ≡ before) old new → SettlesQuietly old new → k ≡ old.next
-          → old.next < new.next → n < old.next → Completes (history ++ (command, reply) ∷ []) new
-      this moves settles number more below =
-          completes_quietly history (command, reply) old new fits completes steps.1 follows steps.0
-          (loan_comes history (command, reply) old.next new.next n k is number more below) settles moves is.sends is.receives
-          (λ a server p e. absurd (false_is_true (sym (is.activates server a p) ∙ e))) (λ n e. absurd (false_is_true (sym (plain n) ∙ e)))
-          (λ n e. absurd e)
+  kept command reply new quiet = unchanged_completes history old stands command reply new (silent command reply quiet)
 
   -- a loan that is refused
   refused_settles : (n len : ℕ) (error : LoanError) (new : State T H T H K)
@@ -148,7 +70,7 @@ module _ {T H K : Type 0} (action : K → ℕ → ℕ → BackpressureAction) (I
 
   -- after a loan that is refused
   not_loaned : (command : Command T H K) (reply : Reply T H) (n len : ℕ) (error : LoanError) (new : State T H T H K)
-      → IsSilent (command, reply) → ((n : ℕ) → creates_waiting n (command, reply) ≡ false) → Steps command reply new →
+      → IsSilent (command, reply) → ((n : ℕ) → creates_waiting n (command, reply) ≡ false) → Steps history old command reply new →
       Loans action IsDefaultElement IsDefaultHeader family old n len (Err error) new → Completes (history ++ (command, reply) ∷ []) new
   not_loaned command reply n len error new quiet plain steps loans =
       quietly command reply new quiet plain steps (refused_loan action IsDefaultElement IsDefaultHeader family history old fits apart
@@ -187,19 +109,8 @@ module _ {T H K : Type 0} (action : K → ℕ → ℕ → BackpressureAction) (I
       (unsent_response_settles ℕ action complete holds.0 holds.1
       (loans_response_left IsDefaultHeader old left n 1 (Ok k) mid loans) k e new sends)
 
-  -- a send of a response that was on loan
-  sent : (n : ℕ) (new : State T H T H K) → Steps (Command.Send n) (Reply.Sent n) new → SendsResponse {U = ℕ} action old n (Ok n) new
-      → Completes (history ++ (Command.Send n, Reply.Sent n) ∷ []) new
-  sent n new steps sends =
-      let now = sent_now action IsDefaultElement IsDefaultHeader family history old fits apart follows n n new sends in
-      let m = now.0 in
-      let settled = sent_response_settles action old fits apart left n n new sends m now.1 in
-      completes_sent history (Command.Send n, Reply.Sent n) old new fits completes steps.1 follows steps.0 now.2.comes old m.server
-      m.request n now.2.send now.2.sent (λ k. refl) (λ s a q. refl) settled.0 settled.1 (λ serves. serves)
-      (λ made no_overflow. (no_overflow, completes.waits m.server made))
-
   -- a loan of a response and the send of it
-  copied : (n k : ℕ) (v : T) (mid new : State T H T H K) → Steps (Command.SendCopy n v) (Reply.Sent k) new
+  copied : (n k : ℕ) (v : T) (mid new : State T H T H K) → Steps history old (Command.SendCopy n v) (Reply.Sent k) new
       → LoansResponse IsDefaultHeader old n 1 (Ok k) mid → SendsResponse {U = ℕ} action (with_complete mid k (v ∷ [])) k (Ok k) new →
       Completes (history ++ (Command.SendCopy n v, Reply.Sent k) ∷ []) new
   copied n k v mid new steps loans sends =
@@ -224,49 +135,9 @@ module _ {T H K : Type 0} (action : K → ℕ → ℕ → BackpressureAction) (I
         (λ c e. completes.waits m.server made c (sym (ap (λ l. find (λ (d : Server K). eqb d.id m.server) l) servers) ∙ e)),
       ))
 
-  -- a receive of a response that is refused changes nothing
-  refused_same : (n : ℕ) (error : ReceiveError) (new : State T H T H K) → ReceivesResponse old n (Err error) new → new ≡ old
-  refused_same n ReceiveError.ExceedsMaxBorrows new receives = (some_and (pending_at old n) _ receives).2.2
-  refused_same n (ReceiveError.ConnectionFailure failure) new receives = absurd receives
-
-  -- a server received a request
-  received : (n a r : ℕ) (new : State T H T H K) → Steps (Command.Receive n) (Reply.Active a r) new
-      → ReceivesRequest old n (Ok (Some a)) new → IsSomeAnd (active_at new a) (λ active. r ≡ active.message.number) →
-      Completes (history ++ (Command.Receive n, Reply.Active a r) ∷ []) new
-  received n a r new steps receives told =
-      let moved = received_request_moves old n a r new receives told in
-      let settles : SettlesQuietly old new = received_request_settles old n (Ok (Some a)) new receives in
-      let stood = received_listed old n a r new receives told in
-      let request_below = listed_below old fits r stood.0 stood.1 in
-      let server_below : n < old.next = has_below (λ (d : Server K). d.id) old.servers n old.next fits.ports.server_numbers receives.0 in
-      let way : IsUnderWay new n r = record {
-        server_given = omega (arith, server_below, settles.next);
-        request_given = omega (arith, request_below, settles.next);
-        sent = λ q e. ⊎_elim (λ was. completes.clear r (inl (q, stood.0, was, stood.1)))
-            (λ high. absurd (omega (arith, high, request_below))) (settles.loaned r q e);
-        no_server = λ c e. ⊎_elim (λ was. completes.clear r (inr (was.0, was.1, inr (stood.0, stood.1))))
-            (λ high. absurd (omega (arith, high, request_below))) (settles.servers r c e);
-      } in
-      completes_quietly history (Command.Receive n, Reply.Active a r) old new fits completes steps.1 follows steps.0
-      (received_comes history old.next new.next n a r moved.1 moved.2) settles moved.0 refl (λ p. refl)
-      (λ b server p is.
-      let t = three_true (eqb n server) (eqb a b) (eqb r p) is in
-      subst (λ s. IsUnderWay new s p) (eqb-true n server t.0) (subst (IsUnderWay new n) (eqb-true r p t.2) way))
-      (λ k is. absurd (false_is_true is)) (λ k e. absurd e)
-
-  -- a request received a response
-  responded : (n k : ℕ) (new : State T H T H K) → IsApart new → Steps (Command.Receive n) (Reply.Response k) new
-      → ReceivesResponse old n (Ok (Some k)) new → Completes (history ++ (Command.Receive n, Reply.Response k) ∷ []) new
-  responded n k new after steps receives =
-      let taken = received_response_moves old fits apart n k new after receives in
-      let was = first_was_sent history old follows taken.0 n k (queued new taken.0 n) taken.1.first in
-      completes_responded history old new fits completes steps.1 follows taken.0 n k
-      (responded_comes history old.next new.next n k (loaned_below history old.next taken.0 n was.lender k follows.numbers was.loaned)
-      taken.1.moves.next was.loaned.unreceived)
-      was taken.1.first taken.1.settles taken.1.moves
-
   -- after any command that acts
-  pub acts_complete : (command : Command T H K) (reply : Reply T H) (new : State T H T H K) → IsApart new → Steps command reply new
+  pub acts_complete : (command : Command T H K) (reply : Reply T H) (new : State T H T H K) → IsApart new
+      → Steps history old command reply new
       → Acts action IsDefaultElement IsDefaultHeader family old command reply new → Completes (history ++ (command, reply) ∷ []) new
   acts_complete (Command.CreateClient settings) (Reply.Created n) new after steps acts =
       quietly _ _ new (silent _ _ refl) (λ k. refl) steps (creates_client_quietly old (client_settings family settings) (Ok n) new acts)
@@ -275,23 +146,18 @@ module _ {T H K : Type 0} (action : K → ℕ → ℕ → BackpressureAction) (I
       quietly _ _ new (silent _ _ refl) (λ k. refl) steps (creates_client_quietly old (client_settings family settings) (Err e) new acts)
       (creates_client_settles old (client_settings family settings) (Err e) new acts)
   acts_complete (Command.CreateClient settings) Reply.NoMemory new after steps acts = kept _ _ new refl (λ k. refl) steps acts
-  acts_complete (Command.CreateServer settings) (Reply.Created n) new after steps acts = created settings n new steps acts
+  acts_complete (Command.CreateServer settings) (Reply.Created n) new after steps acts =
+      server_completes history old stands family settings n new steps acts
   acts_complete (Command.CreateServer settings) (Reply.ServerError e) new after steps acts = kept _ _ new refl (λ k. refl) steps acts.1
   acts_complete (Command.CreateServer settings) Reply.NoMemory new after steps acts = kept _ _ new refl (λ k. refl) steps acts
   acts_complete (Command.Loan n len) (Reply.Loaned k) new after steps acts =
-      loan _ _ n len k new (record {
-        sends = refl;
-        receives = λ p. refl;
-        responds = λ j. refl;
-        activates = λ server a p. refl;
-        lends = λ j. refl;
-        loans = both n k;
-      }) (λ k. refl) acts new (unmoved new new refl) (unsettled new new refl) steps
+      loan_completes history old stands IsDefaultHeader IsDefaultHeader _ _ n len k new (loan_tells n len k) (λ k. refl) acts new
+      (unmoved new new refl) (unsettled new new refl) steps
   acts_complete (Command.Loan n len) (Reply.LoanError e) new after steps acts = not_loaned _ _ n len e new (silent _ _ refl)
       (λ k. refl) steps acts
   acts_complete (Command.Loan n len) Reply.NoMemory new after steps acts = kept _ _ new refl (λ k. refl) steps acts
   acts_complete (Command.LoanDefault n len) (Reply.Loaned k) new after steps acts =
-      loan _ _ n len k acts.0 (record {
+      loan_completes history old stands IsDefaultHeader IsDefaultHeader _ _ n len k acts.0 (record {
         sends = refl;
         receives = λ p. refl;
         responds = λ j. refl;
@@ -334,9 +200,8 @@ module _ {T H K : Type 0} (action : K → ℕ → ℕ → BackpressureAction) (I
       quietly _ _ new (silent _ _ refl) (λ k. refl) steps (written old new n true (with_user_header h) acts)
       (written_settles old new n true (with_user_header h) acts)
   acts_complete (Command.AssumeInit n) Reply.Done new after steps acts =
-      quietly _ _ new (silent _ _ refl) (λ k. refl) steps (subst (λ (x : State T H T H K). MovesQuietly old x) (sym acts)
-      (changed_quietly old n after_init init_role))
-      (subst (λ (x : State T H T H K). SettlesQuietly old x) (sym acts) (changed_settles old n after_init init_role))
+      quietly _ _ new (silent _ _ refl) (λ k. refl) steps (changed_quietly old new n after_init init_role acts)
+      (changed_settles old new n after_init init_role acts)
   acts_complete (Command.IsDeliverable n) (Reply.Flag b) new after steps acts = kept _ _ new refl (λ k. refl) steps acts.1
   acts_complete (Command.Send n) (Reply.Pending k connections) new after steps acts =
       quietly _ _ new (silent _ _ refl) (λ k. refl) steps (sent_request_quietly action old fits apart n (Ok connections) new acts.1)
@@ -345,31 +210,21 @@ module _ {T H K : Type 0} (action : K → ℕ → ℕ → BackpressureAction) (I
       quietly _ _ new (silent _ _ refl) (λ k. refl) steps (sent_request_quietly action old fits apart n (Err e) new acts)
       (sent_request_settles action old fits apart left n (Err e) new acts (λ server q e. inr (inr (q, e))))
   acts_complete (Command.Send n) (Reply.Sent k) new after steps acts =
-      subst (λ j. Steps (Command.Send n) (Reply.Sent j) new → SendsResponse {U = ℕ} action old n (Ok j) new
-      → Completes (history ++ (Command.Send n, Reply.Sent j) ∷ []) new) (sym acts.0) (sent n new) steps acts.1
+      sent_completes history old stands action n k new acts.0 steps acts.1
   acts_complete (Command.Send n) (Reply.SendError e) new after steps acts =
       quietly _ _ new (silent _ _ refl) (λ k. refl) steps (unsent_response_moves ℕ action old fits n e new acts).0
       (unsent_response_settles ℕ action old fits apart left n e new acts)
-  acts_complete (Command.Receive n) (Reply.Active a r) new after steps acts = received n a r new steps acts.0 acts.1
-  acts_complete (Command.Receive n) (Reply.Response k) new after steps acts = responded n k new after steps acts
-  acts_complete (Command.Receive n) Reply.Nothing new after steps acts = ⊎_elim
-      (λ request. quietly _ _ new (silent _ _ refl) (λ k. refl) steps (no_request_quietly old n new request)
-      (received_request_settles old n (Ok None) new request))
-      (λ (response : ReceivesResponse old n (Ok None) new). kept _ _ new refl (λ k. refl) steps
-      (some_and (pending_at old n) _ response).2.1)
-      acts
-  acts_complete (Command.Receive n) (Reply.ReceiveError e) new after steps acts = ⊎_elim
-      (λ request. quietly _ _ new (silent _ _ refl) (λ k. refl) steps (refused_request_quietly old n e new request)
-      (received_request_settles old n (Err e) new request))
-      (λ response. kept _ _ new refl (λ k. refl) steps (refused_same n e new response))
-      acts
+  acts_complete (Command.Receive n) (Reply.Active a r) new after steps acts =
+      request_completes history old stands n a r new steps acts.0 acts.1
+  acts_complete (Command.Receive n) (Reply.Response k) new after steps acts = response_completes history old stands n k new after steps acts
+  acts_complete (Command.Receive n) Reply.Nothing new after steps acts = nothing_completes history old stands n new steps acts
+  acts_complete (Command.Receive n) (Reply.ReceiveError e) new after steps acts = refused_completes history old stands n e new steps acts
   acts_complete (Command.Receive n) Reply.NoMemory new after steps acts = kept _ _ new refl (λ k. refl) steps acts
   acts_complete (Command.HasEntries n) (Reply.Flag b) new after steps acts = kept _ _ new refl (λ k. refl) steps acts.1
   acts_complete (Command.IsConnected n) (Reply.Flag b) new after steps acts = kept _ _ new refl (λ k. refl) steps acts.1
   acts_complete (Command.SetHint n) Reply.Done new after steps acts =
-      quietly _ _ new (silent _ _ refl) (λ k. refl) steps (subst (λ (x : State T H T H K). MovesQuietly old x) (sym acts)
-      (changed_quietly old n with_hint hint_role))
-      (subst (λ (x : State T H T H K). SettlesQuietly old x) (sym acts) (changed_settles old n with_hint hint_role))
+      quietly _ _ new (silent _ _ refl) (λ k. refl) steps (changed_quietly old new n with_hint hint_role acts)
+      (changed_settles old new n with_hint hint_role acts)
   acts_complete (Command.HasHint n) (Reply.Flag b) new after steps acts = kept _ _ new refl (λ k. refl) steps acts.1
   acts_complete (Command.Servers n) (Reply.Count c) new after steps acts = kept _ _ new refl (λ k. refl) steps acts.1
   acts_complete (Command.Header n) (Reply.RequestHeader h) new after steps acts = kept _ _ new refl (λ k. refl) steps acts.1
@@ -381,11 +236,12 @@ module _ {T H K : Type 0} (action : K → ℕ → ℕ → BackpressureAction) (I
   acts_complete (Command.Strategy n) (Reply.Strategy s) new after steps acts = kept _ _ new refl (λ k. refl) steps acts.1
   acts_complete (Command.MaxSliceLen n) (Reply.Count c) new after steps acts = kept _ _ new refl (λ k. refl) steps acts.1
   acts_complete (Command.UpdateConnections n) Reply.Done new after steps acts = kept _ _ new refl (λ k. refl) steps acts
-  acts_complete (Command.Release n) Reply.Done new after steps acts = released n new steps acts
+  acts_complete (Command.Release n) Reply.Done new after steps acts = release_completes history old stands n new steps acts
   acts_complete command reply new after steps acts = absurd acts
 
   -- after any step
-  pub step_completes : (command : Command T H K) (reply : Reply T H) (new : State T H T H K) → IsApart new → Steps command reply new
+  pub step_completes : (command : Command T H K) (reply : Reply T H) (new : State T H T H K) → IsApart new
+      → Steps history old command reply new
       → Step action IsDefaultElement IsDefaultHeader family old command reply new → Completes (history ++ (command, reply) ∷ []) new
   step_completes command reply new after steps step = go (refusal family old command) refl step
     where
@@ -395,4 +251,5 @@ module _ {T H K : Type 0} (action : K → ℕ → ℕ → BackpressureAction) (I
       go None due step = acts_complete command reply new after steps step
       go (Some refused) due step =
           let refuses : is_refusing reply ≡ true = ap is_refusing step.0 ∙ refusal_refuses family old command refused due in
-          unchanged command reply new (refusing_silent command reply refuses) (refusing_creates_none command reply refuses) steps step.1
+          unchanged_completes history old stands command reply new (refusing_silent command reply refuses)
+          (refusing_creates_none command reply refuses) steps step.1

@@ -6,11 +6,11 @@ use Rattle.std.specs.FinMap.{get}
 use Rattle.std.proofs.lemmas.Bool.{eq-eqb}
 use Rattle.std.proofs.lemmas.List.{append-nil}
 use Rattle.std.proofs.lemmas.List.Elements.{filter_map-append}
+use Rattle.rr_map_laws.proofs.ListFacts.{any_weaker}
 use Rattle.rr_protocol.specs.State.{State}
 use Rattle.rr_commands.specs.AnswerRule.{Event, IsSubsequence, occur_in_order, is_active, is_active_of, is_loan, is_response, received_by, lender_of, is_answer, sent_for, received_from}
 use Rattle.rr_laws.specs.Roles.{Question, Role, ReceivedRequest, LoanedResponse, Answer, roles_of}
 use Rattle.rr_laws.specs.Following.{queued, Moves, MovesQuietly, WasReceived, IsLoaned, LoanOccurs, WasSent, IsUnused, Follows}
-use Rattle.rr_map_laws.proofs.ListFacts.{any_weaker}
 use Rattle.rr_laws.proofs.Occurring.{occurs_later, occurs_then, occurs_alone, subsequence_longer, subsequence_front}
 use Rattle.rr_laws.proofs.Telling.{IsSilent, active_of_some}
 use Rattle.rr_laws.proofs.Coming.{IsLoan, silent_comes, loan_comes}
@@ -52,7 +52,8 @@ occurs_after_active history event server a p test was now =
     occurs_then (is_active a p ∷ []) test history event (occurs_alone (is_active a p) history
     (any_weaker (is_active_of server a p) (is_active a p) (λ e h. active_of_some server a p e.0 e.1 h) history was)) now
 
-module _ {T H K : Type 0} (history : List (Event T H K)) (event : Event T H K) (old new : State T H T H K) (follows : Follows history old)
+module _ {T H Q QH P PH K : Type 0} (history : List (Event T H K)) (event : Event T H K) (old new : State Q QH P PH K)
+    (follows : Follows history old)
     (comes : EventFits history old.next new.next event) where
   -- no number is received by an event that receives none
   pub unheard : ((k : ℕ) → is_response k event ≡ false) → (xs : List ℕ) → AllByRecursion (λ k. is_response k event ≡ false) xs
@@ -134,7 +135,7 @@ module _ {T H K : Type 0} (history : List (Event T H K)) (event : Event T H K) (
     order = order;
   }
 
-module _ {T H K : Type 0} (history : List (Event T H K)) (event : Event T H K) (old new : State T H T H K)
+module _ {T H Q QH P PH K : Type 0} (history : List (Event T H K)) (event : Event T H K) (old new : State Q QH P PH K)
     (follows : Follows history old) where
   -- after an event that tells nothing
   pub follows_silently : IsSilent event → MovesQuietly old new → Follows (history ++ event ∷ []) new
@@ -183,3 +184,9 @@ module _ {T H K : Type 0} (history : List (Event T H K)) (event : Event T H K) (
           × LoanOccurs (history ++ event ∷ []) a.request a.active_request i) (sym gained.0)
           (subst (λ i. IsLoaned (history ++ event ∷ []) a.server a.request i k × LoanOccurs (history ++ event ∷ []) a.request i k) (sym of)
           (own a of was))
+
+-- the first entry for a request was sent for it
+pub first_was_sent : {T H Q QH P PH K : Type 0} (history : List (Event T H K)) (s : State Q QH P PH K) → Follows history s
+    → (server p k : ℕ) (rest : List ℕ) → queued s server p ≡ k ∷ rest → WasSent history server p k
+first_was_sent history s follows server p k rest first = (subst (AllByRecursion (WasSent history server p)) first
+    (follows.entries server p)).0

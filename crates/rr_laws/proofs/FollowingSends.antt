@@ -5,13 +5,13 @@ use Rattle.std.specs.List.{AllByRecursion, cons_option}
 use Rattle.std.specs.FinMap.{get}
 use Rattle.std.proofs.lemmas.Bool.{cases_eq, eq-eqb, ne_eqb}
 use Rattle.std.proofs.lemmas.List.{append-nil}
+use Rattle.rr_map_laws.proofs.ListFacts.{all_append, all_drop}
 use Rattle.rr_protocol.specs.State.{State}
 use Rattle.rr_commands.specs.declared.command.Command.{Command}
 use Rattle.rr_commands.specs.declared.reply.Reply.{Reply}
 use Rattle.rr_commands.specs.AnswerRule.{Event, IsSubsequence, is_answer, sent_for, received_from}
 use Rattle.rr_laws.specs.Roles.{Question, ReceivedRequest, LoanedResponse, Answer, roles_of}
 use Rattle.rr_laws.specs.Following.{queued, Moves, WasReceived, WasSent, Follows}
-use Rattle.rr_map_laws.proofs.ListFacts.{all_append, all_drop}
 use Rattle.rr_laws.proofs.Occurring.{subsequence_then, subsequence_of, subsequence_dropped}
 use Rattle.rr_laws.proofs.Growing.{EventFits, loaned_below, loaned_answers, loaned_answers_one, received_now, all_sent_later, answer-grown, sent_for-grown, received_from-grown}
 use Rattle.rr_laws.proofs.Coming.{said_of_another, IsSend, received_comes, responded_comes}
@@ -21,7 +21,7 @@ use Rattle.rr_laws.proofs.Following.{Enters, GainsRequest, unheard, received_sam
 all_true : (a b c : Bool) → a ≡ true → b ≡ true → c ≡ true → (a && b && c) ≡ true
 all_true a b c e f g = ap (λ x. x && b && c) e ∙ ap (λ x. x && c) f ∙ g
 
-module _ {T H K : Type 0} (history : List (Event T H K)) (event : Event T H K) (old new : State T H T H K)
+module _ {T H Q QH P PH K : Type 0} (history : List (Event T H K)) (event : Event T H K) (old new : State Q QH P PH K)
     (follows : Follows history old) where
   -- what was sent for a request, after the event sent a response for it
   pub sent_one_more : (server p k : ℕ) → EventFits history old.next new.next event → IsSend event k
@@ -104,7 +104,7 @@ module _ {T H K : Type 0} (history : List (Event T H K)) (event : Event T H K) (
           (subsequence_dropped (received_from history server p) 1 (queued old server p)) (follows.order server p)))
           came
 
-module _ {T H K : Type 0} (history : List (Event T H K)) (old new : State T H T H K) (follows : Follows history old) where
+module _ {T H Q QH P PH K : Type 0} (history : List (Event T H K)) (old new : State Q QH P PH K) (follows : Follows history old) where
   -- after a server received a request
   pub follows_received : (server a p : ℕ) → a ≡ old.next → old.next < new.next
       → Moves (GainsRequest server a p) (λ other q before after. after ≡ before) old new →

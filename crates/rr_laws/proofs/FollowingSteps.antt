@@ -1,66 +1,48 @@
 -- Each step of the machine keeps that its state follows from the history.
-use Rattle.std.proofs.Common.{◌≡◌, ℕ, Bool, true, false, cond, eqb, ◌&&◌, List, [], ◌∷◌, ◌++◌, Option, Some, None, MatchOption, Result, Ok, Err, refl, sym, ap, ◌∙◌, subst, ⊎_elim, inl, inr, arith}
+use Rattle.std.proofs.Common.{◌≡◌, ℕ, Bool, true, false, cond, List, [], ◌∷◌, ◌++◌, Option, Some, None, MatchOption, Result, Ok, Err, refl, sym, ap, ◌∙◌, subst, ⊎_elim, inl, inr, arith}
 use Rattle.std.specs.Prelude.{◌⊎◌, ◌≢◌}
 use Rattle.std.specs.FinMap.{get}
 use Rattle.std.proofs.lemmas.Bool.{eq-eqb}
 use Rattle.rr_slots.specs.declared.family.Family.{Family}
 use Rattle.rr_protocol.specs.declared.settings.BackpressureAction.{BackpressureAction}
-use Rattle.rr_protocol.specs.declared.settings.ClientSettings.{ClientSettings}
-use Rattle.rr_protocol.specs.declared.settings.ServerSettings.{ServerSettings}
-use Rattle.rr_protocol.specs.declared.error.ClientCreateError.{ClientCreateError}
-use Rattle.rr_protocol.specs.declared.error.ServerCreateError.{ServerCreateError}
 use Rattle.rr_protocol.specs.declared.error.LoanError.{LoanError}
 use Rattle.rr_protocol.specs.declared.error.RequestSendError.{RequestSendError}
 use Rattle.rr_protocol.specs.declared.error.SendError.{SendError}
-use Rattle.rr_protocol.specs.Messages.{Content, ResponseMessage, Handle, ResponseMut, with_hint}
+use Rattle.rr_protocol.specs.Messages.{Content, ResponseMessage, ResponseMut, with_hint}
 use Rattle.rr_protocol.specs.Writing.{with_element, with_element_at, with_user_header, with_elements, with_request_content, with_response_content, after_init}
-use Rattle.rr_protocol.specs.State.{State, client_at, handle_at, with_changed}
-use Rattle.rr_protocol.specs.Creation.{CreatesClient, CreatesServer}
+use Rattle.rr_protocol.specs.State.{State, client_at, handle_at}
 use Rattle.rr_protocol.specs.Loans.{LoansRequest, LoansResponse}
 use Rattle.rr_protocol.specs.Sends.{SendsRequest, SendsResponse}
 use Rattle.rr_commands.specs.declared.command.Command.{Command}
 use Rattle.rr_commands.specs.declared.reply.Reply.{Reply}
 use Rattle.rr_commands.specs.Refusals.{refusal}
 use Rattle.rr_commands.specs.Step.{client_settings, server_settings, with_content, with_complete, Loans, Acts, Step}
-use Rattle.rr_commands.specs.AnswerRule.{Event, is_active, is_loan, is_sent, is_sent_copy}
-use Rattle.rr_laws.specs.Roles.{Role, LoanedResponse, Answer, role_of, roles_of, answer_of}
+use Rattle.rr_commands.specs.AnswerRule.{Event, is_sent_copy}
+use Rattle.rr_laws.specs.Roles.{Role, LoanedResponse, Answer, roles_of, answer_of}
 use Rattle.rr_laws.specs.Reached.{IsReached}
 use Rattle.rr_laws.specs.Apart.{IsApart}
-use Rattle.rr_laws.specs.Following.{is_servers, entries_for, queued, Moves, MovesQuietly, WasReceived, WasSent, Follows}
+use Rattle.rr_laws.specs.Following.{is_servers, entries_for, queued, Moves, MovesQuietly, WasReceived, Follows}
 use Rattle.rr_laws.proofs.RoleLaws.{role_at, roles-changed}
 use Rattle.rr_laws.proofs.Opening.{some_and, open_active}
 use Rattle.rr_laws.proofs.Loaning.{loans_request_reached, loans_response_reached}
 use Rattle.rr_laws.proofs.Changing.{init_role, hint_role, content_role, complete_reached}
 use Rattle.rr_laws.proofs.ApartSends.{loans_request_apart, loans_response_apart}
 use Rattle.rr_laws.proofs.ApartSteps.{complete_apart}
-use Rattle.rr_laws.proofs.Occurring.{occurs_then}
 use Rattle.rr_laws.proofs.Telling.{is_refusing, IsSilent, silent, refusing_silent, refusal_refuses}
-use Rattle.rr_laws.proofs.Growing.{EventFits, loaned_later}
-use Rattle.rr_laws.proofs.Coming.{IsLoan, IsSend, sent_comes, copied_comes}
-use Rattle.rr_laws.proofs.Following.{Enters, GainsLoan, now_loaned, occurs_after_active, follows_silently, follows_loaned}
-use Rattle.rr_laws.proofs.FollowingSends.{follows_sent, follows_received, follows_responded}
+use Rattle.rr_laws.proofs.Coming.{copied_comes}
+use Rattle.rr_laws.proofs.Following.{GainsLoan, now_loaned, occurs_after_active, follows_silently}
 use Rattle.rr_laws.proofs.Moving.{moves_same, then_quietly}
 use Rattle.rr_laws.proofs.MovingReleases.{after_release_quietly}
 use Rattle.rr_laws.proofs.MovingSends.{loaned_request_moves, sent_request_quietly, sent_response_moves, unsent_response_moves}
-use Rattle.rr_laws.proofs.MovingReceives.{loaned_response_moves, loaned_response_same, received_request_moves, no_request_quietly, refused_request_quietly, no_response_quietly, refused_response_quietly, received_response_moves}
-
--- equal numbers are found equal
-pub both : (n k : ℕ) → (eqb n n && eqb k k) ≡ true
-both n k = ap (λ b. b && eqb k k) (eq-eqb n n refl) ∙ eq-eqb k k refl
+use Rattle.rr_laws.proofs.MovingReceives.{loaned_response_moves, loaned_response_same, no_request_quietly, refused_request_quietly, no_response_quietly, refused_response_quietly}
+use Rattle.rr_laws.proofs.FollowingCalls.{SendsNow, creates_client_quietly, changed_quietly, unmoved, creates_server_quietly, both, loan_tells, follows_send, sent_follows, request_follows, response_follows, loan_follows}
 
 module _ {T H K : Type 0} where
-  -- nothing moves where nothing changed
-  pub unmoved : (old new : State T H T H K) → new ≡ old → MovesQuietly old new
-  unmoved old new same = subst (λ (x : State T H T H K). MovesQuietly old x) (sym same) (moves_same old old (omega arith) refl refl)
-
-  -- a change of a handle that keeps its role
-  pub changed_quietly : (s : State T H T H K) (n : ℕ) (change : Handle T H T H → Handle T H T H)
-      → ((h : Handle T H T H) → role_of (change h) ≡ role_of h) → MovesQuietly s (with_changed s n change)
-  changed_quietly s n change same = moves_same s (with_changed s n change) (omega arith) (roles-changed change same s.handles n) refl
-
   -- a message says something else
   pub content_quietly : (s : State T H T H K) (n : ℕ) (change : Content T H → Content T H) → MovesQuietly s (with_content s n change)
-  content_quietly s n change = changed_quietly s n (λ h. with_request_content change (with_response_content change h)) (content_role change)
+  content_quietly s n change = changed_quietly s _ n (λ h. with_request_content change (with_response_content change h))
+      (content_role change)
+      refl
 
   -- all elements of a message are written, and each role stays
   pub complete_roles : (s : State T H T H K) (n : ℕ) (elements : List T)
@@ -79,20 +61,6 @@ module _ {T H K : Type 0} where
       → new ≡ cond b (with_content old n change) old → MovesQuietly old new
   written old new n true change same = subst (λ (x : State T H T H K). MovesQuietly old x) (sym same) (content_quietly old n change)
   written old new n false change same = unmoved old new same
-
-  -- a client is created, or not
-  pub creates_client_quietly : (s : State T H T H K) (settings : ClientSettings K) (result : Result ℕ ClientCreateError)
-      (new : State T H T H K) → CreatesClient s settings result new → MovesQuietly s new
-  creates_client_quietly s settings (Ok number) new made = subst (λ (x : State T H T H K). MovesQuietly s x) (sym made.2)
-      (moves_same s _ (omega arith) refl refl)
-  creates_client_quietly s settings (Err error) new made = unmoved s new made.1
-
-  -- a server is created, or not
-  pub creates_server_quietly : (s : State T H T H K) (settings : ServerSettings K) (result : Result ℕ ServerCreateError)
-      (new : State T H T H K) → CreatesServer s settings result new → MovesQuietly s new
-  creates_server_quietly s settings (Ok number) new made = subst (λ (x : State T H T H K). MovesQuietly s x) (sym made.2)
-      (moves_same s _ (omega arith) refl refl)
-  creates_server_quietly s settings (Err error) new made = unmoved s new made.1
 
   -- a response that is loaned and goes at once
   pub copy_moves : {GoesOn : ℕ → ℕ → List ℕ → List ℕ → Type 0} (history : List (Event T H K)) (IsDefault : H → Type 0)
@@ -123,21 +91,6 @@ module _ {T H K : Type 0} (action : K → ℕ → ℕ → BackpressureAction) (I
       → Follows (history ++ (command, reply) ∷ []) new
   quietly command reply new quiet moves = follows_silently history (command, reply) old new follows quiet moves
 
-  -- a loan of a request or of a response
-  loan : (event : Event T H K) (n len k : ℕ) (mid : State T H T H K) → IsLoan event n k
-      → Loans action IsDefaultElement IsDefaultHeader family old n len (Ok k) mid → (new : State T H T H K) → MovesQuietly mid new
-      → Follows (history ++ event ∷ []) new
-  loan event n len k mid is loans new then = ⊎_elim
-      (λ request.
-      let moved = loaned_request_moves {Gains = GainsLoan history n k} IsDefaultHeader old fits n len k mid request in
-      follows_loaned history event old new follows n k is moved.1 (omega (arith, moved.2, then.next)) moved.3
-      (then_quietly old mid new moved.0 then))
-      (λ response.
-      let moved = loaned_response_moves IsDefaultHeader old fits history follows.held n len k mid response in
-      follows_loaned history event old new follows n k is moved.1 (omega (arith, moved.2, then.next)) moved.3
-      (then_quietly old mid new moved.0 then))
-      loans
-
   -- a loan that is refused
   pub refused_loan : (n len : ℕ) (error : LoanError) (new : State T H T H K)
       → Loans action IsDefaultElement IsDefaultHeader family old n len (Err error) new → MovesQuietly old new
@@ -145,42 +98,6 @@ module _ {T H K : Type 0} (action : K → ℕ → ℕ → BackpressureAction) (I
       (λ (request : LoansRequest IsDefaultHeader old n len (Err error) new). unmoved old new (some_and (client_at old n) _ request).2.1)
       (λ (response : LoansResponse IsDefaultHeader old n len (Err error) new). unmoved old new (open_active old n _ response).4.1)
       loans
-
-  -- a send of a response: the event fits, the response was sent, and it enters its list
-  pub record SendsNow (event : Event T H K) (new : State T H T H K) (server p k : ℕ) : Type 0 where
-    pub send : IsSend event k
-    pub comes : EventFits history old.next new.next event
-    pub sent : WasSent (history ++ event ∷ []) server p k
-    pub moves : Moves (λ n role. ⊥) (Enters server p k) old new
-
-  -- after a send of a response
-  sends : (event : Event T H K) (new : State T H T H K) (server p k : ℕ) → SendsNow event new server p k
-      → Follows (history ++ event ∷ []) new
-  sends event new server p k now = follows_sent history event old new follows server p k now.send now.comes now.sent now.moves
-
-  -- a response that was on loan
-  pub sent_now : (n : ℕ) {U : Type 0} (u : U) (new : State T H T H K) → SendsResponse action old n (Ok u) new →
-      (m : ResponseMessage T H) × (handle_at old n ≡ Some (ResponseMut m))
-      × SendsNow (Command.Send n, Reply.Sent n) new m.server m.request n
-  sent_now n u new sends =
-      let s = sent_response_moves action old fits apart n u new sends in
-      let m = s.0 in
-      let here = role_at old.handles n (ResponseMut m) s.1 in
-      let was = follows.loaned n (answer_of m) here in (
-        m,
-        s.1,
-        record {
-          send = record { sends = refl; receives = λ p. refl; responds = λ j. refl };
-          comes = sent_comes history old.next new.next n (fits.handles n _ here).below s.2.next;
-          sent = record {
-            lender = m.active_request;
-            loaned = loaned_later history (Command.Send n, Reply.Sent n) m.server m.request m.active_request n was.0 refl refl;
-            occurs = inl (occurs_then (is_active m.active_request m.request ∷ is_loan m.active_request n ∷ []) (is_sent n) history
-                (Command.Send n, Reply.Sent n) was.1 (eq-eqb n n refl));
-          };
-          moves = s.2;
-        },
-      )
 
   -- a state after a loan for a send at once, with the one element
   pub loaned_response_complete : (n k : ℕ) (mid : State T H T H K) (v : T) → LoansResponse IsDefaultHeader old n 1 (Ok k) mid
@@ -194,7 +111,7 @@ module _ {T H K : Type 0} (action : K → ℕ → ℕ → BackpressureAction) (I
   pub copied_now : (n k : ℕ) (v : T) (mid new : State T H T H K) → LoansResponse IsDefaultHeader old n 1 (Ok k) mid
       → SendsResponse action (with_complete mid k (v ∷ [])) k (Ok k) new →
       (m : ResponseMessage T H) × (handle_at (with_complete mid k (v ∷ [])) k ≡ Some (ResponseMut m))
-      × SendsNow (Command.SendCopy n v, Reply.Sent k) new m.server m.request k
+      × SendsNow history old (Command.SendCopy n v, Reply.Sent k) new m.server m.request k
   copied_now n k v mid new loans sends =
       let complete = with_complete mid k (v ∷ []) in
       let holds = loaned_response_complete n k mid v loans in
@@ -262,19 +179,13 @@ module _ {T H K : Type 0} (action : K → ℕ → ℕ → BackpressureAction) (I
   acts_follow (Command.CreateServer settings) (Reply.ServerError e) new after acts = quietly _ _ new (silent _ _ refl)
       (creates_server_quietly old (server_settings family settings) (Err e) new acts)
   acts_follow (Command.CreateServer settings) Reply.NoMemory new after acts = quietly _ _ new (silent _ _ refl) (unmoved old new acts)
-  acts_follow (Command.Loan n len) (Reply.Loaned k) new after acts = loan _ n len k new
-      (record {
-        sends = refl;
-        receives = λ p. refl;
-        responds = λ j. refl;
-        activates = λ server a p. refl;
-        lends = λ j. refl;
-        loans = both n k;
-      }) acts new (unmoved new new refl)
+  acts_follow (Command.Loan n len) (Reply.Loaned k) new after acts =
+      loan_follows history old fits follows IsDefaultHeader IsDefaultHeader _ n len k new (loan_tells n len k) acts new
+      (unmoved new new refl)
   acts_follow (Command.Loan n len) (Reply.LoanError e) new after acts = quietly _ _ new (silent _ _ refl) (refused_loan n len e new acts)
   acts_follow (Command.Loan n len) Reply.NoMemory new after acts = quietly _ _ new (silent _ _ refl) (unmoved old new acts)
   acts_follow (Command.LoanDefault n len) (Reply.Loaned k) new after acts =
-      loan _ n len k acts.0 (record {
+      loan_follows history old fits follows IsDefaultHeader IsDefaultHeader _ n len k acts.0 (record {
         sends = refl;
         receives = λ p. refl;
         responds = λ j. refl;
@@ -293,7 +204,7 @@ module _ {T H K : Type 0} (action : K → ℕ → ℕ → BackpressureAction) (I
       (λ send. copied_request n send.1 v send.0 new (Err e) send.2 send.3)
       acts)
   acts_follow (Command.SendCopy n v) (Reply.Sent k) new after acts = let now = copied_now n k v acts.0 new acts.1 acts.2 in
-      sends _ new now.0.server now.0.request k now.2
+      follows_send history old fits follows _ new now.0.server now.0.request k now.2
   acts_follow (Command.SendCopy n v) (Reply.SendError e) new after acts = quietly _ _ new (silent _ _ refl) (⊎_elim
       (λ loaned. refused_loan n 1 loaned.0 new (inr loaned.1))
       (λ send. not_copied n send.1 v e send.0 new send.2 send.3)
@@ -306,24 +217,18 @@ module _ {T H K : Type 0} (action : K → ℕ → ℕ → BackpressureAction) (I
   acts_follow (Command.SetUserHeader n h) Reply.Done new after acts = quietly _ _ new (silent _ _ refl)
       (written old new n true (with_user_header h) acts)
   acts_follow (Command.AssumeInit n) Reply.Done new after acts = quietly _ _ new (silent _ _ refl)
-      (subst (λ (x : State T H T H K). MovesQuietly old x) (sym acts) (changed_quietly old n after_init init_role))
+      (changed_quietly old new n after_init init_role acts)
   acts_follow (Command.IsDeliverable n) (Reply.Flag b) new after acts = quietly _ _ new (silent _ _ refl) (unmoved old new acts.1)
   acts_follow (Command.Send n) (Reply.Pending k connections) new after acts = quietly _ _ new (silent _ _ refl)
       (sent_request_quietly action old fits apart n (Ok connections) new acts.1)
   acts_follow (Command.Send n) (Reply.RequestError e) new after acts = quietly _ _ new (silent _ _ refl)
       (sent_request_quietly action old fits apart n (Err e) new acts)
-  acts_follow (Command.Send n) (Reply.Sent k) new after acts =
-      let now = sent_now n k new acts.1 in
-      subst (λ j. Follows (history ++ (Command.Send n, Reply.Sent j) ∷ []) new) (sym acts.0)
-      (sends _ new now.0.server now.0.request n now.2)
+  acts_follow (Command.Send n) (Reply.Sent k) new after acts = sent_follows action history old fits apart follows n k new acts.0 acts.1
   acts_follow (Command.Send n) (Reply.SendError e) new after acts = quietly _ _ new (silent _ _ refl)
       (unsent_response_moves ℕ action old fits n e new acts).0
-  acts_follow (Command.Receive n) (Reply.Active a r) new after acts =
-      let moved = received_request_moves old n a r new acts.0 acts.1 in
-      follows_received history old new follows n a r moved.1 moved.2 moved.0
+  acts_follow (Command.Receive n) (Reply.Active a r) new after acts = request_follows history old fits follows n a r new acts.0 acts.1
   acts_follow (Command.Receive n) (Reply.Response k) new after acts =
-      let taken = received_response_moves old fits apart n k new after acts in
-      follows_responded history old new follows taken.0 n k taken.1.moves taken.1.first taken.1.absent taken.1.unloaned
+      response_follows action history old fits apart follows n k new after acts
   acts_follow (Command.Receive n) Reply.Nothing new after acts = quietly _ _ new (silent _ _ refl)
       (⊎_elim (no_request_quietly old n new) (no_response_quietly old n new) acts)
   acts_follow (Command.Receive n) (Reply.ReceiveError e) new after acts = quietly _ _ new (silent _ _ refl)
@@ -332,7 +237,7 @@ module _ {T H K : Type 0} (action : K → ℕ → ℕ → BackpressureAction) (I
   acts_follow (Command.HasEntries n) (Reply.Flag b) new after acts = quietly _ _ new (silent _ _ refl) (unmoved old new acts.1)
   acts_follow (Command.IsConnected n) (Reply.Flag b) new after acts = quietly _ _ new (silent _ _ refl) (unmoved old new acts.1)
   acts_follow (Command.SetHint n) Reply.Done new after acts = quietly _ _ new (silent _ _ refl)
-      (subst (λ (x : State T H T H K). MovesQuietly old x) (sym acts) (changed_quietly old n with_hint hint_role))
+      (changed_quietly old new n with_hint hint_role acts)
   acts_follow (Command.HasHint n) (Reply.Flag b) new after acts = quietly _ _ new (silent _ _ refl) (unmoved old new acts.1)
   acts_follow (Command.Servers n) (Reply.Count c) new after acts = quietly _ _ new (silent _ _ refl) (unmoved old new acts.1)
   acts_follow (Command.Header n) (Reply.RequestHeader h) new after acts = quietly _ _ new (silent _ _ refl) (unmoved old new acts.1)

@@ -1,8 +1,8 @@
 -- Each step leaves the limits as they were, and of each port its pool and what it does at a full queue.
+use Rattle.std.specs.FinMap as fin_map
 use Rattle.std.proofs.Common.{◌≡◌, ℕ, ◌+◌, Bool, true, false, cond, eqb, List, [], ◌∷◌, map, Option, Some, None, MatchOption, Result, Ok, Err, refl, sym, ◌∙◌, subst, ⊎_elim, arith}
 use Rattle.std.specs.Prelude.{fold, is_some}
 use Rattle.std.specs.Option.{option_map_or}
-use Rattle.std.specs.FinMap as fin_map
 use Rattle.rr_slots.specs.declared.family.Family.{Family}
 use Rattle.rr_protocol.specs.declared.settings.BackpressureAction.{BackpressureAction}
 use Rattle.rr_protocol.specs.declared.settings.ClientSettings.{ClientSettings}
@@ -31,6 +31,7 @@ use Rattle.rr_laws.proofs.Leaving.{without_value_id}
 use Rattle.rr_laws.proofs.Loaning.{counted_id}
 use Rattle.rr_laws.proofs.Lasting.{client_lasting, server_lasting, ports_same, ports_with_one, ports_changed, ports_without, Lasts, frame_of, lasts_with_more, lasts_by_frame, lasts_then}
 use Rattle.rr_laws.proofs.Opening.{some_and, open_request_mut, open_response_mut, open_active}
+use Rattle.rr_laws.proofs.Calling.{KeptByCalls}
 
 -- a loan that is counted leaves what lasts
 counted_kept : {K : Type 0} (n : ℕ) (c : Client K) → client_lasting (with_loan_counted n c) ≡ client_lasting c
@@ -220,6 +221,25 @@ module _ {Q QH P PH K : Type 0} where
   receives_response s n (Ok None) new h = same new s s (some_and (pending_at s n) _ h).2.1 refl
   receives_response s n (Err ReceiveError.ExceedsMaxBorrows) new h = same new s s (some_and (pending_at s n) _ h).2.2 refl
   receives_response s n (Err (ReceiveError.ConnectionFailure failure)) new h = absurd h
+
+module _ {Q QH P PH K : Type 0} (action : K → ℕ → ℕ → BackpressureAction) (IsDefaultRequestHeader : QH → Type 0)
+    (IsDefaultResponseHeader : PH → Type 0) (start : State Q QH P PH K) where
+  -- what lasts from some state on still does
+  pub lasts_kept : KeptByCalls action IsDefaultRequestHeader IsDefaultResponseHeader (λ s. Lasts start s) (λ s n. Unit {0})
+  lasts_kept = record {
+    client = λ s fits lasts settings result new call. lasts_then start s new lasts (creates_client s settings result new call);
+    server = λ s fits lasts settings result new call. lasts_then start s new lasts (creates_server s settings result new call);
+    loan_request = λ s fits lasts n len result new call. lasts_then start s new lasts
+        (loans_request IsDefaultRequestHeader s n len result new call);
+    loan_response = λ s fits lasts n len result new call. lasts_then start s new lasts
+        (loans_response IsDefaultResponseHeader s n len result new call);
+    change = λ s fits lasts n change kept. lasts_then start s _ lasts (lasts_by_frame s _ refl);
+    send_request = λ s fits lasts n result new call. lasts_then start s new lasts (sends_request action s n result new call);
+    send_response = λ s fits lasts n result new call. lasts_then start s new lasts (sends_response action s n result new call);
+    receive_request = λ s fits lasts n result new call. lasts_then start s new lasts (receives_request s n result new call);
+    receive_response = λ s fits lasts n result new call. lasts_then start s new lasts (receives_response s n result new call);
+    release = λ s fits lasts n may. lasts_then start s _ lasts (released s n);
+  }
 
 module _ {T H K : Type 0} (action : K → ℕ → ℕ → BackpressureAction) (IsDefaultElement : T → Type 0) (IsDefaultHeader : H → Type 0)
     (family : Family) where

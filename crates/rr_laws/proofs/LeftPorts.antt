@@ -1,11 +1,12 @@
 -- Who is listed as left is gone, as ports come and leave.
-use Rattle.std.proofs.Common.{◌≡◌, ℕ, ◌+◌, ◌≤◌, Bool, true, false, cond, not, eqb, List, [], ◌∷◌, ◌++◌, map, length, Option, Some, None, refl, sym, ap, ◌∙◌, ⊎_elim, inl, inr, arith}
+use Rattle.std.proofs.Common.{◌≡◌, ℕ, ◌+◌, ◌≤◌, Bool, true, false, cond, not, eqb, List, [], ◌∷◌, ◌++◌, map, length, Option, Some, None, refl, sym, ap, ◌∙◌, subst, ⊎_elim, inl, inr, arith}
 use Rattle.std.specs.Prelude.{◌⊎◌, ◌-◌, fold, find, filter, is_some}
 use Rattle.std.specs.List.{AllByRecursion}
 use Rattle.std.specs.Ordering.{nat_cmp}
 use Rattle.std.specs.Cmp.{nat_cmp_total}
 use Rattle.std.specs.FinMap.{nat_cmp-IsAntisymmetric}
 use Rattle.std.proofs.lemmas.Bool.{eq-eqb, eqb-true}
+use Rattle.rr_map_laws.proofs.ListFacts.{all_each, all_append, all_drop, find-append, find-gone}
 use Rattle.rr_protocol.specs.declared.limits.Limits.{Limits}
 use Rattle.rr_protocol.specs.Lists.{Lists, at, with_at}
 use Rattle.rr_protocol.specs.Ports.{Client, Server}
@@ -13,7 +14,6 @@ use Rattle.rr_protocol.specs.State.{State}
 use Rattle.rr_protocol.specs.Releases.{has_responses_from, has_requests_from, kept_senders, room_for_expired_clients, with_expired_client, with_expired_server}
 use Rattle.rr_laws.specs.Reached.{has_server, PortsFit}
 use Rattle.rr_laws.specs.Left.{IsGone, LeftFit}
-use Rattle.rr_map_laws.proofs.ListFacts.{all_each, all_append, all_drop, find-append, find-gone}
 use Rattle.rr_laws.proofs.Connected.{has_below, hasn't-append, has-same, not_both}
 use Rattle.rr_laws.proofs.Putting.{each_list_with}
 
@@ -140,6 +140,11 @@ kept_all : (R : ℕ → Type 0) (room : ℕ) (senders : List ℕ) (sender : ℕ)
 kept_all R room senders sender all one = all_drop R (length senders + 1 - room)
     (senders ++ sender ∷ []) (all_append R senders sender all one)
 
+-- what is chosen where a test fails
+otherwise : {X : Type 0} (b : Bool) (x y : X) → b ≡ false → cond b x y ≡ y
+otherwise true x y e = absurd (let f : false ≡ true = sym e in cc)
+otherwise false x y e = refl
+
 module _ {Q QH P PH K : Type 0} where
   -- what holds of all that are listed as left
   abbrev pub AllListed : (ℕ → Type 0) → State Q QH P PH K → Type 0
@@ -168,3 +173,22 @@ module _ {Q QH P PH K : Type 0} where
       (either_listed R (has_responses_from s client server) _ s
       (each_list_with nat_cmp_total nat_cmp-IsAntisymmetric (λ k xs. AllByRecursion R xs) s.expired client _
       (kept_all R s.limits.client_expired_connection_buffer (at s.expired client) server (all client) one) all) all)
+
+  -- where a client has no responses from a server, nothing expires
+  none_expired : (server client : ℕ) (s : State Q QH P PH K) → has_responses_from s client server ≡ false
+      → with_expired_server server s client ≡ s
+  none_expired server client s e = otherwise (has_responses_from s client server) _ s e
+
+  -- of a server that leaves, if some client has responses from it
+  pub listed_sender : (R : ℕ → Type 0) (server : ℕ) (clients : List ℕ) (s : State Q QH P PH K)
+      → ((client : ℕ) → has_responses_from s client server ≡ true → R server) → AllListed R s
+      → AllListed R (fold (with_expired_server server) s clients)
+  listed_sender R server [] s one all = all
+  listed_sender R server (client ∷ clients) s one all =
+      go (has_responses_from s client server) refl (listed_sender R server clients s one all)
+    where
+      go : (b : Bool) → has_responses_from s client server ≡ b → AllListed R (fold (with_expired_server server) s clients)
+          → AllListed R (fold (with_expired_server server) (with_expired_server server s client) clients)
+      go true e rest = listed_servers R server (one client e) (client ∷ clients) s all
+      go false e rest = subst (λ (x : State Q QH P PH K). AllListed R (fold (with_expired_server server) x clients))
+          (sym (none_expired server client s e)) rest

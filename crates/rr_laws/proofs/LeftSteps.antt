@@ -1,11 +1,12 @@
 -- Who is listed as left is gone, through releases, sends and receives.
+use Rattle.std.specs.FinMap.{nat_cmp-IsAntisymmetric, remove}
+use Rattle.std.specs.FinMap as fin_map
 use Rattle.std.proofs.Common.{◌≡◌, ℕ, ◌+◌, ◌<◌, Bool, true, false, cond, not, eqb, List, [], ◌∷◌, map, Option, Some, None, Result, Ok, Err, refl, sym, subst, arith}
 use Rattle.std.specs.Prelude.{filter, is_some}
 use Rattle.std.specs.List.{AllByRecursion}
 use Rattle.std.specs.Option.{option_map_or}
 use Rattle.std.specs.Cmp.{nat_cmp_total}
-use Rattle.std.specs.FinMap as fin_map
-use Rattle.std.specs.FinMap.{nat_cmp-IsAntisymmetric, remove}
+use Rattle.rr_map_laws.proofs.ListFacts.{all_each, all_filter}
 use Rattle.rr_protocol.specs.declared.settings.BackpressureAction.{BackpressureAction}
 use Rattle.rr_protocol.specs.declared.error.LoanError.{LoanError}
 use Rattle.rr_protocol.specs.declared.error.RequestSendError.{RequestSendError}
@@ -20,11 +21,10 @@ use Rattle.rr_protocol.specs.Counts.{is_in_use}
 use Rattle.rr_protocol.specs.Loans.{with_loan_counted, LoansRequest, LoansResponse}
 use Rattle.rr_protocol.specs.Sends.{with_response_put, SendsRequest, SendsResponse}
 use Rattle.rr_protocol.specs.Receives.{TakesRequest, Skims, ReceivesUnskimmed, ReceivesRequest, ReceivesResponse}
-use Rattle.rr_protocol.specs.Releases.{after_client_left, after_server_left, without_unused_port, without_port_value, without_value, after_handle_gone, after_release}
+use Rattle.rr_protocol.specs.Releases.{after_client_left, after_server_left, without_unused_port, without_port_value, without_value, after_handle_gone, after_release, has_responses_from}
 use Rattle.rr_laws.specs.Roles.{Role, LoanedRequest, SentRequest, ReceivedRequest, LoanedResponse, ReceivedResponse, role_of}
 use Rattle.rr_laws.specs.Reached.{has_client, has_port, IsReached}
 use Rattle.rr_laws.specs.Left.{IsGone, LeftFit, IsLeftFit}
-use Rattle.rr_map_laws.proofs.ListFacts.{all_each, all_filter}
 use Rattle.rr_laws.proofs.RoleLaws.{role_at}
 use Rattle.rr_laws.proofs.Opening.{some_and, open_request_mut, open_response_mut, open_active}
 use Rattle.rr_laws.proofs.Connected.{has_below, hadn't, port_number}
@@ -34,7 +34,7 @@ use Rattle.rr_laws.proofs.Expiring.{clients_expired, servers_expired}
 use Rattle.rr_laws.proofs.Leaving.{port_of-role, without_value_id, without_port_value_reached}
 use Rattle.rr_laws.proofs.Sending.{response_put_reached}
 use Rattle.rr_laws.proofs.Loaning.{counted_id}
-use Rattle.rr_laws.proofs.LeftPorts.{had, hasn't-gone, left_with_more, left_with_clients, left_with_servers, left_with_list, listed_clients, listed_servers}
+use Rattle.rr_laws.proofs.LeftPorts.{had, hasn't-gone, left_with_more, left_with_clients, left_with_servers, left_with_list, listed_clients, listed_sender}
 
 module _ {Q QH P PH K : Type 0} where
   client_left : (s : State Q QH P PH K) (client : ℕ) → IsReached s → IsLeftFit s → has_client s.clients client ≡ true
@@ -67,14 +67,19 @@ module _ {Q QH P PH K : Type 0} where
             (λ k xs. AllByRecursion (IsGone clients s.servers s.next) xs) x.1 client [] tt listed;
       })
 
-  server_left : (s : State Q QH P PH K) (server : ℕ) → IsReached s → IsLeftFit s → server < s.next → has_client s.clients server ≡ false
-      → IsLeftFit (after_server_left s server)
+  -- a number was given, if some client has responses from it
+  abbrev pub IsGivenSender : State Q QH P PH K → ℕ → Type 0
+  IsGivenSender s n = (client : ℕ) → has_responses_from s client n ≡ true → n < s.next
+
+  server_left : (s : State Q QH P PH K) (server : ℕ) → IsReached s → IsLeftFit s → IsGivenSender s server
+      → has_client s.clients server ≡ false → IsLeftFit (after_server_left s server)
   server_left s server fits left below no_client =
       let clients = map (λ (c : Client K). c.id) s.clients in
       let servers = filter (λ (c : Server K). not (eqb c.id server)) s.servers in
       let x = servers_expired server clients s fits in
-      let itself : IsGone s.clients servers s.next server = record {
-        below = below;
+      let itself : (client : ℕ) → has_responses_from s client server ≡ true → IsGone s.clients servers s.next server =
+      λ client sent. record {
+        below = below client sent;
         no_client = no_client;
         no_server = hasn't-gone (λ (c : Server K). c.id) server s.servers;
       } in
@@ -84,7 +89,7 @@ module _ {Q QH P PH K : Type 0} where
         no_client = g.no_client;
         no_server = hadn't (λ (c : Server K). c.id) server c s.servers g.no_server;
       }) (at s.expired n) (left.gone n) in
-      let all = listed_servers (IsGone s.clients servers s.next) server itself clients s before in
+      let all = listed_sender (IsGone s.clients servers s.next) server clients s itself before in
       let listed : (n : ℕ) → AllByRecursion (IsGone s.clients servers s.next) (at x.1 n) = λ n. subst
       (λ (y : State Q QH P PH K). AllByRecursion (IsGone s.clients servers s.next) (at y.expired n)) x.2 (all n) in
       subst (λ (y : State Q QH P PH K). LeftFit y.clients (filter (λ c. not (eqb c.id server)) y.servers)
@@ -95,7 +100,8 @@ module _ {Q QH P PH K : Type 0} where
             (λ k xs. AllByRecursion (IsGone s.clients servers s.next) xs) x.1 server [] tt listed;
       })
 
-  unused_port_left : (s : State Q QH P PH K) (port : ℕ) → IsReached s → IsLeftFit s → port < s.next → IsLeftFit (without_unused_port s port)
+  unused_port_left : (s : State Q QH P PH K) (port : ℕ) → IsReached s → IsLeftFit s → IsGivenSender s port
+      → IsLeftFit (without_unused_port s port)
   unused_port_left s port fits left below = go (is_in_use s port) (is_some (client_at s port)) refl
     where
       go : (used client : Bool) → is_some (client_at s port) ≡ client
@@ -146,8 +152,8 @@ module _ {Q QH P PH K : Type 0} where
       (λ c. without_value_id n c.port))
       (λ (c : Server K). record c { port = without_value n c.port }) (λ c. without_value_id n c.port)
 
-  -- after a release of a number that was given
-  pub after_release_left : (s : State Q QH P PH K) (n : ℕ) → IsReached s → IsLeftFit s → n < s.next → IsLeftFit (after_release s n)
+  -- after a release of a number that was given, or from which nobody has responses
+  pub after_release_left : (s : State Q QH P PH K) (n : ℕ) → IsReached s → IsLeftFit s → IsGivenSender s n → IsLeftFit (after_release s n)
   after_release_left s n fits left below = go (handle_at s n) refl
     where
       go : (o : Option (Handle Q QH P PH)) → handle_at s n ≡ o →
@@ -157,7 +163,7 @@ module _ {Q QH P PH K : Type 0} where
       go None e = unused_port_left (without_port_value s n) n (without_port_value_reached s n fits) (port_value_left s n left) below
       go (Some h) e =
           unused_port_left _ (port_of h) (handle_gone_reached s fits n h e) (handle_gone_left s n left h)
-          (subst (λ k. port_of h < k) (sym (handle_gone_next s n h)) (port_below s fits n h e))
+          (λ client sent. subst (λ k. port_of h < k) (sym (handle_gone_next s n h)) (port_below s fits n h e))
 
   -- after a loan of a request, or its refusal
   pub loans_request_left : (IsDefault : QH → Type 0) (s : State Q QH P PH K) → IsLeftFit s
@@ -192,7 +198,8 @@ module _ {Q QH P PH K : Type 0} where
       (sym (open_request_mut s n _ sends).4.2) left
   sends_request_left action s fits left n (Err error) new sends =
       let o = open_request_mut s n _ sends in
-      subst (λ (x : State Q QH P PH K). IsLeftFit x) (sym o.4.1) (after_release_left s n fits left (given s fits n (RequestMut o.1) o.2))
+      subst (λ (x : State Q QH P PH K). IsLeftFit x) (sym o.4.1)
+      (after_release_left s n fits left (λ client sent. given s fits n (RequestMut o.1) o.2))
 
   -- after a response was sent, or refused
   pub sends_response_left : {U : Type 0} (action : K → ℕ → ℕ → BackpressureAction) (s : State Q QH P PH K) → IsReached s → IsLeftFit s
@@ -202,10 +209,11 @@ module _ {Q QH P PH K : Type 0} where
       let o = open_response_mut s n _ sends in
       subst (λ (x : State Q QH P PH K). IsLeftFit x) (sym o.4.1)
       (after_release_left (record s { responses = with_response_put s o.1 }) n (response_put_reached s fits n o.1 o.2) left
-      (given s fits n (ResponseMut o.1) o.2))
+      (λ client sent. given s fits n (ResponseMut o.1) o.2))
   sends_response_left action s fits left n (Err error) new sends =
       let o = open_response_mut s n _ sends in
-      subst (λ (x : State Q QH P PH K). IsLeftFit x) (sym o.4.2) (after_release_left s n fits left (given s fits n (ResponseMut o.1) o.2))
+      subst (λ (x : State Q QH P PH K). IsLeftFit x) (sym o.4.2)
+      (after_release_left s n fits left (λ client sent. given s fits n (ResponseMut o.1) o.2))
 
   takes_request_left : (s : State Q QH P PH K) → IsLeftFit s → (key : RequestKey) (m : RequestMessage Q QH) (new : State Q QH P PH K)
       → TakesRequest s key m new → IsLeftFit new

@@ -13,7 +13,9 @@ pub mod Leaving
 pub mod Sending
 pub mod Receiving
 pub mod Changing
+pub mod Calling
 pub mod Stepping
+pub mod PortSteps
 pub mod Bins
 pub mod Below
 pub mod LiveRequests
@@ -53,7 +55,9 @@ pub mod Moving
 pub mod MovingReleases
 pub mod MovingSends
 pub mod MovingReceives
+pub mod FollowingCalls
 pub mod FollowingSteps
+pub mod Leading
 pub mod Histories
 pub mod Settling
 pub mod SettlingReleases
@@ -65,7 +69,10 @@ pub mod Completing
 pub mod CompletingEvents
 pub mod SettlingServers
 pub mod SettlingWrites
+pub mod CompletingCalls
 pub mod CompletingSteps
+pub mod Senders
+pub mod PortRuns
 pub mod AnswerRuleHolds
 pub mod Made
 pub mod WholePools

@@ -10,6 +10,8 @@ use Rattle.std.specs.FinMap.{get, insert}
 use Rattle.std.proofs.lemmas.Bool.{cases_eq, eq-eqb, ne_eqb}
 use Rattle.rr_map_laws.specs.Maps.{mark}
 use Rattle.rr_map_laws.proofs.MapLaws.{get-insert_same, get-insert_other, get-insert_cases}
+use Rattle.rr_map_laws.proofs.Counting.{count-cons}
+use Rattle.rr_map_laws.proofs.MapFacts.{itself}
 use Rattle.rr_protocol.specs.declared.error.ReceiveError.{ReceiveError}
 use Rattle.rr_protocol.specs.Lists.{at, with_at}
 use Rattle.rr_protocol.specs.Keys.{ResponseKey, response_key_cmp}
@@ -27,19 +29,17 @@ use Rattle.rr_laws.specs.Following.{waiting_question, is_servers, channel_key, e
 use Rattle.rr_laws.specs.Settling.{Settles}
 use Rattle.rr_laws.proofs.RoleLaws.{role_at, roles-insert}
 use Rattle.rr_laws.proofs.Opening.{some_and, open_active, from_pending}
-use Rattle.rr_map_laws.proofs.Counting.{count-cons}
-use Rattle.rr_map_laws.proofs.MapFacts.{itself}
 use Rattle.rr_laws.proofs.Occurring.{false_is_true}
 use Rattle.rr_laws.proofs.Following.{GainsRequest, GainsLoan}
 use Rattle.rr_laws.proofs.Moving.{entries-waiting, entries-none, entries-same_role, none_for, moves_same, moves_with_role}
 use Rattle.rr_laws.proofs.MovingSends.{waiting_is}
 use Rattle.rr_laws.proofs.Settling.{settles_by, same_servers, same_held, same_requests}
 
-module _ {T H K : Type 0} where
+module _ {T H Q QH P PH K : Type 0} where
   -- a loan of a response from an active request that was received
-  pub loaned_response_moves : (IsDefault : H → Type 0) (s : State T H T H K) → IsReached s → (history : List (Event T H K)) →
+  pub loaned_response_moves : (IsDefault : PH → Type 0) (s : State Q QH P PH K) → IsReached s → (history : List (Event T H K)) →
       ((k server : ℕ) (q : Question) → get (roles_of s.handles) k ≡ Some (ReceivedRequest server q) → WasReceived history server k q.number)
-      → (n len number : ℕ) (new : State T H T H K) →
+      → (n len number : ℕ) (new : State Q QH P PH K) →
       LoansResponse IsDefault s n len (Ok number) new →
       Moves (GainsLoan history n number) (λ server p before after. after ≡ before) s new × (number ≡ s.next) × (s.next < new.next)
       × (n < s.next)
@@ -47,21 +47,22 @@ module _ {T H K : Type 0} where
       let o = open_active s n _ loans in
       let here : get (roles_of s.handles) n ≡ Some (ReceivedRequest o.1.server (question_of o.1.message)) = role_at s.handles n
       (ActiveRequest o.1) o.2 in (
-        subst (λ (x : State T H T H K). Moves (GainsLoan history n number) (λ server p before after. after ≡ before) s x) (sym o.4.2.2)
+        subst (λ (x : State Q QH P PH K). Moves (GainsLoan history n number) (λ server p before after. after ≡ before) s x) (sym o.4.2.2)
             (moves_with_role s _ s.next (LoanedResponse _) (omega arith) (roles-insert s.handles s.next _) refl
             (λ e. (sym o.4.1, (_, refl, refl, held n o.1.server (question_of o.1.message) here)))
             (none_for (roles_of s.handles) s.responses s.next (LoanedResponse _) refl)),
         o.4.1,
-        subst (λ (x : State T H T H K). s.next < x.next) (sym o.4.2.2) (omega arith),
+        subst (λ (x : State Q QH P PH K). s.next < x.next) (sym o.4.2.2) (omega arith),
         (fits.handles n _ here).below,
       )
 
+module _ {Q QH P PH K : Type 0} where
   -- it leaves all entries as they are
-  pub loaned_response_same : (IsDefault : H → Type 0) (s : State T H T H K) → IsReached s → (n len number : ℕ) (new : State T H T H K)
+  pub loaned_response_same : (IsDefault : PH → Type 0) (s : State Q QH P PH K) → IsReached s → (n len number : ℕ) (new : State Q QH P PH K)
       → LoansResponse IsDefault s n len (Ok number) new → (server p : ℕ) → queued new server p ≡ queued s server p
   loaned_response_same IsDefault s fits n len number new loans server p =
       let o = open_active s n _ loans in
-      subst (λ (x : State T H T H K). queued x server p ≡ queued s server p) (sym o.4.2.2)
+      subst (λ (x : State Q QH P PH K). queued x server p ≡ queued s server p) (sym o.4.2.2)
       (ap (λ r. entries_for r s.responses server p) (roles-insert s.handles s.next _) ∙ ⊎_elim
       (λ is. entries-none (insert (roles_of s.handles) s.next (LoanedResponse _)) s.responses server p
       (ap (option_and_then waiting_question) (get-insert_same (roles_of s.handles) s.next (LoanedResponse _) p is))
@@ -75,7 +76,6 @@ module _ {T H K : Type 0} where
       unnamed None e = e
       unnamed (Some role) e = absurd (omega (arith, (fits.handles s.next role e).below))
 
-module _ {Q QH P PH K : Type 0} where
   -- skimming changes no handle and no response
   pub skims_same : (clients : List ℕ) (s : State Q QH P PH K) (server : ℕ) (new : State Q QH P PH K) → Skims s server clients new
       → (new.handles ≡ s.handles) × (new.responses ≡ s.responses) × (new.next ≡ s.next)

@@ -5,10 +5,12 @@ use Rattle.std.specs.List.{list_any}
 use Rattle.std.specs.FinMap.{get}
 use Rattle.std.proofs.lemmas.Bool.{eq-eqb, eqb-true}
 use Rattle.std.proofs.lemmas.List.Folds.{list_any-append}
-use Rattle.rr_map_laws.specs.Maps.{mark}
-use Rattle.rr_map_laws.proofs.MapLaws.{get-insert_same}
 use Rattle.rr_slots.specs.declared.family.Family.{Family}
 use Rattle.rr_slots.specs.declared.family.Family.TheVariants.{Typed, Sliced}
+use Rattle.rr_map_laws.specs.Maps.{mark}
+use Rattle.rr_map_laws.proofs.MapLaws.{get-insert_same}
+use Rattle.rr_map_laws.proofs.ListFacts.{any-append}
+use Rattle.rr_map_laws.proofs.Counting.{count-cons}
 use Rattle.rr_protocol.specs.declared.settings.BackpressureStrategy.{BackpressureStrategy}
 use Rattle.rr_protocol.specs.declared.settings.ServerSettings.{ServerSettings}
 use Rattle.rr_protocol.specs.Keys.{RequestKey, request_key}
@@ -25,10 +27,8 @@ use Rattle.rr_laws.specs.Roles.{Question, Role, roles_of, asking, asking_at}
 use Rattle.rr_laws.specs.Reached.{IsReached}
 use Rattle.rr_laws.specs.Following.{entries_for}
 use Rattle.rr_laws.specs.Settling.{listed, IsNew, IsWaiting, Settles}
-use Rattle.rr_map_laws.proofs.ListFacts.{any-append}
 use Rattle.rr_laws.proofs.Opening.{some_and}
 use Rattle.rr_laws.proofs.Connected.{has_below}
-use Rattle.rr_map_laws.proofs.Counting.{count-cons}
 use Rattle.rr_laws.proofs.Occurring.{false_is_true}
 use Rattle.rr_laws.proofs.Telling.{three_true}
 use Rattle.rr_laws.proofs.LeftPorts.{found-append_cases}
@@ -132,14 +132,14 @@ module _ {K : Type 0} where
   family_keeps Typed settings = (refl, refl)
   family_keeps Sliced settings = (refl, refl)
 
-module _ {T H K : Type 0} where
+module _ {Q QH P PH K : Type 0} where
   -- a server that an event creates as one that waits for room is one
-  pub created_waits : (family : Family) (s : State T H T H K) → IsReached s → (settings : ServerSettings K) (m : ℕ) (new : State T H T H K)
-      → CreatesServer s (server_settings family settings) (Ok m) new → (n : ℕ) →
+  pub created_waits : (T H : Type 0) (family : Family) (s : State Q QH P PH K) → IsReached s → (settings : ServerSettings K) (m : ℕ)
+      (new : State Q QH P PH K) → CreatesServer s (server_settings family settings) (Ok m) new → (n : ℕ) →
       creates_waiting {T = T} {H = H} {K = K} n (Command.CreateServer settings, Reply.Created m) ≡ true → (s.next ≤ n) × (n < new.next)
       × ((c : Server K) → server_at new n ≡ Some c → IsWaiting c) × (is_server_value new n ≡ true)
-  created_waits family s fits settings m new made n e = subst
-      (λ (x : State T H T H K). (s.next ≤ n) × (n < x.next) × ((c : Server K) → server_at x n ≡ Some c → IsWaiting c)
+  created_waits T H family s fits settings m new made n e = subst
+      (λ (x : State Q QH P PH K). (s.next ≤ n) × (n < x.next) × ((c : Server K) → server_at x n ≡ Some c → IsWaiting c)
       × (is_server_value x n ≡ true)) (sym made.2) (
         omega (arith, is),
         omega (arith, is),

@@ -24,7 +24,8 @@ use Rattle.rr_laws.proofs.Stepping.{step_reached}
 use Rattle.rr_laws.proofs.ApartSteps.{empty_hub_apart, step_apart}
 use Rattle.rr_laws.proofs.Occurring.{false_is_true}
 use Rattle.rr_laws.proofs.FollowingSteps.{step_follows}
-use Rattle.rr_laws.proofs.Histories.{empty_follows, run_at, stands_from_empty}
+use Rattle.rr_laws.proofs.Histories.{run_at, stands_from_empty}
+use Rattle.rr_laws.proofs.Leading.{empty_follows}
 use Rattle.rr_laws.proofs.Lasting.{client_lasting, server_lasting, Lasts}
 use Rattle.rr_laws.proofs.LastingSteps.{step_lasts, run_lasts}
 use Rattle.rr_laws.proofs.Memory.{finds_memory}

@@ -1,8 +1,8 @@
 -- How a state follows from its history: what its handles and lists of responses tell of the events before.
+use Rattle.std.specs.FinMap as fin_map
 use Rattle.std.specs.Prelude.{◌≡◌, ◌⊎◌, ℕ, ◌<◌, ◌≤◌, Bool, true, false, List, [], ◌∷◌, ◌++◌, map, filter_map, count_by, Option, Some, None, option_and_then}
 use Rattle.std.specs.List.{AllByRecursion, list_any}
 use Rattle.std.specs.Option.{option_map_or}
-use Rattle.std.specs.FinMap as fin_map
 use Rattle.rr_protocol.specs.Lists.{Lists, at}
 use Rattle.rr_protocol.specs.Keys.{ResponseKey, response_key_cmp}
 use Rattle.rr_protocol.specs.Messages.{ResponseMessage}
@@ -86,8 +86,9 @@ module _ {T H K : Type 0} where
     pub one_receiver : (a server other p q : ℕ) → WasReceived history server a p → WasReceived history other a q → (server ≡ other) × (p ≡ q)
     pub once : (k : ℕ) → count_by (is_response k) history ≤ 1
 
+module _ {T H Q QH P PH K : Type 0} where
   -- a state follows from a history
-  pub record Follows (history : List (Event T H K)) (s : State T H T H K) : Type 0 where
+  pub record Follows (history : List (Event T H K)) (s : State Q QH P PH K) : Type 0 where
     pub numbers : NumbersFit history s.next
     pub held : (n server : ℕ) (q : Question) → fin_map.get (roles_of s.handles) n ≡ Some (ReceivedRequest server q) → WasReceived history server n q.number
     pub loaned : (k : ℕ) (a : Answer) → fin_map.get (roles_of s.handles) k ≡ Some (LoanedResponse a) →

@@ -7,8 +7,10 @@ pub mod Expired
 pub mod Bound
 pub mod Unreduced
 pub mod History
+pub mod PortHistory
 pub mod Whole
 pub mod Following
 pub mod Settling
 pub mod Completing
+pub mod Standing
 pub mod Filling

@@ -5,6 +5,7 @@ mod bounded;
 mod expired;
 mod ordered;
 mod own_request;
+mod port_answers;
 mod unreduced;
 mod whole;
 
@@ -12,5 +13,6 @@ pub use bounded::bound;
 pub use expired::expired_lists;
 pub use ordered::in_order;
 pub use own_request::own_request_once;
+pub use port_answers::port_answer_rule;
 pub use unreduced::unreduced_pool;
 pub use whole::whole_pool;

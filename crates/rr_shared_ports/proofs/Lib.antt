@@ -1,3 +1,6 @@
+pub mod Leading
+pub mod LeadingWrites
+pub mod Readings
 pub mod Turns
 pub mod Telling
 pub mod Waits

@@ -1,6 +1,7 @@
 -- What is noted is a call, and leads to the hub's state.
 use Rattle.std.proofs.Common.{◌≡◌, ℕ, List, [], ◌∷◌, ◌++◌, ap, ◌∙◌, append_assoc, append-nil, refl, subst, sym}
 use mathlib.Core.List.{IsPrefix}
+use Rattle.rr_shared_ports.specs.Leading.{IsHistory}
 use Rattle.rr_shared_ports.specs.Turns.{EndsInCall, EndsIn, IsNoted, MakesCall, Seated, state_after}
 
 -- the state after calls is where the last one led
@@ -48,3 +49,15 @@ caller_stays start Call old new made = ap (λ seat. seat.0) made.2
 -- and what that had seen begins what it has seen then
 pub seen_begins : {S : Type 0} (start : S) (Call : S → S → Type 0) (old new : Seated S) → MakesCall start Call old new → IsPrefix old.1 new.1
 seen_begins start Call old new made = goes_on old.1 old new made.0 made.1 made.2 ([], append-nil old.1)
+
+module _ {S : Type 0} (steps : List ℕ → S → S → Type 0) where
+  -- a history goes on by a step
+  pub history_grows : (start : S) (calls : List (ℕ × S)) (caller : ℕ) (after : S) → IsHistory steps start calls
+      → (handed : List ℕ) × steps handed (state_after start calls) after → IsHistory steps start (calls ++ (caller, after) ∷ [])
+  history_grows start [] caller after history step = (step, tt)
+  history_grows start (call ∷ calls) caller after history step = (history.0, history_grows call.1 calls caller after history.1 step)
+
+  -- what is a step from a state is one from where calls lead to it
+  pub steps_from : (start : S) (calls : List (ℕ × S)) (before after : S) (handed : List ℕ) → state_after start calls ≡ before → steps handed before after
+      → (taken : List ℕ) × steps taken (state_after start calls) after
+  steps_from start calls before after handed led step = (handed, subst (λ s. steps handed s after) (sym led) step)

@@ -34,20 +34,20 @@ module _ {B E : Type 0} (number : B → ℕ) where
   IsReceived made received = ⊥
 
   module _ {S : Type 0} (kind : Kind) where
-    -- a call keeps all that is known of numbers, and what it makes, if anything, is known by a free one
+    -- a call is a step, and what it makes, if anything, is known by a free one
     abbrev pub MakesFree : (List ℕ → S → S → Type 0) → (S → ℕ → Type 0) → (S → ℕ → Kind → Type 0) → S → Result B E → S → Type 0
-    MakesFree keeps is_free names old made new =
-        keeps [] old new × IfOk made (λ it. is_free old (number it)) × IfOk made (λ it. names new (number it) kind)
+    MakesFree steps is_free names old made new =
+        steps [] old new × IfOk made (λ it. is_free old (number it)) × IfOk made (λ it. names new (number it) kind)
 
     -- the same of what is received
     abbrev pub ReceivesFree : (List ℕ → S → S → Type 0) → (S → ℕ → Type 0) → (S → ℕ → Kind → Type 0) → S → Result (Option B) E → S → Type 0
-    ReceivesFree keeps is_free names old received new =
-        keeps [] old new × IfOk received (λ made. IfSome made (λ it. is_free old (number it)))
+    ReceivesFree steps is_free names old received new =
+        steps [] old new × IfOk received (λ made. IfSome made (λ it. is_free old (number it)))
         × IfOk received (λ made. IfSome made (λ it. names new (number it) kind))
 
-    -- a call keeps all that is known of numbers but of one, and what it makes of that, if anything, is known by it
+    -- a call is a step that takes one number, and what it makes of that, if anything, is known by it
     abbrev pub TurnsFree : (List ℕ → S → S → Type 0) → (S → ℕ → Kind → Type 0) → ℕ → S → Result B E → S → Type 0
-    TurnsFree keeps names n old made new = keeps (n ∷ []) old new × IfOk made (λ it. number it ≡ n) × IfOk made (λ it. names new (number it) kind)
+    TurnsFree steps names n old made new = steps (n ∷ []) old new × IfOk made (λ it. number it ≡ n) × IfOk made (λ it. names new (number it) kind)
 
 module _ {A B E : Type 0} (held : A → ℕ) (number : B → ℕ) where
   -- what was made is known by its number; or what is given back is, with why
@@ -57,10 +57,10 @@ module _ {A B E : Type 0} (held : A → ℕ) (number : B → ℕ) where
   IsTried (Ok made) (Err kept) = ⊥
   IsTried (Err refused) (Ok n) = ⊥
 
-  -- a call keeps all that is known of numbers but of one, and what it makes of that, or gives back, is known by it
+  -- a call is a step that takes one number, and what it makes of that, or gives back, is known by it
   abbrev pub TriesFree : {S : Type 0} → Kind → Kind → (List ℕ → S → S → Type 0) → (S → ℕ → Kind → Type 0) → ℕ → S → Result B (Refused A E) → S → Type 0
-  TriesFree before after keeps names n old made new =
-      keeps (n ∷ []) old new × IfOk made (λ it. (number it ≡ n) × names new n after) × IfErr made (λ refused. (held refused.message ≡ n) × names new n before)
+  TriesFree before after steps names n old made new =
+      steps (n ∷ []) old new × IfOk made (λ it. (number it ≡ n) × names new n after) × IfErr made (λ refused. (held refused.message ≡ n) × names new n before)
 
 module _ {A U E : Type 0} (held : A → ℕ) where
   -- what was returned is returned; or what is given back is known by its number, with why
@@ -70,9 +70,9 @@ module _ {A U E : Type 0} (held : A → ℕ) where
   IsSpent (Ok answer) (Err kept) = ⊥
   IsSpent (Err refused) (Ok returned) = ⊥
 
-  -- a call keeps all that is known of numbers but of one, and what it gives back, if anything, is known by that
+  -- a call is a step that takes one number, and what it gives back, if anything, is known by that
   abbrev pub SpendsFree : {S : Type 0} → Kind → (List ℕ → S → S → Type 0) → (S → ℕ → Kind → Type 0) → ℕ → S → Result U (Refused A E) → S → Type 0
-  SpendsFree kind keeps names n old spent new = keeps (n ∷ []) old new × IfErr spent (λ refused. (held refused.message ≡ n) × names new n kind)
+  SpendsFree kind steps names n old spent new = steps (n ∷ []) old new × IfErr spent (λ refused. (held refused.message ≡ n) × names new n kind)
 
 module _ {U E : Type 0} where
   -- what a call of a port answered is what is returned

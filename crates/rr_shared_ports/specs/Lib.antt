@@ -1,4 +1,5 @@
 pub mod Turns
+pub mod Leading
 pub mod Calls
 pub mod Numbers
 pub mod Tries

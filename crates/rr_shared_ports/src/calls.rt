@@ -20,7 +20,7 @@ pub(crate) fn created<N: Naming, B: Handle, H: Ports, E, F: FnOnce(&mut H) -> Re
     f: F,
 ) -> Result<Claimed<N, B>, E>
     requires callable { FnOnceTakesAtMut F.FnOnce f hub.old }
-    requires makes { (made : Result B E) (after : H) → FnOnceReturnsAtMut F.FnOnce f hub.old made after → MakesFree B.number B.kind H.keeps H.is_free H.names hub.old made after }
+    requires makes { (made : Result B E) (after : H) → FnOnceReturnsAtMut F.FnOnce f hub.old made after → MakesFree B.number B.kind H.steps H.is_free H.names hub.old made after }
     ensures { (made : Result B E) × FnOnceReturnsAtMut F.FnOnce f hub.old made hub.new × IsMade B.number made result }
 {
     match f(&mut hub.ports) {
@@ -55,7 +55,7 @@ pub(crate) fn changed<N: Naming, A: Handle, H: Ports, U, F: FnOnce(&mut H) -> U>
     f: F,
 ) -> U
     requires callable { H.names hub.old claimed.now A.kind → FnOnceTakesAtMut F.FnOnce f hub.old }
-    requires keeps { (returned : U) (after : H) → FnOnceReturnsAtMut F.FnOnce f hub.old returned after → H.keeps [] hub.old after }
+    requires keeps { (returned : U) (after : H) → FnOnceReturnsAtMut F.FnOnce f hub.old returned after → H.steps [] hub.old after }
     ensures { FnOnceReturnsAtMut F.FnOnce f hub.old result hub.new }
 {
     hub.keeper.look(&claimed.claim);
@@ -75,7 +75,7 @@ pub(crate) fn numbered<
     F: FnOnce(&mut H) -> Result<U, E>,
 >(hub: &mut KeptHub<N, H>, claimed: &Claimed<N, A>, f: F) -> Result<U, CallError<E>>
     requires callable { H.names hub.old claimed.now A.kind → 0 < H.numbers hub.old → FnOnceTakesAtMut F.FnOnce f hub.old }
-    requires keeps { (returned : Result U E) (after : H) → FnOnceReturnsAtMut F.FnOnce f hub.old returned after → H.keeps [] hub.old after }
+    requires keeps { (returned : Result U E) (after : H) → FnOnceReturnsAtMut F.FnOnce f hub.old returned after → H.steps [] hub.old after }
     ensures { Tells H.numbers (λ answer before after. FnOnceReturnsAtMut F.FnOnce f before answer after) result hub.old hub.new }
 {
     if hub.ports.numbers_left() == 0 {
@@ -105,7 +105,7 @@ pub(crate) fn made<
     F: FnOnce(&mut H) -> Result<B, E>,
 >(hub: &mut KeptHub<N, H>, claimed: &Claimed<N, A>, f: F) -> Result<Claimed<N, B>, CallError<E>>
     requires callable { H.names hub.old claimed.now A.kind → 0 < H.numbers hub.old → FnOnceTakesAtMut F.FnOnce f hub.old }
-    requires makes { (made : Result B E) (after : H) → FnOnceReturnsAtMut F.FnOnce f hub.old made after → MakesFree B.number B.kind H.keeps H.is_free H.names hub.old made after }
+    requires makes { (made : Result B E) (after : H) → FnOnceReturnsAtMut F.FnOnce f hub.old made after → MakesFree B.number B.kind H.steps H.is_free H.names hub.old made after }
     ensures { Tells H.numbers (λ answer before after. (made : Result B E) × FnOnceReturnsAtMut F.FnOnce f before made after × IsMade B.number made answer) result hub.old hub.new }
 {
     if hub.ports.numbers_left() == 0 {
@@ -132,7 +132,7 @@ pub(crate) fn received<
     F: FnOnce(&mut H) -> Result<Option<B>, E>,
 >(hub: &mut KeptHub<N, H>, claimed: &Claimed<N, A>, f: F) -> Result<Option<Claimed<N, B>>, E>
     requires callable { H.names hub.old claimed.now A.kind → FnOnceTakesAtMut F.FnOnce f hub.old }
-    requires receives { (received : Result (Option B) E) (after : H) → FnOnceReturnsAtMut F.FnOnce f hub.old received after → ReceivesFree B.number B.kind H.keeps H.is_free H.names hub.old received after }
+    requires receives { (received : Result (Option B) E) (after : H) → FnOnceReturnsAtMut F.FnOnce f hub.old received after → ReceivesFree B.number B.kind H.steps H.is_free H.names hub.old received after }
     ensures { (received : Result (Option B) E) × FnOnceReturnsAtMut F.FnOnce f hub.old received hub.new × IsReceived B.number received result }
 {
     hub.keeper.look(&claimed.claim);
@@ -160,7 +160,7 @@ pub(crate) fn turned<
     F: FnOnce(A, &mut H) -> Result<B, E>,
 >(hub: &mut KeptHub<N, H>, claimed: Claimed<N, A>, f: F) -> Result<Claimed<N, B>, E>
     requires callable { H.names hub.old claimed A.kind → CanTake F.FnOnce A.number f claimed hub.old }
-    requires exchanges { (made : Result B E) (after : H) → Takes F.FnOnce A.number f claimed hub.old made after → TurnsFree B.number B.kind H.keeps H.names claimed hub.old made after }
+    requires exchanges { (made : Result B E) (after : H) → Takes F.FnOnce A.number f claimed hub.old made after → TurnsFree B.number B.kind H.steps H.names claimed hub.old made after }
     ensures { (made : Result B E) × Takes F.FnOnce A.number f claimed hub.old made hub.new × IsMade B.number made result }
 {
     let Claimed {
@@ -186,7 +186,7 @@ pub(crate) fn ended<N: Naming, A: Handle, H: Ports, U, F: FnOnce(A, &mut H) -> U
     f: F,
 ) -> U
     requires callable { H.names hub.old claimed A.kind → CanTake F.FnOnce A.number f claimed hub.old }
-    requires keeps { (returned : U) (after : H) → Takes F.FnOnce A.number f claimed hub.old returned after → H.keeps (claimed ∷ []) hub.old after }
+    requires keeps { (returned : U) (after : H) → Takes F.FnOnce A.number f claimed hub.old returned after → H.steps (claimed ∷ []) hub.old after }
     ensures { Takes F.FnOnce A.number f claimed hub.old result hub.new }
 {
     let Claimed {
@@ -208,7 +208,7 @@ pub(crate) fn became<N: Naming, A: Handle, B: Handle, H: Ports, F: FnOnce(A, &mu
     f: F,
 ) -> Claimed<N, B>
     requires callable { H.names hub.old claimed A.kind → CanTake F.FnOnce A.number f claimed hub.old }
-    requires exchanges { (made : B) (after : H) → Takes F.FnOnce A.number f claimed hub.old made after → H.keeps (claimed ∷ []) hub.old after × (B.number made ≡ claimed) × H.names after (B.number made) B.kind }
+    requires exchanges { (made : B) (after : H) → Takes F.FnOnce A.number f claimed hub.old made after → H.steps (claimed ∷ []) hub.old after × (B.number made ≡ claimed) × H.names after (B.number made) B.kind }
     ensures { (made : B) × Takes F.FnOnce A.number f claimed hub.old made hub.new × (result ≡ B.number made) }
 {
     let Claimed {
@@ -236,7 +236,7 @@ pub(crate) fn heard<
     f: F,
 ) -> Result<Option<Claimed<N, B>>, CallError<E>>
     requires callable { H.names hub.old claimed.now A.kind → 0 < H.numbers hub.old → FnOnceTakesAtMut F.FnOnce f hub.old }
-    requires receives { (received : Result (Option B) E) (after : H) → FnOnceReturnsAtMut F.FnOnce f hub.old received after → ReceivesFree B.number B.kind H.keeps H.is_free H.names hub.old received after }
+    requires receives { (received : Result (Option B) E) (after : H) → FnOnceReturnsAtMut F.FnOnce f hub.old received after → ReceivesFree B.number B.kind H.steps H.is_free H.names hub.old received after }
     ensures { Tells H.numbers (λ answer before after. (received : Result (Option B) E) × FnOnceReturnsAtMut F.FnOnce f before received after × IsReceived B.number received answer) result hub.old hub.new }
 {
     if hub.ports.numbers_left() == 0 {
@@ -256,7 +256,7 @@ pub(crate) fn rewritten<N: Naming, A: Handle, H: Ports, U, F: FnOnce(&mut H) -> 
     f: F,
 ) -> U
     requires callable { H.names hub.old claimed.now A.kind → FnOnceTakesAtMut F.FnOnce f hub.old }
-    requires rewrites { (returned : U) (after : H) → FnOnceReturnsAtMut F.FnOnce f hub.old returned after → H.keeps (claimed.now ∷ []) hub.old after × H.names after claimed.now A.kind }
+    requires rewrites { (returned : U) (after : H) → FnOnceReturnsAtMut F.FnOnce f hub.old returned after → H.steps (claimed.now ∷ []) hub.old after × H.names after claimed.now A.kind }
     ensures { FnOnceReturnsAtMut F.FnOnce f hub.old result hub.new }
 {
     hub.keeper.look(&claimed.claim);
@@ -280,7 +280,7 @@ pub(crate) fn tried<
     f: F,
 ) -> Result<Claimed<N, B>, Refused<Claimed<N, A>, E>>
     requires callable { H.names hub.old claimed A.kind → CanTake F.FnOnce A.number f claimed hub.old }
-    requires tries { (made : Result B (Refused A E)) (after : H) → Takes F.FnOnce A.number f claimed hub.old made after → TriesFree A.number B.number A.kind B.kind H.keeps H.names claimed hub.old made after }
+    requires tries { (made : Result B (Refused A E)) (after : H) → Takes F.FnOnce A.number f claimed hub.old made after → TriesFree A.number B.number A.kind B.kind H.steps H.names claimed hub.old made after }
     ensures { (made : Result B (Refused A E)) × Takes F.FnOnce A.number f claimed hub.old made hub.new × IsTried A.number B.number made result }
 {
     let Claimed {
@@ -310,7 +310,7 @@ pub(crate) fn spent<
     F: FnOnce(A, &mut H) -> Result<U, Refused<A, E>>,
 >(hub: &mut KeptHub<N, H>, claimed: Claimed<N, A>, f: F) -> Result<U, Refused<Claimed<N, A>, E>>
     requires callable { H.names hub.old claimed A.kind → CanTake F.FnOnce A.number f claimed hub.old }
-    requires spends { (spent : Result U (Refused A E)) (after : H) → Takes F.FnOnce A.number f claimed hub.old spent after → SpendsFree A.number A.kind H.keeps H.names claimed hub.old spent after }
+    requires spends { (spent : Result U (Refused A E)) (after : H) → Takes F.FnOnce A.number f claimed hub.old spent after → SpendsFree A.number A.kind H.steps H.names claimed hub.old spent after }
     ensures { (spent : Result U (Refused A E)) × Takes F.FnOnce A.number f claimed hub.old spent hub.new × IsSpent A.number spent result }
 {
     let Claimed {

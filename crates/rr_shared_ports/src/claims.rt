@@ -38,7 +38,7 @@ pub(crate) fn granted<N: Naming, A: Handle, H: Ports>(
     handle: A,
 ) -> Claimed<N, A>
     requires id { keeper.old.id ≡ N.keeper_id }
-    requires keeps { H.keeps [] keeper.old.state hub.now }
+    requires keeps { H.steps [] keeper.old.state hub.now }
     requires free { H.is_free keeper.old.state (A.number handle) }
     requires kind { H.names hub.now (A.number handle) A.kind }
     ensures id { keeper.new.id ≡ keeper.old.id }
@@ -55,7 +55,7 @@ pub(crate) fn granted<N: Naming, A: Handle, H: Ports>(
 
 /// Keeps all claims, after a call that made nothing and ended nothing.
 pub(crate) fn kept<H: Ports>(hub: &H, keeper: &mut HubKeeper<H>)
-    requires keeps { H.keeps [] keeper.old.state hub.now }
+    requires keeps { H.steps [] keeper.old.state hub.now }
     ensures id { keeper.new.id ≡ keeper.old.id }
     ensures state { keeper.new.state ≡ hub.now }
 {
@@ -65,7 +65,7 @@ pub(crate) fn kept<H: Ports>(hub: &H, keeper: &mut HubKeeper<H>)
 /// Keeps all claims, after a call that changed what one of them is on.
 pub(crate) fn renewed<H: Ports>(hub: &H, keeper: &mut HubKeeper<H>, claim: &Claim<Kind>)
     requires named { H.names keeper.old.state claim.now.number claim.now.what }
-    requires keeps { H.keeps (claim.now.number ∷ []) keeper.old.state hub.now }
+    requires keeps { H.steps (claim.now.number ∷ []) keeper.old.state hub.now }
     requires names { H.names hub.now claim.now.number claim.now.what }
     ensures id { keeper.new.id ≡ keeper.old.id }
     ensures state { keeper.new.state ≡ hub.now }
@@ -76,7 +76,7 @@ pub(crate) fn renewed<H: Ports>(hub: &H, keeper: &mut HubKeeper<H>, claim: &Clai
 /// Gives a claim back, after a call that ended what it was on.
 pub(crate) fn retired<H: Ports>(hub: &H, keeper: &mut HubKeeper<H>, claim: Claim<Kind>)
     requires id { claim.id ≡ keeper.old.id }
-    requires keeps { H.keeps (claim.number ∷ []) keeper.old.state hub.now }
+    requires keeps { H.steps (claim.number ∷ []) keeper.old.state hub.now }
     ensures id { keeper.new.id ≡ keeper.old.id }
     ensures state { keeper.new.state ≡ hub.now }
 {
@@ -92,7 +92,7 @@ pub(crate) fn exchanged<N: Naming, A: Handle, H: Ports>(
 ) -> Claimed<N, A>
     requires id { keeper.old.id ≡ N.keeper_id }
     requires claim { claim.id ≡ keeper.old.id }
-    requires keeps { H.keeps (claim.number ∷ []) keeper.old.state hub.now }
+    requires keeps { H.steps (claim.number ∷ []) keeper.old.state hub.now }
     requires same { A.number handle ≡ claim.number }
     requires kind { H.names hub.now (A.number handle) A.kind }
     ensures id { keeper.new.id ≡ keeper.old.id }

@@ -1,8 +1,9 @@
 //! What lies under the lock, and the calls of seats.
 ghost use Rattle.std.specs.Fn.{FnOnceReturnsAt, FnOnceReturnsAtMut, FnOnceTakesAt, FnOnceTakesAtMut};
-ghost use Rattle.std.specs.Prelude.{◌≡◌, ◌<◌, ◌∷◌, [], Option, Result};
+ghost use Rattle.std.specs.Prelude.{◌≡◌, ◌<◌, ◌∷◌, [], ℕ, List, Option, Result};
 ghost use Rattle.rr_shared_ports.specs.Calls.{CanTake, IsMade, IsReceived, IsSpent, IsTried, MakesFree, ReceivesFree, SpendsFree, Takes, Tells, TriesFree, TurnsFree};
-ghost use Rattle.rr_shared_ports.specs.Turns.{EndsIn, IsNoted, MakesCall};
+ghost use Rattle.rr_shared_ports.specs.Leading.{IsHistory};
+ghost use Rattle.rr_shared_ports.specs.Turns.{EndsIn, IsNoted, MakesCall, state_after};
 
 use crate::calls;
 use crate::claimed::Claimed;
@@ -16,7 +17,7 @@ use rr_ports::{Handle, Refused};
 use std::fmt::Display;
 use std::marker::Model;
 
-/// A hub with what is claimed of it, and the pen of the log of the states that its calls left, which leads to its state.
+/// A hub with what is claimed of it, and the pen of the log of the states that its calls left, which leads to its state by steps.
 #[derive(Drop)]
 pub(crate) struct Desk<N: Naming, H: Ports> {
     pub(crate) hub: KeptHub<N, H>,
@@ -25,16 +26,17 @@ pub(crate) struct Desk<N: Naming, H: Ports> {
 
 impl<N: Naming, H: Ports> Model for Desk<N, H> {
     ghost use Rattle.std.specs.Prelude.{◌≡◌};
+    ghost use Rattle.rr_shared_ports.specs.Leading.{IsHistory};
     ghost use Rattle.rr_shared_ports.specs.Turns.{state_after};
 
     ghost Value = { Unit {0} };
 
     ghost view = { λ d. tt };
 
-    ghost invariant = { λ d. (d.pen.log_id ≡ N.log_id) × (state_after (H.empty N.limits N.node_id) d.pen.entries ≡ d.hub) };
+    ghost invariant = { λ d. (d.pen.log_id ≡ N.log_id) × (state_after (H.empty N.limits N.node_id) d.pen.entries ≡ d.hub) × IsHistory H.steps (H.empty N.limits N.node_id) d.pen.entries };
 }
 
-/// Adds the state that a seat's call left to the log.
+/// Adds the state that a seat's call left, which is a step, to the log.
 pub(crate) fn noted<N: Naming, H: Ports>(
     hub: &KeptHub<N, H>,
     log: &Log<H>,
@@ -43,7 +45,10 @@ pub(crate) fn noted<N: Naming, H: Ports>(
 )
     requires log { log.now ≡ N.log_id }
     requires pen { pen.old.log_id ≡ N.log_id }
+    requires history { IsHistory H.steps (H.empty N.limits N.node_id) pen.old.entries }
+    requires steps { (handed : List ℕ) × H.steps handed (state_after (H.empty N.limits N.node_id) pen.old.entries) hub.now }
     ensures pen { pen.new.log_id ≡ N.log_id }
+    ensures history { IsHistory H.steps (H.empty N.limits N.node_id) pen.new.entries }
     ensures ends { EndsIn hub.now pen.new.entries }
     ensures noted { IsNoted pen.old.entries hub.now seat.old seat.new }
 {
@@ -61,7 +66,7 @@ impl<N: Naming, H: Ports> Desk<N, H> {
     ) -> Result<Claimed<N, B>, E>
         requires log { log.now ≡ N.log_id }
         requires callable { (state : H) → FnOnceTakesAtMut F.FnOnce f state }
-        requires makes { (state : H) → (made : Result B E) (after : H) → FnOnceReturnsAtMut F.FnOnce f state made after → MakesFree B.number B.kind H.keeps H.is_free H.names state made after }
+        requires makes { (state : H) → (made : Result B E) (after : H) → FnOnceReturnsAtMut F.FnOnce f state made after → MakesFree B.number B.kind H.steps H.is_free H.names state made after }
         ensures { MakesCall (H.empty N.limits N.node_id) (λ before after. (made : Result B E) × FnOnceReturnsAtMut F.FnOnce f before made after × IsMade B.number made result) seat.old seat.new }
     {
         let returned = calls::created(&mut self.hub, f);
@@ -98,7 +103,7 @@ impl<N: Naming, H: Ports> Desk<N, H> {
     ) -> U
         requires log { log.now ≡ N.log_id }
         requires callable { (state : H) → H.names state claimed.now A.kind → FnOnceTakesAtMut F.FnOnce f state }
-        requires keeps { (state : H) → (returned : U) (after : H) → FnOnceReturnsAtMut F.FnOnce f state returned after → H.keeps [] state after }
+        requires keeps { (state : H) → (returned : U) (after : H) → FnOnceReturnsAtMut F.FnOnce f state returned after → H.steps [] state after }
         ensures { MakesCall (H.empty N.limits N.node_id) (λ before after. FnOnceReturnsAtMut F.FnOnce f before result after) seat.old seat.new }
     {
         let returned = calls::changed(&mut self.hub, claimed, f);
@@ -117,7 +122,7 @@ impl<N: Naming, H: Ports> Desk<N, H> {
     ) -> Result<U, CallError<E>>
         requires log { log.now ≡ N.log_id }
         requires callable { (state : H) → H.names state claimed.now A.kind → 0 < H.numbers state → FnOnceTakesAtMut F.FnOnce f state }
-        requires keeps { (state : H) → (returned : Result U E) (after : H) → FnOnceReturnsAtMut F.FnOnce f state returned after → H.keeps [] state after }
+        requires keeps { (state : H) → (returned : Result U E) (after : H) → FnOnceReturnsAtMut F.FnOnce f state returned after → H.steps [] state after }
         ensures { MakesCall (H.empty N.limits N.node_id) (Tells H.numbers (λ answer before after. FnOnceReturnsAtMut F.FnOnce f before answer after) result) seat.old seat.new }
     {
         let returned = calls::numbered(&mut self.hub, claimed, f);
@@ -136,7 +141,7 @@ impl<N: Naming, H: Ports> Desk<N, H> {
     ) -> Result<Claimed<N, B>, CallError<E>>
         requires log { log.now ≡ N.log_id }
         requires callable { (state : H) → H.names state claimed.now A.kind → 0 < H.numbers state → FnOnceTakesAtMut F.FnOnce f state }
-        requires makes { (state : H) → (made : Result B E) (after : H) → FnOnceReturnsAtMut F.FnOnce f state made after → MakesFree B.number B.kind H.keeps H.is_free H.names state made after }
+        requires makes { (state : H) → (made : Result B E) (after : H) → FnOnceReturnsAtMut F.FnOnce f state made after → MakesFree B.number B.kind H.steps H.is_free H.names state made after }
         ensures { MakesCall (H.empty N.limits N.node_id) (Tells H.numbers (λ answer before after. (made : Result B E) × FnOnceReturnsAtMut F.FnOnce f before made after × IsMade B.number made answer) result) seat.old seat.new }
     {
         let returned = calls::made(&mut self.hub, claimed, f);
@@ -155,7 +160,7 @@ impl<N: Naming, H: Ports> Desk<N, H> {
     ) -> Result<Option<Claimed<N, B>>, E>
         requires log { log.now ≡ N.log_id }
         requires callable { (state : H) → H.names state claimed.now A.kind → FnOnceTakesAtMut F.FnOnce f state }
-        requires receives { (state : H) → (received : Result (Option B) E) (after : H) → FnOnceReturnsAtMut F.FnOnce f state received after → ReceivesFree B.number B.kind H.keeps H.is_free H.names state received after }
+        requires receives { (state : H) → (received : Result (Option B) E) (after : H) → FnOnceReturnsAtMut F.FnOnce f state received after → ReceivesFree B.number B.kind H.steps H.is_free H.names state received after }
         ensures { MakesCall (H.empty N.limits N.node_id) (λ before after. (received : Result (Option B) E) × FnOnceReturnsAtMut F.FnOnce f before received after × IsReceived B.number received result) seat.old seat.new }
     {
         let returned = calls::received(&mut self.hub, claimed, f);
@@ -174,7 +179,7 @@ impl<N: Naming, H: Ports> Desk<N, H> {
     ) -> Result<Claimed<N, B>, E>
         requires log { log.now ≡ N.log_id }
         requires callable { (state : H) → H.names state claimed A.kind → CanTake F.FnOnce A.number f claimed state }
-        requires exchanges { (state : H) → (made : Result B E) (after : H) → Takes F.FnOnce A.number f claimed state made after → TurnsFree B.number B.kind H.keeps H.names claimed state made after }
+        requires exchanges { (state : H) → (made : Result B E) (after : H) → Takes F.FnOnce A.number f claimed state made after → TurnsFree B.number B.kind H.steps H.names claimed state made after }
         ensures { MakesCall (H.empty N.limits N.node_id) (λ before after. (made : Result B E) × Takes F.FnOnce A.number f claimed before made after × IsMade B.number made result) seat.old seat.new }
     {
         let returned = calls::turned(&mut self.hub, claimed, f);
@@ -193,7 +198,7 @@ impl<N: Naming, H: Ports> Desk<N, H> {
     ) -> U
         requires log { log.now ≡ N.log_id }
         requires callable { (state : H) → H.names state claimed A.kind → CanTake F.FnOnce A.number f claimed state }
-        requires keeps { (state : H) → (returned : U) (after : H) → Takes F.FnOnce A.number f claimed state returned after → H.keeps (claimed ∷ []) state after }
+        requires keeps { (state : H) → (returned : U) (after : H) → Takes F.FnOnce A.number f claimed state returned after → H.steps (claimed ∷ []) state after }
         ensures { MakesCall (H.empty N.limits N.node_id) (λ before after. Takes F.FnOnce A.number f claimed before result after) seat.old seat.new }
     {
         let returned = calls::ended(&mut self.hub, claimed, f);
@@ -212,7 +217,7 @@ impl<N: Naming, H: Ports> Desk<N, H> {
     ) -> Claimed<N, B>
         requires log { log.now ≡ N.log_id }
         requires callable { (state : H) → H.names state claimed A.kind → CanTake F.FnOnce A.number f claimed state }
-        requires exchanges { (state : H) → (made : B) (after : H) → Takes F.FnOnce A.number f claimed state made after → H.keeps (claimed ∷ []) state after × (B.number made ≡ claimed) × H.names after (B.number made) B.kind }
+        requires exchanges { (state : H) → (made : B) (after : H) → Takes F.FnOnce A.number f claimed state made after → H.steps (claimed ∷ []) state after × (B.number made ≡ claimed) × H.names after (B.number made) B.kind }
         ensures { MakesCall (H.empty N.limits N.node_id) (λ before after. (made : B) × Takes F.FnOnce A.number f claimed before made after × (result ≡ B.number made)) seat.old seat.new }
     {
         let returned = calls::became(&mut self.hub, claimed, f);
@@ -236,7 +241,7 @@ impl<N: Naming, H: Ports> Desk<N, H> {
     ) -> Result<Option<Claimed<N, B>>, CallError<E>>
         requires log { log.now ≡ N.log_id }
         requires callable { (state : H) → H.names state claimed.now A.kind → 0 < H.numbers state → FnOnceTakesAtMut F.FnOnce f state }
-        requires receives { (state : H) → (received : Result (Option B) E) (after : H) → FnOnceReturnsAtMut F.FnOnce f state received after → ReceivesFree B.number B.kind H.keeps H.is_free H.names state received after }
+        requires receives { (state : H) → (received : Result (Option B) E) (after : H) → FnOnceReturnsAtMut F.FnOnce f state received after → ReceivesFree B.number B.kind H.steps H.is_free H.names state received after }
         ensures { MakesCall (H.empty N.limits N.node_id) (Tells H.numbers (λ answer before after. (received : Result (Option B) E) × FnOnceReturnsAtMut F.FnOnce f before received after × IsReceived B.number received answer) result) seat.old seat.new }
     {
         let returned = calls::heard(&mut self.hub, claimed, f);
@@ -255,7 +260,7 @@ impl<N: Naming, H: Ports> Desk<N, H> {
     ) -> U
         requires log { log.now ≡ N.log_id }
         requires callable { (state : H) → H.names state claimed.now A.kind → FnOnceTakesAtMut F.FnOnce f state }
-        requires rewrites { (state : H) → (returned : U) (after : H) → FnOnceReturnsAtMut F.FnOnce f state returned after → H.keeps (claimed.now ∷ []) state after × H.names after claimed.now A.kind }
+        requires rewrites { (state : H) → (returned : U) (after : H) → FnOnceReturnsAtMut F.FnOnce f state returned after → H.steps (claimed.now ∷ []) state after × H.names after claimed.now A.kind }
         ensures { MakesCall (H.empty N.limits N.node_id) (λ before after. FnOnceReturnsAtMut F.FnOnce f before result after) seat.old seat.new }
     {
         let returned = calls::rewritten(&mut self.hub, claimed, f);
@@ -274,7 +279,7 @@ impl<N: Naming, H: Ports> Desk<N, H> {
     ) -> Result<Claimed<N, B>, Refused<Claimed<N, A>, E>>
         requires log { log.now ≡ N.log_id }
         requires callable { (state : H) → H.names state claimed A.kind → CanTake F.FnOnce A.number f claimed state }
-        requires tries { (state : H) → (made : Result B (Refused A E)) (after : H) → Takes F.FnOnce A.number f claimed state made after → TriesFree A.number B.number A.kind B.kind H.keeps H.names claimed state made after }
+        requires tries { (state : H) → (made : Result B (Refused A E)) (after : H) → Takes F.FnOnce A.number f claimed state made after → TriesFree A.number B.number A.kind B.kind H.steps H.names claimed state made after }
         ensures { MakesCall (H.empty N.limits N.node_id) (λ before after. (made : Result B (Refused A E)) × Takes F.FnOnce A.number f claimed before made after × IsTried A.number B.number made result) seat.old seat.new }
     {
         let returned = calls::tried(&mut self.hub, claimed, f);
@@ -293,7 +298,7 @@ impl<N: Naming, H: Ports> Desk<N, H> {
     ) -> Result<U, Refused<Claimed<N, A>, E>>
         requires log { log.now ≡ N.log_id }
         requires callable { (state : H) → H.names state claimed A.kind → CanTake F.FnOnce A.number f claimed state }
-        requires spends { (state : H) → (spent : Result U (Refused A E)) (after : H) → Takes F.FnOnce A.number f claimed state spent after → SpendsFree A.number A.kind H.keeps H.names claimed state spent after }
+        requires spends { (state : H) → (spent : Result U (Refused A E)) (after : H) → Takes F.FnOnce A.number f claimed state spent after → SpendsFree A.number A.kind H.steps H.names claimed state spent after }
         ensures { MakesCall (H.empty N.limits N.node_id) (λ before after. (spent : Result U (Refused A E)) × Takes F.FnOnce A.number f claimed before spent after × IsSpent A.number spent result) seat.old seat.new }
     {
         let returned = calls::spent(&mut self.hub, claimed, f);

@@ -21,7 +21,8 @@ use rr_ports::{
 use std::sync::Wait;
 
 impl<N: Naming, QB: Body> Claimed<N, RequestMutUninit<QB>> {
-    /// Lets a function change the user header of the request in place, under the lock. After `RequestMutUninit::update_user_header` of `rr_ports`.
+    /// Lets a function change the user header of the request in place, under the lock. After `RequestMutUninit::update_user_header` of
+    /// `rr_ports`.
     pub fn update_user_header<
         R: Wait,
         QH: Default + Drop,
@@ -54,7 +55,8 @@ impl<N: Naming, QB: Body> Claimed<N, RequestMutUninit<QB>> {
 }
 
 impl<N: Naming, QB: Body> Claimed<N, RequestMut<QB>> {
-    /// Lets a function change the user header of the request in place, under the lock. After `RequestMut::update_user_header` of `rr_ports`.
+    /// Lets a function change the user header of the request in place, under the lock. After `RequestMut::update_user_header` of
+    /// `rr_ports`.
     pub fn update_user_header<
         R: Wait,
         QH: Default + Drop,
@@ -87,7 +89,8 @@ impl<N: Naming, QB: Body> Claimed<N, RequestMut<QB>> {
 }
 
 impl<N: Naming, PB: Body> Claimed<N, ResponseMutUninit<PB>> {
-    /// Lets a function change the user header of the response in place, under the lock. After `ResponseMutUninit::update_user_header` of `rr_ports`.
+    /// Lets a function change the user header of the response in place, under the lock. After `ResponseMutUninit::update_user_header`
+    /// of `rr_ports`.
     pub fn update_user_header<
         R: Wait,
         QB: Body,
@@ -120,7 +123,8 @@ impl<N: Naming, PB: Body> Claimed<N, ResponseMutUninit<PB>> {
 }
 
 impl<N: Naming, PB: Body> Claimed<N, ResponseMut<PB>> {
-    /// Lets a function change the user header of the response in place, under the lock. After `ResponseMut::update_user_header` of `rr_ports`.
+    /// Lets a function change the user header of the response in place, under the lock. After `ResponseMut::update_user_header` of
+    /// `rr_ports`.
     pub fn update_user_header<
         R: Wait,
         QB: Body,

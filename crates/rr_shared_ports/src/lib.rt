@@ -11,6 +11,7 @@ mod deadline;
 mod desk;
 mod error;
 mod kept_hub;
+mod legal;
 mod lend;
 mod locked;
 mod naming;

@@ -24,7 +24,7 @@ impl<N: Naming, H: Ports> SharedPorts<N, H> {
         f: F,
     ) -> Result<Claimed<N, B>, E>
         requires callable { (state : H) → FnOnceTakesAtMut F.FnOnce f state }
-        requires makes { (state : H) → (made : Result B E) (after : H) → FnOnceReturnsAtMut F.FnOnce f state made after → MakesFree B.number B.kind H.keeps H.is_free H.names state made after }
+        requires makes { (state : H) → (made : Result B E) (after : H) → FnOnceReturnsAtMut F.FnOnce f state made after → MakesFree B.number B.kind H.steps H.is_free H.names state made after }
         ensures { MakesCall (H.empty N.limits N.node_id) (λ before after. (made : Result B E) × FnOnceReturnsAtMut F.FnOnce f before made after × IsMade B.number made result) seat.old seat.new }
     {
         self.inside.lock(rt).created(&self.log, seat, f)
@@ -55,7 +55,7 @@ impl<N: Naming, H: Ports> SharedPorts<N, H> {
         f: F,
     ) -> U
         requires callable { (state : H) → H.names state claimed.now A.kind → FnOnceTakesAtMut F.FnOnce f state }
-        requires keeps { (state : H) → (returned : U) (after : H) → FnOnceReturnsAtMut F.FnOnce f state returned after → H.keeps [] state after }
+        requires keeps { (state : H) → (returned : U) (after : H) → FnOnceReturnsAtMut F.FnOnce f state returned after → H.steps [] state after }
         ensures { MakesCall (H.empty N.limits N.node_id) (λ before after. FnOnceReturnsAtMut F.FnOnce f before result after) seat.old seat.new }
     {
         self.inside.lock(rt).changed(&self.log, seat, claimed, f)
@@ -71,7 +71,7 @@ impl<N: Naming, H: Ports> SharedPorts<N, H> {
         f: F,
     ) -> Result<U, CallError<E>>
         requires callable { (state : H) → H.names state claimed.now A.kind → 0 < H.numbers state → FnOnceTakesAtMut F.FnOnce f state }
-        requires keeps { (state : H) → (returned : Result U E) (after : H) → FnOnceReturnsAtMut F.FnOnce f state returned after → H.keeps [] state after }
+        requires keeps { (state : H) → (returned : Result U E) (after : H) → FnOnceReturnsAtMut F.FnOnce f state returned after → H.steps [] state after }
         ensures { MakesCall (H.empty N.limits N.node_id) (Tells H.numbers (λ answer before after. FnOnceReturnsAtMut F.FnOnce f before answer after) result) seat.old seat.new }
     {
         self.inside.lock(rt).numbered(&self.log, seat, claimed, f)
@@ -93,7 +93,7 @@ impl<N: Naming, H: Ports> SharedPorts<N, H> {
         f: F,
     ) -> Result<Claimed<N, B>, CallError<E>>
         requires callable { (state : H) → H.names state claimed.now A.kind → 0 < H.numbers state → FnOnceTakesAtMut F.FnOnce f state }
-        requires makes { (state : H) → (made : Result B E) (after : H) → FnOnceReturnsAtMut F.FnOnce f state made after → MakesFree B.number B.kind H.keeps H.is_free H.names state made after }
+        requires makes { (state : H) → (made : Result B E) (after : H) → FnOnceReturnsAtMut F.FnOnce f state made after → MakesFree B.number B.kind H.steps H.is_free H.names state made after }
         ensures { MakesCall (H.empty N.limits N.node_id) (Tells H.numbers (λ answer before after. (made : Result B E) × FnOnceReturnsAtMut F.FnOnce f before made after × IsMade B.number made answer) result) seat.old seat.new }
     {
         self.inside.lock(rt).made(&self.log, seat, claimed, f)
@@ -115,7 +115,7 @@ impl<N: Naming, H: Ports> SharedPorts<N, H> {
         f: F,
     ) -> Result<Option<Claimed<N, B>>, E>
         requires callable { (state : H) → H.names state claimed.now A.kind → FnOnceTakesAtMut F.FnOnce f state }
-        requires receives { (state : H) → (received : Result (Option B) E) (after : H) → FnOnceReturnsAtMut F.FnOnce f state received after → ReceivesFree B.number B.kind H.keeps H.is_free H.names state received after }
+        requires receives { (state : H) → (received : Result (Option B) E) (after : H) → FnOnceReturnsAtMut F.FnOnce f state received after → ReceivesFree B.number B.kind H.steps H.is_free H.names state received after }
         ensures { MakesCall (H.empty N.limits N.node_id) (λ before after. (received : Result (Option B) E) × FnOnceReturnsAtMut F.FnOnce f before received after × IsReceived B.number received result) seat.old seat.new }
     {
         self.inside.lock(rt).received(&self.log, seat, claimed, f)
@@ -131,7 +131,7 @@ impl<N: Naming, H: Ports> SharedPorts<N, H> {
         f: F,
     ) -> Result<Claimed<N, B>, E>
         requires callable { (state : H) → H.names state claimed A.kind → CanTake F.FnOnce A.number f claimed state }
-        requires exchanges { (state : H) → (made : Result B E) (after : H) → Takes F.FnOnce A.number f claimed state made after → TurnsFree B.number B.kind H.keeps H.names claimed state made after }
+        requires exchanges { (state : H) → (made : Result B E) (after : H) → Takes F.FnOnce A.number f claimed state made after → TurnsFree B.number B.kind H.steps H.names claimed state made after }
         ensures { MakesCall (H.empty N.limits N.node_id) (λ before after. (made : Result B E) × Takes F.FnOnce A.number f claimed before made after × IsMade B.number made result) seat.old seat.new }
     {
         self.inside.lock(rt).turned(&self.log, seat, claimed, f)
@@ -147,7 +147,7 @@ impl<N: Naming, H: Ports> SharedPorts<N, H> {
         f: F,
     ) -> U
         requires callable { (state : H) → H.names state claimed A.kind → CanTake F.FnOnce A.number f claimed state }
-        requires keeps { (state : H) → (returned : U) (after : H) → Takes F.FnOnce A.number f claimed state returned after → H.keeps (claimed ∷ []) state after }
+        requires keeps { (state : H) → (returned : U) (after : H) → Takes F.FnOnce A.number f claimed state returned after → H.steps (claimed ∷ []) state after }
         ensures { MakesCall (H.empty N.limits N.node_id) (λ before after. Takes F.FnOnce A.number f claimed before result after) seat.old seat.new }
     {
         self.inside.lock(rt).ended(&self.log, seat, claimed, f)
@@ -163,7 +163,7 @@ impl<N: Naming, H: Ports> SharedPorts<N, H> {
         f: F,
     ) -> Claimed<N, B>
         requires callable { (state : H) → H.names state claimed A.kind → CanTake F.FnOnce A.number f claimed state }
-        requires exchanges { (state : H) → (made : B) (after : H) → Takes F.FnOnce A.number f claimed state made after → H.keeps (claimed ∷ []) state after × (B.number made ≡ claimed) × H.names after (B.number made) B.kind }
+        requires exchanges { (state : H) → (made : B) (after : H) → Takes F.FnOnce A.number f claimed state made after → H.steps (claimed ∷ []) state after × (B.number made ≡ claimed) × H.names after (B.number made) B.kind }
         ensures { MakesCall (H.empty N.limits N.node_id) (λ before after. (made : B) × Takes F.FnOnce A.number f claimed before made after × (result ≡ B.number made)) seat.old seat.new }
     {
         self.inside.lock(rt).became(&self.log, seat, claimed, f)
@@ -185,7 +185,7 @@ impl<N: Naming, H: Ports> SharedPorts<N, H> {
         f: F,
     ) -> Result<Option<Claimed<N, B>>, CallError<E>>
         requires callable { (state : H) → H.names state claimed.now A.kind → 0 < H.numbers state → FnOnceTakesAtMut F.FnOnce f state }
-        requires receives { (state : H) → (received : Result (Option B) E) (after : H) → FnOnceReturnsAtMut F.FnOnce f state received after → ReceivesFree B.number B.kind H.keeps H.is_free H.names state received after }
+        requires receives { (state : H) → (received : Result (Option B) E) (after : H) → FnOnceReturnsAtMut F.FnOnce f state received after → ReceivesFree B.number B.kind H.steps H.is_free H.names state received after }
         ensures { MakesCall (H.empty N.limits N.node_id) (Tells H.numbers (λ answer before after. (received : Result (Option B) E) × FnOnceReturnsAtMut F.FnOnce f before received after × IsReceived B.number received answer) result) seat.old seat.new }
     {
         self.inside.lock(rt).heard(&self.log, seat, claimed, f)
@@ -201,7 +201,7 @@ impl<N: Naming, H: Ports> SharedPorts<N, H> {
         f: F,
     ) -> U
         requires callable { (state : H) → H.names state claimed.now A.kind → FnOnceTakesAtMut F.FnOnce f state }
-        requires rewrites { (state : H) → (returned : U) (after : H) → FnOnceReturnsAtMut F.FnOnce f state returned after → H.keeps (claimed.now ∷ []) state after × H.names after claimed.now A.kind }
+        requires rewrites { (state : H) → (returned : U) (after : H) → FnOnceReturnsAtMut F.FnOnce f state returned after → H.steps (claimed.now ∷ []) state after × H.names after claimed.now A.kind }
         ensures { MakesCall (H.empty N.limits N.node_id) (λ before after. FnOnceReturnsAtMut F.FnOnce f before result after) seat.old seat.new }
     {
         self.inside.lock(rt).rewritten(&self.log, seat, claimed, f)
@@ -223,7 +223,7 @@ impl<N: Naming, H: Ports> SharedPorts<N, H> {
         f: F,
     ) -> Result<Claimed<N, B>, Refused<Claimed<N, A>, E>>
         requires callable { (state : H) → H.names state claimed A.kind → CanTake F.FnOnce A.number f claimed state }
-        requires tries { (state : H) → (made : Result B (Refused A E)) (after : H) → Takes F.FnOnce A.number f claimed state made after → TriesFree A.number B.number A.kind B.kind H.keeps H.names claimed state made after }
+        requires tries { (state : H) → (made : Result B (Refused A E)) (after : H) → Takes F.FnOnce A.number f claimed state made after → TriesFree A.number B.number A.kind B.kind H.steps H.names claimed state made after }
         ensures { MakesCall (H.empty N.limits N.node_id) (λ before after. (made : Result B (Refused A E)) × Takes F.FnOnce A.number f claimed before made after × IsTried A.number B.number made result) seat.old seat.new }
     {
         self.inside.lock(rt).tried(&self.log, seat, claimed, f)
@@ -239,7 +239,7 @@ impl<N: Naming, H: Ports> SharedPorts<N, H> {
         f: F,
     ) -> Result<U, Refused<Claimed<N, A>, E>>
         requires callable { (state : H) → H.names state claimed A.kind → CanTake F.FnOnce A.number f claimed state }
-        requires spends { (state : H) → (spent : Result U (Refused A E)) (after : H) → Takes F.FnOnce A.number f claimed state spent after → SpendsFree A.number A.kind H.keeps H.names claimed state spent after }
+        requires spends { (state : H) → (spent : Result U (Refused A E)) (after : H) → Takes F.FnOnce A.number f claimed state spent after → SpendsFree A.number A.kind H.steps H.names claimed state spent after }
         ensures { MakesCall (H.empty N.limits N.node_id) (λ before after. (spent : Result U (Refused A E)) × Takes F.FnOnce A.number f claimed before spent after × IsSpent A.number spent result) seat.old seat.new }
     {
         self.inside.lock(rt).spent(&self.log, seat, claimed, f)

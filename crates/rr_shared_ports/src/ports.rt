@@ -34,8 +34,8 @@ pub trait Ports: Drop {
     /// A number names a port or a handle of this kind.
     ghost names: { Self → ℕ → Kind → Type 0 };
 
-    /// What is known of numbers holds still, but for these.
-    ghost keeps: { List ℕ → Self → Self → Type 0 };
+    /// Calls of ports lead from one state to another, and what is known of numbers holds still, but for these.
+    ghost steps: { List ℕ → Self → Self → Type 0 };
 
     /// Nothing is known of a number.
     ghost is_free: { Self → ℕ → Type 0 };
@@ -50,14 +50,17 @@ pub trait Ports: Drop {
     fn numbers_left(&self) -> u64
         ensures { result ≡ numbers self.now };
 
+    /// No call leads from a state to itself.
+    ghost rests: { (state : Self) → steps [] state state };
+
     /// What keeps all keeps what numbers name.
-    ghost stays: { (old new : Self) → keeps [] old new → (n : ℕ) (kind : Kind) → names old n kind → names new n kind };
+    ghost stays: { (old new : Self) → steps [] old new → (n : ℕ) (kind : Kind) → names old n kind → names new n kind };
 
     /// What keeps all but one number keeps what others name.
-    ghost stays_but: { (m : ℕ) (old new : Self) → keeps (m ∷ []) old new → (n : ℕ) (kind : Kind) → (n ≡ m → ⊥) → names old n kind → names new n kind };
+    ghost stays_but: { (m : ℕ) (old new : Self) → steps (m ∷ []) old new → (n : ℕ) (kind : Kind) → (n ≡ m → ⊥) → names old n kind → names new n kind };
 
     /// What keeps all but one number, which names what it named, keeps what numbers name.
-    ghost renewed: { (m : ℕ) (kind : Kind) (old new : Self) → keeps (m ∷ []) old new → names old m kind → names new m kind → (n : ℕ) (other : Kind) → names old n other → names new n other };
+    ghost renewed: { (m : ℕ) (kind : Kind) (old new : Self) → steps (m ∷ []) old new → names old m kind → names new m kind → (n : ℕ) (other : Kind) → names old n other → names new n other };
 
     /// A free number names nothing.
     ghost unnamed: { (state : Self) (n : ℕ) → is_free state n → (kind : Kind) → names state n kind → ⊥ };
@@ -68,14 +71,15 @@ impl<QB: Body, QH: Default + Drop, PB: Body, PH: Default + Drop, K: Backpressure
     ghost use Rattle.std.specs.Prelude.{◌≡◌, []};
     ghost use Rattle.rr_protocol.specs.Releases.{after_release};
     ghost use Rattle.rr_protocol.specs.State.{empty_hub};
-    ghost use Rattle.rr_ports.specs.Facts.{IsFree, Keeps, Names, numbers_left};
+    ghost use Rattle.rr_ports.specs.Facts.{IsFree, Names, numbers_left};
+    ghost use Rattle.rr_shared_ports.specs.Leading.{Steps, rest};
     ghost use Rattle.rr_shared_ports.specs.Numbers.{names_nothing, stay_all, stay_but, stay_renewed};
 
     ghost empty = { empty_hub };
 
     ghost names = { Names };
 
-    ghost keeps = { Keeps };
+    ghost steps = { Steps K.action QH.is_default PH.is_default };
 
     ghost is_free = { IsFree [] };
 
@@ -87,11 +91,13 @@ impl<QB: Body, QH: Default + Drop, PB: Body, PH: Default + Drop, K: Backpressure
         self.numbers_left()
     }
 
-    ghost stays = { stay_all };
+    ghost rests = { rest K.action QH.is_default PH.is_default };
 
-    ghost stays_but = { stay_but };
+    ghost stays = { λ old new steps. stay_all old new steps.0 };
 
-    ghost renewed = { stay_renewed };
+    ghost stays_but = { λ m old new steps. stay_but m old new steps.0 };
+
+    ghost renewed = { λ m kind old new steps. stay_renewed m kind old new steps.0 };
 
     ghost unnamed = { names_nothing };
 }

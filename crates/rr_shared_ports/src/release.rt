@@ -39,7 +39,7 @@ pub trait Release<H: Ports>: Handle {
     fn end(self, hub: &mut H)
         requires { H.names hub.old (Self.number self) Self.kind }
         ensures released { H.ends hub.old (Self.number self) hub.new }
-        ensures keeps { H.keeps (Self.number self ∷ []) hub.old hub.new };
+        ensures steps { H.steps (Self.number self ∷ []) hub.old hub.new };
 }
 
 impl<N: Naming, A: Handle> Claimed<N, A> {

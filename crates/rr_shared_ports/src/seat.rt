@@ -43,6 +43,7 @@ pub struct Seat<N: Naming, H: Ports> {
 impl<N: Naming, H: Ports> Model for Seat<N, H> {
     ghost use Rattle.std.specs.Prelude.{◌≡◌};
     ghost use base.Stored.{coded×, coded_ℕ, coded_list};
+    ghost use Rattle.rr_shared_ports.specs.Leading.{IsHistory};
     ghost use Rattle.rr_shared_ports.specs.Turns.{Seated};
 
     ghost Value = { Seated H };
@@ -51,5 +52,5 @@ impl<N: Naming, H: Ports> Model for Seat<N, H> {
 
     ghost view = { λ s. (s.seen.caller, s.seen.entries) };
 
-    ghost invariant = { λ s. s.seen.log_id ≡ N.log_id };
+    ghost invariant = { λ s. (s.seen.log_id ≡ N.log_id) × IsHistory H.steps (H.empty N.limits N.node_id) s.seen.entries };
 }

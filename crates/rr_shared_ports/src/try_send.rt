@@ -19,7 +19,8 @@ use rr_ports::{
 use std::sync::Wait;
 
 impl<N: Naming, QB: Body> Claimed<N, RequestMut<QB>> {
-    /// Sends the request as `send` does, or gives it back with what it says, so that nothing is lost. After `RequestMut::try_send` of `rr_ports`.
+    /// Sends the request as `send` does, or gives it back with what it says, so that nothing is lost. After `RequestMut::try_send` of
+    /// `rr_ports`.
     ///
     /// # Errors
     ///
@@ -56,7 +57,8 @@ impl<N: Naming, QB: Body> Claimed<N, RequestMut<QB>> {
 }
 
 impl<N: Naming, PB: Body> Claimed<N, ResponseMut<PB>> {
-    /// Sends the response as `send` does, or gives it back with what it says, so that nothing is lost. After `ResponseMut::try_send` of `rr_ports`.
+    /// Sends the response as `send` does, or gives it back with what it says, so that nothing is lost. After `ResponseMut::try_send` of
+    /// `rr_ports`.
     ///
     /// # Errors
     ///

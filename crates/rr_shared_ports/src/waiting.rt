@@ -174,7 +174,8 @@ impl<N: Naming, QB: Body> Claimed<N, PendingResponse<QB>> {
         self.await_response(hub, rt, seat, &Never)
     }
 
-    /// Receives a response, and waits until one is queued, or returns `None` once no connected server may answer any more, at most so long by the clock of the runtime. Not in iceoryx2.
+    /// Receives a response, and waits until one is queued, or returns `None` once no connected server may answer any more, at most so
+    /// long by the clock of the runtime. Not in iceoryx2.
     ///
     /// # Errors
     ///

@@ -20,7 +20,8 @@ use rr_ports::{
 use std::sync::Wait;
 
 impl<N: Naming, QB: Body> Claimed<N, RequestMutUninit<QB>> {
-    /// Makes a request whose payload is complete one that can be sent. After `RequestMutUninit::assume_init` of `rr_ports`, whose condition this call tests.
+    /// Makes a request whose payload is complete one that can be sent. After `RequestMutUninit::assume_init` of `rr_ports`, whose
+    /// condition this call tests.
     ///
     /// # Errors
     ///
@@ -64,7 +65,8 @@ impl<N: Naming, QB: Body> Claimed<N, RequestMutUninit<QB>> {
 }
 
 impl<N: Naming, PB: Body> Claimed<N, ResponseMutUninit<PB>> {
-    /// Makes a response whose payload is complete one that can be sent. After `ResponseMutUninit::assume_init` of `rr_ports`, whose condition this call tests.
+    /// Makes a response whose payload is complete one that can be sent. After `ResponseMutUninit::assume_init` of `rr_ports`, whose
+    /// condition this call tests.
     ///
     /// # Errors
     ///

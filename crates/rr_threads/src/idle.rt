@@ -1,9 +1,10 @@
 //! A server that waits for requests while none come.
 ghost use Rattle.std.specs.Prelude.{◌≡◌};
 
+use crate::trips::{Hub, HubSeat, OpenedHub};
 use anyhow::bail;
 use rr_ports::{Limits, ReceiveError, UniqueNodeId};
-use rr_shared_ports::typed::{Opened, Seat, Server, SharedPorts};
+use rr_shared_ports::typed::Server;
 use rr_shared_ports::{CallError, Naming, WaitError};
 use std::alloc::Global;
 use std::marker::Brand;
@@ -12,12 +13,6 @@ use std::thread;
 use std::thread::Threads;
 use std::time::{Clock, Duration};
 
-/// A hub of numbers.
-type Hub<N> = SharedPorts<N, u64, (), u64, ()>;
-
-/// Such a hub without a name.
-type OpenedHub = Opened<u64, (), u64, ()>;
-
 /// Why a wait of a server ended.
 type Ended = WaitError<CallError<ReceiveError>>;
 
@@ -25,7 +20,7 @@ type Ended = WaitError<CallError<ReceiveError>>;
 fn wait<N: Naming, R: Wait>(
     rt: &R,
     hub: &Hub<N>,
-    seat: &mut Seat<N, u64, (), u64, ()>,
+    seat: &mut HubSeat<N>,
     server: &Server<N, u64>,
 ) -> Option<Ended> {
     match server.receive_wait(hub, rt, seat) {

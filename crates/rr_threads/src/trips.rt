@@ -19,13 +19,13 @@ use std::time::{Clock, Instant};
 const TURNS: u64 = 1_000_000_000;
 
 /// A hub of numbers.
-type Hub<N> = SharedPorts<N, u64, (), u64, ()>;
+pub type Hub<N> = SharedPorts<N, u64, (), u64, ()>;
 
 /// Such a hub without a name.
-type OpenedHub = Opened<u64, (), u64, ()>;
+pub type OpenedHub = Opened<u64, (), u64, ()>;
 
 /// A seat at it.
-type HubSeat<N> = Seat<N, u64, (), u64, ()>;
+pub type HubSeat<N> = Seat<N, u64, (), u64, ()>;
 
 /// Who makes round trips.
 #[derive(Clone, Copy)]
@@ -39,7 +39,7 @@ pub enum By {
 }
 
 /// Answers an active request with the number after the one that it says, and releases it. Returns whether that was sent.
-fn respond<N: Naming, R: Wait>(
+pub fn respond<N: Naming, R: Wait>(
     rt: &R,
     hub: &Hub<N>,
     seat: &mut HubSeat<N>,
@@ -73,7 +73,7 @@ fn answer<N: Naming, R: Wait>(
 }
 
 /// Returns what a response says, and releases it.
-fn taken<N: Naming, R: Wait>(
+pub fn taken<N: Naming, R: Wait>(
     rt: &R,
     hub: &Hub<N>,
     seat: &mut HubSeat<N>,

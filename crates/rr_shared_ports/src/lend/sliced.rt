@@ -19,7 +19,8 @@ use rr_ports::{
 use std::sync::Wait;
 
 impl<N: Naming, T: Drop> Claimed<N, RequestMutUninit<SliceBody<T>>> {
-    /// Lets a function change the elements of the request that were written so far in place, under the lock. After `RequestMutUninit::update` of `rr_ports`.
+    /// Lets a function change the elements of the request that were written so far in place, under the lock. After
+    /// `RequestMutUninit::update` of `rr_ports`.
     pub fn update<
         R: Wait,
         QH: Default + Drop,
@@ -87,7 +88,8 @@ impl<N: Naming, T: Drop> Claimed<N, RequestMut<SliceBody<T>>> {
 }
 
 impl<N: Naming, T: Drop> Claimed<N, ResponseMutUninit<SliceBody<T>>> {
-    /// Lets a function change the elements of the response that were written so far in place, under the lock. After `ResponseMutUninit::update` of `rr_ports`.
+    /// Lets a function change the elements of the response that were written so far in place, under the lock. After
+    /// `ResponseMutUninit::update` of `rr_ports`.
     pub fn update<
         R: Wait,
         QB: Body,

@@ -129,7 +129,8 @@ impl<N: Naming, QB: Body> Claimed<N, ActiveRequest<QB>> {
 }
 
 impl<N: Naming, T: Drop> Claimed<N, ActiveRequest<SliceBody<T>>> {
-    /// Answers with `len` elements, what a function returns for the request's elements and 0, 1, .., which are lent to it under the lock. After `ActiveRequest::respond_with` of `rr_ports`.
+    /// Answers with `len` elements, what a function returns for the request's elements and 0, 1, .., which are lent to it under the
+    /// lock. After `ActiveRequest::respond_with` of `rr_ports`.
     ///
     /// # Errors
     ///

@@ -15,7 +15,8 @@ use rr_ports::{BackpressureFn, Body, Hub, RequestMut, RequestMutUninit, SliceBod
 use std::sync::Wait;
 
 impl<N: Naming, T: Copy> Claimed<N, RequestMutUninit<SliceBody<T>>> {
-    /// Makes an element each of those that are asked for, and the request one that can be sent. After `RequestMutUninit::fill` of `rr_ports`.
+    /// Makes an element each of those that are asked for, and the request one that can be sent. After `RequestMutUninit::fill` of
+    /// `rr_ports`.
     pub fn fill<R: Wait, QH: Default + Drop, PB: Body, PH: Default + Drop, K: BackpressureFn>(
         self,
         hub: &SharedPorts<N, Hub<SliceBody<T>, QH, PB, PH, K>>,
@@ -40,7 +41,8 @@ impl<N: Naming, T: Copy> Claimed<N, RequestMutUninit<SliceBody<T>>> {
 }
 
 impl<N: Naming, T: Drop> Claimed<N, RequestMutUninit<SliceBody<T>>> {
-    /// Writes what a function returns for 0, 1, .., as many elements as are asked for, and makes the request one that can be sent. The function is called under the lock. After `RequestMutUninit::write_from_fn` of `rr_ports`.
+    /// Writes what a function returns for 0, 1, .., as many elements as are asked for, and makes the request one that can be sent. The
+    /// function is called under the lock. After `RequestMutUninit::write_from_fn` of `rr_ports`.
     pub fn write_from_fn<
         R: Wait,
         QH: Default + Drop,

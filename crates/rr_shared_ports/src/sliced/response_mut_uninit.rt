@@ -15,7 +15,8 @@ use rr_ports::{BackpressureFn, Body, Hub, ResponseMut, ResponseMutUninit, SliceB
 use std::sync::Wait;
 
 impl<N: Naming, T: Copy> Claimed<N, ResponseMutUninit<SliceBody<T>>> {
-    /// Makes an element each of those that are asked for, and the response one that can be sent. After `ResponseMutUninit::fill` of `rr_ports`.
+    /// Makes an element each of those that are asked for, and the response one that can be sent. After `ResponseMutUninit::fill` of
+    /// `rr_ports`.
     pub fn fill<R: Wait, QB: Body, QH: Default + Drop, PH: Default + Drop, K: BackpressureFn>(
         self,
         hub: &SharedPorts<N, Hub<QB, QH, SliceBody<T>, PH, K>>,
@@ -40,7 +41,8 @@ impl<N: Naming, T: Copy> Claimed<N, ResponseMutUninit<SliceBody<T>>> {
 }
 
 impl<N: Naming, T: Drop> Claimed<N, ResponseMutUninit<SliceBody<T>>> {
-    /// Writes what a function returns for 0, 1, .., as many elements as are asked for, and makes the response one that can be sent. The function is called under the lock. After `ResponseMutUninit::write_from_fn` of `rr_ports`.
+    /// Writes what a function returns for 0, 1, .., as many elements as are asked for, and makes the response one that can be sent. The
+    /// function is called under the lock. After `ResponseMutUninit::write_from_fn` of `rr_ports`.
     pub fn write_from_fn<
         R: Wait,
         QB: Body,

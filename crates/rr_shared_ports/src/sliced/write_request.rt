@@ -55,7 +55,8 @@ impl<N: Naming, T: Drop> Claimed<N, RequestMutUninit<SliceBody<T>>> {
 }
 
 impl<N: Naming, T: Copy> Claimed<N, RequestMutUninit<SliceBody<T>>> {
-    /// Writes copies of these elements, and makes the request one that can be sent. Elements that were written before are dropped. After `RequestMutUninit::write_from_slice` of `rr_ports`, whose condition this call tests.
+    /// Writes copies of these elements, and makes the request one that can be sent. Elements that were written before are dropped.
+    /// After `RequestMutUninit::write_from_slice` of `rr_ports`, whose condition this call tests.
     ///
     /// # Errors
     ///

@@ -55,7 +55,8 @@ impl<N: Naming, T: Drop> Claimed<N, ResponseMutUninit<SliceBody<T>>> {
 }
 
 impl<N: Naming, T: Copy> Claimed<N, ResponseMutUninit<SliceBody<T>>> {
-    /// Writes copies of these elements, and makes the response one that can be sent. Elements that were written before are dropped. After `ResponseMutUninit::write_from_slice` of `rr_ports`, whose condition this call tests.
+    /// Writes copies of these elements, and makes the response one that can be sent. Elements that were written before are dropped.
+    /// After `ResponseMutUninit::write_from_slice` of `rr_ports`, whose condition this call tests.
     ///
     /// # Errors
     ///

@@ -140,7 +140,8 @@ impl<N: Naming, QB: Body> Claimed<N, ActiveRequest<QB>> {
 }
 
 impl<N: Naming, T: Drop> Claimed<N, ActiveRequest<Option<T>>> {
-    /// Answers with what a function returns for the request's payload, which is lent to it under the lock. After `ActiveRequest::respond_with` of `rr_ports`.
+    /// Answers with what a function returns for the request's payload, which is lent to it under the lock. After
+    /// `ActiveRequest::respond_with` of `rr_ports`.
     ///
     /// # Errors
     ///

@@ -15,7 +15,8 @@ use rr_ports::{BackpressureFn, Body, Hub, PendingResponse, ReceiveError, Server}
 use std::sync::Wait;
 
 impl<N: Naming, QB: Body> Claimed<N, PendingResponse<QB>> {
-    /// Receives what is queued for the request, has a function fold each payload, which it is lent under the lock, and releases the response. Takes the lock once. After `PendingResponse::fold_responses` of `rr_ports`.
+    /// Receives what is queued for the request, has a function fold each payload, which it is lent under the lock, and releases the
+    /// response. Takes the lock once. After `PendingResponse::fold_responses` of `rr_ports`.
     ///
     /// # Errors
     ///
@@ -56,7 +57,8 @@ impl<N: Naming, QB: Body> Claimed<N, PendingResponse<QB>> {
 }
 
 impl<N: Naming, PB: Body> Claimed<N, Server<PB>> {
-    /// Receives what is queued for the server, has a function fold each payload, which it is lent under the lock, and releases the request, which gets no answer from this server. Takes the lock once. After `Server::fold_requests` of `rr_ports`.
+    /// Receives what is queued for the server, has a function fold each payload, which it is lent under the lock, and releases the
+    /// request, which gets no answer from this server. Takes the lock once. After `Server::fold_requests` of `rr_ports`.
     ///
     /// # Errors
     ///

@@ -1,8 +1,10 @@
 //! A client in one thread, and a server in another.
-ghost use Rattle.std.specs.Prelude.{◌≡◌, ◌⊎◌};
+ghost use Rattle.std.specs.Prelude.{◌≡◌, ◌⊎◌, IfOk, IfSome};
 ghost use mathlib.Core.List.{IsPrefix};
+ghost use Rattle.rr_protocol.specs.State.{empty_hub};
+ghost use Rattle.rr_shared_ports.specs.Leading.{WasAnswered};
 
-use rr_ports::{Limits, RequestSendError, UniqueNodeId};
+use rr_ports::{BackpressureFn, Body, Hub, Limits, ReceiveError, RequestSendError, UniqueNodeId};
 use rr_shared_ports::typed::{Client, Opened, PendingResponse, Seat, Server, SharedPorts};
 use rr_shared_ports::{CallError, Claimed, Naming, Ports, Release};
 use std::marker::Brand;
@@ -77,6 +79,28 @@ fn release_both<N: Naming, R: Wait, H: Ports, A: Release<H>, B: Release<H>>(
     other.release(hub, rt, seat);
 }
 
+/// Receives a response. Calls that the client has seen by then loaned it from an active request of this request, and sent it.
+fn received<
+    N: Naming,
+    R: Wait,
+    QB: Body,
+    QH: Default + Drop,
+    PB: Body,
+    PH: Default + Drop,
+    K: BackpressureFn,
+>(
+    rt: &R,
+    hub: &rr_shared_ports::SharedPorts<N, Hub<QB, QH, PB, PH, K>>,
+    seat: &mut rr_shared_ports::Seat<N, Hub<QB, QH, PB, PH, K>>,
+    pending: &Claimed<N, rr_ports::PendingResponse<QB>>,
+) -> Result<Option<Claimed<N, rr_ports::Response<PB>>>, ReceiveError>
+    ensures { IfOk result (λ came. IfSome came (λ response. WasAnswered K.action QH.is_default PH.is_default (empty_hub N.limits N.node_id) seat.new.1 pending.now response)) }
+{
+    let received = pending.receive(hub, rt, seat);
+    hub.legal(seat);
+    received
+}
+
 /// Receives until a response comes.
 fn wait<N: Naming, R: Wait>(
     rt: &R,
@@ -85,7 +109,7 @@ fn wait<N: Naming, R: Wait>(
     pending: &PendingResponse<N, u64>,
 ) -> Option<u64> {
     for _ in 0..1_000_000_000u64 {
-        match pending.receive(hub, rt, seat) {
+        match received(rt, hub, seat, pending) {
             Ok(Some(response)) => {
                 let answer = response.payload_copy(hub, rt, seat);
                 response.release(hub, rt, seat);
@@ -176,5 +200,15 @@ fn two<N: Naming, R: Threads + Wait + Sync>(rt: &R, opened: Numbers, trips: u64)
 fn two_threads_exchange_numbers(rt: HostRuntime) -> Result<(), Fail> {
     let opened = Numbers::new(rt.alloc(), Limits::default(), UniqueNodeId(3))?;
     assert_eq!(rt; two::<Brand, _>(&rt, opened, 1_000), (500_500, 1_000));
+    Ok(())
+}
+
+#[test]
+fn claims_and_seats_have_no_bytes(rt: HostRuntime) -> Result<(), Fail> {
+    assert_eq!(rt;
+        size_of::<Client<Brand, u64>>(),
+        size_of::<rr_ports::typed::Client<u64>>()
+    );
+    assert_eq!(rt; size_of::<Caller<Brand>>(), 0);
     Ok(())
 }

@@ -209,6 +209,32 @@ fn fill_and_wait<N: Naming, R: Wait>(
     }
 }
 
+/// Fills the queue of a pending response, waits for room in vain, and returns how the wait ended.
+fn answer_and_wait<N: Naming, R: Wait>(
+    rt: &R,
+    hub: &Shared<N>,
+    seat: &mut Caller<N>,
+    active: &ActiveRequest<N, u64>,
+) -> Option<bool> {
+    for said in 0..2 {
+        if active.send_copy(hub, rt, seat, said).is_err() {
+            break;
+        }
+    }
+    let response = active.loan_uninit(hub, rt, seat).ok()?;
+    match response
+        .write_payload(hub, rt, seat, 2)
+        .send_wait(hub, rt, seat)
+    {
+        Ok(()) => None,
+        Err(refused) => {
+            let Refused { message, error } = refused;
+            message.release(hub, rt, seat);
+            Some(error == WaitError::Closed)
+        }
+    }
+}
+
 /// Waits for a request that doesn't come. Returns whether the time ended the wait.
 fn times_out<N: Naming, R: Wait + Clock>(
     rt: &R,
@@ -253,13 +279,46 @@ fn close_later<N: Naming, R: Clock>(rt: &R, hub: &Shared<N>) {
     hub.close();
 }
 
+/// Lets a client and a server wait for room in vain, and closes the hub. Returns how both waits ended.
+fn wait_for_close<N: Naming, R: Threads + Wait + Clock + Sync>(
+    rt: &R,
+    hub: &Shared<N>,
+    asking: &mut Caller<N>,
+    answering: &mut Caller<N>,
+    client: &Client<N, u64>,
+    server: &Server<N, u64>,
+) -> (Option<bool>, Option<bool>) {
+    let Ok(pending) = client.send_copy(hub, rt, asking, 0) else {
+        return (None, None);
+    };
+    let ended = match server.receive(hub, rt, answering) {
+        Ok(Some(active)) => {
+            let (asked, (answered, _)) = thread::join(
+                rt,
+                || fill_and_wait(rt, hub, asking, client),
+                || thread::join(
+                    rt,
+                    || answer_and_wait(rt, hub, answering, &active),
+                    || close_later(rt, hub),
+                ),
+            );
+            active.release(hub, rt, answering);
+            (asked, answered)
+        }
+        Ok(None) => (None, None),
+        Err(_) => (None, None),
+    };
+    pending.release(hub, rt, asking);
+    ended
+}
+
 /// Lets one thread tell and ask, and one hear and serve; and lets waits end by a time, and by a close. Returns what came of them.
 fn play<N: Naming, R: Threads + Wait + Clock + Sync>(
     rt: &R,
     hub: &Shared<N>,
     client: &Client<N, u64>,
     server: &Server<N, u64>,
-) -> [u64; 7] {
+) -> [u64; 9] {
     let mut asking = hub.seat();
     let mut answering = hub.seat();
     let timed_out = times_out(rt, hub, &mut answering, server);
@@ -269,11 +328,14 @@ fn play<N: Naming, R: Threads + Wait + Clock + Sync>(
         || serve_and_hear(rt, hub, &mut answering, server, 100, 5_050),
     );
     let in_vain = asks_in_vain(rt, hub, &mut asking, client);
-    let (closed, _) = thread::join(
+    let left = server.fold_requests(
+        hub,
         rt,
-        || fill_and_wait(rt, hub, &mut asking, client),
-        || close_later(rt, hub),
+        &mut answering,
+        0u64,
+        |left: u64, _told: &u64| left.wrapping_add(1),
     );
+    let (asked, answered) = wait_for_close(rt, hub, &mut asking, &mut answering, client, server);
     [
         timed_out.into(),
         told.into(),
@@ -281,12 +343,14 @@ fn play<N: Naming, R: Threads + Wait + Clock + Sync>(
         heard,
         sent.into(),
         in_vain.into(),
-        (closed == Some(true)).into(),
+        left.unwrap_or(0),
+        (asked == Some(true)).into(),
+        (answered == Some(true)).into(),
     ]
 }
 
 /// Makes a client and a server whose sends are refused at a full queue, and plays.
-fn played<N: Naming, R: Threads + Wait + Clock + Sync>(rt: &R, opened: Numbers) -> Option<[u64; 7]>
+fn played<N: Naming, R: Threads + Wait + Clock + Sync>(rt: &R, opened: Numbers) -> Option<[u64; 9]>
     requires keeper { opened.keeper_id ≡ N.keeper_id }
     requires log { opened.log_id ≡ N.log_id }
     requires limits { opened.limits ≡ N.limits }
@@ -315,7 +379,7 @@ fn threads_wait_for_room_and_for_a_time(rt: HostRuntime) -> Result<(), Fail> {
     let opened = Numbers::new(rt.alloc(), LIMITS, UniqueNodeId(3))?;
     assert_eq!(rt;
         played::<Brand, _>(&rt, opened),
-        Some([1, 1, 5_050, 5_050, 1, 1, 1])
+        Some([1, 1, 5_050, 5_050, 1, 1, 1, 1, 1])
     );
     Ok(())
 }

@@ -7,7 +7,7 @@ exchanged-requires-clause-keeps g c κs within =
     let is = ap (λ k. k.state) c.look.ensures.same ∙ c.hub.invariant.1 ∙ c.hub.view_is in
     let number = c.claimed.invariant.1 ∙ c.claimed.view_is in
     let made : Takes g.F.FnOnce g.A.Handle.number c.args.f c.args.claimed c.args.hub.now c.f-made.result c.f-made.new.arg3 = (c.claimed.inside.handle, _, _, c.f-made.ensures, c.claimed.view_is, c.hub.view_is, refl) in
-    subst (λ n. g.H.Ports.keeps (n ∷ []) c.look.new.self.state c.f-made.new.arg3) (sym number) (subst (λ s. g.H.Ports.keeps (c.args.claimed ∷ []) s c.f-made.new.arg3) (sym is) (c.requires.exchanges c.f-made.result c.f-made.new.arg3 made).0)
+    subst (λ n. g.H.Ports.steps (n ∷ []) c.look.new.self.state c.f-made.new.arg3) (sym number) (subst (λ s. g.H.Ports.steps (c.args.claimed ∷ []) s c.f-made.new.arg3) (sym is) (c.requires.exchanges c.f-made.result c.f-made.new.arg3 made).0)
 
 pub exchanged-requires-clause-same : goal.exchanged-requires-clause-same
 exchanged-requires-clause-same g c κs within =

@@ -7,7 +7,7 @@ granted-requires-clause-keeps g c κs within =
     let is = c.hub.invariant.1 ∙ c.hub.view_is in
     let made = subst (λ r. FnOnceReturnsAtMut g.F.FnOnce c.args.f c.args.hub.now r c.f.new.arg2) (c.in-Ok.is)
     (record { shown = _; shows = c.hub.view_is; left = _; met = c.f.ensures; leaves = refl }) in
-    subst (λ s. g.H.Ports.keeps [] s c.f.new.arg2) (sym is) (c.requires.makes (Ok c.in-Ok.made) c.f.new.arg2 made).0
+    subst (λ s. g.H.Ports.steps [] s c.f.new.arg2) (sym is) (c.requires.makes (Ok c.in-Ok.made) c.f.new.arg2 made).0
 
 pub granted-requires-clause-free : goal.granted-requires-clause-free
 granted-requires-clause-free g c κs within =
@@ -27,7 +27,7 @@ kept-requires g c =
     let is = c.hub.invariant.1 ∙ c.hub.view_is in
     let made = subst (λ r. FnOnceReturnsAtMut g.F.FnOnce c.args.f c.args.hub.now r c.f.new.arg2) (c.in-Err.is)
     (record { shown = _; shows = c.hub.view_is; left = _; met = c.f.ensures; leaves = refl }) in
-    record { keeps = subst (λ s. g.H.Ports.keeps [] s c.f.new.arg2) (sym is) (c.requires.makes (Err c.in-Err.error) c.f.new.arg2 made).0 }
+    record { keeps = subst (λ s. g.H.Ports.steps [] s c.f.new.arg2) (sym is) (c.requires.makes (Err c.in-Err.error) c.f.new.arg2 made).0 }
 
 pub returns-in-Ok : goal.returns-in-Ok
 returns-in-Ok g c =

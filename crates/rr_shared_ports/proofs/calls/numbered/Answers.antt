@@ -7,14 +7,14 @@ kept-requires g c =
     let is = ap (λ k. k.state) c.look.ensures.same ∙ c.hub.invariant.1 ∙ c.hub.view_is in
     let made = subst (λ r. FnOnceReturnsAtMut g.F.FnOnce c.args.f c.args.hub.now r c.f.new.arg2) (c.in-Ok.is)
     (record { shown = _; shows = c.hub.view_is; left = _; met = c.f.ensures; leaves = refl }) in
-    record { keeps = subst (λ s. g.H.Ports.keeps [] s c.f.new.arg2) (sym is) (c.requires.keeps (Ok c.in-Ok.answer) c.f.new.arg2 made) }
+    record { keeps = subst (λ s. g.H.Ports.steps [] s c.f.new.arg2) (sym is) (c.requires.keeps (Ok c.in-Ok.answer) c.f.new.arg2 made) }
 
 pub kept-requires-in-Err : goal.kept-requires-in-Err
 kept-requires-in-Err g c =
     let is = ap (λ k. k.state) c.look.ensures.same ∙ c.hub.invariant.1 ∙ c.hub.view_is in
     let made = subst (λ r. FnOnceReturnsAtMut g.F.FnOnce c.args.f c.args.hub.now r c.f.new.arg2) (c.in-Err.is)
     (record { shown = _; shows = c.hub.view_is; left = _; met = c.f.ensures; leaves = refl }) in
-    record { keeps = subst (λ s. g.H.Ports.keeps [] s c.f.new.arg2) (sym is) (c.requires.keeps (Err c.in-Err.error) c.f.new.arg2 made) }
+    record { keeps = subst (λ s. g.H.Ports.steps [] s c.f.new.arg2) (sym is) (c.requires.keeps (Err c.in-Err.error) c.f.new.arg2 made) }
 
 pub returns-in-Ok : goal.returns-in-Ok
 returns-in-Ok g c =

@@ -8,8 +8,8 @@ renewed-requires-clause-keeps g c =
     let is = ap (λ k. k.state) c.look.ensures.same ∙ c.hub.invariant.1 ∙ c.hub.view_is in
     let number = c.claimed.invariant.1 ∙ c.claimed.view_is in
     let made : FnOnceReturnsAtMut g.F.FnOnce c.args.f c.args.hub.now c.f-returned.result c.f-returned.new.arg2 = record { shown = _; shows = c.hub.view_is; left = _; met = c.f-returned.ensures; leaves = refl } in
-    subst (λ n. g.H.Ports.keeps (n ∷ []) c.look.new.self.state c.f-returned.new.arg2) (sym number)
-    (subst (λ s. g.H.Ports.keeps (c.args.claimed.now ∷ []) s c.f-returned.new.arg2) (sym is) (c.requires.rewrites c.f-returned.result c.f-returned.new.arg2 made).0)
+    subst (λ n. g.H.Ports.steps (n ∷ []) c.look.new.self.state c.f-returned.new.arg2) (sym number)
+    (subst (λ s. g.H.Ports.steps (c.args.claimed.now ∷ []) s c.f-returned.new.arg2) (sym is) (c.requires.rewrites c.f-returned.result c.f-returned.new.arg2 made).0)
 
 -- and that names what it named
 pub renewed-requires-clause-names : goal.renewed-requires-clause-names

@@ -8,7 +8,7 @@ exchanged-requires-clause-keeps g c κs within =
     let number = c.claimed.invariant.1 ∙ c.claimed.view_is in
     let made = subst (λ r. Takes g.F.FnOnce g.A.Handle.number c.args.f c.args.claimed c.args.hub.now r c.f.new.arg3) (c.in-Ok.is)
     (c.claimed.inside.handle, _, _, c.f.ensures, c.claimed.view_is, c.hub.view_is, refl) in
-    subst (λ n. g.H.Ports.keeps (n ∷ []) c.look.new.self.state c.f.new.arg3) (sym number) (subst (λ s. g.H.Ports.keeps (c.args.claimed ∷ []) s c.f.new.arg3) (sym is) (c.requires.exchanges (Ok c.in-Ok.made) c.f.new.arg3 made).0)
+    subst (λ n. g.H.Ports.steps (n ∷ []) c.look.new.self.state c.f.new.arg3) (sym number) (subst (λ s. g.H.Ports.steps (c.args.claimed ∷ []) s c.f.new.arg3) (sym is) (c.requires.exchanges (Ok c.in-Ok.made) c.f.new.arg3 made).0)
 
 pub exchanged-requires-clause-same : goal.exchanged-requires-clause-same
 exchanged-requires-clause-same g c κs within =
@@ -29,7 +29,7 @@ retired-requires-clause-keeps g c =
     let number = c.claimed.invariant.1 ∙ c.claimed.view_is in
     let made = subst (λ r. Takes g.F.FnOnce g.A.Handle.number c.args.f c.args.claimed c.args.hub.now r c.f.new.arg3) (c.in-Err.is)
     (c.claimed.inside.handle, _, _, c.f.ensures, c.claimed.view_is, c.hub.view_is, refl) in
-    subst (λ n. g.H.Ports.keeps (n ∷ []) c.look.new.self.state c.f.new.arg3) (sym number) (subst (λ s. g.H.Ports.keeps (c.args.claimed ∷ []) s c.f.new.arg3) (sym is) (c.requires.exchanges (Err c.in-Err.error) c.f.new.arg3 made).0)
+    subst (λ n. g.H.Ports.steps (n ∷ []) c.look.new.self.state c.f.new.arg3) (sym number) (subst (λ s. g.H.Ports.steps (c.args.claimed ∷ []) s c.f.new.arg3) (sym is) (c.requires.exchanges (Err c.in-Err.error) c.f.new.arg3 made).0)
 
 pub returns-in-Ok : goal.returns-in-Ok
 returns-in-Ok g c =

@@ -1,5 +1,6 @@
+use Rattle.std.proofs.Common.{[]}
 use Rattle.std.specs.Fn.{FnOnceReturnsAtMut}
-use Rattle.rr_shared_ports.proofs.Turns.{makes_call}
+use Rattle.rr_shared_ports.proofs.Turns.{makes_call, steps_from}
 use Rattle.rr_shared_ports.proofs.desk.Desk.changed.Goals as goal
 
 pub changed-returned-requires-clause-keeps : goal.changed-returned-requires-clause-keeps
@@ -11,3 +12,9 @@ returns g c =
     let Call : g.row.H.Denot → g.row.H.Denot → Type 0 = λ before after. FnOnceReturnsAtMut g.F.FnOnce c.args.f before c.changed-returned.result after in
     makes_call (g.H.Ports.empty g.N.Naming.limits g.N.Naming.node_id) Call c.self.inside.pen.entries c.self.inside.hub c.changed-returned.new.hub c.args.seat.now c.noted.new.seat
     c.noted.ensures.noted c.self.invariant.1 c.changed-returned.ensures
+
+-- and a step
+pub noted-requires-clause-steps : goal.noted-requires-clause-steps
+noted-requires-clause-steps g c κs within =
+    let step : g.H.Ports.steps [] c.self.inside.hub c.changed-returned.new.hub = c.requires.keeps c.self.inside.hub c.changed-returned.result c.changed-returned.new.hub c.changed-returned.ensures in
+    steps_from g.H.Ports.steps (g.H.Ports.empty g.N.Naming.limits g.N.Naming.node_id) c.self.inside.pen.entries c.self.inside.hub c.changed-returned.new.hub [] c.self.invariant.1 step

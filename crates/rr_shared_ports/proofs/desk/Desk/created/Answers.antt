@@ -1,7 +1,8 @@
+use Rattle.std.proofs.Common.{[]}
 use Rattle.std.specs.Fn.{FnOnceReturnsAtMut}
 use Rattle.std.specs.Prelude.{Result}
 use Rattle.rr_shared_ports.specs.Calls.{IsMade}
-use Rattle.rr_shared_ports.proofs.Turns.{makes_call}
+use Rattle.rr_shared_ports.proofs.Turns.{makes_call, steps_from}
 use Rattle.rr_shared_ports.proofs.desk.Desk.created.Goals as goal
 
 pub created-returned-requires-clause-makes : goal.created-returned-requires-clause-makes
@@ -13,3 +14,9 @@ returns g c =
     let Call : g.row.H.Denot → g.row.H.Denot → Type 0 = λ before after. (made : Result g.row.B.Denot g.row.E.Denot) × FnOnceReturnsAtMut g.F.FnOnce c.args.f before made after × IsMade g.B.Handle.number made c.created-returned.result in
     makes_call (g.H.Ports.empty g.N.Naming.limits g.N.Naming.node_id) Call c.self.inside.pen.entries c.self.inside.hub c.created-returned.new.hub c.args.seat.now c.noted.new.seat
     c.noted.ensures.noted c.self.invariant.1 c.created-returned.ensures
+
+-- and a step
+pub noted-requires-clause-steps : goal.noted-requires-clause-steps
+noted-requires-clause-steps g c κs within =
+    let step : g.H.Ports.steps [] c.self.inside.hub c.created-returned.new.hub = (c.requires.makes c.self.inside.hub c.created-returned.ensures.0 c.created-returned.new.hub c.created-returned.ensures.1).0 in
+    steps_from g.H.Ports.steps (g.H.Ports.empty g.N.Naming.limits g.N.Naming.node_id) c.self.inside.pen.entries c.self.inside.hub c.created-returned.new.hub [] c.self.invariant.1 step

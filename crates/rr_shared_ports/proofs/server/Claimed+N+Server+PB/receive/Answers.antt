@@ -1,7 +1,8 @@
-use Rattle.std.proofs.Common.{⊎_elim}
+use Rattle.std.proofs.Common.{⊎_elim, rules}
 use Rattle.rr_protocol.specs.Receives.{ReceivesRequest}
 use Rattle.rr_ports.specs.Facts.{numbers_left}
 use Rattle.rr_shared_ports.proofs.Telling.{answered, at, exhausted, is_received}
+use Rattle.rr_shared_ports.proofs.Leading.{request_received, stepped}
 use Rattle.rr_shared_ports.proofs.server.Claimed+N+Server+PB.receive.Goals as goal
 
 -- it is the call of the port
@@ -19,3 +20,9 @@ returns g c =
           (at (λ old n result new. ReceivesRequest old n result new) call.1.shows c.handle-server.ensures (is_received call.0 told.0 call.2) call.1.leaves call.1.met.0))
           (λ none. exhausted numbers_left (λ result old new. ReceivesRequest old c.args.self.now result new) c.heard-received.result _ _ none) made.4,
     )
+
+-- and a step
+pub heard-received-requires-clause-receives : goal.heard-received-requires-clause-receives
+heard-received-requires-clause-receives g c κs within state returned after call =
+    let by = call.met.0 in
+    (stepped g.K.BackpressureFn.action g.QH.Default.is_default g.PH.Default.is_default call.shows call.leaves call.met.1.0 (request_received g.K.BackpressureFn.action g.QH.Default.is_default g.PH.Default.is_default call.shown.now call.left.now c.handle-server.result.now returned by), search rules, search rules)

@@ -1,7 +1,8 @@
-use Rattle.std.proofs.Common.{rules, ⊎_elim}
+use Rattle.std.proofs.Common.{rules, ⊎_elim, []}
 use Rattle.rr_ports.specs.Loaning.{AreDefaults, LoansResponseComplete}
-use Rattle.rr_ports.specs.Facts.{numbers_left}
+use Rattle.rr_ports.specs.Facts.{numbers_left, Keeps}
 use Rattle.rr_shared_ports.proofs.Telling.{answered, at, exhausted, is_made}
+use Rattle.rr_shared_ports.proofs.Leading.{complete_response_loaned, stepped}
 use Rattle.rr_shared_ports.proofs.sliced.active_request.Claimed+N+ActiveRequest+QB.loan_slice.Goals as goal
 
 -- it is the call of the port
@@ -20,3 +21,10 @@ returns g c =
           (at (λ old n result new. LoansResponseComplete g.PH.Default.is_default (AreDefaults g.T.Default.is_default c.args.len) old n c.args.len result new) call.1.shows c.handle-handle.ensures (is_made call.0 told.0 call.2) call.1.leaves by))
           (λ none. exhausted numbers_left (λ result old new. LoansResponseComplete g.PH.Default.is_default (AreDefaults g.T.Default.is_default c.args.len) old c.args.self.now c.args.len result new) c.made.result _ _ none) made.4,
     )
+
+-- and a step
+pub made-requires-clause-makes : goal.made-requires-clause-makes
+made-requires-clause-makes g c κs within state returned after call =
+    let by : LoansResponseComplete g.PH.Default.is_default (AreDefaults g.T.Default.is_default c.args.len) call.shown.now c.handle-handle.result.now c.args.len returned call.left.now = search rules in
+    let keeps : Keeps [] call.shown.now call.left.now = search rules in
+    (stepped g.K.BackpressureFn.action g.QH.Default.is_default g.PH.Default.is_default call.shows call.leaves keeps (complete_response_loaned g.K.BackpressureFn.action g.QH.Default.is_default g.PH.Default.is_default (AreDefaults g.T.Default.is_default c.args.len) call.shown.now call.left.now c.handle-handle.result.now c.args.len returned by), search rules, search rules)

@@ -1,7 +1,8 @@
-use Rattle.std.proofs.Common.{refl, rules, ⊎_elim}
+use Rattle.std.proofs.Common.{refl, rules, ⊎_elim, [], length}
 use Rattle.rr_ports.specs.Loaning.{SendsResponseSlice}
-use Rattle.rr_ports.specs.Facts.{numbers_left}
+use Rattle.rr_ports.specs.Facts.{numbers_left, Keeps}
 use Rattle.rr_shared_ports.proofs.Telling.{answered, at, exhausted}
+use Rattle.rr_shared_ports.proofs.Leading.{response_elements_sent, stepped}
 use Rattle.rr_shared_ports.proofs.sliced.active_request.Claimed+N+ActiveRequest+QB.send_slice.Goals as goal
 
 -- it is the call of the port
@@ -20,3 +21,10 @@ returns g c =
           (at (λ old n result new. SendsResponseSlice g.PH.Default.is_default g.K.BackpressureFn.action old n c.args.elements.now result new) call.shows c.handle-handle.ensures refl call.leaves by))
           (λ none. exhausted numbers_left (λ result old new. SendsResponseSlice g.PH.Default.is_default g.K.BackpressureFn.action old c.args.self.now c.args.elements.now result new) c.numbered-sent.result _ _ none) made.4,
     )
+
+-- and a step
+pub numbered-sent-requires-clause-keeps : goal.numbered-sent-requires-clause-keeps
+numbered-sent-requires-clause-keeps g c κs within state returned after call =
+    let by : SendsResponseSlice g.PH.Default.is_default g.K.BackpressureFn.action call.shown.now c.handle-handle.result.now c.args.elements.now returned call.left.now = search rules in
+    let keeps : Keeps [] call.shown.now call.left.now = search rules in
+    stepped g.K.BackpressureFn.action g.QH.Default.is_default g.PH.Default.is_default call.shows call.leaves keeps (response_elements_sent g.K.BackpressureFn.action g.QH.Default.is_default g.PH.Default.is_default call.shown.now call.left.now c.handle-handle.result.now (length c.args.elements.now) c.args.elements.now returned by)

@@ -3,6 +3,7 @@ use Rattle.std.specs.Prelude.{List}
 use Rattle.rr_ports.specs.Facts.{Asks, Has, numbers_left}
 use Rattle.rr_ports.specs.Responding.{Makes, RespondsSlice}
 use Rattle.rr_shared_ports.proofs.Telling.{answered, at, exhausted}
+use Rattle.rr_shared_ports.proofs.Leading.{slice_responded, stepped}
 use Rattle.rr_shared_ports.proofs.sliced.active_request.Claimed+N+ActiveRequest+SliceBody+T.respond_with.Goals as goal
 
 -- it is the call of the port
@@ -20,3 +21,9 @@ returns g c =
           (at (λ old n result new. (asked : List g.row.T.Denot) × Has old n (Asks asked) × RespondsSlice g.PH.Default.is_default g.K.BackpressureFn.action (Makes g.F.FnMut asked c.args.f) old n c.args.len result new) call.shows c.handle-handle.ensures refl call.leaves call.met.0))
           (λ none. exhausted numbers_left (λ result old new. (asked : List g.row.T.Denot) × Has old c.args.self.now (Asks asked) × RespondsSlice g.PH.Default.is_default g.K.BackpressureFn.action (Makes g.F.FnMut asked c.args.f) old c.args.self.now c.args.len result new) c.numbered-sent.result _ _ none) made.4,
     )
+
+-- and a step
+pub numbered-sent-requires-clause-keeps : goal.numbered-sent-requires-clause-keeps
+numbered-sent-requires-clause-keeps g c κs within state returned after call =
+    let by = call.met.0 in
+    stepped g.K.BackpressureFn.action g.QH.Default.is_default g.PH.Default.is_default call.shows call.leaves call.met.1 (slice_responded g.K.BackpressureFn.action g.QH.Default.is_default g.PH.Default.is_default (Makes g.F.FnMut by.0 c.args.f) call.shown.now call.left.now c.handle-handle.result.now c.args.len returned by.2)

@@ -1,9 +1,10 @@
-use Rattle.std.proofs.Common.{refl, ⊎_elim}
+use Rattle.std.proofs.Common.{refl, ⊎_elim, ◌∷◌, []}
 use Rattle.std.specs.Prelude.{◌∷◌, []}
 use Rattle.std.specs.Fn.{FnOnceReturnsAt}
 use Rattle.rr_ports.specs.Facts.{Asks, Has, numbers_left}
 use Rattle.rr_ports.specs.Loaning.{SendsResponseCopy}
 use Rattle.rr_shared_ports.proofs.Telling.{answered, at, exhausted}
+use Rattle.rr_shared_ports.proofs.Leading.{response_elements_sent, stepped}
 use Rattle.rr_shared_ports.proofs.typed.active_request.Claimed+N+ActiveRequest+Option+T.respond_with.Goals as goal
 
 -- it is the call of the port
@@ -21,3 +22,9 @@ returns g c =
           (at (λ old n result new. (asked : g.row.T.Denot) × (value : g.row.U.Denot) × Has old n (Asks (asked ∷ [])) × FnOnceReturnsAt g.F.FnOnce c.args.f asked value × SendsResponseCopy g.PH.Default.is_default g.K.BackpressureFn.action old n value result new) call.shows c.handle-handle.ensures refl call.leaves call.met.0))
           (λ none. exhausted numbers_left (λ result old new. (asked : g.row.T.Denot) × (value : g.row.U.Denot) × Has old c.args.self.now (Asks (asked ∷ [])) × FnOnceReturnsAt g.F.FnOnce c.args.f asked value × SendsResponseCopy g.PH.Default.is_default g.K.BackpressureFn.action old c.args.self.now value result new) c.numbered-sent.result _ _ none) made.4,
     )
+
+-- and a step
+pub numbered-sent-requires-clause-keeps : goal.numbered-sent-requires-clause-keeps
+numbered-sent-requires-clause-keeps g c κs within state returned after call =
+    let by = call.met.0 in
+    stepped g.K.BackpressureFn.action g.QH.Default.is_default g.PH.Default.is_default call.shows call.leaves call.met.1 (response_elements_sent g.K.BackpressureFn.action g.QH.Default.is_default g.PH.Default.is_default call.shown.now call.left.now c.handle-handle.result.now 1 (by.1 ∷ []) returned by.4)

@@ -1,7 +1,8 @@
-use Rattle.std.proofs.Common.{rules, ⊎_elim}
+use Rattle.std.proofs.Common.{rules, ⊎_elim, []}
 use Rattle.rr_protocol.specs.Loans.{LoansRequest}
-use Rattle.rr_ports.specs.Facts.{numbers_left}
+use Rattle.rr_ports.specs.Facts.{numbers_left, Keeps}
 use Rattle.rr_shared_ports.proofs.Telling.{answered, at, exhausted, is_made}
+use Rattle.rr_shared_ports.proofs.Leading.{request_loaned, stepped}
 use Rattle.rr_shared_ports.proofs.typed.client.Claimed+N+Client+Option+T.loan_uninit.Goals as goal
 
 -- it is the call of the port
@@ -20,3 +21,10 @@ returns g c =
           (at (λ old n result new. LoansRequest g.QH.Default.is_default old n 1 result new) call.1.shows c.handle-handle.ensures (is_made call.0 told.0 call.2) call.1.leaves by))
           (λ none. exhausted numbers_left (λ result old new. LoansRequest g.QH.Default.is_default old c.args.self.now 1 result new) c.made.result _ _ none) made.4,
     )
+
+-- and a step
+pub made-requires-clause-makes : goal.made-requires-clause-makes
+made-requires-clause-makes g c κs within state returned after call =
+    let by : LoansRequest g.QH.Default.is_default call.shown.now c.handle-handle.result.now 1 returned call.left.now = search rules in
+    let keeps : Keeps [] call.shown.now call.left.now = search rules in
+    (stepped g.K.BackpressureFn.action g.QH.Default.is_default g.PH.Default.is_default call.shows call.leaves keeps (request_loaned g.K.BackpressureFn.action g.QH.Default.is_default g.PH.Default.is_default call.shown.now call.left.now c.handle-handle.result.now 1 returned by), search rules, search rules)

@@ -2,6 +2,8 @@ use Rattle.std.specs.Prelude.{◌^◌, ◌-◌}
 use Rattle.rr_ports.specs.Draining.{Drains, FoldsOne}
 use Rattle.rr_ports.specs.Shortcuts.{ReceivesCopy}
 use Rattle.rr_shared_ports.proofs.Telling.{at_state}
+use Rattle.rr_shared_ports.proofs.Leading.{stepped}
+use Rattle.rr_shared_ports.proofs.LeadingWrites.{responses_drained}
 use Rattle.rr_shared_ports.proofs.typed.fold.Claimed+N+PendingResponse+QB.fold_responses.Goals as goal
 
 -- it is the call of the port
@@ -10,3 +12,9 @@ returns g c =
     let made = c.changed-folded.ensures in
     let call = made.4 in
     (made.0, made.1, made.2, made.3, at_state (λ old n new. Drains (λ s received t. ReceivesCopy s n received t) (FoldsOne g.F.FnMut) (2 ^ 64 - 1) (c.args.f, c.args.init) old c.changed-folded.result new) call.shows c.handle-handle.ensures call.leaves call.met.0)
+
+-- and a step
+pub changed-folded-requires-clause-keeps : goal.changed-folded-requires-clause-keeps
+changed-folded-requires-clause-keeps g c κs within state returned after call =
+    let by = call.met.0 in
+    stepped g.K.BackpressureFn.action g.QH.Default.is_default g.PH.Default.is_default call.shows call.leaves call.met.1 (responses_drained g.K.BackpressureFn.action g.QH.Default.is_default g.PH.Default.is_default c.handle-handle.result.now (FoldsOne g.F.FnMut) (2 ^ 64 - 1) (c.args.f, c.args.init) call.shown.now call.left.now returned by)

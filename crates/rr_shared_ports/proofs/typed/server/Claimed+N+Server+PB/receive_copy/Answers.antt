@@ -1,7 +1,8 @@
-use Rattle.std.proofs.Common.{refl, rules, ⊎_elim}
+use Rattle.std.proofs.Common.{refl, rules, ⊎_elim, []}
 use Rattle.rr_ports.specs.Shortcuts.{HearsCopy}
-use Rattle.rr_ports.specs.Facts.{numbers_left}
+use Rattle.rr_ports.specs.Facts.{numbers_left, Keeps}
 use Rattle.rr_shared_ports.proofs.Telling.{answered, at, exhausted}
+use Rattle.rr_shared_ports.proofs.Leading.{request_copied, stepped}
 use Rattle.rr_shared_ports.proofs.typed.server.Claimed+N+Server+PB.receive_copy.Goals as goal
 
 -- it is the call of the port
@@ -20,3 +21,10 @@ returns g c =
           (at (λ old n result new. HearsCopy old n result new) call.shows c.handle-handle.ensures refl call.leaves by))
           (λ none. exhausted numbers_left (λ result old new. HearsCopy old c.args.self.now result new) c.numbered-received.result _ _ none) made.4,
     )
+
+-- and a step
+pub numbered-received-requires-clause-keeps : goal.numbered-received-requires-clause-keeps
+numbered-received-requires-clause-keeps g c κs within state returned after call =
+    let by : HearsCopy call.shown.now c.handle-handle.result.now returned call.left.now = search rules in
+    let keeps : Keeps [] call.shown.now call.left.now = search rules in
+    stepped g.K.BackpressureFn.action g.QH.Default.is_default g.PH.Default.is_default call.shows call.leaves keeps (request_copied g.K.BackpressureFn.action g.QH.Default.is_default g.PH.Default.is_default call.shown.now call.left.now c.handle-handle.result.now returned by)
