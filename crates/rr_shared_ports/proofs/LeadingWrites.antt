@@ -19,7 +19,7 @@ use Rattle.rr_ports.specs.Updates.{UpdatesRequest, UpdatesResponse}
 use Rattle.rr_shared_ports.specs.declared.error.WriteError.{WriteError}
 use Rattle.rr_shared_ports.specs.Leading.{LeadsTo}
 use Rattle.rr_shared_ports.specs.Tries.{Initialises, Pushes, TriesRequest, TriesResponse, WritesSlice}
-use Rattle.rr_shared_ports.proofs.Leading.{client_made, complete_loaned, complete_response_loaned, elements_sent, hinted, initialised, leads_on, pending_sent, released, request_completed, request_copied, request_loaned, request_received, request_written, response_completed, response_copied, response_elements_sent, response_loaned, response_received, response_sent, response_written, rests, server_made, slice_responded, told}
+use Rattle.rr_shared_ports.proofs.Leading.{initialised, leads_on, pending_sent, request_completed, request_copied, request_written, response_completed, response_copied, response_sent, response_written, rests}
 
 module _ {Q QH P PH K : Type 0} (action : K → ℕ → ℕ → BackpressureAction) (D : QH → Type 0) (E : PH → Type 0) where
   -- a part of a message is written
@@ -120,41 +120,3 @@ module _ {Q QH P PH K : Type 0} (action : K → ℕ → ℕ → BackpressureActi
       → Drains (λ s received t. HearsCopy s n received t) step most first old result new → LeadsTo action D E old new
   requests_drained n step most first old new result drains =
       drained (λ s received t. HearsCopy s n received t) (λ s t received copies. request_copied action D E s t n received copies) step most first old new result drains
-
--- what each call leads to
-pub ruleset leading = (
-  client_made,
-  server_made,
-  request_loaned,
-  response_loaned,
-  complete_loaned,
-  complete_response_loaned,
-  pending_sent,
-  elements_sent,
-  response_sent,
-  response_elements_sent,
-  slice_responded,
-  request_received,
-  response_received,
-  told,
-  response_copied,
-  request_copied,
-  released,
-  hinted,
-  initialised,
-  request_completed,
-  response_completed,
-  request_filled,
-  response_filled,
-  request_alike,
-  response_alike,
-  request_pushed,
-  response_pushed,
-  request_slice_written,
-  response_slice_written,
-  initialised_or_not,
-  request_tried,
-  response_tried,
-  responses_drained,
-  requests_drained,
-)

@@ -40,6 +40,11 @@ pub trait Release<H: Ports>: Handle {
         requires { H.names hub.old (Self.number self) Self.kind }
         ensures released { H.ends hub.old (Self.number self) hub.new }
         ensures steps { H.steps (Self.number self ∷ []) hub.old hub.new };
+
+    /// Returns whether it is a server's, whose end may leave a pending response without anyone who may answer it.
+    fn is_of_server() -> bool {
+        false
+    }
 }
 
 impl<N: Naming, A: Handle> Claimed<N, A> {
@@ -51,7 +56,9 @@ impl<N: Naming, A: Handle> Claimed<N, A> {
         ensures { MakesCall (H.empty N.limits N.node_id) (λ before after. H.ends before self after) seat.old seat.new }
     {
         hub.ended(rt, seat, self, |handle, ports| handle.end(ports));
-        hub.waking.responses.wake();
+        if A::is_of_server() {
+            hub.waking.responses.wake();
+        }
         hub.waking.room.wake();
     }
 }
@@ -69,6 +76,10 @@ impl<QB: Body, QH: Default + Drop, PB: Body, PH: Default + Drop, K: Backpressure
 > for Server<PB> {
     fn end(self, hub: &mut Hub<QB, QH, PB, PH, K>) {
         self.release(hub);
+    }
+
+    fn is_of_server() -> bool {
+        true
     }
 }
 
@@ -102,6 +113,10 @@ impl<QB: Body, QH: Default + Drop, PB: Body, PH: Default + Drop, K: Backpressure
     fn end(self, hub: &mut Hub<QB, QH, PB, PH, K>) {
         self.release(hub);
     }
+
+    fn is_of_server() -> bool {
+        true
+    }
 }
 
 impl<QB: Body, QH: Default + Drop, PB: Body, PH: Default + Drop, K: BackpressureFn> Release<
@@ -110,6 +125,10 @@ impl<QB: Body, QH: Default + Drop, PB: Body, PH: Default + Drop, K: Backpressure
     fn end(self, hub: &mut Hub<QB, QH, PB, PH, K>) {
         self.release(hub);
     }
+
+    fn is_of_server() -> bool {
+        true
+    }
 }
 
 impl<QB: Body, QH: Default + Drop, PB: Body, PH: Default + Drop, K: BackpressureFn> Release<
@@ -117,6 +136,10 @@ impl<QB: Body, QH: Default + Drop, PB: Body, PH: Default + Drop, K: Backpressure
 > for ResponseMut<PB> {
     fn end(self, hub: &mut Hub<QB, QH, PB, PH, K>) {
         self.release(hub);
+    }
+
+    fn is_of_server() -> bool {
+        true
     }
 }
 

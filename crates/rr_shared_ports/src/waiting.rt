@@ -1,11 +1,11 @@
 //! Receives that wait until something comes. They look some times, and then sleep.
-ghost use Rattle.std.specs.Prelude.{◌≡◌, None, Some};
+ghost use Rattle.std.specs.Prelude.{◌≡◌, IfSome, None, Some};
 ghost use mathlib.Core.List.{IsPrefix};
 ghost use Rattle.rr_ports.specs.Facts.{numbers_left};
 ghost use Rattle.rr_protocol.specs.Receives.{ReceivesRequest, ReceivesResponse};
 ghost use Rattle.rr_protocol.specs.State.{empty_hub};
 ghost use Rattle.rr_shared_ports.specs.Turns.{Answered};
-ghost use Rattle.rr_shared_ports.specs.Waits.{Waits};
+ghost use Rattle.rr_shared_ports.specs.Waits.{IsOver, Waits};
 
 use crate::claimed::Claimed;
 use crate::deadline::{Deadline, Never, Timeout};
@@ -250,17 +250,45 @@ impl<N: Naming, QB: Body> Claimed<N, PendingResponse<QB>> {
         for _ in rt.forever() {
             let turns = sleepers.turns();
             let pause = hub.waking.pause(rt, deadline);
-            let is_connected = self.is_connected(hub, rt, seat);
             match self.receive(hub, rt, seat) {
                 Ok(Some(response)) => return Ok(Some(response)),
-                Ok(None) if !is_connected => return Ok(None),
-                Ok(None) => match pause {
-                    Ok(pause) => sleepers.wait(rt, turns, pause),
-                    Err(error) => return Err(error),
-                },
+                Ok(None) => {}
                 Err(error) => return Err(WaitError::Call(error)),
             }
+            let over = match (self.is_connected(hub, rt, seat), pause) {
+                (true, Ok(pause)) => {
+                    sleepers.wait(rt, turns, pause);
+                    continue;
+                }
+                (true, Err(error)) => Some(error),
+                (false, _) => None,
+            };
+            return self.receive_last(hub, rt, seat, over);
         }
         unreachable!()
+    }
+
+    /// Receives a response that was queued since the last receive. Returns why the wait is over if none was, or `None` if no connected
+    /// server may answer any more.
+    fn receive_last<R: Wait, QH: Default + Drop, PB: Body, PH: Default + Drop, K: BackpressureFn>(
+        &self,
+        hub: &SharedPorts<N, Hub<QB, QH, PB, PH, K>>,
+        rt: &R,
+        seat: &mut Seat<N, Hub<QB, QH, PB, PH, K>>,
+        over: Option<WaitError<ReceiveError>>,
+    ) -> Answer<N, PB>
+        requires { IfSome over IsOver }
+        ensures same { seat.new.0 ≡ seat.old.0 }
+        ensures seen { IsPrefix seat.old.1 seat.new.1 }
+        ensures call { Waits (empty_hub N.limits N.node_id) (λ received before after. ReceivesResponse before self.now received after) None (λ received. received) result seat.new }
+    {
+        match self.receive(hub, rt, seat) {
+            Ok(Some(response)) => Ok(Some(response)),
+            Ok(None) => match over {
+                Some(error) => Err(error),
+                None => Ok(None),
+            },
+            Err(error) => Err(WaitError::Call(error)),
+        }
     }
 }

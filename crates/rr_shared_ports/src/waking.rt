@@ -10,7 +10,7 @@ use std::sync::atomic::{AtomicBool, AtomicU64, Ordering};
 use std::sync::{Condvar, Wait};
 use std::time::Duration;
 
-/// How often a thread looks whether something was queued before it sleeps.
+/// How often a thread that waits alone looks whether something was queued before it sleeps.
 const LOOKS: u64 = 256;
 
 /// Where those sleep who wait for requests, for responses, and for room in a queue. Of waking no contract tells.
@@ -67,13 +67,14 @@ impl Waking {
 /// Those who wait until something of one kind is queued, or until there is room.
 ///
 /// Who waits comes in before it looks under the lock whether something is queued, and who queues something looks after that whether
-/// anyone is in: one of the two always sees the other. In the same way who sleeps is counted before it looks at the turns once more,
-/// and who wakes counts the turn before it looks whether anyone sleeps. So no wake-up is lost.
+/// anyone is in: one of the two always sees the other. In the same way who sleeps says so before it looks at the turns once more, and
+/// who wakes counts the turn before it takes that back. Who sleeps has counted the notifications before it says so, and who took that
+/// back notifies after it, which ends the sleep. So no wake-up is lost, and nobody is notified again who was and doesn't run yet.
 #[derive(Drop)]
 pub(crate) struct Sleepers {
     inside: AtomicU64,
     turns: AtomicU64,
-    asleep: AtomicU64,
+    is_asleep: AtomicBool,
     queued: Condvar,
 }
 
@@ -82,7 +83,7 @@ impl Sleepers {
         Sleepers {
             inside: AtomicU64::new(0),
             turns: AtomicU64::new(0),
-            asleep: AtomicU64::new(0),
+            is_asleep: AtomicBool::new(false),
             queued: Condvar::new(),
         }
     }
@@ -108,24 +109,32 @@ impl Sleepers {
             return;
         }
         self.turns.fetch_add(1, Ordering::SeqCst);
-        if self.asleep.load(Ordering::SeqCst) != 0 {
+        if self.is_asleep.swap(false, Ordering::SeqCst) {
             self.queued.notify_all();
         }
     }
 
-    /// Looks some times whether those who are in were woken more often than that, and then sleeps until they are, at most so long.
+    /// Sleeps until those who are in were woken more often than that, at most so long. Who is in alone looks some times first: if
+    /// several look, they keep those from the processors whom they wait for.
     pub(crate) fn wait<R: Wait>(&self, rt: &R, turns: u64, most: Duration) {
-        for _ in 0..LOOKS {
-            if self.turns() != turns {
-                return;
-            }
-            spin_loop();
+        if self.inside.load(Ordering::SeqCst) == 1 && self.were_woken(turns) {
+            return;
         }
-        self.asleep.fetch_add(1, Ordering::SeqCst);
         let notifications = self.queued.notifications();
+        self.is_asleep.store(true, Ordering::SeqCst);
         if self.turns() == turns {
             self.queued.sleep(rt, notifications, most);
         }
-        self.asleep.fetch_sub(1, Ordering::SeqCst);
+    }
+
+    /// Looks some times whether those who are in were woken more often than that.
+    fn were_woken(&self, turns: u64) -> bool {
+        for _ in 0..LOOKS {
+            if self.turns() != turns {
+                return true;
+            }
+            spin_loop();
+        }
+        false
     }
 }

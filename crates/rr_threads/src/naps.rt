@@ -1,7 +1,7 @@
 //! Requests of clients to servers, each in a thread of its own. They may sleep now and then, each when its own random numbers say so.
 ghost use Rattle.std.specs.Prelude.{◌≡◌};
 
-use crate::trips::{Hub, HubSeat, OpenedHub, respond, taken};
+use crate::trips::{Hub, HubSeat, OpenedHub};
 use anyhow::bail;
 use rand_core::{Rng, SeedableRng};
 use rand_xoshiro::SplitMix64;
@@ -70,7 +70,9 @@ fn serve<N: Naming, R: Wait + Clock>(
             return answered;
         };
         nap(rt, many, naps);
-        if respond(rt, hub, seat, active) {
+        let sent = active.respond_with(hub, rt, seat, |asked| asked.wrapping_add(1));
+        active.release(hub, rt, seat);
+        if sent.is_ok() {
             answered = answered.wrapping_add(1);
         }
     }
@@ -107,7 +109,7 @@ fn ask<N: Naming, R: Wait>(
     for _ in 0..pending.number_of_server_connections(hub, rt, seat) {
         match pending.receive_wait(hub, rt, seat) {
             Ok(Some(response)) => {
-                let sum = taken(rt, hub, seat, response);
+                let sum = response.into_payload(hub, rt, seat);
                 answers = added(answers, Answers { count: 1, sum });
             }
             Ok(None) => {}

@@ -39,7 +39,7 @@ pub enum By {
 }
 
 /// Answers an active request with the number after the one that it says, and releases it. Returns whether that was sent.
-pub fn respond<N: Naming, R: Wait>(
+fn respond<N: Naming, R: Wait>(
     rt: &R,
     hub: &Hub<N>,
     seat: &mut HubSeat<N>,
@@ -73,7 +73,7 @@ fn answer<N: Naming, R: Wait>(
 }
 
 /// Returns what a response says, and releases it.
-pub fn taken<N: Naming, R: Wait>(
+fn taken<N: Naming, R: Wait>(
     rt: &R,
     hub: &Hub<N>,
     seat: &mut HubSeat<N>,

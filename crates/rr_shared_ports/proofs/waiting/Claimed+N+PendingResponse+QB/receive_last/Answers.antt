@@ -1,0 +1,25 @@
+use Rattle.std.proofs.Common.{Err, IfSome, None, Ok, Some, ◌∙◌, ap, subst}
+use Rattle.rr_protocol.specs.Receives.{ReceivesResponse}
+use Rattle.rr_protocol.specs.State.{empty_hub}
+use Rattle.rr_shared_ports.specs.Waits.{IsOver}
+use Rattle.rr_shared_ports.proofs.Waits.{ends_as, refuses_over}
+use Rattle.rr_shared_ports.proofs.waiting.Claimed+N+PendingResponse+QB.receive_last.Goals as goal
+
+-- the receive is the last call
+pub returns-in-Ok-Some-clause-call : goal.returns-in-Ok-Some-clause-call
+returns-in-Ok-Some-clause-call g c =
+    ends_as (empty_hub g.N.Naming.limits g.N.Naming.node_id) (λ received before after. ReceivesResponse before c.args.self.now received after) c.receive.result (Ok (Some c.in-Ok-Some.response)) c.args.seat.now c.receive.new.seat (c.in-Ok-Some.is ∙ ap Ok c.in-Ok-Some.field-0-is) c.receive.ensures
+
+pub returns-in-None-clause-call : goal.returns-in-None-clause-call
+returns-in-None-clause-call g c =
+    ends_as (empty_hub g.N.Naming.limits g.N.Naming.node_id) (λ received before after. ReceivesResponse before c.args.self.now received after) c.receive.result (Ok None) c.args.seat.now c.receive.new.seat (c.in-Ok-None.is ∙ ap Ok c.in-Ok-None.field-0-is) c.receive.ensures
+
+pub returns-in-Err-clause-call : goal.returns-in-Err-clause-call
+returns-in-Err-clause-call g c =
+    ends_as (empty_hub g.N.Naming.limits g.N.Naming.node_id) (λ received before after. ReceivesResponse before c.args.self.now received after) c.receive.result (Err c.in-Err.error) c.args.seat.now c.receive.new.seat c.in-Err.is c.receive.ensures
+
+-- and received nothing where the wait was over
+pub returns-in-Some-clause-call : goal.returns-in-Some-clause-call
+returns-in-Some-clause-call g c =
+    refuses_over (empty_hub g.N.Naming.limits g.N.Naming.node_id) (λ received before after. ReceivesResponse before c.args.self.now received after) None c.in-Some.error c.receive.new.seat (subst (λ over. IfSome over IsOver) c.in-Some.is c.requires)
+    (ends_as (empty_hub g.N.Naming.limits g.N.Naming.node_id) (λ received before after. ReceivesResponse before c.args.self.now received after) c.receive.result (Ok None) c.args.seat.now c.receive.new.seat (c.in-Ok-None.is ∙ ap Ok c.in-Ok-None.field-0-is) c.receive.ensures)
