@@ -19,7 +19,7 @@ use Rattle.rr_commands.specs.declared.reply.Reply.{Reply}
 use Rattle.rr_commands.specs.Refusals.{content_in}
 use Rattle.rr_commands.specs.Step.{Step, with_content}
 use Rattle.rr_runner.specs.Defaults.{IsBlank, FillsWithDefaults}
-use Rattle.rr_runner.proofs.Steps.{step_acts}
+use Rattle.rr_checked.proofs.Steps.{step_acts}
 use Rattle.rr_runner.proofs.Copies.{IsFresh, IsNoPort, blank, ready, still_uninit, request_pushed, response_pushed, fresh_kind, fresh_request, fresh_response}
 
 module _ {T H : Type 0} (len : ℕ) where

@@ -1,7 +1,5 @@
-pub mod Steps
 pub mod Copies
 pub mod Defaults
-pub mod Received
 pub mod Memory
 pub mod Handles
 pub mod HandleSteps

@@ -1,7 +1,6 @@
 pub mod Defaults
 pub mod Known
 pub mod Memory
-pub mod Naming
 pub mod Numbers
 pub mod Questions
 pub mod Written

@@ -17,17 +17,14 @@ use std::alloc::Global;
 use std::marker::Model;
 
 mod answers;
-mod creation;
 mod defaults;
 mod loans;
-mod naming;
 mod numbers;
-mod ports;
-mod queries;
+mod payload;
 mod receives;
 mod releases;
+mod replies;
 mod sends;
-mod writes;
 
 /// A hub whose ports and handles are named by numbers. Contracts see the state of the message machine.
 ///
@@ -143,8 +140,12 @@ fn create<T: Copy + Default, B: Body<Item = T>, H: Copy + Default, K: Backpressu
     ensures memory { result ≢ Reply.NoMemory }
 {
     match creation {
-        Command::CreateClient(settings) => creation::create_client(core, settings),
-        Command::CreateServer(settings) => creation::create_server(core, settings),
+        Command::CreateClient(settings) => replies::created(rr_checked::create_client(
+            core, settings,
+        )),
+        Command::CreateServer(settings) => replies::created(rr_checked::create_server(
+            core, settings,
+        )),
         _ => unreachable!(),
     }
 }
@@ -167,13 +168,15 @@ fn act<T: Copy + Default, B: Body<Item = T>, H: Copy + Default, K: BackpressureF
         Command::Loan(_, len) => loans::loan(core, places, id, len),
         Command::LoanDefault(_, len) => defaults::loan_default(core, places, id, len),
         Command::SendCopy(_, item) => sends::send_copy(core, places, id, item),
-        Command::Push(_, item) => writes::push(core, id, item),
-        Command::Set(_, index, item) => writes::set(core, id, index, item),
-        Command::SetUserHeader(_, header) => writes::set_user_header(core, id, header),
-        Command::AssumeInit(_) => writes::assume_init(core, id),
+        Command::Push(_, item) => replies::flag(rr_checked::push(core, id, item)),
+        Command::Set(_, index, item) => replies::flag(rr_checked::set(core, id, index, item)),
+        Command::SetUserHeader(_, header) => replies::done(rr_checked::set_user_header(
+            core, id, header,
+        )),
+        Command::AssumeInit(_) => replies::done(rr_checked::assume_init(core, id)),
         Command::Send(_) => sends::send(core, places, id),
         Command::Receive(_) => receives::receive(core, places, id),
-        Command::SetHint(_) => writes::set_hint(core, id),
+        Command::SetHint(_) => replies::done(rr_checked::set_hint(core, id)),
         Command::Release(_) => releases::release(core, places, id),
         Command::IsDeliverable(_)
         | Command::HasEntries(_)

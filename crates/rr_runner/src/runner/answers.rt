@@ -6,7 +6,7 @@ ghost use Rattle.rr_commands.specs.Step.{Step};
 ghost use Rattle.rr_runner.specs.Memory.{MayLackOrNeverDoes};
 ghost use Rattle.rr_runner.specs.Questions.{IsQuestion};
 
-use crate::runner::{ports, queries};
+use crate::runner::{payload, replies};
 use rr_commands::{Command, Reply};
 use rr_hub::{Core, HandleId};
 use rr_protocol::BackpressureFn;
@@ -26,18 +26,18 @@ pub(crate) fn answer<T: Copy + Default, B: Body<Item = T>, H: Copy + Default, K:
     ensures memory { result ≡ Reply.NoMemory → MayLackOrNeverDoes B.family core.now question }
 {
     match question {
-        Command::IsDeliverable(_) => ports::is_deliverable(core, id),
-        Command::HasEntries(_) => ports::has_entries(core, id),
-        Command::IsConnected(_) => queries::is_connected(core, id),
-        Command::HasHint(_) => queries::has_hint(core, id),
-        Command::Servers(_) => queries::servers(core, id),
-        Command::Header(_) => queries::header(core, id),
-        Command::UserHeader(_) => queries::user_header(core, id),
-        Command::Payload(_) => queries::payload(core, alloc, id),
-        Command::Origin(_) => queries::origin(core, id),
-        Command::Strategy(_) => ports::strategy(core, id),
-        Command::MaxSliceLen(_) => ports::max_slice_len(core, id),
-        Command::UpdateConnections(_) => { ports::update_connections(core, id) }
+        Command::IsDeliverable(_) => replies::flag(rr_checked::is_deliverable(core, id)),
+        Command::HasEntries(_) => replies::flag(rr_checked::has_entries(core, id)),
+        Command::IsConnected(_) => replies::flag(rr_checked::is_connected(core, id)),
+        Command::HasHint(_) => replies::flag(rr_checked::has_hint(core, id)),
+        Command::Servers(_) => replies::count(rr_checked::servers(core, id)),
+        Command::Header(_) => replies::header(rr_checked::header(core, id)),
+        Command::UserHeader(_) => replies::user_header(rr_checked::user_header(core, id)),
+        Command::Payload(_) => payload::payload(core, alloc, id),
+        Command::Origin(_) => replies::id(rr_checked::origin(core, id)),
+        Command::Strategy(_) => replies::strategy(rr_checked::strategy(core, id)),
+        Command::MaxSliceLen(_) => replies::count(rr_checked::max_slice_len(core, id)),
+        Command::UpdateConnections(_) => { replies::done(rr_checked::update_connections(core, id)) }
         _ => unreachable!(),
     }
 }

@@ -8,7 +8,7 @@ ghost use Rattle.rr_runner.specs.Defaults.{IsBlank, FillsWithDefaults};
 ghost use Rattle.rr_runner.specs.Known.{Remembers, given};
 
 use crate::places::Places;
-use crate::runner::loans::takes_len;
+use rr_checked::takes_len;
 use rr_commands::Reply;
 use rr_hub::{Core, HandleId};
 use rr_protocol::{BackpressureFn, Kind};

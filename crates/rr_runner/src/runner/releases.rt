@@ -1,13 +1,13 @@
 //! Releasing ports and handles.
-ghost use Rattle.std.specs.Prelude.{◌≡◌};
 ghost use Rattle.rr_commands.specs.declared.command.Command.{Command};
 ghost use Rattle.rr_commands.specs.Step.{Step};
 ghost use Rattle.rr_runner.specs.Known.{ForgetsGone};
 
 use crate::places::Places;
+use crate::runner::replies::refused;
 use rr_commands::Reply;
 use rr_hub::{Core, HandleId};
-use rr_protocol::{BackpressureFn, Kind};
+use rr_protocol::BackpressureFn;
 use rr_slots::Body;
 
 /// Releases a port or a handle.
@@ -19,20 +19,11 @@ pub(crate) fn release<T: Copy + Default, B: Body<Item = T>, H: Copy + Default, K
     ensures step { Step K.action T.is_default H.is_default B.family core.old (Command.Release id.now) result core.new }
     ensures places { ForgetsGone places.old id.now core.new places.new }
 {
-    match core.kind(id) {
-        Some(Kind::Client) => {
-            core.release_client(id.number());
-            Reply::Done
-        }
-        Some(Kind::Server) => {
-            core.release_server(id.number());
-            Reply::Done
-        }
-        Some(_) => {
-            core.release(id);
+    match rr_checked::release(core, id) {
+        Ok(()) => {
             places.forget(id.number());
             Reply::Done
         }
-        None => Reply::Unknown,
+        Err(refusal) => refused(refusal),
     }
 }

@@ -9,6 +9,8 @@ ghost use Rattle.rr_runner.specs.Known.{ForgetsGone, Remembers, given};
 ghost use Rattle.rr_runner.specs.Written.{WritesRequest, WritesResponse};
 
 use crate::places::Places;
+use crate::runner::replies::refused;
+use rr_checked::{Refusal, Sent};
 use rr_commands::Reply;
 use rr_hub::{Core, HandleId};
 use rr_protocol::{BackpressureFn, Kind, LoanError, RequestSendError, SendError};
@@ -23,23 +25,21 @@ pub(crate) fn send<T: Copy + Default, B: Body<Item = T>, H: Copy + Default, K: B
     ensures step { Step K.action T.is_default H.is_default B.family core.old (Command.Send id.now) result core.new }
     ensures places { ForgetsGone places.old id.now core.new places.new }
 {
-    match core.kind(id) {
-        Some(Kind::RequestMut) => match core.send_request(id) {
-            Ok(connections) => Reply::Pending(id.number(), connections),
-            Err(error) => {
-                places.forget(id.number());
-                Reply::RequestError(error)
-            }
-        },
-        Some(Kind::ResponseMut) => {
+    match rr_checked::send(core, id) {
+        Ok(Sent::Request(connections)) => Reply::Pending(id.number(), connections),
+        Ok(Sent::Response) => {
             places.forget(id.number());
-            match core.send_response(id) {
-                Ok(()) => Reply::Sent(id.number()),
-                Err(error) => Reply::SendError(error),
-            }
+            Reply::Sent(id.number())
         }
-        Some(_) => Reply::WrongKind,
-        None => Reply::Unknown,
+        Err(Refusal::Request(error)) => {
+            places.forget(id.number());
+            Reply::RequestError(error)
+        }
+        Err(Refusal::Send(error)) => {
+            places.forget(id.number());
+            Reply::SendError(error)
+        }
+        Err(refusal) => refused(refusal),
     }
 }
 

@@ -1,18 +1,28 @@
+use Rattle.std.proofs.Common.{Err, Ok, subst, ℕ}
+use Rattle.rr_checked.specs.Sends.{SendsEither}
 use Rattle.rr_runner.proofs.Handles.{response_gone, unsent_gone}
 use Rattle.rr_runner.proofs.Knowing.{forgets_gone}
 use Rattle.rr_runner.proofs.runner.sends.send.Goals as goal
 
-pub returns-in-Err-clause-places : goal.returns-in-Err-clause-places
-returns-in-Err-clause-places g c =
-    forgets_gone _ _ c.send_request.new.self _ _ c.number-in-Err.ensures c.forget.ensures
-    (unsent_gone g.K.BackpressureFn.action c.args.core.now c.args.id.now c.in-Err.error c.send_request.new.self c.in-Err.ensures)
+-- a response that was sent is gone
+pub returns-in-Ok-Response-clause-places : goal.returns-in-Ok-Response-clause-places
+returns-in-Ok-Response-clause-places g c =
+    forgets_gone _ _ c.send.new.core _ _ c.number-in-Ok-Response.ensures c.forget.ensures
+    (response_gone g.K.BackpressureFn.action c.args.core.now c.args.id.now (Ok c.args.id.now) c.send.new.core
+    (subst (λ sent. SendsEither g.K.BackpressureFn.action c.args.core.now c.args.id.now (Ok sent) c.send.new.core) c.in-Ok-Response.field-0-is
+    c.in-Ok-Response.ensures.sends))
 
-pub returns-in-Ok-send_response-clause-places : goal.returns-in-Ok-send_response-clause-places
-returns-in-Ok-send_response-clause-places g c =
-    forgets_gone _ _ c.send_response.new.self _ _ c.number-in-Some-ResponseMut.ensures c.forget-in-Some-ResponseMut.ensures
-    (response_gone g.K.BackpressureFn.action c.args.core.now c.args.id.now _ c.send_response.new.self c.send_response.ensures)
+-- a message whose send was refused is gone too
+pub returns-in-Err-Request-clause-places : goal.returns-in-Err-Request-clause-places
+returns-in-Err-Request-clause-places g c =
+    forgets_gone _ _ c.send.new.core _ _ c.number-in-Err-Request.ensures c.forget-in-Err-Request.ensures
+    (unsent_gone g.K.BackpressureFn.action c.args.core.now c.args.id.now c.in-Err-Request.error c.send.new.core
+    (subst (λ refusal. SendsEither g.K.BackpressureFn.action c.args.core.now c.args.id.now (Err refusal) c.send.new.core) c.in-Err-Request.field-0-is
+    c.in-Err-Request.ensures.sends))
 
-pub returns-in-Err-send_response-clause-places : goal.returns-in-Err-send_response-clause-places
-returns-in-Err-send_response-clause-places g c =
-    forgets_gone _ _ c.send_response.new.self _ _ c.number-in-Some-ResponseMut.ensures c.forget-in-Some-ResponseMut.ensures
-    (response_gone g.K.BackpressureFn.action c.args.core.now c.args.id.now _ c.send_response.new.self c.send_response.ensures)
+pub returns-in-Err-Send-clause-places : goal.returns-in-Err-Send-clause-places
+returns-in-Err-Send-clause-places g c =
+    forgets_gone _ _ c.send.new.core _ _ c.number-in-Err-Send.ensures c.forget-in-Err-Send.ensures
+    (response_gone {U = ℕ} g.K.BackpressureFn.action c.args.core.now c.args.id.now (Err c.in-Err-Send.error) c.send.new.core
+    (subst (λ refusal. SendsEither g.K.BackpressureFn.action c.args.core.now c.args.id.now (Err refusal) c.send.new.core) c.in-Err-Send.field-0-is
+    c.in-Err-Send.ensures.sends))

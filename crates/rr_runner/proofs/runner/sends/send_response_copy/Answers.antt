@@ -6,7 +6,7 @@ use Rattle.rr_protocol.specs.Sends.{SendsResponse}
 use Rattle.rr_commands.specs.declared.command.Command.{Command}
 use Rattle.rr_commands.specs.declared.reply.Reply.{Reply}
 use Rattle.rr_commands.specs.Step.{Step}
-use Rattle.rr_runner.proofs.Steps.{step_acts, response_copy_due}
+use Rattle.rr_checked.proofs.Steps.{step_acts, response_copy_due}
 use Rattle.rr_runner.proofs.runner.sends.send_response_copy.Goals as goal
 
 pub returns-in-Ok-send_response-clause-step : goal.returns-in-Ok-send_response-clause-step

@@ -1,0 +1,201 @@
+//! Writing messages before they are sent.
+ghost use Rattle.std.specs.Prelude.{◌≡◌, IsSomeAnd, length, option_and_then, Some};
+ghost use Rattle.rr_slots.specs.declared.family.Family.TheVariants.{Sliced};
+ghost use Rattle.rr_commands.specs.declared.command.Command.{Command};
+ghost use Rattle.rr_commands.specs.declared.reply.Reply.{Reply};
+ghost use Rattle.rr_commands.specs.Step.{Step, with_complete};
+ghost use Rattle.rr_ports.specs.Filling.{CompletesRequest, CompletesResponse};
+ghost use Rattle.rr_protocol.specs.declared.kind.Kind.TheVariants as kind;
+ghost use Rattle.rr_protocol.specs.Messages.{request_in, response_in};
+ghost use Rattle.rr_protocol.specs.Queries.{kind_at};
+ghost use Rattle.rr_protocol.specs.State.{handle_at};
+ghost use Rattle.rr_checked.specs.Answers.{replied};
+ghost use Rattle.rr_bytes.specs.Writes.{WritesAll};
+
+use crate::id::Id;
+use crate::slices::Slices;
+use rr_checked::Refusal;
+use rr_hub::{BackpressureFn, Core, HandleId, Kind};
+use rr_slots::{Body, SliceBody};
+
+impl<T: Copy + Default, H: Copy + Default, K: BackpressureFn> Slices<T, H, K> {
+    /// Appends an element to a message that is being written. Returns whether it had room. Not in iceoryx2.
+    ///
+    /// # Errors
+    ///
+    /// `Unknown` and `WrongKind`.
+    pub fn push(&mut self, id: &Id, element: T) -> Result<bool, Refusal>
+        ensures { Step K.action T.is_default H.is_default Sliced self.old (Command.Push id.now.number element) (replied Reply.Flag result) self.new }
+    {
+        rr_checked::push(&mut self.core, &id.handle(), element)
+    }
+
+    /// Replaces an element of a message that was not sent. Returns whether there is one. After iceoryx2's `payload_mut`.
+    ///
+    /// # Errors
+    ///
+    /// `Unknown` and `WrongKind`.
+    pub fn set(&mut self, id: &Id, index: usize, element: T) -> Result<bool, Refusal>
+        ensures { Step K.action T.is_default H.is_default Sliced self.old (Command.Set id.now.number index element) (replied Reply.Flag result) self.new }
+    {
+        rr_checked::set(&mut self.core, &id.handle(), index, element)
+    }
+
+    /// Replaces the user header of a message that was not sent. After iceoryx2's `user_header_mut`.
+    ///
+    /// # Errors
+    ///
+    /// `Unknown` and `WrongKind`.
+    pub fn set_user_header(&mut self, id: &Id, header: H) -> Result<(), Refusal>
+        ensures { Step K.action T.is_default H.is_default Sliced self.old (Command.SetUserHeader id.now.number header) (replied (λ done. Reply.Done) result) self.new }
+    {
+        rr_checked::set_user_header(&mut self.core, &id.handle(), header)
+    }
+
+    /// Makes a message that is being written, and complete, one that can be sent. After iceoryx2's `assume_init`.
+    ///
+    /// # Errors
+    ///
+    /// `Unknown`, `WrongKind`, and `Incomplete` if less is written than was asked for.
+    pub fn assume_init(&mut self, id: &Id) -> Result<(), Refusal>
+        ensures { Step K.action T.is_default H.is_default Sliced self.old (Command.AssumeInit id.now.number) (replied (λ done. Reply.Done) result) self.new }
+    {
+        rr_checked::assume_init(&mut self.core, &id.handle())
+    }
+
+    /// Sets the disconnect hint of a pending response. After iceoryx2's `set_disconnect_hint`.
+    ///
+    /// # Errors
+    ///
+    /// `Unknown` and `WrongKind`.
+    pub fn set_hint(&mut self, id: &Id) -> Result<(), Refusal>
+        ensures { Step K.action T.is_default H.is_default Sliced self.old (Command.SetHint id.now.number) (replied (λ done. Reply.Done) result) self.new }
+    {
+        rr_checked::set_hint(&mut self.core, &id.handle())
+    }
+}
+
+/// Why a write of all elements is refused. Nothing has changed then. Not in iceoryx2, which panics at another length.
+#[derive(Clone, Copy, Debug, PartialEq, Eq)]
+pub enum WriteRefusal {
+    /// The number names neither a port nor a handle.
+    Unknown,
+    /// What the number names is no message that is being written.
+    WrongKind,
+    /// The message asks for another number of elements.
+    WrongLength,
+}
+
+impl<T: Copy + Default, H: Copy + Default, K: BackpressureFn> Slices<T, H, K> {
+    /// Writes copies of these elements, and makes the message one that can be sent. What was written before is dropped. After iceoryx2's
+    /// `write_from_slice`.
+    ///
+    /// # Errors
+    ///
+    /// `Unknown`, `WrongKind`, and `WrongLength` if the loan asked for another number of elements.
+    pub fn write(&mut self, id: &Id, elements: &[T]) -> Result<(), WriteRefusal>
+        ensures { WritesAll self.old id.now.number elements.now result self.new }
+    {
+        let handle = id.handle();
+        match self.core.kind(&handle) {
+            Some(Kind::RequestMutUninit) => write_request(&mut self.core, &handle, elements),
+            Some(Kind::ResponseMutUninit) => write_response(&mut self.core, &handle, elements),
+            Some(_) => Err(WriteRefusal::WrongKind),
+            None => Err(WriteRefusal::Unknown),
+        }
+    }
+}
+
+/// Writes a request that is being written.
+fn write_request<T: Copy + Default, H: Copy + Default, K: BackpressureFn>(
+    core: &mut Core<SliceBody<T>, H, SliceBody<T>, H, K>,
+    id: &HandleId,
+    elements: &[T],
+) -> Result<(), WriteRefusal>
+    requires { kind_at core.old id.now ≡ Some kind.RequestMutUninit }
+    ensures { WritesAll core.old id.now elements.now result core.new }
+{
+    if core.request_body(id).asked_len() != elements.len() {
+        return Err(WriteRefusal::WrongLength);
+    }
+    copy_request(core, id, elements);
+    Ok(())
+}
+
+/// Copies elements to a request that asks for as many, which can be sent then.
+fn copy_request<T: Copy + Default, H: Copy + Default, K: BackpressureFn>(
+    core: &mut Core<SliceBody<T>, H, SliceBody<T>, H, K>,
+    id: &HandleId,
+    elements: &[T],
+)
+    requires kind { kind_at core.old id.now ≡ Some kind.RequestMutUninit }
+    requires len { IsSomeAnd (option_and_then request_in (handle_at core.old id.now)) (λ m. m.content.asked_len ≡ length elements.now) }
+    ensures { core.new ≡ with_complete core.old id.now elements.now }
+{
+    complete_request(core, id, elements);
+    core.request_slice_mut(id).copy_from_slice(elements);
+}
+
+/// Makes a request that asks for as many elements as these one that can be sent, whatever its elements are then.
+fn complete_request<T: Copy + Default, H: Copy + Default, K: BackpressureFn>(
+    core: &mut Core<SliceBody<T>, H, SliceBody<T>, H, K>,
+    id: &HandleId,
+    elements: &[T],
+)
+    requires kind { kind_at core.old id.now ≡ Some kind.RequestMutUninit }
+    requires len { IsSomeAnd (option_and_then request_in (handle_at core.old id.now)) (λ m. m.content.asked_len ≡ length elements.now) }
+    ensures { CompletesRequest core.old core.new id.now (length elements.now) }
+{
+    if core.request_body(id).is_complete() {
+        core.assume_init(id);
+    } else {
+        core.fill_request(id, elements[0]);
+    }
+}
+
+/// Writes a response that is being written.
+fn write_response<T: Copy + Default, H: Copy + Default, K: BackpressureFn>(
+    core: &mut Core<SliceBody<T>, H, SliceBody<T>, H, K>,
+    id: &HandleId,
+    elements: &[T],
+) -> Result<(), WriteRefusal>
+    requires { kind_at core.old id.now ≡ Some kind.ResponseMutUninit }
+    ensures { WritesAll core.old id.now elements.now result core.new }
+{
+    if core.response_body(id).asked_len() != elements.len() {
+        return Err(WriteRefusal::WrongLength);
+    }
+    copy_response(core, id, elements);
+    Ok(())
+}
+
+/// Copies elements to a response that asks for as many, which can be sent then.
+fn copy_response<T: Copy + Default, H: Copy + Default, K: BackpressureFn>(
+    core: &mut Core<SliceBody<T>, H, SliceBody<T>, H, K>,
+    id: &HandleId,
+    elements: &[T],
+)
+    requires kind { kind_at core.old id.now ≡ Some kind.ResponseMutUninit }
+    requires len { IsSomeAnd (option_and_then response_in (handle_at core.old id.now)) (λ m. m.content.asked_len ≡ length elements.now) }
+    ensures { core.new ≡ with_complete core.old id.now elements.now }
+{
+    complete_response(core, id, elements);
+    core.response_slice_mut(id).copy_from_slice(elements);
+}
+
+/// Makes a response that asks for as many elements as these one that can be sent, whatever its elements are then.
+fn complete_response<T: Copy + Default, H: Copy + Default, K: BackpressureFn>(
+    core: &mut Core<SliceBody<T>, H, SliceBody<T>, H, K>,
+    id: &HandleId,
+    elements: &[T],
+)
+    requires kind { kind_at core.old id.now ≡ Some kind.ResponseMutUninit }
+    requires len { IsSomeAnd (option_and_then response_in (handle_at core.old id.now)) (λ m. m.content.asked_len ≡ length elements.now) }
+    ensures { CompletesResponse core.old core.new id.now (length elements.now) }
+{
+    if core.response_body(id).is_complete() {
+        core.assume_init(id);
+    } else {
+        core.fill_response(id, elements[0]);
+    }
+}

@@ -1,0 +1,4 @@
+pub mod Codes
+pub mod Answers
+pub mod Naming
+pub mod Sends
