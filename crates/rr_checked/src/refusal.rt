@@ -6,30 +6,43 @@ ghost use Rattle.rr_checked.specs.declared.refusal.Refusal.TheVariants as Refusa
 use rr_protocol::{
     ClientCreateError, LoanError, ReceiveError, RequestSendError, SendError, ServerCreateError,
 };
+use thiserror::Error;
 
-/// Why a call was refused. Nothing has changed then, but for a message whose send was refused, which is released. Not in iceoryx2,
-/// whose calls can't be made on what isn't there.
-#[derive(Clone, Copy, Debug, PartialEq, Eq)]
+/// Why a call was refused. Not in iceoryx2, whose calls can't be made on what isn't there.
+///
+/// Nothing has changed then, but for two calls: a message whose send is refused is released, and a server whose receive is refused
+/// has dropped the requests at the heads of its queues that no client waits for, as a receive that finds nothing does.
+#[derive(Clone, Copy, Debug, PartialEq, Eq, Hash, Error)]
 pub enum Refusal {
     /// The number names neither a port nor a handle.
+    #[error("Refusal::Unknown")]
     Unknown,
     /// What the number names has no such call.
+    #[error("Refusal::WrongKind")]
     WrongKind,
     /// The hub has given all its numbers.
+    #[error("Refusal::NumbersExhausted")]
     NumbersExhausted,
     /// The payload is not written as far as was asked for.
+    #[error("Refusal::Incomplete")]
     Incomplete,
     /// A client is not created.
+    #[error("{0}")]
     Client(ClientCreateError),
     /// A server is not created.
+    #[error("{0}")]
     Server(ServerCreateError),
     /// A message is not loaned.
+    #[error("{0}")]
     Loan(LoanError),
     /// A request is not sent.
+    #[error("{0}")]
     Request(RequestSendError),
     /// A response is not sent.
+    #[error("{0}")]
     Send(SendError),
     /// Nothing is received.
+    #[error("{0}")]
     Receive(ReceiveError),
 }
 
