@@ -10,13 +10,14 @@ ghost use Rattle.rr_protocol.specs.Messages.{request_in, response_in};
 ghost use Rattle.rr_protocol.specs.Queries.{kind_at};
 ghost use Rattle.rr_protocol.specs.State.{handle_at};
 ghost use Rattle.rr_checked.specs.Answers.{replied};
-ghost use Rattle.rr_bytes.specs.Writes.{WritesAll};
+ghost use Rattle.rr_bytes.specs.Writes.{Fills, FillsAll, WritesAll, write_code};
 
 use crate::id::Id;
 use crate::slices::Slices;
 use rr_checked::Refusal;
 use rr_hub::{BackpressureFn, Core, HandleId, Kind};
 use rr_slots::{Body, SliceBody};
+use thiserror::Error;
 
 impl<T: Copy + Default, H: Copy + Default, K: BackpressureFn> Slices<T, H, K> {
     /// Appends an element to a message that is being written. Returns whether it had room. Not in iceoryx2.
@@ -76,14 +77,30 @@ impl<T: Copy + Default, H: Copy + Default, K: BackpressureFn> Slices<T, H, K> {
 }
 
 /// Why a write of all elements is refused. Nothing has changed then. Not in iceoryx2, which panics at another length.
-#[derive(Clone, Copy, Debug, PartialEq, Eq)]
+#[derive(Clone, Copy, Debug, PartialEq, Eq, Hash, Error)]
 pub enum WriteRefusal {
     /// The number names neither a port nor a handle.
+    #[error("WriteRefusal::Unknown")]
     Unknown,
     /// What the number names is no message that is being written.
+    #[error("WriteRefusal::WrongKind")]
     WrongKind,
     /// The message asks for another number of elements.
+    #[error("WriteRefusal::WrongLength")]
     WrongLength,
+}
+
+impl WriteRefusal {
+    /// Returns the refusal's code, which is not 0. What a `Refusal` says too has its code.
+    pub fn code(self) -> u32
+        ensures { result ≡ write_code self }
+    {
+        match self {
+            WriteRefusal::Unknown => 1,
+            WriteRefusal::WrongKind => 2,
+            WriteRefusal::WrongLength => 5,
+        }
+    }
 }
 
 impl<T: Copy + Default, H: Copy + Default, K: BackpressureFn> Slices<T, H, K> {
@@ -104,6 +121,74 @@ impl<T: Copy + Default, H: Copy + Default, K: BackpressureFn> Slices<T, H, K> {
             None => Err(WriteRefusal::Unknown),
         }
     }
+}
+
+impl<T: Copy + Default, H: Copy + Default, K: BackpressureFn> Slices<T, H, K> {
+    /// Makes this element each of those that a message asks for, and the message one that can be sent. What was written before is
+    /// dropped. After iceoryx2's `write_from_fn` with a function that always returns this element; a loan that is filled with a default
+    /// element is its `loan_slice`.
+    ///
+    /// # Errors
+    ///
+    /// `Unknown` and `WrongKind`.
+    pub fn fill(&mut self, id: &Id, element: T) -> Result<(), Refusal>
+        ensures { FillsAll self.old id.now.number element result self.new }
+    {
+        let handle = id.handle();
+        match self.core.kind(&handle) {
+            Some(Kind::RequestMutUninit) => fill_request(&mut self.core, &handle, element),
+            Some(Kind::ResponseMutUninit) => fill_response(&mut self.core, &handle, element),
+            Some(_) => return Err(Refusal::WrongKind),
+            None => return Err(Refusal::Unknown),
+        }
+        Ok(())
+    }
+}
+
+impl<T: Copy + Default, H: Copy + Default, K: BackpressureFn> Slices<T, H, K> {
+    ghost use Rattle.rr_bytes.specs.Lending.{IsLent};
+
+    /// Lends the elements of a message that can be sent, to be changed in place. After iceoryx2's `RequestMut::payload_mut` and
+    /// `ResponseMut::payload_mut`.
+    ///
+    /// # Errors
+    ///
+    /// `Unknown` and `WrongKind`.
+    pub fn payload_mut(&mut self, id: &Id) -> Result<&mut [T], Refusal>
+        ensures { IsLent self.old id.now.number result }
+    {
+        let handle = id.handle();
+        match self.core.kind(&handle) {
+            Some(Kind::RequestMut) => Ok(self.core.request_slice_mut(&handle)),
+            Some(Kind::ResponseMut) => Ok(self.core.response_slice_mut(&handle)),
+            Some(_) => Err(Refusal::WrongKind),
+            None => Err(Refusal::Unknown),
+        }
+    }
+}
+
+/// Fills a request that is being written.
+fn fill_request<T: Copy + Default, H: Copy + Default, K: BackpressureFn>(
+    core: &mut Core<SliceBody<T>, H, SliceBody<T>, H, K>,
+    id: &HandleId,
+    element: T,
+)
+    requires { kind_at core.old id.now ≡ Some kind.RequestMutUninit }
+    ensures { Fills core.old id.now element core.new }
+{
+    core.fill_request(id, element);
+}
+
+/// Fills a response that is being written.
+fn fill_response<T: Copy + Default, H: Copy + Default, K: BackpressureFn>(
+    core: &mut Core<SliceBody<T>, H, SliceBody<T>, H, K>,
+    id: &HandleId,
+    element: T,
+)
+    requires { kind_at core.old id.now ≡ Some kind.ResponseMutUninit }
+    ensures { Fills core.old id.now element core.new }
+{
+    core.fill_response(id, element);
 }
 
 /// Writes a request that is being written.

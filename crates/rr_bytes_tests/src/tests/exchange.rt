@@ -147,3 +147,27 @@ fn questions_are_answered(rt: HostRuntime) -> Result<(), Fail> {
     assert_eq!(rt; told(&mut hub), Some((true, 1, true, true, 3)));
     Ok(())
 }
+
+/// Sends a request of four bytes of which the first was changed in place, and a response of which the last was. Returns what both come
+/// to.
+fn placed(hub: &mut Bytes) -> Option<(u64, u64)> {
+    let ports = ports_of(hub)?;
+    let request = hub.loan(&ports.client, 4).ok()?;
+    hub.fill(&request, 3).ok()?;
+    *hub.payload_mut(&request).ok()?.first_mut()? = 10;
+    hub.send(&request).ok()?;
+    let active = hub.receive(&ports.server).ok()??;
+    let asked = sum(hub.payload(&active).ok()?);
+    let response = hub.loan(&active, 2).ok()?;
+    hub.fill(&response, 0).ok()?;
+    *hub.payload_mut(&response).ok()?.last_mut()? = 7;
+    hub.send(&response).ok()?;
+    Some((asked, heard(hub, &request)?))
+}
+
+#[test]
+fn bytes_are_written_in_place(rt: HostRuntime) -> Result<(), Fail> {
+    let mut hub = Bytes::new(rt.alloc(), Limits::default(), UniqueNodeId(3))?;
+    assert_eq!(rt; placed(&mut hub), Some((19, 7)));
+    Ok(())
+}

@@ -91,6 +91,38 @@ fn writes_are_refused_by_name(rt: HostRuntime) -> Result<(), Fail> {
     Ok(())
 }
 
+/// Returns the code of a refused write, or 0 if it was not refused.
+fn code_of_write(answer: Result<(), WriteRefusal>) -> u32 {
+    match answer {
+        Ok(()) => 0,
+        Err(refusal) => refusal.code(),
+    }
+}
+
+/// Fills, and asks for elements in place, before a message is complete and after. Returns the codes.
+fn misfilled(hub: &mut Bytes) -> Option<[u32; 9]> {
+    let ports = ports_of(hub)?;
+    let request = hub.loan(&ports.client, 2).ok()?;
+    Some([
+        code_of_write(hub.write(&request, &[1])),
+        code_of(hub.fill(&NOBODY, 1)),
+        code_of(hub.fill(&ports.client, 1)),
+        code_of(hub.payload_mut(&NOBODY)),
+        code_of(hub.payload_mut(&request)),
+        code_of(hub.fill(&request, 1)),
+        code_of(hub.fill(&request, 1)),
+        code_of(hub.payload_mut(&request)),
+        code_of_write(hub.write(&request, &[1, 2])),
+    ])
+}
+
+#[test]
+fn fills_are_refused_by_code(rt: HostRuntime) -> Result<(), Fail> {
+    let mut hub = Bytes::new(rt.alloc(), Limits::default(), UniqueNodeId(3))?;
+    assert_eq!(rt; misfilled(&mut hub), Some([5, 1, 2, 1, 2, 0, 2, 0, 2]));
+    Ok(())
+}
+
 /// Sends a request too many. Returns its code.
 fn overasked(hub: &mut Bytes) -> Option<u32> {
     let ports = ports_of(hub)?;

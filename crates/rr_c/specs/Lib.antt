@@ -1,0 +1,4 @@
+pub mod Answers
+pub mod Heap
+pub mod Opening
+pub mod Settings

@@ -1,0 +1,8 @@
+//! The exports, in the order of `bindings/c/include/rr.h`.
+
+mod hub;
+mod messages;
+mod ports;
+mod queries;
+mod receives;
+mod writes;

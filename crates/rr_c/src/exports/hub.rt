@@ -1,0 +1,76 @@
+//! The hub.
+ghost use Rattle.std.specs.Prelude.{◌≡◌};
+ghost use Rattle.std.specs.Option.{option_map_or};
+ghost use Rattle.rr_protocol.specs.Queries.{kind_at};
+ghost use Rattle.rr_commands.specs.Refusals.{kind_index};
+ghost use Rattle.rr_c.specs.Answers.{CreatesHeld};
+ghost use Rattle.rr_c.specs.Settings.{limits_in};
+
+use crate::answers::{OK, UNKNOWN, code_of_create};
+use crate::held::{Held, Hub};
+use crate::opening::{address_of, box_of, hub_in};
+use crate::settings::{self, HubLimits};
+use rr_bytes::{Bytes, Id, Kind, UniqueNodeId};
+use std::alloc::Global;
+
+/// Makes a hub, and hands it over.
+#[unsafe(no_mangle)]
+pub extern "C" fn rr_hub_create(
+    alloc: Global,
+    limits: &HubLimits,
+    node_id: u64,
+    at: &mut *mut u8,
+) -> u32
+    ensures { CreatesHeld (limits_in limits.now) node_id result }
+{
+    let bytes = match Bytes::new(alloc, settings::limits(limits), UniqueNodeId(node_id)) {
+        Ok(bytes) => bytes,
+        Err(error) => return code_of_create(error),
+    };
+    match Box::new(alloc, Hub { bytes }) {
+        Ok(hub) => {
+            *at = address_of(hub);
+            OK
+        }
+        Err(_) => 62,
+    }
+}
+
+/// Takes a hub back, and drops it.
+#[unsafe(no_mangle)]
+pub extern "C" fn rr_hub_drop(alloc: Global, held: Held) {
+    drop(box_of(held, alloc));
+}
+
+/// Writes what an id names.
+#[unsafe(no_mangle)]
+pub extern "C" fn rr_kind(hub: &mut Held, id: &Id, kind: &mut u32) -> u32
+    ensures code { result ≡ option_map_or (λ named. 0) (kind_at hub.old.hub.bytes id.now.number) 1 }
+    ensures kind { kind.new ≡ option_map_or kind_index (kind_at hub.old.hub.bytes id.now.number) kind.old }
+    ensures hub { hub.new.hub ≡ hub.old.hub }
+{
+    match hub_in(hub).bytes.kind(id) {
+        Some(named) => {
+            *kind = index_of(named);
+            OK
+        }
+        None => UNKNOWN,
+    }
+}
+
+/// Returns the number of a kind.
+fn index_of(kind: Kind) -> u32
+    ensures { result ≡ kind_index kind }
+{
+    match kind {
+        Kind::Client => 0,
+        Kind::Server => 1,
+        Kind::RequestMutUninit => 2,
+        Kind::RequestMut => 3,
+        Kind::PendingResponse => 4,
+        Kind::ActiveRequest => 5,
+        Kind::ResponseMutUninit => 6,
+        Kind::ResponseMut => 7,
+        Kind::Response => 8,
+    }
+}

@@ -1,0 +1,58 @@
+//! Messages: loans, sends and releases.
+ghost use Rattle.rr_commands.specs.declared.command.Command.{Command};
+ghost use Rattle.rr_commands.specs.declared.reply.Reply.{Reply};
+ghost use Rattle.rr_checked.specs.Answers.{replied, sent};
+ghost use Rattle.std.specs.Prelude.{◌≡◌};
+ghost use Rattle.rr_c.specs.Answers.{Answers, HubStep, Writes, taken};
+
+use crate::answers::{OK, done, write};
+use crate::held::Held;
+use crate::opening::hub_in;
+use rr_bytes::{Id, Sent};
+
+/// Loans a message.
+#[unsafe(no_mangle)]
+pub extern "C" fn rr_loan_slice_uninit(
+    hub: &mut Held,
+    from: &Id,
+    len: usize,
+    message: &mut Id,
+) -> u32
+    ensures { Writes (λ answer. HubStep hub.old.hub (Command.Loan from.now.number len) (replied (λ id. Reply.Loaned id.number) answer) hub.new.hub) result message.old message.new }
+{
+    write(hub_in(hub).bytes.loan(from, len), message)
+}
+
+/// Writes whether a send would be refused by no full queue.
+#[unsafe(no_mangle)]
+pub extern "C" fn rr_is_deliverable(hub: &mut Held, message: &Id, is_deliverable: &mut bool) -> u32
+    ensures { Writes (λ answer. HubStep hub.old.hub (Command.IsDeliverable message.now.number) (replied (Reply.Flag) answer) hub.new.hub) result is_deliverable.old is_deliverable.new }
+{
+    write(hub_in(hub).bytes.is_deliverable(message), is_deliverable)
+}
+
+/// Releases a port or a handle.
+#[unsafe(no_mangle)]
+pub extern "C" fn rr_release(hub: &mut Held, id: &Id) -> u32
+    ensures { Answers {Value = Unit {0}} (λ answer. HubStep hub.old.hub (Command.Release id.now.number) (replied (λ done. Reply.Done) answer) hub.new.hub) result }
+{
+    done(hub_in(hub).bytes.release(id))
+}
+
+/// Sends a message.
+#[unsafe(no_mangle)]
+pub extern "C" fn rr_send(hub: &mut Held, message: &Id, servers: &mut usize) -> u32
+    ensures { Answers (λ answer. HubStep hub.old.hub (Command.Send message.now.number) (replied (sent message.now.number) answer) hub.new.hub × (servers.new ≡ taken servers.old answer)) result }
+{
+    match hub_in(hub).bytes.send(message) {
+        Ok(Sent::Request(took)) => {
+            *servers = took;
+            OK
+        }
+        Ok(Sent::Response) => {
+            *servers = 0;
+            OK
+        }
+        Err(refusal) => refusal.code(),
+    }
+}
