@@ -1,10 +1,10 @@
 #!/usr/bin/env python3
 """Builds the library for C, C++, Rust and Python in a folder of its own, and tests it from each of these.
 
-    .ci/bindings.py        after `rt ci`: crates/rr_c/out/librr_c.a and crates/rr/out/rr
-    .ci/bindings.py RR     another build of the program `rr`
+    .ci/bindings.py        after `rt ci`, over the libraries and the program `rr` that it left
+    .ci/bindings.py RR     with another build of the program `rr`
 
-RR_ARCHIVES may name another folder with the archives, as for `bindings/build`. What stands in rr.h is compared with what the archive
+RR_ARCHIVES may name a folder with the archives, as for `bindings/build`. What stands in rr.h is compared with what the archive
 exports, and with how C, C++, Rust, Python and the proved crate lay it out. The last line is 'N passed, M failed'.
 """
 import os
@@ -19,6 +19,9 @@ import time
 ROOT = pathlib.Path(__file__).resolve().parent.parent
 BINDINGS = ROOT / "bindings"
 HEADER = BINDINGS / "c" / "include" / "rr.h"
+
+# What `.ci/archive.py` builds.
+CORE = ROOT / "crates" / "rr_c" / "out" / "librr_c.a"
 
 TOOLS = ["ar", "cargo", "cc", "g++", "nm", "python3", "valgrind"]
 WARNINGS = ["-Wall", "-Wextra", "-Werror", "-pedantic"]
@@ -127,10 +130,32 @@ def declared_names():
     return names + re.findall(r"^static inline rr_\w+ (rr_\w+_default)\(", text, re.M)
 
 
+def build_archive(room, tally):
+    """Builds the archive that `bindings/build` takes, unless RR_ARCHIVES names one, and looks at what is assumed of C."""
+    if "RR_ARCHIVES" in room.env:
+        return True
+    status, output, faults = room.run([sys.executable, ROOT / ".ci" / "archive.py"], seconds=3600)
+    proved = re.search(r"^logic=proved functions=\d+ axioms=3 ", output, re.M)
+    axioms = re.search(r"^axioms libc: libc::heap::rattle_alloc, libc::heap::rattle_dealloc, libc::heap::rattle_realloc \(3 of", output, re.M)
+    is_well = status == 0 and proved is not None and axioms is not None
+    if not tally.note(is_well, f"rr_c is proved over three axioms: status {status}, {proved[0] if proved else 'not proved'}"):
+        print(output + faults)
+        return False
+    archives = room.folder / "archives"
+    archives.mkdir()
+    shutil.copy(CORE, archives)
+    page = pathlib.Path(subprocess.run(["rt", "doc"], capture_output=True, text=True, check=True).stdout.strip())
+    support = next(it / "c" for it in page.parents if (it / "c" / "libos_c.a").is_file())
+    for name in ("libos_c.a", "liblibc_c.a"):
+        shutil.copy(support / name, archives)
+    room.env["RR_ARCHIVES"] = str(archives)
+    return True
+
+
 def check_symbols(room, tally):
     """Compares what the archives export with what rr.h declares, and looks for symbols that nobody defines."""
     wanted = declared_functions()
-    core = pathlib.Path(os.environ.get("RR_ARCHIVES") or ROOT / "crates" / "rr_c" / "out") / "librr_c.a"
+    core = pathlib.Path(room.env["RR_ARCHIVES"]) / "librr_c.a"
     for name, words in (("librr_c.a", ["--extern-only", core]), ("librr.so", ["--dynamic", room.lib / "librr.so"])):
         _, output, _ = room.run(["nm", "--defined-only", *words])
         told = re.findall(r" T (rr_\w+)$", output, re.M)
@@ -264,7 +289,9 @@ def main(words):
     reference = words[0] if words else ROOT / "crates" / "rr" / "out" / "rr"
     with tempfile.TemporaryDirectory() as folder:
         room = Room(folder, pathlib.Path(reference).resolve())
-        status, output, faults = room.run([BINDINGS / "build", room.lib], seconds=3600)
+        if not build_archive(room, tally):
+            return tally.end()
+        status, output, faults = room.run([BINDINGS / "build", room.lib])
         if tally.note(status == 0, f"bindings/build: {(output + faults).strip()}"):
             for check in (check_symbols, build_scripts, check_layouts, check_c, check_cargo, check_python, check_sequences):
                 check(room, tally)
