@@ -10,7 +10,7 @@ use crate::answers::{OK, UNKNOWN, code_of_create};
 use crate::held::{Held, Hub};
 use crate::opening::{address_of, box_of, hub_in};
 use crate::settings::{self, HubLimits};
-use rr_bytes::{Bytes, Id, Kind, UniqueNodeId};
+use rr_bytes::{Bytes, HubCreateError, Id, Kind, UniqueNodeId};
 use std::alloc::Global;
 
 /// Makes a hub, and hands it over.
@@ -32,7 +32,7 @@ pub extern "C" fn rr_hub_create(
             *at = address_of(hub);
             OK
         }
-        Err(_) => 62,
+        Err(_) => code_of_create(HubCreateError::OutOfMemory),
     }
 }
 

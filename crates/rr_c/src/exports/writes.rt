@@ -1,5 +1,5 @@
 //! Writing messages before they are sent.
-ghost use Rattle.std.specs.Prelude.{◌≡◌, IsSomeAnd, Result, length};
+ghost use Rattle.std.specs.Prelude.{◌≡◌, ◌⊎◌, IsSomeAnd, Result, length};
 ghost use Rattle.std.specs.Option.{option_map_or};
 ghost use Rattle.rr_commands.specs.declared.command.Command.{Command};
 ghost use Rattle.rr_commands.specs.declared.reply.Reply.{Reply};
@@ -44,6 +44,7 @@ pub extern "C" fn rr_payload_mut(
 ) -> u32
     ensures code { result ≡ option_map_or code (lend_refusal hub.old.hub.bytes message.now.number) 0 }
     ensures len { result ≡ 0 → IsSomeAnd (handle_at hub.old.hub.bytes message.now.number) (λ handle. length (content_in handle).elements ≡ len.new) }
+    ensures refused { (result ≡ 0) ⊎ (len.new ≡ len.old) }
 {
     match hub_in(hub).bytes.payload_mut(message) {
         Ok(payload) => {
