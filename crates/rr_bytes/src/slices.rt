@@ -5,7 +5,7 @@ ghost use Rattle.rr_protocol.specs.Queries.{kind_at};
 
 use crate::id::Id;
 use rr_hub::{BackpressureFn, Core, HubCreateError, Kind, Limits, UniqueNodeId};
-use rr_slots::SliceBody;
+use rr_slots::PlainBody;
 use std::alloc::Global;
 use std::marker::Model;
 
@@ -34,7 +34,7 @@ pub use writes::WriteRefusal;
 /// ```
 #[derive(Drop)]
 pub struct Slices<T: Copy + Default, H: Copy + Default, K: BackpressureFn> {
-    core: Core<SliceBody<T>, H, SliceBody<T>, H, K>,
+    core: Core<PlainBody<T>, H, PlainBody<T>, H, K>,
 }
 
 impl<T: Copy + Default, H: Copy + Default, K: BackpressureFn> Model for Slices<T, H, K> {

@@ -4,9 +4,8 @@ use Rattle.std.specs.List.{refill}
 use Rattle.std.specs.Borrow.{Fml, RattleType, MutBor, Array, Lends}
 use Rattle.std.specs.contracts.option.Option.{the_row as option_row}
 use Rattle.std.specs.declared.default.Default.{Ghosts as Defaulting}
-use Rattle.rr_slots.specs.Elements.{SliceState, option_elements}
+use Rattle.rr_slots.specs.Elements.{option_elements}
 use Rattle.rr_slots.specs.declared.body.Body.{Ghosts}
-use Rattle.rr_slots.specs.contracts.slice_body.SliceBody.{the_row as slice_row}
 use Rattle.rr_protocol.specs.declared.backpressure.BackpressureFn.{Ghosts as Pressure}
 use Rattle.rr_protocol.specs.Messages.{Content, Handle}
 use Rattle.rr_protocol.specs.State.{State, with_changed}
@@ -41,6 +40,14 @@ module _ (QB QH PB PH K Q P : RattleType) (request : Ghosts QB.Denot Q.Denot) (d
   abbrev pub lends_response_user_header : MutBor PH.Denot → Fml
   lends_response_user_header r = lends_change PH r (λ header. with_response_content (with_user_header header))
 
+  -- the elements of a request are the last ones written through r
+  abbrev pub lends_request_slice : MutBor (List Q.Denot) → Fml
+  lends_request_slice r = lends_change (Array Q 0) r (λ items. with_request_content (refilled items))
+
+  -- and so are the elements of a response
+  abbrev pub lends_response_slice : MutBor (List P.Denot) → Fml
+  lends_response_slice r = lends_change (Array P 0) r (λ items. with_response_content (refilled items))
+
 module _ (T QH PB PH K P : RattleType) (default_request : Defaulting QH.Denot) (response : Ghosts PB.Denot P.Denot)
     (default_response : Defaulting PH.Denot) (pressure : Pressure K.Denot) (core : MutBor (State T.Denot QH.Denot P.Denot PH.Denot K.Denot)) (n : ℕ) where
   -- what stands in a request of one element is what was last written through r
@@ -49,12 +56,6 @@ module _ (T QH PB PH K P : RattleType) (default_request : Defaulting QH.Denot) (
       lends_change (option_row T) QH PB PH K T P request default_request response default_response pressure core n (option_row T) r
       (λ item. with_request_content (with_elements (option_elements item)))
 
-  -- the elements of a request are the last ones written through r
-  abbrev pub lends_request_slice : Ghosts (SliceState T.Denot) T.Denot → MutBor (List T.Denot) → Fml
-  lends_request_slice request r =
-      lends_change (slice_row T) QH PB PH K T P request default_request response default_response pressure core n (Array T 0) r
-      (λ items. with_request_content (refilled items))
-
 module _ (QB QH T PH K Q : RattleType) (request : Ghosts QB.Denot Q.Denot) (default_request : Defaulting QH.Denot)
     (default_response : Defaulting PH.Denot) (pressure : Pressure K.Denot) (core : MutBor (State Q.Denot QH.Denot T.Denot PH.Denot K.Denot)) (n : ℕ) where
   -- what stands in a response of one element is what was last written through r
@@ -62,9 +63,3 @@ module _ (QB QH T PH K Q : RattleType) (request : Ghosts QB.Denot Q.Denot) (defa
   lends_response_option response r =
       lends_change QB QH (option_row T) PH K Q T request default_request response default_response pressure core n (option_row T) r
       (λ item. with_response_content (with_elements (option_elements item)))
-
-  -- the elements of a response are the last ones written through r
-  abbrev pub lends_response_slice : Ghosts (SliceState T.Denot) T.Denot → MutBor (List T.Denot) → Fml
-  lends_response_slice response r =
-      lends_change QB QH (slice_row T) PH K Q T request default_request response default_response pressure core n (Array T 0) r
-      (λ items. with_response_content (refilled items))

@@ -28,6 +28,20 @@ pub fn kind_of<QB: Body, QH: Default + Drop, PB: Body, PH: Default + Drop, K: Ba
     if store.table.is_at(number, place) {
         return Some(stage_kind(store.table.at(number, place).stage));
     }
+    kind_elsewhere(store, number)
+}
+
+/// Returns what a number names: a port, or a handle in whatever place.
+///
+/// A call of its own, so that callers whose handle stands where its id says need no registers for these walks.
+#[inline(never)]
+fn kind_elsewhere<QB: Body, QH: Default + Drop, PB: Body, PH: Default + Drop, K: BackpressureFn>(
+    store: &Store<QB, QH, PB, PH, K>,
+    number: u64,
+) -> Option<Kind>
+    requires { IsCore (opened store.now) }
+    ensures { result ≡ kind_at (state_of (opened store.now)) number }
+{
     if let Some(kind) = port_kind_of(store, number) {
         return Some(kind);
     }

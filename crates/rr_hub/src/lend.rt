@@ -8,7 +8,7 @@ ghost use Rattle.rr_protocol.specs.State.{handle_at};
 
 use crate::state::Core;
 use rr_protocol::{BackpressureFn, Kind};
-use rr_slots::{Body, SliceBody};
+use rr_slots::{Body, LendBody};
 use rr_store::HandleId;
 
 impl<QB: Body, QH: Default + Drop, PB: Body, PH: Default + Drop, K: BackpressureFn> Core<
@@ -97,8 +97,8 @@ impl<T: Drop, QH: Default + Drop, PB: Body, PH: Default + Drop, K: BackpressureF
     }
 }
 
-impl<T: Drop, QH: Default + Drop, PB: Body, PH: Default + Drop, K: BackpressureFn> Core<
-    SliceBody<T>,
+impl<QB: LendBody, QH: Default + Drop, PB: Body, PH: Default + Drop, K: BackpressureFn> Core<
+    QB,
     QH,
     PB,
     PH,
@@ -109,9 +109,9 @@ impl<T: Drop, QH: Default + Drop, PB: Body, PH: Default + Drop, K: BackpressureF
     /// Lends the elements written so far in a request that was not sent.
     ///
     /// After iceoryx2's `RequestMutUninit::payload_mut` and `RequestMut::payload_mut`.
-    pub fn request_slice_mut(&mut self, id: &HandleId) -> &mut [T]
+    pub fn request_slice_mut(&mut self, id: &HandleId) -> &mut [QB::Item]
         requires { (kind_at self.old id.now ≡ Some Kind.RequestMutUninit) ⊎ (kind_at self.old id.now ≡ Some Kind.RequestMut) }
-        ensures* lends { sem 𝓛 (lends_request_slice T.row QH.row PB.row PH.row K.row PB.Item.row QH.Default PB.Body PH.Default K.BackpressureFn self.entry id.now ⟦<SliceBody<T> as Body>⟧ result) }
+        ensures* lends { sem 𝓛 (lends_request_slice QB.row QH.row PB.row PH.row K.row QB.Item.row PB.Item.row QB.Body QH.Default PB.Body PH.Default K.BackpressureFn self.entry id.now result) }
         ensures value { IsSomeAnd (option_and_then request_in (handle_at self.old id.now)) (λ m. m.content.elements ≡ result.now) }
     {
         let entry = self.parts.look_up(id);
@@ -141,10 +141,10 @@ impl<QB: Body, QH: Default + Drop, T: Drop, PH: Default + Drop, K: BackpressureF
     }
 }
 
-impl<QB: Body, QH: Default + Drop, T: Drop, PH: Default + Drop, K: BackpressureFn> Core<
+impl<QB: Body, QH: Default + Drop, PB: LendBody, PH: Default + Drop, K: BackpressureFn> Core<
     QB,
     QH,
-    SliceBody<T>,
+    PB,
     PH,
     K,
 > {
@@ -153,9 +153,9 @@ impl<QB: Body, QH: Default + Drop, T: Drop, PH: Default + Drop, K: BackpressureF
     /// Lends the elements written so far in a response that was not sent.
     ///
     /// After iceoryx2's `ResponseMutUninit::payload_mut` and `ResponseMut::payload_mut`.
-    pub fn response_slice_mut(&mut self, id: &HandleId) -> &mut [T]
+    pub fn response_slice_mut(&mut self, id: &HandleId) -> &mut [PB::Item]
         requires { (kind_at self.old id.now ≡ Some Kind.ResponseMutUninit) ⊎ (kind_at self.old id.now ≡ Some Kind.ResponseMut) }
-        ensures* lends { sem 𝓛 (lends_response_slice QB.row QH.row T.row PH.row K.row QB.Item.row QB.Body QH.Default PH.Default K.BackpressureFn self.entry id.now ⟦<SliceBody<T> as Body>⟧ result) }
+        ensures* lends { sem 𝓛 (lends_response_slice QB.row QH.row PB.row PH.row K.row QB.Item.row PB.Item.row QB.Body QH.Default PB.Body PH.Default K.BackpressureFn self.entry id.now result) }
         ensures value { IsSomeAnd (option_and_then response_in (handle_at self.old id.now)) (λ m. m.content.elements ≡ result.now) }
     {
         let entry = self.parts.look_up(id);

@@ -1,6 +1,6 @@
 -- What contracts see of a sender, from which one port sends.
-use Rattle.std.specs.Prelude.{zero, suc, ℕ, ◌+◌, ◌-◌, Bool, not, ◌&&◌, ◌==◌, nat_le, cond, if◌then◌else◌, List, [], ◌∷◌, ◌++◌, length, drop, take, flat_map, slice_index, slice_index_or, slice_set}
-use Rattle.rr_slots.specs.Pools.{Written, emptied, nothing_written}
+use Rattle.std.specs.Prelude.{◌≡◌, zero, suc, ℕ, ◌+◌, ◌-◌, Bool, not, ◌&&◌, ◌==◌, nat_le, cond, if◌then◌else◌, List, [], ◌∷◌, ◌++◌, length, drop, take, flat_map, slice_index, slice_index_or, slice_set}
+use Rattle.rr_slots.specs.Pools.{Written, emptied, nothing_written, with_elements}
 
 -- for each slot what stands in it, the details of its message, its user header, and how many hold it beside the queues; and for each receiver, by channel, the slots that wait in its queue and how many it received and has not given back
 pub record Messages (T N H : Type 0) : Type 0 where
@@ -140,6 +140,11 @@ module _ {T N H : Type 0} where
   -- what stands in a slot changed
   abbrev pub with_changed_at : Messages T N H → ℕ → (Written T → Written T) → Messages T N H
   with_changed_at m slot change = record m { contents = slice_set m.contents slot (change (content_at m slot)) }
+
+  -- what stands in one slot became complete, by whatever elements
+  abbrev pub CompletesAt : Messages T N H → ℕ → Messages T N H → Type 0
+  CompletesAt old slot new =
+      (elements : List T) × (length elements ≡ (content_at old slot).asked_len) × (new ≡ with_changed_at old slot (with_elements elements))
 
   -- a slot's user header became another
   abbrev pub with_user_header : Messages T N H → ℕ → H → Messages T N H

@@ -1,4 +1,5 @@
 mod ThreadLaws
 mod HolderLaws
+mod PlainLaws
 mod PoolLaws
 mod Queues

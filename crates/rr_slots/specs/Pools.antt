@@ -1,5 +1,5 @@
 -- What contracts see of a pool.
-use Rattle.std.specs.Prelude.{ℕ, ◌+◌, ◌-◌, ◌==◌, not, if◌then◌else◌, List, [], ◌∷◌, ◌++◌, count_by, replicate, slice_index, slice_index_or, slice_set, refl}
+use Rattle.std.specs.Prelude.{ℕ, ◌+◌, ◌-◌, ◌==◌, not, if◌then◌else◌, List, [], ◌∷◌, ◌++◌, count_by, length, ◌≡◌, replicate, slice_index, slice_index_or, slice_set, refl}
 use Rattle.std.specs.Coded.{Coded, code_by, coded×, coded_list, coded_ℕ}
 
 -- what stands in a slot: for how many elements it asks, and those written
@@ -80,6 +80,11 @@ module _ {T : Type 0} where
   -- what stands in one slot changed
   abbrev pub with_changed_at : Slots T → ℕ → (Written T → Written T) → Slots T
   with_changed_at p slot change = record p { contents = slice_set p.contents slot (change (content_at p slot)) }
+
+  -- what stands in one slot became complete, by whatever elements
+  abbrev pub CompletesAt : Slots T → ℕ → Slots T → Type 0
+  CompletesAt old slot new =
+      (elements : List T) × (length elements ≡ (content_at old slot).asked_len) × (new ≡ with_changed_at old slot (with_elements elements))
 
   -- how many slots nobody holds
   abbrev pub free_count : Slots T → ℕ

@@ -110,11 +110,48 @@ pub trait Body: Drop {
 
 /// A body whose elements can be copied.
 pub trait FillBody: Body {
-    ghost use Rattle.std.specs.Prelude.{replicate};
+    ghost use Rattle.std.specs.Prelude.{length, replicate};
 
     /// Makes an element each of those that are asked for. Old ones are dropped.
     fn fill(&mut self, element: Self::Item)
         ensures elements { Self.elements self.new ≡ replicate (Self.asked_len self.old) element }
         ensures asked { Self.asked_len self.new ≡ Self.asked_len self.old }
         ensures room { Self.room self.old ≤ Self.room self.new };
+
+    /// Makes the body complete, by whatever elements, or by copies of this one. Old ones are dropped.
+    fn complete(&mut self, element: Self::Item)
+        ensures len { length (Self.elements self.new) ≡ Self.asked_len self.old }
+        ensures asked { Self.asked_len self.new ≡ Self.asked_len self.old }
+        ensures room { Self.room self.old ≤ Self.room self.new };
+
+    /// Makes copies of these its elements, of which there are as many as are asked for. Old ones are dropped.
+    fn copy(&mut self, elements: &[Self::Item])
+        requires { length elements.now ≡ Self.asked_len self.old }
+        ensures elements { Self.elements self.new ≡ elements.now }
+        ensures asked { Self.asked_len self.new ≡ Self.asked_len self.old }
+        ensures room { Self.room self.old ≤ Self.room self.new };
+}
+
+/// A body that lends its elements in a row.
+pub trait LendBody: Body {
+    ghost use Rattle.std.specs.Prelude.{ℕ, List, length};
+    ghost use Rattle.std.specs.List.{refill};
+    ghost use Rattle.std.specs.Borrow.{Array};
+
+    /// The body after its elements became others, of which there are as many.
+    ghost with_items: { Self → List Self.Item → Self };
+
+    /// Lends the elements written so far.
+    fn slice_mut(&mut self) -> &mut [Self::Item]
+        ensures* lends { sem 𝓛 (Lends Self.row (Array Self.Item.row 0) self.entry result (with_items self.old)) }
+        ensures value { result.now ≡ Self.elements self.old };
+
+    /// What is written there is what the elements are then.
+    ghost sets_items: { (body : Self) (items : List Self.Item) → Self.elements (with_items body items) ≡ refill (length (Self.elements body)) (Self.elements body) items };
+
+    /// It asks for as many elements as before.
+    ghost asks_as_before: { (body : Self) (items : List Self.Item) → Self.asked_len (with_items body items) ≡ Self.asked_len body };
+
+    /// It keeps the room.
+    ghost has_room_as_before: { (body : Self) (items : List Self.Item) → Self.room (with_items body items) ≡ Self.room body };
 }

@@ -10,14 +10,16 @@ mod family;
 mod holders;
 mod looks;
 mod option_body;
+mod plain_body;
 mod pool;
 mod slice_body;
 mod slot;
 
-pub use body::{Body, FillBody};
+pub use body::{Body, FillBody, LendBody};
 pub use channel_state::{ChannelState, RequestId};
 pub use channel_table::{Channel, ChannelTable};
 pub use connection::Connection;
 pub use family::Family;
+pub use plain_body::PlainBody;
 pub use pool::{AcquireError, Pool};
 pub use slice_body::SliceBody;

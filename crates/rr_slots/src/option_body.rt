@@ -83,4 +83,12 @@ impl<T: Copy> FillBody for Option<T> {
     fn fill(&mut self, element: T) {
         *self = Some(element);
     }
+
+    fn complete(&mut self, element: T) {
+        self.fill(element);
+    }
+
+    fn copy(&mut self, elements: &[T]) {
+        *self = Some(elements[0]);
+    }
 }

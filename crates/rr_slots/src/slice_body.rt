@@ -2,7 +2,7 @@
 ghost use Rattle.std.specs.Prelude.{◌≡◌};
 ghost use Rattle.std.specs.Borrow.{sem};
 
-use crate::body::{Body, FillBody};
+use crate::body::{Body, FillBody, LendBody};
 use crate::family::Family;
 use std::alloc::{AllocError, Global};
 use std::marker::Model;
@@ -26,21 +26,11 @@ impl<T: Drop> Model for SliceBody<T> {
 }
 
 impl<T: Drop> SliceBody<T> {
-    ghost use Rattle.rr_slots.specs.BodyLends.{lends_elements};
-
     /// Returns the elements written so far.
     pub fn as_slice(&self) -> &[T]
         ensures { result.now ≡ self.now.elements }
     {
         self.items.as_slice()
-    }
-
-    /// Lends the elements written so far.
-    pub(crate) fn slice_mut(&mut self) -> &mut [T]
-        ensures* lends { sem 𝓛 (lends_elements T.row self.entry result) }
-        ensures value { result.now ≡ self.old.elements }
-    {
-        self.items.as_mut_slice()
     }
 }
 
@@ -125,5 +115,32 @@ impl<T: Copy> FillBody for SliceBody<T> {
         self.items.clear();
         // There is room for as many as are asked for.
         let _ = self.items.resize(self.asked, element);
+    }
+
+    fn complete(&mut self, element: T) {
+        self.fill(element);
+    }
+
+    fn copy(&mut self, elements: &[T]) {
+        self.items.clear();
+        // There is room for as many as are asked for.
+        let _ = self.items.extend_from_slice(elements);
+    }
+}
+
+impl<T: Drop> LendBody for SliceBody<T> {
+    ghost use Rattle.std.specs.Prelude.{refl};
+    ghost use Rattle.rr_slots.specs.BodyLends.{with_slice};
+
+    ghost with_items = { with_slice };
+
+    ghost sets_items = { λ _ _. refl };
+
+    ghost asks_as_before = { λ _ _. refl };
+
+    ghost has_room_as_before = { λ _ _. refl };
+
+    fn slice_mut(&mut self) -> &mut [T] {
+        self.items.as_mut_slice()
     }
 }

@@ -2,11 +2,10 @@
 use Rattle.std.specs.Prelude.{ℕ, List, Option}
 use Rattle.std.specs.Borrow.{Fml, RattleType, MutBor, Array, Lends}
 use Rattle.std.specs.contracts.option.Option.{the_row as option_row}
-use Rattle.rr_slots.specs.Elements.{SliceState, option_elements}
+use Rattle.rr_slots.specs.Elements.{option_elements}
 use Rattle.rr_slots.specs.Pools.{with_element_at, with_elements}
 use Rattle.rr_slots.specs.PoolLends.{refilled}
 use Rattle.rr_slots.specs.declared.body.Body.{Ghosts}
-use Rattle.rr_slots.specs.contracts.slice_body.SliceBody.{the_row as slice_row}
 use Rattle.rr_sender.specs.Senders.{Messages, with_changed_at, with_user_header}
 use Rattle.rr_store.specs.contracts.side.Side.{the_row}
 use Rattle.rr_store.specs.Sides.{SideParts, with_sent}
@@ -31,7 +30,8 @@ module _ (N H P T : RattleType) where
       lends_change (option_row T) N H P T body side sender (option_row T) r
       (λ item messages. with_changed_at messages slot (with_elements (option_elements item)))
 
+module _ (B N H P T : RattleType) where
   -- the elements of a message are the last ones written through r
-  abbrev pub lends_slice : Ghosts (SliceState T.Denot) T.Denot → MutBor (SideParts T.Denot N.Denot H.Denot P.Denot) → ℕ → ℕ → MutBor (List T.Denot) → Fml
+  abbrev pub lends_slice : Ghosts B.Denot T.Denot → MutBor (SideParts T.Denot N.Denot H.Denot P.Denot) → ℕ → ℕ → MutBor (List T.Denot) → Fml
   lends_slice body side sender slot r =
-      lends_change (slice_row T) N H P T body side sender (Array T 0) r (λ items messages. with_changed_at messages slot (refilled items))
+      lends_change B N H P T body side sender (Array T 0) r (λ items messages. with_changed_at messages slot (refilled items))

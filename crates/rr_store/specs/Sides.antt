@@ -1,7 +1,8 @@
 -- One side of a core, as contracts see it, and what a call changes of it.
-use Rattle.std.specs.Prelude.{ℕ, List, ◌∷◌, ◌++◌, [], drop, map, slice_set}
+use Rattle.std.specs.Prelude.{◌≡◌, length, ℕ, List, ◌∷◌, ◌++◌, [], drop, map, slice_set}
 use Rattle.std.specs.List.{remove}
-use Rattle.rr_sender.specs.Senders.{Messages, queue_at, taken}
+use Rattle.rr_slots.specs.Pools.{with_elements}
+use Rattle.rr_sender.specs.Senders.{Messages, content_at, queue_at, taken, with_changed_at}
 use Rattle.rr_store.specs.declared.port.LeftPort.{LeftPort}
 use Rattle.rr_store.specs.Clearing.{channel_cleared}
 use Rattle.rr_store.specs.Loaning.{with_messages, with_sender_at}
@@ -29,6 +30,12 @@ module _ {T N H P : Type 0} (s : SideParts T N H P) where
   abbrev pub with_sent : ℕ → (Messages T N H → Messages T N H) → SideParts T N H P
   with_sent sender change =
       record s { senders = slice_set s.senders sender (with_messages (sender_of sender s.senders) (change (sender_of sender s.senders).messages)) }
+
+  -- with the message in a slot of a sender complete, by whatever elements
+  abbrev pub CompletesSent : ℕ → ℕ → SideParts T N H P → Type 0
+  CompletesSent sender slot new =
+      (elements : List T) × (length elements ≡ (content_at (sender_of sender s.senders).messages slot).asked_len)
+      × (new ≡ with_sent sender (λ m. with_changed_at m slot (with_elements elements)))
 
   -- with the oldest entry of a queue, in this slot, taken out of it
   abbrev pub with_first_taken : ℕ → ℕ → ℕ → ℕ → SideParts T N H P

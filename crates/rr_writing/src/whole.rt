@@ -1,5 +1,5 @@
 //! Messages that are written whole.
-ghost use Rattle.std.specs.Prelude.{◌≡◌, [], ◌∷◌, Some, IsSomeAnd, option_and_then};
+ghost use Rattle.std.specs.Prelude.{◌≡◌, List, [], ◌∷◌, length, Some, IsSomeAnd, option_and_then};
 ghost use Rattle.rr_protocol.specs.Messages.{request_in, response_in};
 ghost use Rattle.rr_protocol.specs.Queries.{kind_at};
 ghost use Rattle.rr_protocol.specs.State.{handle_at, with_changed};
@@ -120,4 +120,106 @@ pub fn fill_response_at<
     };
     store.table.set_at(number, place, ready);
     store.servers.fill(entry.sender, entry.slot, element);
+}
+
+/// Makes copies of these the elements of the request that is being written in this place, which asks for as many, and can be sent then.
+/// Those that were written before are dropped.
+#[inline(always)]
+pub fn copy_request_at<
+    QB: FillBody,
+    QH: Default + Drop,
+    PB: Body,
+    PH: Default + Drop,
+    K: BackpressureFn,
+>(store: &mut Store<QB, QH, PB, PH, K>, number: u64, place: Place, elements: &[QB::Item])
+    requires core { IsCore (opened store.old) }
+    requires at { IsAt store.old.table number place }
+    requires kind { kind_at (state_of (opened store.old)) number ≡ Some Kind.RequestMutUninit }
+    requires len { IsSomeAnd (option_and_then request_in (handle_at (state_of (opened store.old)) number)) (λ m. m.content.asked_len ≡ length elements.now) }
+    ensures core { IsCore (opened store.new) }
+    ensures view { state_of (opened store.new) ≡ with_changed (with_changed (state_of (opened store.old)) number (with_request_content (with_elements elements.now))) number after_init }
+{
+    let entry = store.table.at(number, place);
+    let ready = HandleEntry {
+        stage: Stage::RequestMut,
+        ..entry
+    };
+    store.table.set_at(number, place, ready);
+    store.clients.copy(entry.sender, entry.slot, elements);
+}
+
+/// Makes copies of these the elements of the response that is being written in this place, which asks for as many, and can be sent then.
+/// Those that were written before are dropped.
+#[inline(always)]
+pub fn copy_response_at<
+    QB: Body,
+    QH: Default + Drop,
+    PB: FillBody,
+    PH: Default + Drop,
+    K: BackpressureFn,
+>(store: &mut Store<QB, QH, PB, PH, K>, number: u64, place: Place, elements: &[PB::Item])
+    requires core { IsCore (opened store.old) }
+    requires at { IsAt store.old.table number place }
+    requires kind { kind_at (state_of (opened store.old)) number ≡ Some Kind.ResponseMutUninit }
+    requires len { IsSomeAnd (option_and_then response_in (handle_at (state_of (opened store.old)) number)) (λ m. m.content.asked_len ≡ length elements.now) }
+    ensures core { IsCore (opened store.new) }
+    ensures view { state_of (opened store.new) ≡ with_changed (with_changed (state_of (opened store.old)) number (with_response_content (with_elements elements.now))) number after_init }
+{
+    let entry = store.table.at(number, place);
+    let ready = HandleEntry {
+        stage: Stage::ResponseMut,
+        ..entry
+    };
+    store.table.set_at(number, place, ready);
+    store.servers.copy(entry.sender, entry.slot, elements);
+}
+
+/// Makes the request that is being written in this place complete, by whatever elements, or by copies of this one, and one that can be
+/// sent. Those that were written before are dropped.
+#[inline(always)]
+pub fn complete_request_at<
+    QB: FillBody,
+    QH: Default + Drop,
+    PB: Body,
+    PH: Default + Drop,
+    K: BackpressureFn,
+>(store: &mut Store<QB, QH, PB, PH, K>, number: u64, place: Place, element: QB::Item)
+    requires core { IsCore (opened store.old) }
+    requires at { IsAt store.old.table number place }
+    requires kind { kind_at (state_of (opened store.old)) number ≡ Some Kind.RequestMutUninit }
+    ensures core { IsCore (opened store.new) }
+    ensures view { (elements : List QB.Item) × IsSomeAnd (option_and_then request_in (handle_at (state_of (opened store.old)) number)) (λ m. m.content.asked_len ≡ length elements) × (state_of (opened store.new) ≡ with_changed (with_changed (state_of (opened store.old)) number (with_request_content (with_elements elements))) number after_init) }
+{
+    let entry = store.table.at(number, place);
+    let ready = HandleEntry {
+        stage: Stage::RequestMut,
+        ..entry
+    };
+    store.table.set_at(number, place, ready);
+    store.clients.complete(entry.sender, entry.slot, element);
+}
+
+/// Makes the response that is being written in this place complete, by whatever elements, or by copies of this one, and one that can be
+/// sent. Those that were written before are dropped.
+#[inline(always)]
+pub fn complete_response_at<
+    QB: Body,
+    QH: Default + Drop,
+    PB: FillBody,
+    PH: Default + Drop,
+    K: BackpressureFn,
+>(store: &mut Store<QB, QH, PB, PH, K>, number: u64, place: Place, element: PB::Item)
+    requires core { IsCore (opened store.old) }
+    requires at { IsAt store.old.table number place }
+    requires kind { kind_at (state_of (opened store.old)) number ≡ Some Kind.ResponseMutUninit }
+    ensures core { IsCore (opened store.new) }
+    ensures view { (elements : List PB.Item) × IsSomeAnd (option_and_then response_in (handle_at (state_of (opened store.old)) number)) (λ m. m.content.asked_len ≡ length elements) × (state_of (opened store.new) ≡ with_changed (with_changed (state_of (opened store.old)) number (with_response_content (with_elements elements))) number after_init) }
+{
+    let entry = store.table.at(number, place);
+    let ready = HandleEntry {
+        stage: Stage::ResponseMut,
+        ..entry
+    };
+    store.table.set_at(number, place, ready);
+    store.servers.complete(entry.sender, entry.slot, element);
 }

@@ -4,19 +4,19 @@ ghost use Rattle.rr_slots.specs.declared.family.Family.TheVariants.{Sliced};
 ghost use Rattle.rr_commands.specs.declared.command.Command.{Command};
 ghost use Rattle.rr_commands.specs.declared.reply.Reply.{Reply};
 ghost use Rattle.rr_commands.specs.Step.{Step, with_complete};
-ghost use Rattle.rr_ports.specs.Filling.{CompletesRequest, CompletesResponse};
 ghost use Rattle.rr_protocol.specs.declared.kind.Kind.TheVariants as kind;
 ghost use Rattle.rr_protocol.specs.Messages.{request_in, response_in};
 ghost use Rattle.rr_protocol.specs.Queries.{kind_at};
 ghost use Rattle.rr_protocol.specs.State.{handle_at};
 ghost use Rattle.rr_checked.specs.Answers.{replied};
+ghost use Rattle.rr_bytes.specs.Lending.{IsLent, IsLentOf};
 ghost use Rattle.rr_bytes.specs.Writes.{Fills, FillsAll, WritesAll, write_code};
 
 use crate::id::Id;
 use crate::slices::Slices;
 use rr_checked::Refusal;
 use rr_hub::{BackpressureFn, Core, HandleId, Kind};
-use rr_slots::{Body, SliceBody};
+use rr_slots::{Body, PlainBody};
 use thiserror::Error;
 
 impl<T: Copy + Default, H: Copy + Default, K: BackpressureFn> Slices<T, H, K> {
@@ -146,10 +146,9 @@ impl<T: Copy + Default, H: Copy + Default, K: BackpressureFn> Slices<T, H, K> {
 }
 
 impl<T: Copy + Default, H: Copy + Default, K: BackpressureFn> Slices<T, H, K> {
-    ghost use Rattle.rr_bytes.specs.Lending.{IsLent};
-
-    /// Lends the elements of a message that can be sent, to be changed in place. After iceoryx2's `RequestMut::payload_mut` and
-    /// `ResponseMut::payload_mut`.
+    /// Lends the elements of a message that was not sent, to be changed in place, as many as it asks for. One that is being written can be
+    /// sent then; what was written of it before may be lost, and its elements are whatever stood in the slot's memory, or the default
+    /// element. After iceoryx2's `payload_mut` of the four types of messages.
     ///
     /// # Errors
     ///
@@ -159,7 +158,9 @@ impl<T: Copy + Default, H: Copy + Default, K: BackpressureFn> Slices<T, H, K> {
     {
         let handle = id.handle();
         match self.core.kind(&handle) {
+            Some(Kind::RequestMutUninit) => Ok(lend_request(&mut self.core, &handle)),
             Some(Kind::RequestMut) => Ok(self.core.request_slice_mut(&handle)),
+            Some(Kind::ResponseMutUninit) => Ok(lend_response(&mut self.core, &handle)),
             Some(Kind::ResponseMut) => Ok(self.core.response_slice_mut(&handle)),
             Some(_) => Err(Refusal::WrongKind),
             None => Err(Refusal::Unknown),
@@ -167,9 +168,33 @@ impl<T: Copy + Default, H: Copy + Default, K: BackpressureFn> Slices<T, H, K> {
     }
 }
 
+/// Lends the elements of a request that is being written, which can be sent then.
+fn lend_request<'a, T: Copy + Default, H: Copy + Default, K: BackpressureFn>(
+    core: &'a mut Core<PlainBody<T>, H, PlainBody<T>, H, K>,
+    id: &HandleId,
+) -> &'a mut [T]
+    requires { kind_at core.old id.now ≡ Some kind.RequestMutUninit }
+    ensures { IsSomeAnd (handle_at core.old id.now) (λ handle. IsLentOf handle result.now) }
+{
+    core.complete_request(id, T::default());
+    core.request_slice_mut(id)
+}
+
+/// Lends the elements of a response that is being written, which can be sent then.
+fn lend_response<'a, T: Copy + Default, H: Copy + Default, K: BackpressureFn>(
+    core: &'a mut Core<PlainBody<T>, H, PlainBody<T>, H, K>,
+    id: &HandleId,
+) -> &'a mut [T]
+    requires { kind_at core.old id.now ≡ Some kind.ResponseMutUninit }
+    ensures { IsSomeAnd (handle_at core.old id.now) (λ handle. IsLentOf handle result.now) }
+{
+    core.complete_response(id, T::default());
+    core.response_slice_mut(id)
+}
+
 /// Fills a request that is being written.
 fn fill_request<T: Copy + Default, H: Copy + Default, K: BackpressureFn>(
-    core: &mut Core<SliceBody<T>, H, SliceBody<T>, H, K>,
+    core: &mut Core<PlainBody<T>, H, PlainBody<T>, H, K>,
     id: &HandleId,
     element: T,
 )
@@ -181,7 +206,7 @@ fn fill_request<T: Copy + Default, H: Copy + Default, K: BackpressureFn>(
 
 /// Fills a response that is being written.
 fn fill_response<T: Copy + Default, H: Copy + Default, K: BackpressureFn>(
-    core: &mut Core<SliceBody<T>, H, SliceBody<T>, H, K>,
+    core: &mut Core<PlainBody<T>, H, PlainBody<T>, H, K>,
     id: &HandleId,
     element: T,
 )
@@ -193,7 +218,7 @@ fn fill_response<T: Copy + Default, H: Copy + Default, K: BackpressureFn>(
 
 /// Writes a request that is being written.
 fn write_request<T: Copy + Default, H: Copy + Default, K: BackpressureFn>(
-    core: &mut Core<SliceBody<T>, H, SliceBody<T>, H, K>,
+    core: &mut Core<PlainBody<T>, H, PlainBody<T>, H, K>,
     id: &HandleId,
     elements: &[T],
 ) -> Result<(), WriteRefusal>
@@ -203,44 +228,13 @@ fn write_request<T: Copy + Default, H: Copy + Default, K: BackpressureFn>(
     if core.request_body(id).asked_len() != elements.len() {
         return Err(WriteRefusal::WrongLength);
     }
-    copy_request(core, id, elements);
+    core.copy_request(id, elements);
     Ok(())
-}
-
-/// Copies elements to a request that asks for as many, which can be sent then.
-fn copy_request<T: Copy + Default, H: Copy + Default, K: BackpressureFn>(
-    core: &mut Core<SliceBody<T>, H, SliceBody<T>, H, K>,
-    id: &HandleId,
-    elements: &[T],
-)
-    requires kind { kind_at core.old id.now ≡ Some kind.RequestMutUninit }
-    requires len { IsSomeAnd (option_and_then request_in (handle_at core.old id.now)) (λ m. m.content.asked_len ≡ length elements.now) }
-    ensures { core.new ≡ with_complete core.old id.now elements.now }
-{
-    complete_request(core, id, elements);
-    core.request_slice_mut(id).copy_from_slice(elements);
-}
-
-/// Makes a request that asks for as many elements as these one that can be sent, whatever its elements are then.
-fn complete_request<T: Copy + Default, H: Copy + Default, K: BackpressureFn>(
-    core: &mut Core<SliceBody<T>, H, SliceBody<T>, H, K>,
-    id: &HandleId,
-    elements: &[T],
-)
-    requires kind { kind_at core.old id.now ≡ Some kind.RequestMutUninit }
-    requires len { IsSomeAnd (option_and_then request_in (handle_at core.old id.now)) (λ m. m.content.asked_len ≡ length elements.now) }
-    ensures { CompletesRequest core.old core.new id.now (length elements.now) }
-{
-    if core.request_body(id).is_complete() {
-        core.assume_init(id);
-    } else {
-        core.fill_request(id, elements[0]);
-    }
 }
 
 /// Writes a response that is being written.
 fn write_response<T: Copy + Default, H: Copy + Default, K: BackpressureFn>(
-    core: &mut Core<SliceBody<T>, H, SliceBody<T>, H, K>,
+    core: &mut Core<PlainBody<T>, H, PlainBody<T>, H, K>,
     id: &HandleId,
     elements: &[T],
 ) -> Result<(), WriteRefusal>
@@ -250,37 +244,6 @@ fn write_response<T: Copy + Default, H: Copy + Default, K: BackpressureFn>(
     if core.response_body(id).asked_len() != elements.len() {
         return Err(WriteRefusal::WrongLength);
     }
-    copy_response(core, id, elements);
+    core.copy_response(id, elements);
     Ok(())
-}
-
-/// Copies elements to a response that asks for as many, which can be sent then.
-fn copy_response<T: Copy + Default, H: Copy + Default, K: BackpressureFn>(
-    core: &mut Core<SliceBody<T>, H, SliceBody<T>, H, K>,
-    id: &HandleId,
-    elements: &[T],
-)
-    requires kind { kind_at core.old id.now ≡ Some kind.ResponseMutUninit }
-    requires len { IsSomeAnd (option_and_then response_in (handle_at core.old id.now)) (λ m. m.content.asked_len ≡ length elements.now) }
-    ensures { core.new ≡ with_complete core.old id.now elements.now }
-{
-    complete_response(core, id, elements);
-    core.response_slice_mut(id).copy_from_slice(elements);
-}
-
-/// Makes a response that asks for as many elements as these one that can be sent, whatever its elements are then.
-fn complete_response<T: Copy + Default, H: Copy + Default, K: BackpressureFn>(
-    core: &mut Core<SliceBody<T>, H, SliceBody<T>, H, K>,
-    id: &HandleId,
-    elements: &[T],
-)
-    requires kind { kind_at core.old id.now ≡ Some kind.ResponseMutUninit }
-    requires len { IsSomeAnd (option_and_then response_in (handle_at core.old id.now)) (λ m. m.content.asked_len ≡ length elements.now) }
-    ensures { CompletesResponse core.old core.new id.now (length elements.now) }
-{
-    if core.response_body(id).is_complete() {
-        core.assume_init(id);
-    } else {
-        core.fill_response(id, elements[0]);
-    }
 }

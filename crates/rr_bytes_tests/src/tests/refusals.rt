@@ -99,7 +99,7 @@ fn code_of_write(answer: Result<(), WriteRefusal>) -> u32 {
     }
 }
 
-/// Fills, and asks for elements in place, before a message is complete and after. Returns the codes.
+/// Asks for elements in place, which completes the message, and then fills it. Returns the codes.
 fn misfilled(hub: &mut Bytes) -> Option<[u32; 9]> {
     let ports = ports_of(hub)?;
     let request = hub.loan(&ports.client, 2).ok()?;
@@ -119,7 +119,7 @@ fn misfilled(hub: &mut Bytes) -> Option<[u32; 9]> {
 #[test]
 fn fills_are_refused_by_code(rt: HostRuntime) -> Result<(), Fail> {
     let mut hub = Bytes::new(rt.alloc(), Limits::default(), UniqueNodeId(3))?;
-    assert_eq!(rt; misfilled(&mut hub), Some([5, 1, 2, 1, 2, 0, 2, 0, 2]));
+    assert_eq!(rt; misfilled(&mut hub), Some([5, 1, 2, 1, 0, 2, 2, 0, 2]));
     Ok(())
 }
 

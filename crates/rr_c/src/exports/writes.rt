@@ -8,7 +8,7 @@ ghost use Rattle.rr_protocol.specs.State.{handle_at};
 ghost use Rattle.rr_checked.specs.Answers.{replied};
 ghost use Rattle.rr_checked.specs.Codes.{code};
 ghost use Rattle.rr_bytes.specs.declared.slices.writes.WriteRefusal.{WriteRefusal as NotWritten};
-ghost use Rattle.rr_bytes.specs.Lending.{lend_refusal};
+ghost use Rattle.rr_bytes.specs.Lending.{lend_refusal, lent_len};
 ghost use Rattle.rr_bytes.specs.Writes.{FillsAll, WritesAll, write_code};
 ghost use Rattle.rr_c.specs.Answers.{Answers, HubStep, Writes, answer_code};
 
@@ -43,7 +43,7 @@ pub extern "C" fn rr_payload_mut(
     len: &mut usize,
 ) -> u32
     ensures code { result ≡ option_map_or code (lend_refusal hub.old.hub.bytes message.now.number) 0 }
-    ensures len { result ≡ 0 → IsSomeAnd (handle_at hub.old.hub.bytes message.now.number) (λ handle. length (content_in handle).elements ≡ len.new) }
+    ensures len { result ≡ 0 → IsSomeAnd (handle_at hub.old.hub.bytes message.now.number) (λ handle. lent_len handle ≡ len.new) }
     ensures refused { (result ≡ 0) ⊎ (len.new ≡ len.old) }
 {
     match hub_in(hub).bytes.payload_mut(message) {

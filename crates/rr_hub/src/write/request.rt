@@ -1,5 +1,5 @@
 //! Writing a request, before it is sent.
-ghost use Rattle.std.specs.Prelude.{◌≡◌, ◌⊎◌, [], ◌∷◌, not, true, length, nat_lt, Some, IsSomeAnd, if◌then◌else◌, option_and_then};
+ghost use Rattle.std.specs.Prelude.{◌≡◌, ◌⊎◌, List, [], ◌∷◌, not, true, length, nat_lt, Some, IsSomeAnd, if◌then◌else◌, option_and_then};
 ghost use Rattle.rr_protocol.specs.Messages.{request_in};
 ghost use Rattle.rr_protocol.specs.Queries.{kind_at};
 ghost use Rattle.rr_protocol.specs.State.{handle_at, with_changed};
@@ -9,7 +9,7 @@ use crate::state::Core;
 use rr_protocol::{BackpressureFn, Kind};
 use rr_slots::{Body, FillBody};
 use rr_store::HandleId;
-use rr_writing::{fill_request_at, write_request_at};
+use rr_writing::{complete_request_at, copy_request_at, fill_request_at, write_request_at};
 
 impl<QB: Body, QH: Default + Drop, PB: Body, PH: Default + Drop, K: BackpressureFn> Core<
     QB,
@@ -97,5 +97,32 @@ impl<QB: FillBody, QH: Default + Drop, PB: Body, PH: Default + Drop, K: Backpres
     {
         let place = self.parts.locate(id);
         fill_request_at(&mut self.parts, id.number(), place, element);
+    }
+
+    /// Makes a request that is being written complete, by whatever elements, or by copies of this one, and the request one that can be
+    /// sent. Elements that were written before are dropped.
+    ///
+    /// After iceoryx2's `RequestMutUninit::assume_init` of a payload that is written afterwards, in place.
+    #[inline(always)]
+    pub fn complete_request(&mut self, id: &HandleId, element: QB::Item)
+        requires { kind_at self.old id.now ≡ Some Kind.RequestMutUninit }
+        ensures { (elements : List QB.Item) × IsSomeAnd (option_and_then request_in (handle_at self.old id.now)) (λ m. m.content.asked_len ≡ length elements) × (self.new ≡ with_changed (with_changed self.old id.now (with_request_content (with_elements elements))) id.now after_init) }
+    {
+        let place = self.parts.locate(id);
+        complete_request_at(&mut self.parts, id.number(), place, element);
+    }
+
+    /// Makes copies of these the elements of a request that is being written and asks for as many, and the request one that can be sent.
+    /// Elements that were written before are dropped.
+    ///
+    /// After iceoryx2's `RequestMutUninit::write_from_slice`.
+    #[inline(always)]
+    pub fn copy_request(&mut self, id: &HandleId, elements: &[QB::Item])
+        requires kind { kind_at self.old id.now ≡ Some Kind.RequestMutUninit }
+        requires len { IsSomeAnd (option_and_then request_in (handle_at self.old id.now)) (λ m. m.content.asked_len ≡ length elements.now) }
+        ensures { self.new ≡ with_changed (with_changed self.old id.now (with_request_content (with_elements elements.now))) id.now after_init }
+    {
+        let place = self.parts.locate(id);
+        copy_request_at(&mut self.parts, id.number(), place, elements);
     }
 }

@@ -2,10 +2,10 @@
 ghost use Rattle.std.specs.Prelude.{◌≡◌, ◌<◌, [], ◌∷◌, Some, length, slice_get, slice_index};
 ghost use Rattle.std.specs.Borrow.{sem};
 ghost use Rattle.rr_slots.specs.Pools.{appended, filled, with_elements};
-ghost use Rattle.rr_sender.specs.Senders.{content_at, given_back, uses, with_changed_at};
+ghost use Rattle.rr_sender.specs.Senders.{CompletesAt, content_at, given_back, uses, with_changed_at};
 
 use crate::sender::Sender;
-use rr_slots::{Body, FillBody, SliceBody};
+use rr_slots::{Body, FillBody, LendBody};
 
 impl<B: Body, N: Copy, H: Drop> Sender<B, N, H> {
     ghost use Rattle.rr_sender.specs.SenderLends.{lends_user_header, lends_element};
@@ -63,6 +63,23 @@ impl<B: FillBody, N: Copy, H: Drop> Sender<B, N, H> {
     {
         self.pool.fill(slot, element);
     }
+
+    /// Makes what stands in a slot complete, by whatever elements, or by copies of this one. Old ones are dropped.
+    pub fn complete(&mut self, slot: usize, element: B::Item)
+        requires { slot < length self.old.held }
+        ensures { CompletesAt self.old slot self.new }
+    {
+        self.pool.complete(slot, element);
+    }
+
+    /// Makes copies of these the elements in a slot, where as many are asked for. Old ones are dropped.
+    pub fn copy(&mut self, slot: usize, elements: &[B::Item])
+        requires slot { slot < length self.old.held }
+        requires len { length elements.now ≡ (content_at self.old slot).asked_len }
+        ensures { self.new ≡ with_changed_at self.old slot (with_elements elements.now) }
+    {
+        self.pool.copy(slot, elements);
+    }
 }
 
 impl<T: Drop, N: Copy, H: Drop> Sender<Option<T>, N, H> {
@@ -89,13 +106,13 @@ impl<T: Drop, N: Copy, H: Drop> Sender<Option<T>, N, H> {
     }
 }
 
-impl<T: Drop, N: Copy, H: Drop> Sender<SliceBody<T>, N, H> {
+impl<B: LendBody, N: Copy, H: Drop> Sender<B, N, H> {
     ghost use Rattle.rr_sender.specs.SenderLends.{lends_slice};
 
     /// Lends the elements written so far in a slot.
-    pub fn slice_mut(&mut self, slot: usize) -> &mut [T]
+    pub fn slice_mut(&mut self, slot: usize) -> &mut [B::Item]
         requires { slot < length self.old.held }
-        ensures* lends { sem 𝓛 (lends_slice N.row H.row T.row ⟦<SliceBody<T> as Body>⟧ self.entry slot result) }
+        ensures* lends { sem 𝓛 (lends_slice B.row N.row H.row B.Item.row ⟦<B as Body>⟧ self.entry slot result) }
         ensures value { (content_at self.old slot).elements ≡ result.now }
     {
         self.pool.slice_mut(slot)

@@ -1,11 +1,10 @@
 //! Writing what stands in a slot.
 ghost use Rattle.std.specs.Prelude.{◌≡◌, ◌<◌, [], ◌∷◌, length, slice_get, slice_index, Some};
 ghost use Rattle.std.specs.Borrow.{sem, Lends};
-ghost use Rattle.rr_slots.specs.Pools.{content_at, appended, filled, given_back, with_changed_at, with_elements};
+ghost use Rattle.rr_slots.specs.Pools.{CompletesAt, content_at, appended, filled, given_back, with_changed_at, with_elements};
 
-use crate::body::{Body, FillBody};
+use crate::body::{Body, FillBody, LendBody};
 use crate::pool::Pool;
-use crate::slice_body::SliceBody;
 
 impl<B: Body> Pool<B> {
     ghost use Rattle.rr_slots.specs.PoolLends.{lends_element};
@@ -59,6 +58,25 @@ impl<B: FillBody> Pool<B> {
         let whole = &mut self.bodies[slot];
         whole.fill(element);
     }
+
+    /// Makes what stands in a slot complete, by whatever elements, or by copies of this one. Old ones are dropped.
+    pub fn complete(&mut self, slot: usize, element: B::Item)
+        requires { slot < length self.old.contents }
+        ensures { CompletesAt self.old slot self.new }
+    {
+        let completed = &mut self.bodies[slot];
+        completed.complete(element);
+    }
+
+    /// Makes copies of these the elements in a slot, where as many are asked for. Old ones are dropped.
+    pub fn copy(&mut self, slot: usize, elements: &[B::Item])
+        requires slot { slot < length self.old.contents }
+        requires len { length elements.now ≡ (content_at self.old slot).asked_len }
+        ensures { self.new ≡ with_changed_at self.old slot (with_elements elements.now) }
+    {
+        let copied = &mut self.bodies[slot];
+        copied.copy(elements);
+    }
 }
 
 impl<T: Drop> Pool<Option<T>> {
@@ -89,13 +107,13 @@ impl<T: Drop> Pool<Option<T>> {
     }
 }
 
-impl<T: Drop> Pool<SliceBody<T>> {
+impl<B: LendBody> Pool<B> {
     ghost use Rattle.rr_slots.specs.PoolLends.{lends_slice};
 
     /// Lends the elements written so far in a slot.
-    pub fn slice_mut(&mut self, slot: usize) -> &mut [T]
+    pub fn slice_mut(&mut self, slot: usize) -> &mut [B::Item]
         requires { slot < length self.old.contents }
-        ensures* lends { sem 𝓛 (lends_slice T.row ⟦<SliceBody<T> as Body>⟧ self.entry slot result) }
+        ensures* lends { sem 𝓛 (lends_slice B.row B.Item.row ⟦<B as Body>⟧ self.entry slot result) }
         ensures value { (content_at self.old slot).elements ≡ result.now }
     {
         let body = &mut self.bodies[slot];

@@ -6,7 +6,7 @@ ghost use Rattle.rr_sender.specs.Senders.{content_at};
 ghost use Rattle.rr_store.specs.Views.{sender_of};
 
 use crate::side::Side;
-use rr_slots::{Body, SliceBody};
+use rr_slots::{Body, LendBody};
 
 impl<B: Body, N: Copy, H: Drop, P: Drop> Side<B, N, H, P> {
     ghost use Rattle.rr_store.specs.SideLends.{lends_element, lends_user_header};
@@ -49,15 +49,15 @@ impl<T: Drop, N: Copy, H: Drop, P: Drop> Side<Option<T>, N, H, P> {
     }
 }
 
-impl<T: Drop, N: Copy, H: Drop, P: Drop> Side<SliceBody<T>, N, H, P> {
+impl<B: LendBody, N: Copy, H: Drop, P: Drop> Side<B, N, H, P> {
     ghost use Rattle.rr_store.specs.SideLends.{lends_slice};
 
     /// Lends the elements that were written so far of the message in a slot.
     #[inline(always)]
-    pub fn slice_mut(&mut self, sender: usize, slot: usize) -> &mut [T]
+    pub fn slice_mut(&mut self, sender: usize, slot: usize) -> &mut [B::Item]
         requires sender { sender < length self.old.senders }
         requires slot { slot < length (sender_of sender self.old.senders).messages.held }
-        ensures* lends { sem 𝓛 (lends_slice N.row H.row P.row T.row ⟦<SliceBody<T> as Body>⟧ self.entry sender slot result) }
+        ensures* lends { sem 𝓛 (lends_slice B.row N.row H.row P.row B.Item.row ⟦<B as Body>⟧ self.entry sender slot result) }
         ensures value { (content_at (sender_of sender self.old.senders).messages slot).elements ≡ result.now }
     {
         self.senders[sender].messages.slice_mut(slot)

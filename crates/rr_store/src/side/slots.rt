@@ -3,7 +3,7 @@ ghost use Rattle.std.specs.Prelude.{◌≡◌, ◌<◌, ◌↔◌, [], ◌∷◌
 ghost use Rattle.rr_slots.specs.Families.{takes_len};
 ghost use Rattle.rr_slots.specs.Pools.{appended, filled, with_element_at, with_elements};
 ghost use Rattle.rr_sender.specs.Senders.{all_entries, content_at, given_back, loaned, times, used_count, with_changed_at, with_user_header};
-ghost use Rattle.rr_store.specs.Sides.{with_sent};
+ghost use Rattle.rr_store.specs.Sides.{CompletesSent, with_sent};
 ghost use Rattle.rr_store.specs.Views.{sender_of};
 ghost use Rattle.rr_store.specs.Writing.{is_written};
 
@@ -116,5 +116,26 @@ impl<B: FillBody, N: Copy, H: Drop, P: Drop> Side<B, N, H, P> {
         ensures { self.new ≡ with_sent self.old sender (λ m. with_changed_at m slot (filled element)) }
     {
         self.senders[sender].messages.fill(slot, element);
+    }
+
+    /// Makes the message in a slot complete, by whatever elements, or by copies of this one. Old ones are dropped.
+    #[inline(always)]
+    pub fn complete(&mut self, sender: usize, slot: usize, element: B::Item)
+        requires sender { sender < length self.old.senders }
+        requires slot { slot < length (sender_of sender self.old.senders).messages.held }
+        ensures { CompletesSent self.old sender slot self.new }
+    {
+        self.senders[sender].messages.complete(slot, element);
+    }
+
+    /// Makes copies of these the elements of the message in a slot, where as many are asked for. Old ones are dropped.
+    #[inline(always)]
+    pub fn copy(&mut self, sender: usize, slot: usize, elements: &[B::Item])
+        requires sender { sender < length self.old.senders }
+        requires slot { slot < length (sender_of sender self.old.senders).messages.held }
+        requires len { length elements.now ≡ (content_at (sender_of sender self.old.senders).messages slot).asked_len }
+        ensures { self.new ≡ with_sent self.old sender (λ m. with_changed_at m slot (with_elements elements.now)) }
+    {
+        self.senders[sender].messages.copy(slot, elements);
     }
 }

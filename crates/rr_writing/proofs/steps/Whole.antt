@@ -1,6 +1,6 @@
 -- A message is written whole, and can be sent then.
 use Rattle.std.proofs.Common.{◌≡◌, ◌<◌, List, ℕ, true, Some, length, replicate, refl, sym, ap, ◌∙◌, subst, inl, inr, arith}
-use Rattle.std.specs.Prelude.{IsSomeAnd}
+use Rattle.std.specs.Prelude.{IsSomeAnd, option_and_then}
 use Rattle.std.specs.FinMap as fin_map
 use Rattle.std.proofs.lemmas.Bool.{eq-eqb, false≢true}
 use Rattle.std.proofs.lemmas.List.{length-replicate}
@@ -10,10 +10,10 @@ use Rattle.rr_table.specs.declared.place.Place.{Place}
 use Rattle.rr_sender.specs.Senders.{with_changed_at}
 use Rattle.rr_map_laws.proofs.MapLaws.{get-insert_same}
 use Rattle.rr_protocol.specs.declared.kind.Kind.{Kind}
-use Rattle.rr_protocol.specs.Messages.{ActiveRequest, Content, Handle, PendingResponse, RequestMut, RequestMutUninit, Response, ResponseMut, ResponseMutUninit}
+use Rattle.rr_protocol.specs.Messages.{ActiveRequest, Content, Handle, PendingResponse, RequestMut, RequestMutUninit, Response, ResponseMut, ResponseMutUninit, request_in, response_in}
 use Rattle.rr_protocol.specs.Queries.{kind_at}
 use Rattle.rr_protocol.specs.State.{handle_at, with_changed}
-use Rattle.rr_protocol.specs.Writing.{after_init, filled, is_complete, with_request_content, with_response_content}
+use Rattle.rr_protocol.specs.Writing.{after_init, filled, is_complete, with_elements, with_request_content, with_response_content}
 use Rattle.rr_laws.specs.Complete.{HasComplete, MessagesComplete}
 use Rattle.rr_laws.specs.Roles.{role_of}
 use Rattle.rr_laws.proofs.CompleteMessages.{changed_complete, changed_there}
@@ -141,6 +141,22 @@ module _ {Q QH P PH K : Type 0} (p : Parts Q QH P PH K) (core : IsCore p) (n : �
         let asked = (request_at p entry.sender entry.slot).content.asked_len in
         eq-eqb (length (replicate asked element)) asked (length-replicate asked element)
 
+    -- for how many elements its slot asks
+    pub request_asks : (len : ℕ) → IsSomeAnd (option_and_then request_in (handle_at (state_of p) n)) (λ m. m.content.asked_len ≡ len)
+        → (request_at p entry.sender entry.slot).content.asked_len ≡ len
+    request_asks len told = rw (there ∙ ap Some request_shown) at told
+
+    -- and the other way round
+    pub request_told : (len : ℕ) → len ≡ (request_at p entry.sender entry.slot).content.asked_len
+        → IsSomeAnd (option_and_then request_in (handle_at (state_of p) n)) (λ m. m.content.asked_len ≡ len)
+    request_told len is = rw (there ∙ ap Some request_shown) (sym is)
+
+    -- one to which as many are copied is complete
+    pub request_copied : (elements : List Q)
+        → IsSomeAnd (option_and_then request_in (handle_at (state_of p) n)) (λ m. m.content.asked_len ≡ length elements)
+        → is_complete (with_elements elements (request_at p entry.sender entry.slot).content) ≡ true
+    request_copied elements told = eq-eqb (length elements) (request_at p entry.sender entry.slot).content.asked_len (sym (request_asks (length elements) told))
+
   -- a response that is being written
   module _ (kind : kind_at (state_of p) n ≡ Some Kind.ResponseMutUninit) where
     response_stage : entry.stage ≡ stage.ResponseMutUninit
@@ -193,3 +209,19 @@ module _ {Q QH P PH K : Type 0} (p : Parts Q QH P PH K) (core : IsCore p) (n : �
     response_filled element =
         let asked = (response_at p entry.sender entry.slot).content.asked_len in
         eq-eqb (length (replicate asked element)) asked (length-replicate asked element)
+
+    -- for how many elements its slot asks
+    pub response_asks : (len : ℕ) → IsSomeAnd (option_and_then response_in (handle_at (state_of p) n)) (λ m. m.content.asked_len ≡ len)
+        → (response_at p entry.sender entry.slot).content.asked_len ≡ len
+    response_asks len told = rw (there ∙ ap Some response_shown) at told
+
+    -- and the other way round
+    pub response_told : (len : ℕ) → len ≡ (response_at p entry.sender entry.slot).content.asked_len
+        → IsSomeAnd (option_and_then response_in (handle_at (state_of p) n)) (λ m. m.content.asked_len ≡ len)
+    response_told len is = rw (there ∙ ap Some response_shown) (sym is)
+
+    -- one to which as many are copied is complete
+    pub response_copied : (elements : List P)
+        → IsSomeAnd (option_and_then response_in (handle_at (state_of p) n)) (λ m. m.content.asked_len ≡ length elements)
+        → is_complete (with_elements elements (response_at p entry.sender entry.slot).content) ≡ true
+    response_copied elements told = eq-eqb (length elements) (response_at p entry.sender entry.slot).content.asked_len (sym (response_asks (length elements) told))

@@ -1,0 +1,10 @@
+use Rattle.rr_slots.specs.Pools.{with_elements}
+use Rattle.rr_sender.specs.Senders.{with_changed_at}
+use Rattle.rr_store.proofs.base.senders.Stored.{sent_set}
+use Rattle.rr_store.proofs.side.Side.copy.Goals as goal
+
+pub returns : goal.returns
+returns g c =
+    let there = rw (← c.self.view_is) at c.requires.sender in
+    rw (← c.self.view_is) (sent_set c.self.inside c.args.sender _ there c.index_mut.ensures.value _ (λ m. with_changed_at m c.args.slot (with_elements
+    c.args.elements.now)) (c.copy.ensures))

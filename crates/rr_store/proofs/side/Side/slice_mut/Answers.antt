@@ -1,0 +1,17 @@
+use Rattle.std.proofs.Common.{◌≡◌, refl, sym, subst}
+use Rattle.rr_slots.specs.PoolLends.{refilled}
+use Rattle.rr_sender.specs.Senders.{content_at, with_changed_at}
+use Rattle.rr_store.proofs.base.senders.Stored.{sent_set, stored_is}
+use Rattle.rr_store.proofs.side.Side.slice_mut.Goals as goal
+
+pub returns : goal.returns
+returns g c =
+    rw (← c.self.view_is)
+    (let there = rw (← c.self.view_is) at c.requires.sender in (
+      (refl, λ w. sent_set c.self.inside c.args.sender _ there c.index_mut.ensures.value _ (λ m. with_changed_at m c.args.slot (refilled w)) refl),
+      record {
+        lends = tt;
+        value = subst (λ l. (content_at l.messages c.args.slot).elements ≡ c.slice_mut.result.now)
+            (sym (stored_is c.self.inside.senders.items c.args.sender _ there c.index_mut.ensures.value)) c.slice_mut.ensures.value;
+      },
+    ))

@@ -1,0 +1,53 @@
+use Rattle.std.proofs.Common.{length, refl, sym, ap, ◌∙◌}
+use Rattle.rr_slots.specs.Pools as slot
+use Rattle.rr_sender.specs.Senders.{with_changed_at}
+use Rattle.rr_protocol.specs.Writing.{with_elements}
+use Rattle.rr_store.specs.Sides.{with_sent}
+use Rattle.rr_store.specs.Opened.{opened}
+use Rattle.rr_writing.proofs.steps.Whole.{response_asks, response_copied, response_sender, response_slot, whole_response_core, whole_response_view}
+use Rattle.rr_writing.proofs.whole.copy_response_at.Goals as goal
+
+pub at-entry-requires : goal.at-entry-requires
+at-entry-requires g c = c.requires.at
+
+pub set_at-requires : goal.set_at-requires
+set_at-requires g c = c.requires.at
+
+pub copy-requires-clause-sender : goal.copy-requires-clause-sender
+copy-requires-clause-sender g c =
+    (response_sender (opened c.args.store.now) c.requires.core c.args.number c.args.place _ c.at-entry.ensures c.requires.kind)
+
+pub copy-requires-clause-slot : goal.copy-requires-clause-slot
+copy-requires-clause-slot g c =
+    (response_slot (opened c.args.store.now) c.requires.core c.args.number c.args.place _ c.at-entry.ensures c.requires.kind)
+
+pub copy-requires-clause-len : goal.copy-requires-clause-len
+copy-requires-clause-len g c =
+    sym (response_asks (opened c.args.store.now) c.requires.core c.args.number c.args.place _ c.at-entry.ensures c.requires.kind (length c.args.elements.now)
+    c.requires.len)
+
+pub returns-clause-core : goal.returns-clause-core
+returns-clause-core g c =
+    whole_response_core (opened c.args.store.now) c.requires.core c.args.number c.args.place _ c.at-entry.ensures c.requires.kind
+    (slot.with_elements c.args.elements.now) (with_elements c.args.elements.now) (λ header w. refl)
+    (response_copied (opened c.args.store.now) c.requires.core c.args.number c.args.place _ c.at-entry.ensures c.requires.kind
+    c.args.elements.now c.requires.len) _ _ refl
+    (ap (λ s. opened (record c.args.store.now { table = c.set_at.new.self; servers = s })) c.copy.ensures
+    ∙ ap (λ t. opened (record c.args.store.now {
+      table = t;
+      servers = with_sent c.args.store.now.servers c.at-entry.result.sender (λ m. with_changed_at m c.at-entry.result.slot
+          (slot.with_elements c.args.elements.now));
+    })) c.set_at.ensures)
+
+pub returns-clause-view : goal.returns-clause-view
+returns-clause-view g c =
+    whole_response_view (opened c.args.store.now) c.requires.core c.args.number c.args.place _ c.at-entry.ensures c.requires.kind
+    (slot.with_elements c.args.elements.now) (with_elements c.args.elements.now) (λ header w. refl)
+    (response_copied (opened c.args.store.now) c.requires.core c.args.number c.args.place _ c.at-entry.ensures c.requires.kind
+    c.args.elements.now c.requires.len) _ _ refl
+    (ap (λ s. opened (record c.args.store.now { table = c.set_at.new.self; servers = s })) c.copy.ensures
+    ∙ ap (λ t. opened (record c.args.store.now {
+      table = t;
+      servers = with_sent c.args.store.now.servers c.at-entry.result.sender (λ m. with_changed_at m c.at-entry.result.slot
+          (slot.with_elements c.args.elements.now));
+    })) c.set_at.ensures)
