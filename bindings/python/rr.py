@@ -277,11 +277,17 @@ class _Sender(_Named):
 
     def send(self, payload, user_header=None):
         """Sends these bytes. Raises what `loan_uninit` and the message's `send` do, and returns what that does."""
-        message = self.loan(payload)
-        with message:
-            if user_header is not None:
-                message.user_header = user_header
+        if user_header is None:
+            return self._sent_copy(bytes(payload))
+        with self.loan(payload) as message:
+            message.user_header = user_header
             return message.send()
+
+    def _sent_copy(self, payload):
+        """Sends these bytes by one call."""
+        message, servers = rr_h.Id(), ctypes.c_size_t()
+        self._call("send_copy", payload, len(payload), ctypes.byref(message), ctypes.byref(servers))
+        return self.sent_type(self._hub, message) if self.sent_type else None
 
 
 class RequestMut(_Sendable):
@@ -359,6 +365,7 @@ class ActiveRequest(_Sender, _Message):
     """A request that a server received. Its `send` sends a response."""
 
     message_type = ResponseMutUninit
+    sent_type = None
 
     @property
     def origin(self):
@@ -380,6 +387,7 @@ class Client(_Sender, _Port):
     """Sends requests to all connected servers. Its `send` returns a `PendingResponse`."""
 
     message_type = RequestMutUninit
+    sent_type = PendingResponse
 
 
 class Server(_Port):

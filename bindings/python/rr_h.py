@@ -165,6 +165,7 @@ _ARGUMENTS = {
     "set_user_header": [ctypes.POINTER(Id), ctypes.POINTER(UserHeader)],
     "is_deliverable": [ctypes.POINTER(Id), ctypes.POINTER(ctypes.c_bool)],
     "send": [ctypes.POINTER(Id), ctypes.POINTER(ctypes.c_size_t)],
+    "send_copy": [ctypes.POINTER(Id), ctypes.c_char_p, ctypes.c_size_t, ctypes.POINTER(Id), ctypes.POINTER(ctypes.c_size_t)],
     "receive": [ctypes.POINTER(Id), ctypes.POINTER(Id)],
     "has_entries": [ctypes.POINTER(Id), ctypes.POINTER(ctypes.c_bool)],
     "is_connected": [ctypes.POINTER(Id), ctypes.POINTER(ctypes.c_bool)],

@@ -173,7 +173,8 @@ uint32_t rr_push(rr_hub_t *hub, const rr_id_t *message, uint8_t byte, bool *had_
 uint32_t rr_assume_init(rr_hub_t *hub, const rr_id_t *message);
 /* Replaces a byte that was written of a message that was not sent. Writes whether there is one. RR_UNKNOWN, RR_WRONG_KIND. */
 uint32_t rr_set(rr_hub_t *hub, const rr_id_t *message, size_t index, uint8_t byte, bool *was_there);
-/* Writes where the payload of a message that can be sent lies, to be changed in place until the message is sent or released.
+/* Writes where the payload of a message that was not sent lies, to be written in place until the message is sent or released. One that is
+ * being written can be sent from then on; its bytes are 0, or what an earlier message of its port left there, until they are written.
  * RR_UNKNOWN, RR_WRONG_KIND. */
 uint32_t rr_payload_mut(rr_hub_t *hub, const rr_id_t *message, uint8_t **at, size_t *len);
 /* Replaces the user header of a message that was not sent. RR_UNKNOWN, RR_WRONG_KIND. */
@@ -183,6 +184,10 @@ uint32_t rr_is_deliverable(rr_hub_t *hub, const rr_id_t *message, bool *is_deliv
 /* Sends a message. A request is a pending response under its id then, and the servers that it was sent to are written; a response is gone,
  * and 0 is written. Refused with RR_SEND_*, the message is released. RR_UNKNOWN, RR_WRONG_KIND, RR_SEND_*. */
 uint32_t rr_send(rr_hub_t *hub, const rr_id_t *message, size_t *servers);
+/* Loans a message of as many bytes as these, copies them to it and sends it: a request of a client, or a response of an active request.
+ * Writes its id, and the servers that a request was sent to; a response is gone, and 0 is written.
+ * RR_UNKNOWN, RR_WRONG_KIND, RR_NUMBERS_EXHAUSTED, RR_LOAN_*, RR_SEND_*. */
+uint32_t rr_send_copy(rr_hub_t *hub, const rr_id_t *from, const uint8_t *payload, size_t len, rr_id_t *message, size_t *servers);
 
 /* Receives a request of a server, or a response of a pending response. RR_NOTHING if none is queued; RR_UNKNOWN, RR_WRONG_KIND,
  * RR_NUMBERS_EXHAUSTED, RR_RECEIVE_*. */

@@ -129,6 +129,55 @@ static void too_many_active(service_t *it) {
     HOLDS(still_works(it));
 }
 
+/* A copy is sent by one call. A refused one leaves no message, and writes nothing. */
+static void copies(service_t *it) {
+    rr_hub_t *hub = &it->hub;
+    const uint8_t *ask = (const uint8_t *)"ask", *answer = (const uint8_t *)"answer";
+    rr_id_t pending, second, response, id = UNTOUCHED;
+    size_t servers = 77;
+    GIVES(RR_WRONG_KIND, rr_send_copy(hub, &it->server, ask, 3, &id, &servers));
+    GIVES(RR_LOAN_EXCEEDS_MAX_LOAN_SIZE, rr_send_copy(hub, &it->client, (const uint8_t *)"nine long", 9, &id, &servers));
+    HOLDS(is_untouched(&id) && servers == 77);
+    TRY(rr_send_copy(hub, &it->client, ask, 3, &pending, &servers));
+    HOLDS(servers == 1 && is_kind(hub, &pending, RR_KIND_PENDING_RESPONSE) && has_bytes(hub, &pending, "ask", 3));
+    TRY(rr_send_copy(hub, &it->client, ask, 3, &second, &servers));
+    GIVES(RR_SEND_EXCEEDS_MAX_ACTIVE_REQUESTS, rr_send_copy(hub, &it->client, ask, 3, &id, &servers));
+    HOLDS(is_untouched(&id) && servers == 1 && second.number == pending.number + 1);
+    rr_id_t active = receive(hub, &it->server);
+    TRY(rr_send_copy(hub, &active, answer, 6, &response, &servers));
+    HOLDS(servers == 0 && has_bytes(hub, &active, "ask", 3) && is_gone(hub, &response));
+    response = receive(hub, &pending);
+    HOLDS(has_bytes(hub, &response, "answer", 6));
+    const rr_id_t *held[] = {&response, &active, &pending, &second};
+    for (size_t at = 0; at < sizeof held / sizeof *held; at++)
+        TRY(rr_release(hub, held[at]));
+    HOLDS(still_works(it));
+}
+
+/* A message that was loaned is written in place, and can be sent then. Others aren't lent for writing, and nothing is written. */
+static void in_place(service_t *it) {
+    rr_hub_t *hub = &it->hub;
+    rr_id_t request, made_up = {999, 3, 4};
+    uint8_t untouched, *at = &untouched;
+    size_t len = 77, servers;
+    GIVES(RR_UNKNOWN, rr_payload_mut(hub, &made_up, &at, &len));
+    GIVES(RR_WRONG_KIND, rr_payload_mut(hub, &it->client, &at, &len));
+    HOLDS(at == &untouched && len == 77);
+    TRY(rr_loan_slice_uninit(hub, &it->client, 3, &request));
+    TRY(rr_payload_mut(hub, &request, &at, &len));
+    HOLDS(len == 3 && is_kind(hub, &request, RR_KIND_REQUEST_MUT));
+    memcpy(at, "ask", 3);
+    TRY(rr_payload_mut(hub, &request, &at, &len));
+    HOLDS(len == 3 && memcmp(at, "ask", 3) == 0);
+    TRY(rr_send(hub, &request, &servers));
+    GIVES(RR_WRONG_KIND, rr_payload_mut(hub, &request, &at, &len));
+    rr_id_t active = receive(hub, &it->server);
+    HOLDS(has_bytes(hub, &active, "ask", 3));
+    TRY(rr_release(hub, &active));
+    TRY(rr_release(hub, &request));
+    HOLDS(still_works(it));
+}
+
 /* Each of the nine kinds is told by its number. */
 static void kinds(service_t *it) {
     rr_hub_t *hub = &it->hub;
@@ -155,7 +204,7 @@ static void kinds(service_t *it) {
 
 /* A hub with the small limits and both ports is passed to each of these. */
 static void (*const WITH_SMALL_LIMITS[])(service_t *) = {unknown, wrong_kind, incomplete, wrong_length, nothing, loan_refusals,
-                                                         too_many_active, kinds};
+                                                         too_many_active, copies, in_place, kinds};
 
 static void out_of_memory(void) {
     rr_limits_t limits = small_limits();

@@ -8,7 +8,6 @@ static const uint8_t *send_in_place(rr_hub_t *hub, const rr_id_t *from, uint8_t 
     uint8_t *at;
     size_t len, servers;
     TRY(rr_loan_slice_uninit(hub, from, LEN, message));
-    TRY(rr_fill(hub, message, 0));
     TRY(rr_payload_mut(hub, message, &at, &len));
     HOLDS(len == LEN && (uintptr_t)at % ALIGNMENT == 0);
     memset(at, byte, LEN);

@@ -146,10 +146,8 @@ static void loan_default(rr_id_t *from) {
     id_or(code, "loaned", &message);
 }
 
-/* Sends a request or a response, and prints what became of it. */
-static void send_as(rr_id_t *message, bool is_request) {
-    size_t servers;
-    uint32_t code = rr_send(&hub, message, &servers);
+/* Prints what became of a request or a response that was to be sent. */
+static void say_sent(uint32_t code, const rr_id_t *message, size_t servers, bool is_request) {
     if (code != RR_OK)
         refuse(code, is_request && code == RR_SEND_UNABLE_TO_DELIVER ? "SendError " : "");
     else if (is_request)
@@ -158,14 +156,42 @@ static void send_as(rr_id_t *message, bool is_request) {
         printf("sent %llu\n", (unsigned long long)message->number);
 }
 
+/* Sends a request or a response, and prints what became of it. */
+static void send_as(rr_id_t *message, bool is_request) {
+    size_t servers = 0;
+    uint32_t code = rr_send(&hub, message, &servers);
+    say_sent(code, message, servers, is_request);
+}
+
 static void send_message(rr_id_t *message) {
     send_as(message, kind_of(message) == RR_KIND_REQUEST_MUT);
 }
 
+/* Sends a byte by one call, and prints what became of it. */
+static void copy_at_once(rr_id_t *from, bool is_request) {
+    uint8_t byte = (uint8_t)numbers[2];
+    rr_id_t message = {0, 0, 0};
+    size_t servers = 0;
+    uint32_t code = rr_send_copy(&hub, from, &byte, 1, &message, &servers);
+    bool is_loans = code >= RR_LOAN_OUT_OF_MEMORY && code <= RR_LOAN_EXCEEDS_MAX_LOAN_SIZE;
+    if (code == RR_OK)
+        keep(message);
+    if (code != RR_OK && is_loans)
+        refuse(code, is_request ? "SendError LoanError " : "LoanError ");
+    else
+        say_sent(code, &message, servers, is_request);
+}
+
+/* Loans, writes and sends a byte. Each second one goes by one call. */
 static void send_copy(rr_id_t *from) {
+    static int calls;
     bool is_request = kind_of(from) == RR_KIND_CLIENT;
     uint8_t byte = (uint8_t)numbers[2];
     rr_id_t message;
+    if (++calls % 2 == 0) {
+        copy_at_once(from, is_request);
+        return;
+    }
     uint32_t code = rr_loan_slice_uninit(&hub, from, 1, &message);
     if (code == RR_OK) {
         keep(message);

@@ -1,29 +1,35 @@
 /* Times round trips. A line is `c BYTES NANOSECONDS TRIPS`, the best of the samples, where payloads are written and read in place, and
- * `c-copy ..` where they are copied from an array of the caller. Each trip checks that the answer is the question plus one. */
+ * `c-copy ..` where they are written elsewhere, and sent as copies by one call. Each trip checks that the answer is the question plus one.
+ */
 #define _POSIX_C_SOURCE 200809L
 #include "check.h"
 #include <time.h>
 
 enum { SAMPLES = 15, WORD = sizeof(uint64_t), LARGEST = 65536 };
 
-/* Writes the word to all of a message that was loaned. */
-typedef void (*writer_t)(rr_hub_t *hub, const rr_id_t *message, size_t len, uint64_t word);
+/* Sends a message in which each word is this one, of a client or of an active request, and writes its id. */
+typedef void (*sender_t)(rr_hub_t *hub, const rr_id_t *from, size_t len, uint64_t word, rr_id_t *message);
 
-static void write_in_place(rr_hub_t *hub, const rr_id_t *message, size_t len, uint64_t word) {
-    uint8_t *at;
-    size_t found;
-    TRY(rr_fill(hub, message, 0));
-    TRY(rr_payload_mut(hub, message, &at, &found));
-    HOLDS(found == len);
+static void write_words(uint64_t *words, size_t len, uint64_t word) {
     for (size_t index = 0; index < len / WORD; index++)
-        memcpy(at + index * WORD, &word, WORD);
+        words[index] = word;
 }
 
-static void write_by_copy(rr_hub_t *hub, const rr_id_t *message, size_t len, uint64_t word) {
-    static uint8_t buffer[LARGEST];
-    for (size_t index = 0; index < len / WORD; index++)
-        memcpy(buffer + index * WORD, &word, WORD);
-    TRY(rr_write_from_slice(hub, message, buffer, len));
+static void send_in_place(rr_hub_t *hub, const rr_id_t *from, size_t len, uint64_t word, rr_id_t *message) {
+    uint8_t *at;
+    size_t found, servers;
+    TRY(rr_loan_slice_uninit(hub, from, len, message));
+    TRY(rr_payload_mut(hub, message, &at, &found));
+    HOLDS(found == len);
+    write_words((uint64_t *)(void *)at, len, word);
+    TRY(rr_send(hub, message, &servers));
+}
+
+static void send_copy(rr_hub_t *hub, const rr_id_t *from, size_t len, uint64_t word, rr_id_t *message) {
+    static uint64_t words[LARGEST / WORD];
+    size_t servers;
+    write_words(words, len, word);
+    TRY(rr_send_copy(hub, from, (const uint8_t *)words, len, message, &servers));
 }
 
 static uint64_t last_word(rr_hub_t *hub, const rr_id_t *message) {
@@ -36,17 +42,11 @@ static uint64_t last_word(rr_hub_t *hub, const rr_id_t *message) {
 }
 
 /* Asks with a word, answers with the next one, and returns the answer. */
-static uint64_t round_trip(rr_hub_t *hub, const rr_id_t *client, const rr_id_t *server, size_t len, uint64_t word, writer_t write) {
+static uint64_t round_trip(rr_hub_t *hub, const rr_id_t *client, const rr_id_t *server, size_t len, uint64_t word, sender_t send) {
     rr_id_t request, active, response;
-    size_t servers;
-    TRY(rr_loan_slice_uninit(hub, client, len, &request));
-    write(hub, &request, len, word);
-    TRY(rr_send(hub, &request, &servers));
+    send(hub, client, len, word, &request);
     TRY(rr_receive(hub, server, &active));
-    uint64_t asked = last_word(hub, &active);
-    TRY(rr_loan_slice_uninit(hub, &active, len, &response));
-    write(hub, &response, len, asked + 1);
-    TRY(rr_send(hub, &response, &servers));
+    send(hub, &active, len, last_word(hub, &active) + 1, &response);
     TRY(rr_release(hub, &active));
     TRY(rr_receive(hub, &request, &response));
     uint64_t answer = last_word(hub, &response);
@@ -61,7 +61,7 @@ static double now(void) {
     return (double)time.tv_sec * 1e9 + (double)time.tv_nsec;
 }
 
-static void measure(const char *name, size_t len, int trips, writer_t write) {
+static void measure(const char *name, size_t len, int trips, sender_t send) {
     rr_limits_t limits = small_limits();
     rr_hub_t hub = new_hub(&limits);
     rr_id_t client = new_client(&hub, len), server = new_server(&hub, len);
@@ -70,7 +70,7 @@ static void measure(const char *name, size_t len, int trips, writer_t write) {
     for (int sample = 0; sample < SAMPLES; sample++) {
         double start = now();
         for (int trip = 0; trip < trips; trip++)
-            word = round_trip(&hub, &client, &server, len, word, write);
+            word = round_trip(&hub, &client, &server, len, word, send);
         double taken = (now() - start) / trips;
         best = sample == 0 || taken < best ? taken : best;
     }
@@ -85,8 +85,8 @@ int main(void) {
         int trips;
     } SIZES[] = {{8, 20000}, {4096, 1000}, {LARGEST, 50}};
     for (size_t at = 0; at < sizeof SIZES / sizeof *SIZES; at++) {
-        measure("c", SIZES[at].len, SIZES[at].trips, write_in_place);
-        measure("c-copy", SIZES[at].len, SIZES[at].trips, write_by_copy);
+        measure("c", SIZES[at].len, SIZES[at].trips, send_in_place);
+        measure("c-copy", SIZES[at].len, SIZES[at].trips, send_copy);
     }
     return 0;
 }

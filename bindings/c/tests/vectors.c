@@ -24,7 +24,6 @@ static rr_id_t loan_words(rr_hub_t *hub, const rr_id_t *from, size_t count, uint
     uint8_t *at;
     size_t len;
     TRY(rr_loan_slice_uninit(hub, from, count * WORD, &message));
-    TRY(rr_fill(hub, &message, 0));
     TRY(rr_payload_mut(hub, &message, &at, &len));
     HOLDS(len == count * WORD);
     for (size_t index = 0; index < count; index++) {

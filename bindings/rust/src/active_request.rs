@@ -1,6 +1,6 @@
 //! Requests that a server received.
 
-use crate::error::{LoanError, SendError};
+use crate::error::{LoanError, SendError, sent_copy, sent_response};
 use crate::handle::Handle;
 use crate::header::{RequestHeader, UniqueClientId};
 use crate::message::{Loan, Of, Received};
@@ -142,7 +142,11 @@ impl<'h, Q: Payload + ?Sized, T: ZeroCopySend> ActiveRequest<'h, Q, T> {
     /// After iceoryx2's `ActiveRequest::send_copy`.
     #[inline]
     pub fn send_copy(&self, value: T) -> Result<(), SendError> {
-        self.loan_uninit()?.write_payload(value).send()
+        // SAFETY: a value has as many bytes as its type.
+        let (code, handle) = unsafe { self.request.handle().send_copy((&raw const value).cast(), size_of::<T>()) };
+        // A response that was sent is gone, and one whose send was refused was released.
+        handle.forget();
+        sent_copy(code, sent_response)
     }
 }
 

@@ -1,6 +1,6 @@
 //! Clients.
 
-use crate::error::{ConnectionFailure, LoanError, RequestSendError};
+use crate::error::{ConnectionFailure, LoanError, RequestSendError, sent_copy, sent_request};
 use crate::handle::Handle;
 use crate::header::UniqueClientId;
 use crate::message::{Loan, Of};
@@ -115,7 +115,9 @@ impl<'h, T: ZeroCopySend, P: Payload + ?Sized> Client<'h, T, P> {
     /// After iceoryx2's `Client::send_copy`.
     #[inline]
     pub fn send_copy(&self, value: T) -> Result<PendingResponse<'h, T, P>, RequestSendError> {
-        self.loan_uninit()?.write_payload(value).send()
+        // SAFETY: a value has as many bytes as its type.
+        let (code, handle) = unsafe { self.port.send_copy((&raw const value).cast(), size_of::<T>()) };
+        PendingResponse::sent(sent_copy(code, sent_request), handle)
     }
 }
 

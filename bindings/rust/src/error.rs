@@ -219,6 +219,18 @@ refusals! {
     }
 }
 
+/// Splits the code of a send that loans its message too.
+#[inline]
+pub(crate) fn sent_copy<E: From<LoanError>>(code: u32, sent: fn(u32) -> Result<(), E>) -> Result<(), E> {
+    match code {
+        raw::RR_NUMBERS_EXHAUSTED
+        | raw::RR_LOAN_OUT_OF_MEMORY
+        | raw::RR_LOAN_EXCEEDS_MAX_LOANS
+        | raw::RR_LOAN_EXCEEDS_MAX_LOAN_SIZE => Ok(loaned(code)?),
+        code => sent(code),
+    }
+}
+
 /// Splits the code of a request's send.
 #[inline]
 pub(crate) fn sent_request(code: u32) -> Result<(), RequestSendError> {

@@ -98,6 +98,20 @@ impl<'h> Handle<'h> {
         Ok(Handle { core: self.core, id })
     }
 
+    /// Loans a message of so many bytes, copies them to it and sends it. Returns the code and the handle, which only a request that was
+    /// sent has then: any other is to be forgotten.
+    ///
+    /// # Safety
+    ///
+    /// As many bytes lie there. They may be a value's padding, which `rr.h` copies as C copies it.
+    #[inline]
+    pub unsafe fn send_copy(&self, from: *const u8, bytes: usize) -> (u32, Handle<'h>) {
+        let (mut id, mut servers) = (raw::Id::NONE, 0);
+        // SAFETY: the hub lives, and so do both ids, the bytes and the number.
+        let code = unsafe { raw::rr_send_copy(self.hub(), &self.id, from, bytes, &mut id, &mut servers) };
+        (code, Handle { core: self.core, id })
+    }
+
     /// Receives what is queued first.
     #[inline]
     pub fn receive(&self) -> Result<Option<Handle<'h>>, ReceiveError> {

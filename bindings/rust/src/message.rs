@@ -23,8 +23,8 @@ pub(crate) struct Loan<'h, T: ?Sized> {
     handle: Handle<'h>,
     /// How many bytes the payload was asked to have.
     bytes: usize,
-    /// Whether all of them were written, by zeros at least: the message can be sent then, and its payload lies in one place.
-    is_written: Cell<bool>,
+    /// Whether the message can be sent, whatever its bytes are.
+    is_complete: Cell<bool>,
     /// Where that is, once somebody asked.
     place: Cell<Option<Place>>,
     /// A user header that somebody may have changed, and that is set when the message is sent.
@@ -41,7 +41,7 @@ impl<'h, T: Sealed + ?Sized> Loan<'h, T> {
         Ok(Loan {
             handle,
             bytes,
-            is_written: Cell::new(false),
+            is_complete: Cell::new(false),
             place: Cell::new(None),
             user_header: None,
             of: PhantomData,
@@ -53,36 +53,27 @@ impl<'h, T: Sealed + ?Sized> Loan<'h, T> {
         &self.handle
     }
 
-    /// Writes zeros, unless something was written.
+    /// Makes the message one that can be sent. Bytes that nobody wrote are whatever stood there.
     #[inline]
-    pub fn initialise(&self) {
-        if !self.is_written.get() {
-            // SAFETY: the hub lives, and so does the id.
-            done(unsafe { raw::rr_fill(self.handle.hub(), self.handle.id(), 0) });
-            self.is_written.set(true);
+    pub fn complete(&self) {
+        if !self.is_complete.get() {
+            self.place();
         }
     }
 
-    /// Returns where the payload lies, which was written.
+    /// Returns where the payload lies. The message can be sent then.
     #[inline]
-    fn place(&self) -> *mut T {
-        debug_assert!(self.is_written.get());
+    pub fn place(&self) -> *mut T {
         let place = self.place.get().unwrap_or_else(|| {
             let mut place = Place { at: ptr::null_mut(), bytes: 0 };
             // SAFETY: the hub lives, and so do the id and the place.
             done(unsafe { raw::rr_payload_mut(self.handle.hub(), self.handle.id(), &mut place.at, &mut place.bytes) });
             debug_assert_eq!(place.bytes, self.bytes);
+            self.is_complete.set(true);
             self.place.set(Some(place));
             place
         });
         T::at(place.at, place.bytes)
-    }
-
-    /// Returns where the payload lies: its bytes are zeros, unless something was written.
-    #[inline]
-    pub fn uninit(&self) -> *mut T {
-        self.initialise();
-        self.place()
     }
 
     /// Returns the payload.
@@ -115,13 +106,13 @@ impl<'h, T: Sealed + ?Sized> Loan<'h, T> {
     /// copies it.
     #[inline]
     pub unsafe fn write(&mut self, from: *const u8) {
-        if self.is_written.get() {
+        if self.is_complete.get() {
             // SAFETY: it is as long as the payload, and doesn't overlap with it.
             unsafe { ptr::copy_nonoverlapping(from, self.place().cast(), self.bytes) };
         } else {
             // SAFETY: the hub lives, so does the id, and the bytes do.
             done(unsafe { raw::rr_write_from_slice(self.handle.hub(), self.handle.id(), from, self.bytes) });
-            self.is_written.set(true);
+            self.is_complete.set(true);
         }
     }
 
@@ -144,7 +135,7 @@ impl<'h, T: Sealed + ?Sized> Loan<'h, T> {
     /// Sends the message. Returns the code and the handle, which only a request that was sent has then: any other is to be forgotten.
     #[inline]
     pub fn send(self) -> (u32, Handle<'h>) {
-        debug_assert!(self.is_written.get());
+        debug_assert!(self.is_complete.get());
         if let Some(bytes) = self.user_header {
             let header = raw::UserHeader { bytes };
             // SAFETY: the hub lives, and so do the id and the header.

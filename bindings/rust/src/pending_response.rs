@@ -1,6 +1,6 @@
 //! Requests that were sent.
 
-use crate::error::ReceiveError;
+use crate::error::{ReceiveError, RequestSendError};
 use crate::handle::Handle;
 use crate::header::RequestHeader;
 use crate::message::{Of, Received};
@@ -20,9 +20,14 @@ pub struct PendingResponse<'h, Q: ?Sized, P: ?Sized> {
 crate::debug_by_number! { PendingResponse<Q, P>: request.handle() }
 
 impl<'h, Q: Payload + ?Sized, P: Payload + ?Sized> PendingResponse<'h, Q, P> {
+    /// Takes the handle of a request that was sent, or forgets that of one whose send was refused: it was released then.
     #[inline]
-    pub(crate) fn new(handle: Handle<'h>) -> Self {
-        PendingResponse { request: Received::new(handle), responses: PhantomData }
+    pub(crate) fn sent(outcome: Result<(), RequestSendError>, handle: Handle<'h>) -> Result<Self, RequestSendError> {
+        if let Err(error) = outcome {
+            handle.forget();
+            return Err(error);
+        }
+        Ok(PendingResponse { request: Received::new(handle), responses: PhantomData })
     }
 
     /// Receives a response. Returns `None` if none is queued.

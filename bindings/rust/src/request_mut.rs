@@ -113,14 +113,7 @@ impl<'h, Q: Payload + ?Sized, P: Payload + ?Sized> RequestMut<'h, Q, P> {
     #[inline]
     pub fn send(self) -> Result<PendingResponse<'h, Q, P>, RequestSendError> {
         let (code, handle) = self.loan.send();
-        match sent_request(code) {
-            Ok(()) => Ok(PendingResponse::new(handle)),
-            Err(error) => {
-                // A request whose send is refused was released.
-                handle.forget();
-                Err(error)
-            }
-        }
+        PendingResponse::sent(sent_request(code), handle)
     }
 }
 

@@ -62,25 +62,26 @@ impl<'h, Q: Payload + ?Sized, P: Payload + ?Sized> RequestMutUninit<'h, Q, P> {
     ///
     /// # Safety
     ///
-    /// The whole payload was written, or is a type of which bytes of 0 are a value: that is what memory on loan has.
+    /// The whole payload was written, or is a type of which any bytes are a value: those that weren't written are 0, or what an earlier
+    /// message of the port left there.
     ///
     /// After iceoryx2's `RequestMutUninit::assume_init`.
     #[inline]
     pub unsafe fn assume_init(self) -> RequestMut<'h, Q, P> {
-        self.loan.initialise();
+        self.loan.complete();
         // SAFETY: the caller says that the payload is initialised.
         unsafe { RequestMut::new(self.loan) }
     }
 }
 
 impl<'h, T: ZeroCopySend, P: Payload + ?Sized> RequestMutUninit<'h, T, P> {
-    /// Returns the payload, which is 0 in each byte that wasn't written.
+    /// Returns the payload. What wasn't written of it is 0, or what an earlier message of the port left there.
     ///
     /// After iceoryx2's `RequestMutUninit::payload`.
     #[inline]
     pub fn payload(&self) -> &MaybeUninit<T> {
         // SAFETY: it lies there as long as the message is on loan, aligned to 16 bytes, and only this value leads to it.
-        unsafe { &*self.loan.uninit().cast() }
+        unsafe { &*self.loan.place().cast() }
     }
 
     /// Returns the payload, to be written.
@@ -89,7 +90,7 @@ impl<'h, T: ZeroCopySend, P: Payload + ?Sized> RequestMutUninit<'h, T, P> {
     #[inline]
     pub fn payload_mut(&mut self) -> &mut MaybeUninit<T> {
         // SAFETY: it lies there as long as the message is on loan, aligned to 16 bytes, and this value is borrowed for as long.
-        unsafe { &mut *self.loan.uninit().cast() }
+        unsafe { &mut *self.loan.place().cast() }
     }
 
     /// Writes the payload.
@@ -106,13 +107,13 @@ impl<'h, T: ZeroCopySend, P: Payload + ?Sized> RequestMutUninit<'h, T, P> {
 }
 
 impl<'h, T: ZeroCopySend, P: Payload + ?Sized> RequestMutUninit<'h, [T], P> {
-    /// Returns the elements, which are 0 in each byte that wasn't written.
+    /// Returns the elements. What wasn't written of them is 0, or what an earlier message of the port left there.
     ///
     /// After iceoryx2's `RequestMutUninit::payload`.
     #[inline]
     pub fn payload(&self) -> &[MaybeUninit<T>] {
         // SAFETY: they lie there as long as the message is on loan, aligned to 16 bytes, and only this value leads to them.
-        unsafe { &*(self.loan.uninit() as *const [MaybeUninit<T>]) }
+        unsafe { &*(self.loan.place() as *const [MaybeUninit<T>]) }
     }
 
     /// Returns the elements, to be written.
@@ -121,7 +122,7 @@ impl<'h, T: ZeroCopySend, P: Payload + ?Sized> RequestMutUninit<'h, [T], P> {
     #[inline]
     pub fn payload_mut(&mut self) -> &mut [MaybeUninit<T>] {
         // SAFETY: they lie there as long as the message is on loan, aligned to 16 bytes, and this value is borrowed for as long.
-        unsafe { &mut *(self.loan.uninit() as *mut [MaybeUninit<T>]) }
+        unsafe { &mut *(self.loan.place() as *mut [MaybeUninit<T>]) }
     }
 
     /// Writes each element: what the function makes of its index.

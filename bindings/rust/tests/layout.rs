@@ -164,6 +164,11 @@ fn defaults_are_those_of_the_header() {
 fn functions_are_those_of_the_header() {
     let header = std::fs::read_to_string(Path::new(env!("CARGO_MANIFEST_DIR")).join("../c/include/rr.h")).unwrap();
     let raw = std::fs::read_to_string(Path::new(env!("CARGO_MANIFEST_DIR")).join("src/raw.rs")).unwrap();
+    // A declaration that is too long for a line stands on several.
+    let raw = raw
+        .replace("(\n        ", "(")
+        .replace(",\n        ", ", ")
+        .replace(",\n    )", ")");
     let declared = |text: &str, begins: &[&str]| -> Vec<(String, usize)> {
         let lines = text.lines().map(str::trim_start);
         let declarations =
@@ -173,5 +178,5 @@ fn functions_are_those_of_the_header() {
     };
     let in_header = declared(&header, &["uint32_t rr_", "void rr_"]);
     assert_eq!(in_header, declared(&raw, &["pub fn rr_"]));
-    assert_eq!(in_header.len(), 29);
+    assert_eq!(in_header.len(), 30);
 }

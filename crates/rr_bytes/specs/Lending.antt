@@ -1,14 +1,13 @@
 -- What a call lends of a message that can be sent.
 use Rattle.std.specs.Prelude.{◌≡◌, ℕ, List, length, Option, Some, None, Result, Ok, Err, IsSomeAnd}
-use Rattle.std.specs.Option.{option_map_or}
 use Rattle.std.specs.Borrow.{MutBor}
 use Rattle.rr_protocol.specs.declared.kind.Kind.{Kind}
 use Rattle.rr_protocol.specs.Messages.{Handle}
-use Rattle.rr_protocol.specs.Queries.{kind_at}
 use Rattle.rr_protocol.specs.State.{State, handle_at}
 use Rattle.rr_commands.specs.Refusals.{content_in}
 use Rattle.rr_checked.specs.declared.refusal.Refusal.{Refusal}
 use Rattle.rr_checked.specs.declared.refusal.Refusal.TheVariants as refusal
+use Rattle.rr_bytes.specs.Refused.{refusal_by_kind}
 
 -- why the elements of a message of a kind aren't lent, if they aren't
 abbrev pub lend_refusal_of_kind : Kind → Option Refusal
@@ -34,7 +33,7 @@ module _ {T H : Type 0} where
 module _ {T H K : Type 0} where
   -- why the elements of what a number names aren't lent, if they aren't
   abbrev pub lend_refusal : State T H T H K → ℕ → Option Refusal
-  lend_refusal s n = option_map_or lend_refusal_of_kind (kind_at s n) (Some refusal.Unknown)
+  lend_refusal s n = refusal_by_kind lend_refusal_of_kind refusal.Unknown s n
 
   -- a message is lent; or that is refused
   abbrev pub IsLent : State T H T H K → ℕ → Result (MutBor (List T)) Refusal → Type 0

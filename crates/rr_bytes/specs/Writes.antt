@@ -2,12 +2,12 @@
 use Rattle.std.specs.Prelude.{◌≡◌, ◌==◌, ℕ, if◌then◌else◌, List, length, replicate, Option, Some, None, Result, Ok, Err, IsSomeAnd}
 use Rattle.std.specs.Option.{option_map_or}
 use Rattle.rr_protocol.specs.declared.kind.Kind.{Kind}
-use Rattle.rr_protocol.specs.Queries.{kind_at}
 use Rattle.rr_protocol.specs.State.{State, handle_at}
 use Rattle.rr_commands.specs.Refusals.{content_in}
 use Rattle.rr_commands.specs.Step.{with_complete}
 use Rattle.rr_checked.specs.declared.refusal.Refusal.{Refusal}
 use Rattle.rr_checked.specs.declared.refusal.Refusal.TheVariants as call
+use Rattle.rr_bytes.specs.Refused.{refusal_by_kind}
 use Rattle.rr_bytes.specs.declared.slices.writes.WriteRefusal.{WriteRefusal}
 use Rattle.rr_bytes.specs.declared.slices.writes.WriteRefusal.TheVariants as refusal
 
@@ -26,7 +26,7 @@ fill_refusal_of_kind kind = Some call.WrongKind
 module _ {T H K : Type 0} where
   -- why what a number names isn't filled, if it isn't
   abbrev pub fill_refusal : State T H T H K → ℕ → Option Refusal
-  fill_refusal s n = option_map_or fill_refusal_of_kind (kind_at s n) (Some call.Unknown)
+  fill_refusal s n = refusal_by_kind fill_refusal_of_kind call.Unknown s n
 
   -- each element that a message asks for is this one, and it can be sent
   abbrev pub Fills : State T H T H K → ℕ → T → State T H T H K → Type 0
@@ -50,7 +50,7 @@ module _ {T H K : Type 0} where
   write_refusal_of_kind s n len kind = Some refusal.WrongKind
 
   abbrev pub write_refusal : State T H T H K → ℕ → ℕ → Option WriteRefusal
-  write_refusal s n len = option_map_or (write_refusal_of_kind s n len) (kind_at s n) (Some refusal.Unknown)
+  write_refusal s n len = refusal_by_kind (write_refusal_of_kind s n len) refusal.Unknown s n
 
   -- the message has these elements, and can be sent; or the write is refused, and nothing changes
   abbrev pub WritesAll : State T H T H K → ℕ → List T → Result (Unit {0}) WriteRefusal → State T H T H K → Type 0

@@ -12,7 +12,7 @@ pub use rr_hub::{
     AllocationStrategy, BackpressureStrategy, ClientSettings, HubCreateError, Kind, Limits,
     RequestHeader, ResponseHeader, ServerSettings, UniqueNodeId,
 };
-pub use slices::{Slices, WriteRefusal};
+pub use slices::{SentCopy, Slices, WriteRefusal};
 
 /// A hub of bytes, whose messages have a user header of 16 bytes.
 pub type Bytes = Slices<u8, [u8; 16], rr_protocol::NoHandler>;

@@ -9,11 +9,13 @@ use rr_slots::PlainBody;
 use std::alloc::Global;
 use std::marker::Model;
 
+mod copies;
 mod creation;
 mod messages;
 mod questions;
 mod writes;
 
+pub use copies::SentCopy;
 pub use writes::WriteRefusal;
 
 /// A hub of slices, of any element and user header that can be copied. Contracts see the state of the message machine. Not in iceoryx2.

@@ -21,6 +21,9 @@ use Rattle.rr_checked.specs.declared.sends.Sent.{Sent}
 use Rattle.rr_checked.specs.declared.sends.Sent.TheVariants as sent_as
 use Rattle.rr_checked.specs.Codes.{code}
 use Rattle.rr_bytes.specs.declared.id.Id.{Id}
+use Rattle.rr_bytes.specs.declared.slices.copies.SentCopy.{SentCopy}
+use Rattle.rr_bytes.specs.declared.slices.copies.SentCopy.TheVariants as copy
+use Rattle.rr_bytes.specs.Copies.{SendsCopyOf}
 use Rattle.rr_bytes.specs.Receives.{Receives}
 use Rattle.rr_c.specs.declared.held.Hub.{Hub}
 use Rattle.rr_c.specs.declared.messages.Header.{Header}
@@ -108,6 +111,22 @@ abbrev pub taken : ℕ → Result Sent Refusal → ℕ
 taken old (Ok (sent_as.Request servers)) = servers
 taken old (Ok sent_as.Response) = 0
 taken old (Err refusal) = old
+
+-- a send of a copy by a hub of bytes
+abbrev pub HubSendsCopy : Hub → ℕ → List ℕ → Result SentCopy Refusal → Hub → Type 0
+HubSendsCopy old n payload answer new = SendsCopyOf follows_strategy IsZeroHeader old.bytes n payload answer new.bytes
+
+-- the id of what was sent
+abbrev pub copy_named : Id → Result SentCopy Refusal → Id
+copy_named old (Ok (copy.Request id servers)) = id
+copy_named old (Ok (copy.Response id)) = id
+copy_named old (Err refusal) = old
+
+-- and how many queues took it
+abbrev pub copy_taken : ℕ → Result SentCopy Refusal → ℕ
+copy_taken old (Ok (copy.Request id servers)) = servers
+copy_taken old (Ok (copy.Response id)) = 0
+copy_taken old (Err refusal) = old
 
 -- the header of a message
 abbrev pub header_of : MessageHeader → Header

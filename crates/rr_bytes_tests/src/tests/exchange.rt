@@ -39,7 +39,7 @@ pub(crate) fn asked(hub: &mut Bytes, ports: Ports, bytes: &[u8]) -> Option<(usiz
 }
 
 /// Adds up bytes.
-fn sum(bytes: &[u8]) -> u64 {
+pub(crate) fn sum(bytes: &[u8]) -> u64 {
     let mut sum = 0u64;
     for byte in bytes {
         sum = sum.wrapping_add(*byte as u64);
@@ -64,7 +64,7 @@ fn answered(hub: &mut Bytes, ports: Ports) -> Option<u64> {
 }
 
 /// Receives a response, and releases it. Returns what its bytes come to.
-fn heard(hub: &mut Bytes, pending: &Id) -> Option<u64> {
+pub(crate) fn heard(hub: &mut Bytes, pending: &Id) -> Option<u64> {
     let response = hub.receive(pending).ok()??;
     let came = sum(hub.payload(&response).ok()?);
     hub.release(&response).ok()?;

@@ -4,14 +4,14 @@ use rr_bytes::{Bytes, ClientSettings, Id, Limits, Refusal, UniqueNodeId, WriteRe
 use std::test::Fail;
 
 /// No port's and no handle's.
-const NOBODY: Id = Id {
+pub(crate) const NOBODY: Id = Id {
     number: 99,
     row: 0,
     index: 0,
 };
 
 /// Returns the code of a refusal, or 0 if nothing was refused.
-fn code_of<T: Drop>(answer: Result<T, Refusal>) -> u32 {
+pub(crate) fn code_of<T: Drop>(answer: Result<T, Refusal>) -> u32 {
     match answer {
         Ok(_) => 0,
         Err(refusal) => refusal.code(),

@@ -2,13 +2,16 @@
 ghost use Rattle.rr_commands.specs.declared.command.Command.{Command};
 ghost use Rattle.rr_commands.specs.declared.reply.Reply.{Reply};
 ghost use Rattle.rr_checked.specs.Answers.{replied, sent};
-ghost use Rattle.std.specs.Prelude.{◌≡◌};
-ghost use Rattle.rr_c.specs.Answers.{Answers, HubStep, Writes, taken};
+ghost use Rattle.std.specs.Prelude.{◌≡◌, Result};
+ghost use Rattle.rr_checked.specs.Codes.{code};
+ghost use Rattle.rr_checked.specs.declared.refusal.Refusal.{Refusal};
+ghost use Rattle.rr_bytes.specs.declared.slices.copies.SentCopy.{SentCopy as SentCopied};
+ghost use Rattle.rr_c.specs.Answers.{Answers, HubSendsCopy, HubStep, Writes, answer_code, copy_named, copy_taken, taken};
 
 use crate::answers::{OK, done, write};
 use crate::held::Held;
 use crate::opening::hub_in;
-use rr_bytes::{Id, Sent};
+use rr_bytes::{Id, Sent, SentCopy};
 
 /// Loans a message.
 #[unsafe(no_mangle)]
@@ -50,6 +53,32 @@ pub extern "C" fn rr_send(hub: &mut Held, message: &Id, servers: &mut usize) -> 
             OK
         }
         Ok(Sent::Response) => {
+            *servers = 0;
+            OK
+        }
+        Err(refusal) => refusal.code(),
+    }
+}
+
+/// Loans a message, copies bytes to it and sends it.
+#[unsafe(no_mangle)]
+pub extern "C" fn rr_send_copy(
+    hub: &mut Held,
+    from: &Id,
+    payload: &[u8],
+    message: &mut Id,
+    servers: &mut usize,
+) -> u32
+    ensures { (answer : Result SentCopied Refusal) × HubSendsCopy hub.old.hub from.now.number payload.now answer hub.new.hub × (result ≡ answer_code code answer) × (message.new ≡ copy_named message.old answer) × (servers.new ≡ copy_taken servers.old answer) }
+{
+    match hub_in(hub).bytes.send_copy(from, payload) {
+        Ok(SentCopy::Request(id, took)) => {
+            *message = id;
+            *servers = took;
+            OK
+        }
+        Ok(SentCopy::Response(id)) => {
+            *message = id;
             *servers = 0;
             OK
         }
