@@ -27,9 +27,24 @@ module _ {T H K : Type 0} where
       ∙ ap (λ x. record s { handles = fin_map.insert s.handles k x }) same
       ∙ sym (ap (λ o. record s { handles = option_map_or (λ x. fin_map.insert s.handles k (g x)) o s.handles }) at)
 
+  module _ (s : State T H T H K) (k : ℕ) (elements : List T) where
+    -- a request that is being written, once these are its elements, is what the machine says
+    pub request_completed : (m : RequestMessage T H) → handle_at s k ≡ Some (RequestMutUninit m)
+        → with_changed (with_changed s k (with_request_content (with_elements elements))) k after_init ≡ with_complete s k elements
+    request_completed m at =
+        ap (λ t. with_changed t k after_init) (changed_alike s k (RequestMutUninit m) (with_request_content (with_elements elements))
+        (λ h. with_request_content (with_elements elements) (with_response_content (with_elements elements) h)) at refl)
+
+    -- and so is a response
+    pub response_completed : (m : ResponseMessage T H) → handle_at s k ≡ Some (ResponseMutUninit m)
+        → with_changed (with_changed s k (with_response_content (with_elements elements))) k after_init ≡ with_complete s k elements
+    response_completed m at =
+        ap (λ t. with_changed t k after_init) (changed_alike s k (ResponseMutUninit m) (with_response_content (with_elements elements))
+        (λ h. with_request_content (with_elements elements) (with_response_content (with_elements elements) h)) at refl)
+
   module _ (IsDefault : H → Type 0) (old mid : State T H T H K) (n len k : ℕ) where
     -- a request that was loaned is being written, and asks for as many elements
-    loaned_request : LoansRequest IsDefault old n len (Ok k) mid → (m : RequestMessage T H) × (handle_at mid k ≡ Some (RequestMutUninit m)) × (m.content.asked_len ≡ len)
+    pub loaned_request : LoansRequest IsDefault old n len (Ok k) mid → (m : RequestMessage T H) × (handle_at mid k ≡ Some (RequestMutUninit m)) × (m.content.asked_len ≡ len)
     loaned_request loans =
         let l = some_and (client_at old n) _ loans in
         (_, ap (λ t. handle_at t k) l.2.2.4 ∙ get-insert_same old.handles old.next _ k l.2.1, refl)
@@ -39,16 +54,8 @@ module _ {T H K : Type 0} where
         let l = loaned_request loans in
         subst (λ o. IsSomeAnd (option_and_then request_in o) (λ m. m.content.asked_len ≡ len)) (sym l.1) l.2
 
-    -- once these are its elements, it is what the machine says
-    pub request_completed : LoansRequest IsDefault old n len (Ok k) mid → (elements : List T)
-        → with_changed (with_changed mid k (with_request_content (with_elements elements))) k after_init ≡ with_complete mid k elements
-    request_completed loans elements =
-        let l = loaned_request loans in
-        ap (λ s. with_changed s k after_init) (changed_alike mid k (RequestMutUninit l.0) (with_request_content (with_elements elements))
-        (λ h. with_request_content (with_elements elements) (with_response_content (with_elements elements) h)) l.1 refl)
-
     -- and so is a response
-    loaned_response : LoansResponse IsDefault old n len (Ok k) mid → (m : ResponseMessage T H) × (handle_at mid k ≡ Some (ResponseMutUninit m)) × (m.content.asked_len ≡ len)
+    pub loaned_response : LoansResponse IsDefault old n len (Ok k) mid → (m : ResponseMessage T H) × (handle_at mid k ≡ Some (ResponseMutUninit m)) × (m.content.asked_len ≡ len)
     loaned_response loans =
         let o = open_active old n _ loans in
         (_, ap (λ t. handle_at t k) o.4.2.2 ∙ get-insert_same old.handles old.next _ k o.4.1, refl)
@@ -57,13 +64,6 @@ module _ {T H K : Type 0} where
     asks_response loans =
         let l = loaned_response loans in
         subst (λ o. IsSomeAnd (option_and_then response_in o) (λ m. m.content.asked_len ≡ len)) (sym l.1) l.2
-
-    pub response_completed : LoansResponse IsDefault old n len (Ok k) mid → (elements : List T)
-        → with_changed (with_changed mid k (with_response_content (with_elements elements))) k after_init ≡ with_complete mid k elements
-    response_completed loans elements =
-        let l = loaned_response loans in
-        ap (λ s. with_changed s k after_init) (changed_alike mid k (ResponseMutUninit l.0) (with_response_content (with_elements elements))
-        (λ h. with_request_content (with_elements elements) (with_response_content (with_elements elements) h)) l.1 refl)
 
   module _ (old : State T H T H K) (n : ℕ) (left : (numbers_left old == 0) ≡ false) where
     -- what loans sends copies, where a number is left

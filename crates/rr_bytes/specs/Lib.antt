@@ -1,5 +1,5 @@
+pub mod Completing
 pub mod Copies
-pub mod Lending
 pub mod Receives
 pub mod Refused
 pub mod Writes

@@ -1,7 +1,7 @@
-//! From what a C program holds to the hub and back, and where slices begin. The proofs of these functions are by hand.
+//! From what a C program holds to the hub and back, and where a slice begins. The proofs of these functions are by hand.
 ghost use Rattle.std.specs.Prelude.{◌≡◌};
 ghost use Rattle.std.specs.Borrow.{sem};
-ghost use Rattle.std.specs.Ptr.{as_mut_ptr, as_ptr};
+ghost use Rattle.std.specs.Ptr.{as_ptr};
 ghost use Rattle.rr_c.specs.Opening.{lends_hub};
 
 use crate::held::{Held, Hub};
@@ -41,18 +41,10 @@ fn loose_of(held: Held, alloc: Global) -> Loose<Hub, Global>
     }
 }
 
-/// Where bytes begin that are read.
+/// Where bytes begin.
 #[inline(always)]
 pub(crate) fn start_of(bytes: &[u8]) -> *const u8
     ensures { result ≡ as_ptr bytes.entry }
 {
     bytes.as_ptr()
-}
-
-/// Where bytes begin that are written.
-#[inline(always)]
-pub(crate) fn start_of_mut(bytes: &mut [u8]) -> *mut u8
-    ensures { result ≡ as_mut_ptr bytes.entry }
-{
-    bytes.as_mut_ptr()
 }

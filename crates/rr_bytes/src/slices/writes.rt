@@ -1,5 +1,5 @@
 //! Writing messages before they are sent.
-ghost use Rattle.std.specs.Prelude.{◌≡◌, IsSomeAnd, length, option_and_then, Some};
+ghost use Rattle.std.specs.Prelude.{◌≡◌, ◌⊎◌, IfOk, IsSomeAnd, length, option_and_then, Some};
 ghost use Rattle.rr_slots.specs.declared.family.Family.TheVariants.{Sliced};
 ghost use Rattle.rr_commands.specs.declared.command.Command.{Command};
 ghost use Rattle.rr_commands.specs.declared.reply.Reply.{Reply};
@@ -9,7 +9,7 @@ ghost use Rattle.rr_protocol.specs.Messages.{request_in, response_in};
 ghost use Rattle.rr_protocol.specs.Queries.{kind_at};
 ghost use Rattle.rr_protocol.specs.State.{handle_at};
 ghost use Rattle.rr_checked.specs.Answers.{replied};
-ghost use Rattle.rr_bytes.specs.Lending.{IsLent, IsLentOf};
+ghost use Rattle.rr_bytes.specs.Completing.{Completes, CompletesHandle};
 ghost use Rattle.rr_bytes.specs.Writes.{Fills, FillsAll, WritesAll, write_code};
 
 use crate::id::Id;
@@ -146,50 +146,51 @@ impl<T: Copy + Default, H: Copy + Default, K: BackpressureFn> Slices<T, H, K> {
 }
 
 impl<T: Copy + Default, H: Copy + Default, K: BackpressureFn> Slices<T, H, K> {
-    /// Lends the elements of a message that was not sent, to be changed in place, as many as it asks for. One that is being written can be
-    /// sent then; what was written of it before may be lost, and its elements are whatever stood in the slot's memory, or the default
-    /// element. After iceoryx2's `payload_mut` of the four types of messages.
+    /// Makes a message that is being written one that can be sent. It has as many elements as it asks for, whatever stands in its slot's
+    /// memory: what was written of it before may be lost. A message that can be sent stays as it is. After iceoryx2's `payload_mut`,
+    /// through which a message is written that was loaned.
     ///
     /// # Errors
     ///
     /// `Unknown` and `WrongKind`.
-    pub fn payload_mut(&mut self, id: &Id) -> Result<&mut [T], Refusal>
-        ensures { IsLent self.old id.now.number result }
+    pub fn complete(&mut self, id: &Id) -> Result<(), Refusal>
+        ensures completes { Completes self.old id.now.number result self.new }
+        ensures kind { IfOk result (λ done. (kind_at self.new id.now.number ≡ Some kind.RequestMut) ⊎ (kind_at self.new id.now.number ≡ Some kind.ResponseMut)) }
     {
         let handle = id.handle();
         match self.core.kind(&handle) {
-            Some(Kind::RequestMutUninit) => Ok(lend_request(&mut self.core, &handle)),
-            Some(Kind::RequestMut) => Ok(self.core.request_slice_mut(&handle)),
-            Some(Kind::ResponseMutUninit) => Ok(lend_response(&mut self.core, &handle)),
-            Some(Kind::ResponseMut) => Ok(self.core.response_slice_mut(&handle)),
-            Some(_) => Err(Refusal::WrongKind),
-            None => Err(Refusal::Unknown),
+            Some(Kind::RequestMutUninit) => complete_request(&mut self.core, &handle),
+            Some(Kind::ResponseMutUninit) => complete_response(&mut self.core, &handle),
+            Some(Kind::RequestMut | Kind::ResponseMut) => {}
+            Some(_) => return Err(Refusal::WrongKind),
+            None => return Err(Refusal::Unknown),
         }
+        Ok(())
     }
 }
 
-/// Lends the elements of a request that is being written, which can be sent then.
-fn lend_request<'a, T: Copy + Default, H: Copy + Default, K: BackpressureFn>(
-    core: &'a mut Core<PlainBody<T>, H, PlainBody<T>, H, K>,
+/// Makes a request that is being written complete, and one that can be sent.
+fn complete_request<T: Copy + Default, H: Copy + Default, K: BackpressureFn>(
+    core: &mut Core<PlainBody<T>, H, PlainBody<T>, H, K>,
     id: &HandleId,
-) -> &'a mut [T]
+)
     requires { kind_at core.old id.now ≡ Some kind.RequestMutUninit }
-    ensures { IsSomeAnd (handle_at core.old id.now) (λ handle. IsLentOf handle result.now) }
+    ensures completes { IsSomeAnd (handle_at core.old id.now) (λ handle. CompletesHandle core.old id.now handle core.new) }
+    ensures kind { kind_at core.new id.now ≡ Some kind.RequestMut }
 {
     core.complete_request(id, T::default());
-    core.request_slice_mut(id)
 }
 
-/// Lends the elements of a response that is being written, which can be sent then.
-fn lend_response<'a, T: Copy + Default, H: Copy + Default, K: BackpressureFn>(
-    core: &'a mut Core<PlainBody<T>, H, PlainBody<T>, H, K>,
+/// Makes a response that is being written complete, and one that can be sent.
+fn complete_response<T: Copy + Default, H: Copy + Default, K: BackpressureFn>(
+    core: &mut Core<PlainBody<T>, H, PlainBody<T>, H, K>,
     id: &HandleId,
-) -> &'a mut [T]
+)
     requires { kind_at core.old id.now ≡ Some kind.ResponseMutUninit }
-    ensures { IsSomeAnd (handle_at core.old id.now) (λ handle. IsLentOf handle result.now) }
+    ensures completes { IsSomeAnd (handle_at core.old id.now) (λ handle. CompletesHandle core.old id.now handle core.new) }
+    ensures kind { kind_at core.new id.now ≡ Some kind.ResponseMut }
 {
     core.complete_response(id, T::default());
-    core.response_slice_mut(id)
 }
 
 /// Fills a request that is being written.

@@ -1,4 +1,4 @@
-//! Messages that one call loans, writes and sends, and messages that are written in place.
+//! Messages that one call loans, writes and sends, and messages that one call completes.
 use crate::tests::exchange::{Ports, heard, ports_of, sum};
 use crate::tests::refusals::{NOBODY, code_of};
 use rr_bytes::{Bytes, Id, Kind, Limits, SentCopy, UniqueNodeId};
@@ -63,26 +63,25 @@ fn copies_are_refused_by_code(rt: HostRuntime) -> Result<(), Fail> {
     Ok(())
 }
 
-/// Writes a request in place that was only loaned, and sends it. Returns how many bytes were lent, what the request was then, and what
-/// its server reads.
-fn written_in_place(hub: &mut Bytes) -> Option<(usize, Option<Kind>, u64)> {
+/// Completes a request that was only loaned, replaces its bytes and sends it. Returns how many it had, what it was then, and what its
+/// server reads.
+fn completed(hub: &mut Bytes) -> Option<(usize, Option<Kind>, u64)> {
     let ports = ports_of(hub)?;
-    let request = hub.loan(&ports.client, 4).ok()?;
-    let bytes = hub.payload_mut(&request).ok()?;
-    let len = bytes.len();
-    bytes.copy_from_slice(&[1, 2, 3, 4]);
+    let request = hub.loan(&ports.client, 3).ok()?;
+    hub.complete(&request).ok()?;
+    let len = hub.payload(&request).ok()?.len();
     let kind = hub.kind(&request);
+    for index in 0..3 {
+        hub.set(&request, index, 4).ok()?;
+    }
     hub.send(&request).ok()?;
     let active = hub.receive(&ports.server).ok()??;
     Some((len, kind, sum(hub.payload(&active).ok()?)))
 }
 
 #[test]
-fn a_loan_is_written_in_place(rt: HostRuntime) -> Result<(), Fail> {
+fn a_loan_is_completed(rt: HostRuntime) -> Result<(), Fail> {
     let mut hub = Bytes::new(rt.alloc(), Limits::default(), UniqueNodeId(3))?;
-    assert_eq!(rt;
-        written_in_place(&mut hub),
-        Some((4, Some(Kind::RequestMut), 10))
-    );
+    assert_eq!(rt; completed(&mut hub), Some((3, Some(Kind::RequestMut), 12)));
     Ok(())
 }

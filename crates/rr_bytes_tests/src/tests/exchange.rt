@@ -148,26 +148,25 @@ fn questions_are_answered(rt: HostRuntime) -> Result<(), Fail> {
     Ok(())
 }
 
-/// Sends a request of four bytes of which the first was changed in place, and a response of which the last was. Returns what both come
-/// to.
-fn placed(hub: &mut Bytes) -> Option<(u64, u64)> {
+/// Sends a request of four bytes of which the first was replaced, and a response of which the last was. Returns what both come to.
+fn replaced(hub: &mut Bytes) -> Option<(u64, u64)> {
     let ports = ports_of(hub)?;
     let request = hub.loan(&ports.client, 4).ok()?;
     hub.fill(&request, 3).ok()?;
-    *hub.payload_mut(&request).ok()?.first_mut()? = 10;
+    hub.set(&request, 0, 10).ok()?;
     hub.send(&request).ok()?;
     let active = hub.receive(&ports.server).ok()??;
     let asked = sum(hub.payload(&active).ok()?);
     let response = hub.loan(&active, 2).ok()?;
     hub.fill(&response, 0).ok()?;
-    *hub.payload_mut(&response).ok()?.last_mut()? = 7;
+    hub.set(&response, 1, 7).ok()?;
     hub.send(&response).ok()?;
     Some((asked, heard(hub, &request)?))
 }
 
 #[test]
-fn bytes_are_written_in_place(rt: HostRuntime) -> Result<(), Fail> {
+fn bytes_are_replaced(rt: HostRuntime) -> Result<(), Fail> {
     let mut hub = Bytes::new(rt.alloc(), Limits::default(), UniqueNodeId(3))?;
-    assert_eq!(rt; placed(&mut hub), Some((19, 7)));
+    assert_eq!(rt; replaced(&mut hub), Some((19, 7)));
     Ok(())
 }

@@ -99,7 +99,7 @@ fn code_of_write(answer: Result<(), WriteRefusal>) -> u32 {
     }
 }
 
-/// Asks for elements in place, which completes the message, and then fills it. Returns the codes.
+/// Completes a message, and then fills it. Returns the codes.
 fn misfilled(hub: &mut Bytes) -> Option<[u32; 9]> {
     let ports = ports_of(hub)?;
     let request = hub.loan(&ports.client, 2).ok()?;
@@ -107,11 +107,11 @@ fn misfilled(hub: &mut Bytes) -> Option<[u32; 9]> {
         code_of_write(hub.write(&request, &[1])),
         code_of(hub.fill(&NOBODY, 1)),
         code_of(hub.fill(&ports.client, 1)),
-        code_of(hub.payload_mut(&NOBODY)),
-        code_of(hub.payload_mut(&request)),
+        code_of(hub.complete(&NOBODY)),
+        code_of(hub.complete(&request)),
         code_of(hub.fill(&request, 1)),
         code_of(hub.fill(&request, 1)),
-        code_of(hub.payload_mut(&request)),
+        code_of(hub.complete(&request)),
         code_of_write(hub.write(&request, &[1, 2])),
     ])
 }

@@ -1,21 +1,19 @@
 //! Writing messages before they are sent.
 ghost use Rattle.std.specs.Prelude.{◌≡◌, ◌⊎◌, IsSomeAnd, Result, length};
-ghost use Rattle.std.specs.Option.{option_map_or};
 ghost use Rattle.rr_commands.specs.declared.command.Command.{Command};
 ghost use Rattle.rr_commands.specs.declared.reply.Reply.{Reply};
 ghost use Rattle.rr_commands.specs.Refusals.{content_in};
 ghost use Rattle.rr_protocol.specs.State.{handle_at};
 ghost use Rattle.rr_checked.specs.Answers.{replied};
-ghost use Rattle.rr_checked.specs.Codes.{code};
 ghost use Rattle.rr_bytes.specs.declared.slices.writes.WriteRefusal.{WriteRefusal as NotWritten};
-ghost use Rattle.rr_bytes.specs.Lending.{lend_refusal, lent_len};
+ghost use Rattle.rr_bytes.specs.Completing.{Completes};
 ghost use Rattle.rr_bytes.specs.Writes.{FillsAll, WritesAll, write_code};
 ghost use Rattle.rr_c.specs.Answers.{Answers, HubStep, Writes, answer_code};
 
 use crate::answers::{OK, done, write, wrote};
 use crate::held::Held;
 use crate::messages::UserHeader;
-use crate::opening::{hub_in, start_of_mut};
+use crate::opening::{hub_in, start_of};
 use rr_bytes::Id;
 
 /// Fills a message.
@@ -34,7 +32,8 @@ pub extern "C" fn rr_write_from_slice(hub: &mut Held, message: &Id, payload: &[u
     wrote(hub_in(hub).bytes.write(message, payload))
 }
 
-/// Writes where the bytes of a message begin that are changed in place.
+/// Makes a message one that can be sent, and writes where its bytes begin, which C writes in place: the clauses say of them that they are
+/// there, and nothing else.
 #[unsafe(no_mangle)]
 pub extern "C" fn rr_payload_mut(
     hub: &mut Held,
@@ -42,16 +41,19 @@ pub extern "C" fn rr_payload_mut(
     at: &mut *mut u8,
     len: &mut usize,
 ) -> u32
-    ensures code { result ≡ option_map_or code (lend_refusal hub.old.hub.bytes message.now.number) 0 }
-    ensures len { result ≡ 0 → IsSomeAnd (handle_at hub.old.hub.bytes message.now.number) (λ handle. lent_len handle ≡ len.new) }
+    ensures completes { Answers (λ answer. Completes hub.old.hub.bytes message.now.number answer hub.new.hub.bytes) result }
+    ensures len { result ≡ 0 → IsSomeAnd (handle_at hub.new.hub.bytes message.now.number) (λ handle. length (content_in handle).elements ≡ len.new) }
     ensures refused { (result ≡ 0) ⊎ (len.new ≡ len.old) }
 {
-    match hub_in(hub).bytes.payload_mut(message) {
-        Ok(payload) => {
-            *len = payload.len();
-            *at = start_of_mut(payload);
-            OK
-        }
+    match hub_in(hub).bytes.complete(message) {
+        Ok(()) => match hub_in(hub).bytes.payload(message) {
+            Ok(payload) => {
+                *len = payload.len();
+                *at = start_of(payload) as *mut u8;
+                OK
+            }
+            Err(_) => unreachable!(),
+        },
         Err(refusal) => refusal.code(),
     }
 }

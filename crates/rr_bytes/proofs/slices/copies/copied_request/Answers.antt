@@ -4,7 +4,7 @@ use Rattle.rr_protocol.specs.Queries.{kind_at}
 use Rattle.rr_ports.specs.Facts.{Has}
 use Rattle.rr_ports.proofs.LoanLaws.{loan_names}
 use Rattle.rr_ports.proofs.WriteLaws.{requests, written}
-use Rattle.rr_bytes.proofs.Copying.{asks_request, request_completed}
+use Rattle.rr_bytes.proofs.Copying.{asks_request, loaned_request, request_completed}
 use Rattle.rr_bytes.proofs.slices.copies.copied_request.Goals.{In_ok-request}
 use Rattle.rr_bytes.proofs.slices.copies.copied_request.Goals as goal
 
@@ -23,13 +23,13 @@ copy_request-requires-clause-len g c =
     asks_request g.H.Default.is_default c.args.core.now c.loan_request.new.self c.args.client (length c.args.elements.now) c.in_ok-request.request c.in_ok-request.ensures.loans
 
 pub returns-clause-copies : goal.returns-clause-copies
-returns-clause-copies g c = (
-  c.loan_request.new.self,
-  c.in_ok-request.ensures.loans,
-  c.copy_request.ensures
-      ∙ request_completed g.H.Default.is_default c.args.core.now c.loan_request.new.self c.args.client (length c.args.elements.now) c.in_ok-request.request
-      c.in_ok-request.ensures.loans c.args.elements.now,
-)
+returns-clause-copies g c =
+    let l = loaned_request g.H.Default.is_default c.args.core.now c.loan_request.new.self c.args.client (length c.args.elements.now) c.in_ok-request.request
+    c.in_ok-request.ensures.loans in (
+      c.loan_request.new.self,
+      c.in_ok-request.ensures.loans,
+      c.copy_request.ensures ∙ request_completed c.loan_request.new.self c.in_ok-request.request c.args.elements.now l.0 l.1,
+    )
 
 pub returns-clause-kind : goal.returns-clause-kind
 unfolding Has

@@ -4,7 +4,7 @@ use Rattle.rr_protocol.specs.Queries.{kind_at}
 use Rattle.rr_ports.specs.Facts.{Has}
 use Rattle.rr_ports.proofs.LoanLaws.{response_loan_names}
 use Rattle.rr_ports.proofs.WriteLaws.{responses, written}
-use Rattle.rr_bytes.proofs.Copying.{asks_response, response_completed}
+use Rattle.rr_bytes.proofs.Copying.{asks_response, loaned_response, response_completed}
 use Rattle.rr_bytes.proofs.slices.copies.copied_response.Goals.{In_ok-response}
 use Rattle.rr_bytes.proofs.slices.copies.copied_response.Goals as goal
 
@@ -23,13 +23,13 @@ copy_response-requires-clause-len g c =
     asks_response g.H.Default.is_default c.args.core.now c.loan_response.new.self c.args.active.now (length c.args.elements.now) c.in_ok-response.response c.in_ok-response.ensures.loans
 
 pub returns-clause-copies : goal.returns-clause-copies
-returns-clause-copies g c = (
-  c.loan_response.new.self,
-  c.in_ok-response.ensures.loans,
-  c.copy_response.ensures
-      ∙ response_completed g.H.Default.is_default c.args.core.now c.loan_response.new.self c.args.active.now (length c.args.elements.now) c.in_ok-response.response
-      c.in_ok-response.ensures.loans c.args.elements.now,
-)
+returns-clause-copies g c =
+    let l = loaned_response g.H.Default.is_default c.args.core.now c.loan_response.new.self c.args.active.now (length c.args.elements.now) c.in_ok-response.response
+    c.in_ok-response.ensures.loans in (
+      c.loan_response.new.self,
+      c.in_ok-response.ensures.loans,
+      c.copy_response.ensures ∙ response_completed c.loan_response.new.self c.in_ok-response.response c.args.elements.now l.0 l.1,
+    )
 
 pub returns-clause-kind : goal.returns-clause-kind
 unfolding Has
