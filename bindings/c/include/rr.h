@@ -185,8 +185,8 @@ uint32_t rr_is_deliverable(rr_hub_t *hub, const rr_id_t *message, bool *is_deliv
  * and 0 is written. Refused with RR_SEND_*, the message is released. RR_UNKNOWN, RR_WRONG_KIND, RR_SEND_*. */
 uint32_t rr_send(rr_hub_t *hub, const rr_id_t *message, size_t *servers);
 /* Loans a message of as many bytes as these, copies them to it and sends it: a request of a client, or a response of an active request.
- * Writes its id, and the servers that a request was sent to; a response is gone, and 0 is written.
- * RR_UNKNOWN, RR_WRONG_KIND, RR_NUMBERS_EXHAUSTED, RR_LOAN_*, RR_SEND_*. */
+ * Writes its id, and the servers that a request was sent to; a response is gone, and 0 is written. Refused with RR_SEND_*, the message is
+ * released, and has taken a number. RR_UNKNOWN, RR_WRONG_KIND, RR_NUMBERS_EXHAUSTED, RR_LOAN_*, RR_SEND_*. */
 uint32_t rr_send_copy(rr_hub_t *hub, const rr_id_t *from, const uint8_t *payload, size_t len, rr_id_t *message, size_t *servers);
 
 /* Receives a request of a server, or a response of a pending response. RR_NOTHING if none is queued; RR_UNKNOWN, RR_WRONG_KIND,
