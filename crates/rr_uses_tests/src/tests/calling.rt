@@ -7,7 +7,7 @@ ghost use Rattle.rr_ports.specs.Facts.{Buffers, Has, Keeps, Names, Of, numbers_l
 ghost use Rattle.rr_ports.specs.Queues.{AwaitsNothing, Hears, HearsNothing};
 
 use rr_ports::typed::{Client, Hub, PendingResponse, Server};
-use rr_uses::calling::{call, call_both};
+use rr_uses::calling::{CallError, call, call_both};
 use rr_uses::connected::Connected;
 use rr_uses::counting::{count, received};
 use rr_uses::crowd::call_all;
@@ -55,26 +55,44 @@ fn a_call_that_is_not_refused_returns_the_answer(rt: HostRuntime) {
     assert_eq!(rt; (first, second), (21, 42));
 }
 
+/// Asks two servers: one that there is, and one that is created for it and then released. Returns `None` if that one was refused.
+fn both_answers(
+    hub: &mut Service,
+    client: &Client<u64>,
+    server: &Server<u64>,
+    question: u64,
+) -> Option<Result<(u64, u64), CallError>>
+    requires client { Names hub.old client.now kind.Client }
+    requires server { Names hub.old server.now kind.Server }
+    requires quiet { HearsNothing hub.old server.now }
+    requires numbers { 5 < numbers_left hub.old }
+    ensures { Keeps [] hub.old hub.new }
+{
+    match hub.server_builder().create(hub) {
+        Ok(second) => {
+            let answers = call_both(
+                hub,
+                client,
+                server,
+                &second,
+                question,
+                |asked: u64| asked.wrapping_add(1),
+                |asked: u64| asked.wrapping_mul(2),
+            );
+            second.release(hub);
+            Some(answers)
+        }
+        Err(_) => None,
+    }
+}
+
 /// A call of two servers returns what each answers.
 #[test]
 fn a_call_of_two_returns_both_answers(rt: HostRuntime) {
     let mut connected = Connected::new(rt.alloc()).expect(&rt, "ports");
-    let servers = connected.hub.server_builder();
-    let second = servers
-        .create(&mut connected.hub)
-        .expect(&rt, "a second server");
-    let answers = call_both(
-        &mut connected.hub,
-        &connected.client,
-        &connected.server,
-        &second,
-        20,
-        |asked: u64| asked.wrapping_add(1),
-        |asked: u64| asked.wrapping_mul(2),
-    );
-    second.release(&mut connected.hub);
+    let answers = both_answers(&mut connected.hub, &connected.client, &connected.server, 20);
     connected.end();
-    assert_eq!(rt; answers, Ok((21, 40)));
+    assert_eq!(rt; answers, Some(Ok((21, 40))));
 }
 
 /// A question to all servers, of which there is one, returns its answer.

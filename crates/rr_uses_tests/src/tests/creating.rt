@@ -23,26 +23,52 @@ fn refused(hub: &mut Service) -> Option<ClientCreateError>
     }
 }
 
+/// Creates a client with a pool that its callback chose, beside which another one is asked for. Returns the length of its slices, and
+/// why the other one was refused, if it was. Returns `None` if it was refused itself.
+fn beside_a_chosen_one(hub: &mut Service) -> Option<(usize, Option<ClientCreateError>)>
+    ensures { Keeps [] hub.old hub.new }
+{
+    let factory = chosen_clients(hub, |worst_case: usize| worst_case);
+    match factory.create(hub) {
+        Ok(chosen) => {
+            let refused = refused(hub);
+            let len = chosen.initial_max_slice_len(hub);
+            chosen.release(hub);
+            Some((len, refused))
+        }
+        Err(_) => None,
+    }
+}
+
+/// Creates a client of wide slices, and another one beside it. Returns the length of its slices, and what came of the other one.
+/// Returns `None` if it was refused.
+fn beside_a_wide_one(
+    hub: &mut Service,
+) -> Option<(usize, Option<(usize, Option<ClientCreateError>)>)>
+    ensures { Keeps [] hub.old hub.new }
+{
+    let factory = wide_clients(hub);
+    match created_by(hub, factory) {
+        Ok(wide) => {
+            let chosen = beside_a_chosen_one(hub);
+            let len = wide.initial_max_slice_len(hub);
+            wide.release(hub);
+            Some((len, chosen))
+        }
+        Err(_) => None,
+    }
+}
+
 /// Each client has its setting, and a fourth one is refused.
 #[test]
 fn clients_have_their_settings(rt: HostRuntime) {
     let mut hub = small_service(rt.alloc()).expect(&rt, "a hub");
     let patient = patient_client(&mut hub).expect(&rt, "a client");
-    let factory = wide_clients(&hub);
-    let wide = created_by(&mut hub, factory).expect(&rt, "a client");
-    let factory = chosen_clients(&hub, |worst_case: usize| worst_case);
-    let chosen = factory.create(&mut hub).expect(&rt, "a client");
-    let refused = refused(&mut hub);
-    let lens = [
-        patient.initial_max_slice_len(&hub),
-        wide.initial_max_slice_len(&hub),
-        chosen.initial_max_slice_len(&hub),
-    ];
+    let others = beside_a_wide_one(&mut hub);
+    let len = patient.initial_max_slice_len(&hub);
     patient.release(&mut hub);
-    wide.release(&mut hub);
-    chosen.release(&mut hub);
     let fourth = Some(ClientCreateError::ExceedsMaxSupportedClients);
-    assert_eq!(rt; (lens, refused), ([16, 64, 1], fourth));
+    assert_eq!(rt; (len, others), (16, Some((64, Some((1, fourth))))));
 }
 
 /// A server is known, and its connections can be updated.
