@@ -15,8 +15,8 @@ mod trip_error;
 use crate::rows::Job;
 use crate::service::run;
 use crate::shapes::{
-    CLIENTS, HANDLES, LARGE, LARGE_SLICE, PAGE, PAGE_SLICE, PAIR, PASSED, POOLS, SERVERS, SLICE,
-    Shape,
+    CLIENTS, HANDLES, LARGE, LARGE_SLICE, MANY_CLIENTS, PAGE, PAGE_SLICE, PAIR, PASSED, POOLS,
+    SERVERS, SLICE, Shape,
 };
 use rr_slots::SliceBody;
 use std::env;
@@ -35,8 +35,9 @@ fn payloads(rt: &HostRuntime, job: Job) -> anyhow::Result<()> {
     run::<SliceBody<u64>>(rt, &LARGE_SLICE, job)
 }
 
-/// Does a job with 8 bytes in larger hubs.
+/// Does a job with 8 bytes in a hub of one client and one server, and in larger ones.
 fn larger(rt: &HostRuntime, job: Job) -> anyhow::Result<()> {
+    run::<Option<u64>>(rt, &PAIR, job)?;
     run::<Option<u64>>(rt, &POOLS, job)?;
     run::<Option<u64>>(rt, &HANDLES, job)?;
     run::<Option<u64>>(rt, &PASSED, job)?;
@@ -68,7 +69,10 @@ fn main(rt: HostRuntime) -> anyhow::Result<ExitCode> {
             locked::time(&rt, rt.alloc())?;
             shared::time(&rt, rt.alloc())?;
         }
-        (Some("grow"), None, ..) => larger(&rt, Job::Time)?,
+        (Some("grow"), None, ..) => {
+            larger(&rt, Job::Grow)?;
+            run::<Option<u64>>(&rt, &MANY_CLIENTS, Job::Grow)?;
+        }
         (Some("count"), Some(trips), None, _) => count(&rt, trips.parse()?, 0)?,
         (Some("count"), Some(trips), Some(clients), None) => {
             count(&rt, trips.parse()?, clients.parse()?)?;

@@ -8,7 +8,7 @@ ghost use Rattle.rr_bench.specs.Onlookers.{AreServers};
 
 use crate::family::{Family, Hub};
 use crate::shapes::Shape;
-use crate::trip::trips;
+use crate::trip::{looks, trips};
 use anyhow::bail;
 use rr_ports::{Client, Server};
 use std::time::Instant;
@@ -20,6 +20,8 @@ pub enum Job {
     Check,
     /// Samples are timed and printed, and their sums are checked.
     Time,
+    /// The same, and then looks for requests are timed where none waits.
+    Grow,
     /// So many round trips are made, and their sum is printed.
     Count(u64),
 }
@@ -88,6 +90,32 @@ fn sample<B: Family>(
     Ok(())
 }
 
+/// Prints the samples of looks for requests where none waits, by the server and by each onlooker.
+fn sample_looks<B: Family>(
+    rt: &HostRuntime,
+    hub: &mut Hub<B>,
+    server: &Server<B>,
+    onlookers: &[Server<B>],
+    shape: &Shape,
+) -> anyhow::Result<()>
+    requires server { Names hub.old server.now kind.Server }
+    requires onlookers { AreServers hub.old onlookers.now }
+    ensures { Keeps [] hub.old hub.new }
+{
+    for _ in 0..SAMPLES {
+        let start = Instant::now(rt)?;
+        looks(hub, server, onlookers, shape.trips)?;
+        let nanos = start.elapsed(rt)?.as_nanos();
+        println!(rt;
+            "N\t{}-idle\t1\t{}\t{nanos}\t{}",
+            shape.name,
+            shape.bytes,
+            shape.trips.saturating_mul(shape.limits.max_servers as u64)
+        )?;
+    }
+    Ok(())
+}
+
 /// Does a job.
 pub fn work<B: Family>(
     rt: &HostRuntime,
@@ -106,6 +134,10 @@ pub fn work<B: Family>(
     match job {
         Job::Check => checked(hub, client, server, onlookers, shape.len, CHECKED),
         Job::Time => sample(rt, hub, client, server, onlookers, shape),
+        Job::Grow => {
+            sample(rt, hub, client, server, onlookers, shape)?;
+            sample_looks(rt, hub, server, onlookers, shape)
+        }
         Job::Count(count) => {
             let sum = trips(hub, client, server, onlookers, shape.len, count)?;
             println!(rt; "{sum}")?;

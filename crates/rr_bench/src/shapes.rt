@@ -145,6 +145,17 @@ pub const CLIENTS: Shape = Shape {
         max_clients: 1_000,
         ..LIMITS
     },
-    trips: 500,
+    trips: 10_000,
+    ..PAIR
+};
+
+/// 10,000 clients.
+pub const MANY_CLIENTS: Shape = Shape {
+    name: "ports-many-clients",
+    limits: Limits {
+        max_clients: 10_000,
+        ..LIMITS
+    },
+    trips: 10_000,
     ..PAIR
 };

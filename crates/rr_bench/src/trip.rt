@@ -89,18 +89,48 @@ fn round_trip<B: Family>(
     }
 }
 
+/// Lets a server look for a request, and releases it if one comes.
+#[inline(always)]
+fn look<B: Family>(hub: &mut Hub<B>, server: &Server<B>) -> Result<(), TripError>
+    requires { Names hub.old server.now kind.Server }
+    ensures { Keeps [] hub.old hub.new }
+{
+    if hub.numbers_left() == 0 {
+        return Err(TripError::NoNumbersLeft);
+    }
+    if let Some(active) = server.receive(hub)? {
+        active.release(hub);
+    }
+    Ok(())
+}
+
 /// Lets servers look for requests, and releases those that come.
-fn look<B: Family>(hub: &mut Hub<B>, onlookers: &[Server<B>]) -> Result<(), TripError>
+#[inline(always)]
+fn look_around<B: Family>(hub: &mut Hub<B>, onlookers: &[Server<B>]) -> Result<(), TripError>
     requires { AreServers hub.old onlookers.now }
     ensures { Keeps [] hub.old hub.new }
 {
     for server in onlookers {
-        if hub.numbers_left() == 0 {
-            return Err(TripError::NoNumbersLeft);
-        }
-        if let Some(active) = server.receive(hub)? {
-            active.release(hub);
-        }
+        look(hub, server)?;
+    }
+    Ok(())
+}
+
+/// Lets a server and the onlookers look for requests so often.
+#[inline(never)]
+pub fn looks<B: Family>(
+    hub: &mut Hub<B>,
+    server: &Server<B>,
+    onlookers: &[Server<B>],
+    count: u64,
+) -> Result<(), TripError>
+    requires server { Names hub.old server.now kind.Server }
+    requires onlookers { AreServers hub.old onlookers.now }
+    ensures { Keeps [] hub.old hub.new }
+{
+    for _ in 0..count {
+        look(hub, server)?;
+        look_around(hub, onlookers)?;
     }
     Ok(())
 }
@@ -130,7 +160,7 @@ pub fn trips<B: Family>(
             Ok(word) => sum = sum.wrapping_add(word),
             Err(error) => return Err(unlikely(error)),
         }
-        look(hub, onlookers)?;
+        look_around(hub, onlookers)?;
     }
     Ok(sum)
 }

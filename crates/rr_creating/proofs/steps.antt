@@ -4,3 +4,4 @@ pub mod Server
 pub mod Rooms
 pub mod Refusals
 pub mod Added
+pub mod Alike

@@ -1,9 +1,10 @@
 //! Creating clients.
-ghost use Rattle.std.specs.Prelude.{◌≡◌, ◌≤◌, ◌+◌, None, IsTrue, IfOk, OnErr, OnOk, length, ◌<◌, ◌^◌, ◌*◌, Some, replicate, true};
+ghost use Rattle.std.specs.Prelude.{◌≡◌, ◌≤◌, ◌+◌, None, IsTrue, IfOk, OnErr, OnOk, length, ◌<◌, ◌^◌, ◌*◌, Some, [], replicate, true};
 ghost use Rattle.rr_slots.specs.Families.{takes_len};
 ghost use Rattle.rr_protocol.specs.Creation.{CreatesClient, client_refusal, with_client};
 ghost use Rattle.rr_store.specs.Draining.{AreThere};
 ghost use Rattle.rr_store.specs.Creating.{senders_after, left_at, IsNew, idle_left};
+ghost use Rattle.rr_store.specs.KnownWaiting.{AreAlike, AreSentAgain};
 ghost use Rattle.rr_store.specs.Opened.{opened};
 ghost use Rattle.rr_store.specs.Reaching.{IsCore};
 ghost use Rattle.rr_store.specs.Views.{state_of, sender_of, no_request, no_server};
@@ -118,13 +119,16 @@ fn append_client<QB: Body, QH: Default + Drop, PB: Body, PH: Default + Drop, K: 
     receiver: usize,
     client: ClientStore<QB, QH>,
 ) -> Result<u64, AllocError>
-    requires { store.old.next + 1 < 2 ^ 64 }
+    requires next { store.old.next + 1 < 2 ^ 64 }
+    requires unsent { client.messages.queues ≡ replicate store.old.limits.max_servers (replicate 1 []) }
+    requires alike { AreAlike store.old.limits.max_servers 1 store.old.clients.senders }
     ensures number { IfOk result (λ number. number ≡ store.old.next) }
     ensures ok { OnOk result (opened store.new ≡ with_new_client (opened store.old) settings slots receiver client.messages client.marks.items client.row_len) }
     ensures err { OnErr result (opened store.new ≡ opened store.old) }
 {
     let number = store.next;
     let sender = store.clients.sender_count();
+    let receivers = store.limits.max_servers;
     let port = client_port(number, settings, slots, sender, receiver);
     store.clients.insert(
         alloc,
@@ -134,6 +138,8 @@ fn append_client<QB: Body, QH: Default + Drop, PB: Body, PH: Default + Drop, K: 
             loans_made: 0,
         },
         client.messages,
+        receivers,
+        1,
         client.marks,
         client.row_len,
     )?;
@@ -160,6 +166,7 @@ fn append_client_again<
     client: ClientStore<QB, QH>,
 ) -> Result<u64, AllocError>
     requires next { store.old.next + 1 < 2 ^ 64 }
+    requires again { AreSentAgain store.old.clients.senders client.messages.queues }
     requires left { CanTakeOver (opened store.old).client_senders (opened store.old).left_clients store.old.table.rows index }
     ensures number { IfOk result (λ number. number ≡ store.old.next) }
     ensures ok { OnOk result (opened store.new ≡ with_client_again (opened store.old) settings slots receiver client.messages client.marks.items index store.new.table) }

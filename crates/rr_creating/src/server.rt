@@ -1,10 +1,11 @@
 //! Creating servers.
-ghost use Rattle.std.specs.Prelude.{◌≡◌, ◌≤◌, ◌+◌, None, IsTrue, IfOk, OnErr, OnOk, length, ◌<◌, ◌^◌, true};
+ghost use Rattle.std.specs.Prelude.{◌≡◌, ◌≤◌, ◌+◌, None, IsTrue, IfOk, OnErr, OnOk, [], length, replicate, ◌<◌, ◌^◌, true};
 ghost use Rattle.rr_slots.specs.Families.{takes_len};
 ghost use Rattle.rr_protocol.specs.Creation.{CreatesServer, server_refusal, with_server};
 ghost use Rattle.rr_protocol.specs.Limits.{hub_refusal, worst_case_requests, max_loaned_responses, worst_case_responses};
 ghost use Rattle.rr_store.specs.Draining.{AreThere};
 ghost use Rattle.rr_store.specs.Creating.{IsNew, senders_after, left_at};
+ghost use Rattle.rr_store.specs.KnownWaiting.{AreAlike, AreSentAgain};
 ghost use Rattle.rr_store.specs.Opened.{opened};
 ghost use Rattle.rr_store.specs.Reaching.{IsCore};
 ghost use Rattle.rr_store.specs.Views.{no_response, state_of, sender_of};
@@ -160,6 +161,9 @@ fn append_server<QB: Body, QH: Default + Drop, PB: Body, PH: Default + Drop, K: 
     messages: Sender<PB, ResponseDetails, PH>,
 ) -> Result<u64, AllocError>
     requires next { store.old.next + 1 < 2 ^ 64 }
+    requires hub { hub_refusal store.old.limits ≡ None }
+    requires unsent { messages.queues ≡ replicate store.old.limits.max_clients (replicate (worst_case_requests store.old.limits) []) }
+    requires alike { AreAlike store.old.limits.max_clients (worst_case_requests store.old.limits) store.old.servers.senders }
     requires clients { 0 < store.old.limits.max_clients }
     requires loans { max_loaned_responses store.old.limits loans < 2 ^ 64 }
     ensures number { IfOk result (λ number. number ≡ store.old.next) }
@@ -169,12 +173,16 @@ fn append_server<QB: Body, QH: Default + Drop, PB: Body, PH: Default + Drop, K: 
     let number = store.next;
     let sender = store.servers.sender_count();
     let limits = &store.limits;
+    let receivers = limits.max_clients;
+    let channels = worst_case_requests(limits);
     let server = server_of(limits, number, settings, loans, slots, sender, receiver);
     store.servers.insert(
         alloc,
         &mut store.table,
         server,
         messages,
+        receivers,
+        channels,
         Vec::new(alloc),
         slots,
     )?;
@@ -204,6 +212,7 @@ fn append_server_again<
     requires next { store.old.next + 1 < 2 ^ 64 }
     requires clients { 0 < store.old.limits.max_clients }
     requires loans { max_loaned_responses store.old.limits loans < 2 ^ 64 }
+    requires again { AreSentAgain store.old.servers.senders messages.queues }
     requires left { CanTakeOver (opened store.old).server_senders (opened store.old).left_servers store.old.table.rows index }
     ensures number { IfOk result (λ number. number ≡ store.old.next) }
     ensures ok { OnOk result (opened store.new ≡ with_server_again (opened store.old) settings loans slots receiver messages index store.new.table) }

@@ -16,6 +16,7 @@ mod messages;
 mod pools;
 mod replies;
 mod sender_bodies;
+mod sender_sets;
 mod senders;
 mod tables;
 

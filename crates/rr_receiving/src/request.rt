@@ -1,15 +1,15 @@
 //! Receiving requests.
-ghost use Rattle.std.specs.Prelude.{◌≡◌, ◌⊎◌, ◌<◌, Some, false, true};
+ghost use Rattle.std.specs.Prelude.{◌≡◌, ◌<◌, Some, false, true};
 ghost use Rattle.rr_protocol.specs.Queries.{kind_at};
 ghost use Rattle.rr_protocol.specs.Receives.{ReceivesRequest};
 ghost use Rattle.rr_protocol.specs.State.{numbers_left};
 ghost use Rattle.rr_store.specs.Opened.{opened};
 ghost use Rattle.rr_store.specs.Reaching.{IsCore};
-ghost use Rattle.rr_store.specs.Views.{sender_of, state_of};
+ghost use Rattle.rr_store.specs.Views.{state_of};
 ghost use Rattle.rr_store.specs.Changes.{with_request_senders};
 ghost use Rattle.rr_store.specs.Draining.{HaveQueues};
-ghost use Rattle.rr_store.specs.Receiving.{CanBegin, HaveChannels, IsNextFrom, IsNextSender};
-ghost use Rattle.rr_store.specs.Skimming.{IsFrontAlive, IsSkimmed, IsSkimmedTo};
+ghost use Rattle.rr_store.specs.Receiving.{HaveChannels, IsNextFrom, IsNextSender};
+ghost use Rattle.rr_store.specs.Skimming.{IsSkimmedTo};
 ghost use Rattle.rr_protocol.specs.declared.kind.Kind.TheVariants as kind;
 
 use rr_protocol::{BackpressureFn, ReceiveError};
@@ -22,8 +22,8 @@ use rr_store::{HandleEntry, HandleId, Stage, Store};
 /// The server's receives go round the clients: the one after that from which it received last comes first. Requests whose pending
 /// responses were released are dropped on the way, where they are the oldest of their clients, unless the limits have
 /// fire-and-forget requests; a client of which the server has as many requests as it may is left out. Returns `None` if no
-/// client's request waits then. Takes O(senders of clients + requests that it drops), and no memory. After iceoryx2's
-/// `Server::receive`.
+/// client's request waits then. Takes O(senders from which something may wait + requests that it drops), and no memory. After
+/// iceoryx2's `Server::receive`.
 ///
 /// # Errors
 ///
@@ -78,36 +78,18 @@ fn next_request_sender<
     ensures skimmed { store.old.limits.enable_fire_and_forget_requests ≡ false → IsSkimmedTo store.old.table receiver store.old.limits.max_active_requests_per_client store.old.clients.senders store.new.clients.senders result }
     ensures next { IsNextSender store.new.clients.senders receiver 0 store.old.limits.max_active_requests_per_client result }
 {
-    let from = first_request_sender(store, receiver);
-    request_sender_from(store, receiver, from)
-}
-
-/// Returns at which client's sender a server begins to look. Where one client alone sent, that is the first, and nothing is looked
-/// at.
-#[inline(always)]
-fn first_request_sender<
-    QB: Body,
-    QH: Default + Drop,
-    PB: Body,
-    PH: Default + Drop,
-    K: BackpressureFn,
->(store: &mut Store<QB, QH, PB, PH, K>, receiver: usize) -> usize
-    requires receiver { HaveQueues store.old.clients.senders receiver }
-    requires channel { HaveChannels store.old.clients.senders receiver 0 }
-    ensures rest { opened store.new ≡ with_request_senders (opened store.old) store.new.clients.senders }
-    ensures kept { store.old.limits.enable_fire_and_forget_requests ≡ true → opened store.new ≡ opened store.old }
-    ensures skimmed { store.old.limits.enable_fire_and_forget_requests ≡ false → IsSkimmed store.old.table receiver store.old.limits.max_active_requests_per_client store.old.clients.senders store.new.clients.senders }
-    ensures first { CanBegin store.new.clients.senders receiver 0 store.old.limits.max_active_requests_per_client result }
-    ensures alive { store.old.limits.enable_fire_and_forget_requests ≡ false → (result ≡ 0) ⊎ IsFrontAlive store.old.table receiver (sender_of result store.new.clients.senders) }
-{
     if 1 < store.clients.sender_count() {
         return request_sender_in_turn(store, receiver);
     }
-    0
+    let most = store.limits.max_active_requests_per_client;
+    if store.limits.enable_fire_and_forget_requests {
+        return store.clients.only_sender(receiver, 0, most);
+    }
+    store.clients.skim_only(&store.table, receiver, most)
 }
 
-/// Returns from which client's sender a server takes next, if its receives go round, and lets the one after it be the first next
-/// time. Returns 0 if no client has a request that the server may take.
+/// Returns from which client's sender a server takes its next request, if its receives go round, and lets the one after it be the
+/// first next time. Looks once if no client's request waits.
 #[cold]
 fn request_sender_in_turn<
     QB: Body,
@@ -115,24 +97,24 @@ fn request_sender_in_turn<
     PB: Body,
     PH: Default + Drop,
     K: BackpressureFn,
->(store: &mut Store<QB, QH, PB, PH, K>, receiver: usize) -> usize
+>(store: &mut Store<QB, QH, PB, PH, K>, receiver: usize) -> Result<Option<usize>, ReceiveError>
     requires receiver { HaveQueues store.old.clients.senders receiver }
     requires channel { HaveChannels store.old.clients.senders receiver 0 }
     ensures rest { opened store.new ≡ with_request_senders (opened store.old) store.new.clients.senders }
     ensures kept { store.old.limits.enable_fire_and_forget_requests ≡ true → opened store.new ≡ opened store.old }
-    ensures skimmed { store.old.limits.enable_fire_and_forget_requests ≡ false → IsSkimmed store.old.table receiver store.old.limits.max_active_requests_per_client store.old.clients.senders store.new.clients.senders }
-    ensures first { CanBegin store.new.clients.senders receiver 0 store.old.limits.max_active_requests_per_client result }
-    ensures alive { store.old.limits.enable_fire_and_forget_requests ≡ false → (result ≡ 0) ⊎ IsFrontAlive store.old.table receiver (sender_of result store.new.clients.senders) }
+    ensures skimmed { store.old.limits.enable_fire_and_forget_requests ≡ false → IsSkimmedTo store.old.table receiver store.old.limits.max_active_requests_per_client store.old.clients.senders store.new.clients.senders result }
+    ensures next { IsNextSender store.new.clients.senders receiver 0 store.old.limits.max_active_requests_per_client result }
 {
-    let turn = store.request_turns.at(receiver, 0);
-    match request_sender_around(store, receiver, turn) {
-        Ok(Some(sender)) => {
-            let after = sender.saturating_add(1);
-            store.request_turns.set(receiver, 0, after);
-            sender
-        }
-        _ => 0,
+    if store.clients.is_idle(receiver, 0) {
+        return Ok(None);
     }
+    let turn = store.request_turns.at(receiver, 0);
+    let found = request_sender_around(store, receiver, turn);
+    if let Ok(Some(sender)) = found {
+        let after = sender.saturating_add(1);
+        store.request_turns.set(receiver, 0, after);
+    }
+    found
 }
 
 /// Returns from which client's sender a server takes next: looks from one on, and then, if that isn't the first, at all.

@@ -6,7 +6,7 @@ ghost use Rattle.rr_protocol.specs.Receives.{ReceivesResponse};
 ghost use Rattle.rr_store.specs.Draining.{HaveQueues};
 ghost use Rattle.rr_store.specs.Opened.{opened};
 ghost use Rattle.rr_store.specs.Reaching.{IsCore};
-ghost use Rattle.rr_store.specs.Receiving.{CanBegin, HaveChannels, IsNextSender};
+ghost use Rattle.rr_store.specs.Receiving.{HaveChannels, IsNextSender};
 ghost use Rattle.rr_store.specs.Views.{state_of};
 ghost use Rattle.rr_table.specs.TableView.{IsAt};
 
@@ -20,7 +20,7 @@ use rr_table::Place;
 /// number.
 ///
 /// The receives of a pending response go round the servers: the one after that from which it received last comes first. Returns
-/// `None` if no server's response waits. Takes O(senders of servers), and no memory. After iceoryx2's `PendingResponse::receive`.
+/// `None` if no server's response waits. Takes O(senders from which something may wait), and no memory. After iceoryx2's `PendingResponse::receive`.
 ///
 /// # Errors
 ///
@@ -80,32 +80,14 @@ fn next_response_sender<B: Body, H: Drop, P: Drop>(
     requires channel { HaveChannels servers.now.senders receiver channel }
     ensures { IsNextSender servers.now.senders receiver channel most result }
 {
-    let from = first_response_sender(servers, turns, receiver, channel, most);
-    servers.next_sender(receiver, channel, most, from)
-}
-
-/// Returns at which server's sender a client begins to look. Where one server alone sent, that is the first, and nothing is looked
-/// at.
-#[inline(always)]
-fn first_response_sender<B: Body, H: Drop, P: Drop>(
-    servers: &Side<B, ResponseDetails, H, P>,
-    turns: &mut Turns,
-    receiver: usize,
-    channel: usize,
-    most: usize,
-) -> usize
-    requires receiver { HaveQueues servers.now.senders receiver }
-    requires channel { HaveChannels servers.now.senders receiver channel }
-    ensures { CanBegin servers.now.senders receiver channel most result }
-{
     if 1 < servers.sender_count() {
         return response_sender_in_turn(servers, turns, receiver, channel, most);
     }
-    0
+    servers.only_sender(receiver, channel, most)
 }
 
-/// Returns from which server's sender a client takes next, if its receives go round, and lets the one after it be the first next
-/// time. Returns 0 if no server has a response that the client may take.
+/// Returns from which server's sender a client takes its next response on a channel, if its receives go round, and lets the one after
+/// it be the first next time. Looks once if no server's response waits.
 #[cold]
 fn response_sender_in_turn<B: Body, H: Drop, P: Drop>(
     servers: &Side<B, ResponseDetails, H, P>,
@@ -113,19 +95,20 @@ fn response_sender_in_turn<B: Body, H: Drop, P: Drop>(
     receiver: usize,
     channel: usize,
     most: usize,
-) -> usize
+) -> Result<Option<usize>, ReceiveError>
     requires receiver { HaveQueues servers.now.senders receiver }
     requires channel { HaveChannels servers.now.senders receiver channel }
-    ensures { CanBegin servers.now.senders receiver channel most result }
+    ensures { IsNextSender servers.now.senders receiver channel most result }
 {
-    let turn = turns.at(receiver, channel);
-    match response_sender_around(servers, receiver, channel, most, turn) {
-        Ok(Some(sender)) => {
-            turns.set(receiver, channel, sender.saturating_add(1));
-            sender
-        }
-        _ => 0,
+    if servers.is_idle(receiver, channel) {
+        return Ok(None);
     }
+    let turn = turns.at(receiver, channel);
+    let found = response_sender_around(servers, receiver, channel, most, turn);
+    if let Ok(Some(sender)) = found {
+        turns.set(receiver, channel, sender.saturating_add(1));
+    }
+    found
 }
 
 /// Returns from which server's sender a client takes next: looks from one on, and then, if that isn't the first, at all.

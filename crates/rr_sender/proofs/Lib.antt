@@ -7,5 +7,7 @@ mod LinkLaws
 mod HeldLaws
 mod SenderLaws
 mod QueueLaws
-mod DrainedLaws
+pub mod DrainedLaws
 mod HeadLaws
+pub mod BitLaws
+mod SetLaws

@@ -4,3 +4,5 @@ pub mod Parts
 pub mod SenderLends
 pub mod Draining
 pub mod Turns
+pub mod BitSets
+pub mod SenderSets

@@ -1,3 +1,4 @@
+pub mod Channels
 pub mod Drained
 pub mod Expiring
 pub mod Outdated

@@ -1,2 +1,3 @@
 pub mod NextSender
+pub mod Passed
 pub mod request

@@ -1,5 +1,5 @@
 -- The parts of a core after a port was created.
-use Rattle.std.specs.Prelude.{◌≡◌, ◌==◌, ℕ, ◌+◌, ◌*◌, Bool, true, Option, List, [], ◌∷◌, ◌++◌, length, replicate, slice_index_or, slice_set, if◌then◌else◌, is_some}
+use Rattle.std.specs.Prelude.{◌≡◌, ◌==◌, ◌&&◌, ℕ, ◌+◌, ◌*◌, Bool, true, Option, List, [], ◌∷◌, ◌++◌, length, replicate, slice_index_or, slice_set, if◌then◌else◌, is_some, nat_lt, not}
 use Rattle.std.specs.List.{position, remove}
 use Rattle.rr_sender.specs.Senders.{Messages, used_count}
 use Rattle.rr_protocol.specs.declared.settings.ClientSettings.{ClientSettings}
@@ -12,6 +12,10 @@ use Rattle.rr_store.specs.declared.details.ResponseDetails.{ResponseDetails}
 use Rattle.rr_store.specs.declared.port.LeftPort.{LeftPort}
 use Rattle.rr_store.specs.Parts.{Parts, ClientPart, ServerPart, Sender}
 use Rattle.rr_store.specs.Views.{no_server, sender_of}
+
+-- whether a number is one from another on, below a third
+abbrev pub is_between : ℕ → ℕ → ℕ → Bool
+is_between low high n = not (nat_lt n low) && nat_lt n high
 
 -- a sender from which nothing was sent
 pub record IsNew {T N H : Type 0} (slots room receivers channels capacity : ℕ) (detail : N) (m : Messages T N H) : Type 0 where

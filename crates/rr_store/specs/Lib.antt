@@ -17,6 +17,7 @@ pub mod Rewrites
 pub mod Emptying
 pub mod Receiving
 pub mod Waiting
+pub mod KnownWaiting
 pub mod Asked
 pub mod Answering
 pub mod Dropping

@@ -1,5 +1,5 @@
 -- From which sender a receiver takes next, and the parts of a core after a response was received.
-use Rattle.std.specs.Prelude.{◌≡◌, ◌≢◌, ◌⊎◌, ◌<◌, ◌≤◌, ℕ, Bool, true, false, List, [], length, drop, slice_index_or, slice_set, Option, Some, None, Result, Ok, Err}
+use Rattle.std.specs.Prelude.{◌≡◌, ◌≢◌, ◌<◌, ◌≤◌, ℕ, Bool, true, false, List, [], length, drop, slice_index_or, slice_set, Option, Some, None, Result, Ok, Err}
 use Rattle.rr_table.specs.TableView.{inserted}
 use Rattle.rr_sender.specs.Senders.{queue_at, borrowed_at, taken}
 use Rattle.rr_protocol.specs.declared.error.ReceiveError.{ReceiveError}
@@ -45,10 +45,6 @@ module _ {T N H : Type 0} where
       ((sender : ℕ) → from ≤ sender → sender < length senders → borrowed_from senders receiver channel sender < most → queue_from senders receiver channel sender ≡ [])
       × ((sender : ℕ) × (sender < length senders) × (most ≤ borrowed_from senders receiver channel sender) × (queue_from senders receiver channel sender ≢ []))
   IsNextFrom from senders receiver channel most (Err (ReceiveError.ConnectionFailure failure)) = ⊥
-
-  -- a look may begin at the first sender, or at one that gives the receiver something
-  abbrev pub CanBegin : List (Sender T N H) → ℕ → ℕ → ℕ → ℕ → Type 0
-  CanBegin senders receiver channel most from = (from ≡ 0) ⊎ IsNextSender senders receiver channel most (Ok (Some from))
 
 module _ {T N H : Type 0} (senders : List (Sender T N H)) (receiver channel most from : ℕ) where
   -- of the senders from one on, below another, none has an entry and room; and whether one has an entry

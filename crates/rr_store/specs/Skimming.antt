@@ -1,5 +1,5 @@
 -- Requests that nobody waits for leave the fronts of queues, and the parts of a core after a request was received.
-use Rattle.std.specs.Prelude.{zero, suc, ◌≡◌, ◌<◌, ℕ, ◌+◌, Bool, true, false, List, [], ◌∷◌, length, drop, Option, Some, Result, Ok, IfSome, slice_get, slice_index_or, slice_set}
+use Rattle.std.specs.Prelude.{zero, suc, ◌≡◌, ◌↔◌, IsTrue, ◌<◌, ℕ, ◌+◌, Bool, true, false, List, [], ◌∷◌, length, drop, Option, Some, Result, Ok, IfSome, slice_get, slice_index_or, slice_set}
 use Rattle.std.specs.Option.{option_map_or}
 use Rattle.rr_table.specs.TableView.{TableView, inserted, value_in}
 use Rattle.rr_sender.specs.Senders.{first_dropped, queue_at, taken, with_queue}
@@ -11,6 +11,7 @@ use Rattle.rr_store.specs.Loaning.{with_messages}
 use Rattle.rr_store.specs.Parts.{Sender, Parts}
 use Rattle.rr_store.specs.Receiving.{queue_from, borrowed_from, Reaches}
 use Rattle.rr_store.specs.Sound.{active_place, is_pending}
+use Rattle.rr_store.specs.Sides.{SideParts}
 use Rattle.rr_store.specs.Views.{no_request, sender_of}
 
 module _ {T H : Type 0} where
@@ -56,6 +57,15 @@ module _ {T H : Type 0} where
       (result : Result (Option ℕ) ReceiveError) : Type 0 where
     pub skimmed : IsSkimmed table receiver most old new
     pub front : (sender : ℕ) → result ≡ Ok (Some sender) → IsFrontAlive table receiver (sender_of sender new)
+
+-- one sender was skimmed; and whether a request remains
+pub record QueueSkimmed {T H P : Type 0} (table : TableView HandleEntry) (receiver sender : ℕ) (old new : SideParts T RequestDetails H P) (remaining : Bool) : Type 0 where
+  pub it : Sender T RequestDetails H
+  pub steps : ℕ
+  pub skims : SkimsSender table receiver steps (sender_of sender old.senders) it
+  pub front : IsFrontAlive table receiver it
+  pub remains : IsTrue remaining ↔ (0 < length (queue_at it.messages receiver 0))
+  pub is : new ≡ record old { senders = slice_set old.senders sender it }
 
 module _ {Q QH P PH K : Type 0} (p : Parts Q QH P PH K) where
   -- the oldest request of a queue, in this slot, was taken out of it, and a number was given

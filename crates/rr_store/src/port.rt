@@ -166,12 +166,22 @@ impl<K: Drop> ConnectedPort for ServerPort<K> {
 }
 
 /// Returns where among the ports, whose numbers rise, the one with this number stands, in O(log ports).
+///
+/// It stands at most as far behind the first one as its number is above that one's, and at most as far before the last one as its
+/// number is below that one's. What is left is halved: one look finds any of ports that were created one after another.
+#[cold]
 pub(crate) fn index_by_halving<P: ConnectedPort>(ports: &[P], id: u64) -> Option<usize>
     requires { IsRising P.id ports.now }
     ensures { result ≡ position (λ p. P.id p == id) ports.now }
 {
-    let mut low = 0;
-    let mut high = ports.len();
+    if ports.is_empty() {
+        return None;
+    }
+    let most = ports.len() - 1;
+    let behind = id.saturating_sub(ports[0].details().id) as usize;
+    let before = ports[most].details().id.saturating_sub(id) as usize;
+    let mut low = most.saturating_sub(before);
+    let mut high = if behind < most { behind + 1 } else { most + 1 };
     while low < high {
         let middle = low + (high - low) / 2;
         let found = ports[middle].details().id;

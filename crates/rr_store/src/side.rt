@@ -2,6 +2,7 @@
 ghost use Rattle.std.specs.Prelude.{◌≡◌};
 ghost use Rattle.rr_store.specs.Sides.{start_side};
 
+use crate::side::waiting::Waiting;
 use crate::{LeftPort, OwnedSender};
 use rr_slots::Body;
 use std::alloc::Global;
@@ -15,9 +16,11 @@ mod ports;
 mod queues;
 mod skimming;
 mod slots;
+mod waiting;
 
 /// The clients of a service with all requests, or the servers with all responses. Contracts see it as parts, of which nothing is
-/// claimed: each method reads or changes one thing.
+/// claimed: each method reads or changes one thing. They don't see from which senders something may wait, which each side knows of
+/// itself (`KnowsWaiting`).
 ///
 /// A message stands once, in a slot of the sender of the port that sends it; entries of queues name it by that slot.
 #[derive(Drop)]
@@ -28,6 +31,8 @@ pub struct Side<B: Body, N: Copy, H: Drop, P: Drop> {
     pub ports: Vec<P>,
     /// The ports that left, in the order in which they did.
     pub left: Vec<LeftPort>,
+    /// From which senders something may wait for each receiver.
+    pub(crate) waiting: Waiting,
     /// What a slot that isn't there would show. Contracts alone speak of it: a reading of a slot has to be defined for each index.
     pub spare_header: H,
 }
@@ -35,10 +40,15 @@ pub struct Side<B: Body, N: Copy, H: Drop, P: Drop> {
 impl<B: Body, N: Copy, H: Drop, P: Drop> Model for Side<B, N, H, P> {
     ghost use Rattle.rr_store.specs.Sides.{SideParts};
     ghost use Rattle.rr_store.specs.SideInside.{side_of};
+    ghost use Rattle.std.specs.Prelude.{map};
+    ghost use Rattle.rr_store.specs.KnownWaiting.{KnowsWaiting};
+    ghost use Rattle.rr_store.specs.Ports.{sender_part};
 
     ghost Value = { SideParts B.Item N H P };
 
     ghost view = { λ s. side_of s };
+
+    ghost invariant = { λ s. KnowsWaiting s.waiting (map sender_part s.senders.items) };
 }
 
 impl<B: Body, N: Copy, H: Default + Drop, P: Drop> Side<B, N, H, P> {
@@ -50,6 +60,7 @@ impl<B: Body, N: Copy, H: Default + Drop, P: Drop> Side<B, N, H, P> {
             senders: Vec::new(alloc),
             ports: Vec::new(alloc),
             left: Vec::new(alloc),
+            waiting: Waiting::new(alloc),
             spare_header: H::default(),
         }
     }

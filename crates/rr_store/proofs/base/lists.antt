@@ -1,7 +1,7 @@
 pub mod Found
 pub mod Positions
 pub mod Tallies
-pub mod Pigeons
+pub mod Ranges
 pub mod Adding
 pub mod Replaced
 pub mod Distinct

@@ -2,9 +2,13 @@ pub mod Connected
 pub mod Counted
 pub mod Emptied
 pub mod Entries
+pub mod Fewer
 pub mod Inserted
+pub mod Noted
 pub mod Numbered
+pub mod OneQueue
 pub mod Owners
 pub mod Ports
 pub mod Queues
+pub mod Ready
 pub mod Stored

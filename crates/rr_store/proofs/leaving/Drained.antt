@@ -6,11 +6,14 @@ use Rattle.std.proofs.lemmas.List.{ext_get_or, get_or-set_same, get_or-set_other
 use Rattle.rr_sender.specs.Draining.{MessagesDrained}
 use Rattle.rr_sender.specs.Senders.{Messages, queue_at, uses}
 use Rattle.rr_store.specs.Draining.{SenderDrained, SendersDrained}
+use Rattle.rr_store.specs.KnownWaiting.{KnowsWaiting}
+use Rattle.rr_store.specs.declared.side.waiting.Waiting.{Waiting}
 use Rattle.rr_store.specs.Emptying.{SendersEmptied, SenderEmptied}
 use Rattle.rr_store.specs.Leaving.{SenderCleared, SendersCleared, SendersCut}
 use Rattle.rr_store.specs.Loaning.{with_messages}
 use Rattle.rr_store.specs.Parts.{Sender}
 use Rattle.rr_store.specs.Views.{no_sender, sender_of}
+use Rattle.rr_store.proofs.base.senders.Fewer.{IsFewer, senders_fewer}
 
 -- what lost all once or twice lost all
 either : {X : Type 0} (a b : Bool) (xs : List X) → cond b [] (cond a [] xs) ≡ cond (a || b) [] xs
@@ -224,3 +227,20 @@ module _ {T N H : Type 0} where
       ext_get_or [] (slice_index_or (sender_of l b).messages.queues r []) (slice_index_or (sender_of l a).messages.queues r [])
       (d.channels r)
       (λ channel h. d.queues r channel ∙ ap (λ c. cond c [] (queue_at (sender_of l a).messages r channel)) none)
+
+-- from whom something may wait stays known as queues lose all their entries
+drained_fewer : {T N H : Type 0} (cut : ℕ → Bool) (m n : Messages T N H) → MessagesDrained cut m n → IsFewer m.queues n.queues
+drained_fewer cut m n drained = record {
+  rows = drained.receivers;
+  channels = drained.channels;
+  fewer = λ r c some. by (queue_at m r c) (cut r) (subst (λ q. 0 < length q) (drained.queues r c) some);
+}
+  where
+    by : (q : List ℕ) (b : Bool) → 0 < length (cond b [] q) → 0 < length q
+    by q true h = absurd (omega (arith, h))
+    by q false h = h
+
+pub drained_noted : {T N H : Type 0} (w : Waiting) (cut : ℕ → ℕ → Bool) (a b : List (Sender T N H)) → SendersDrained cut a b → KnowsWaiting w a
+    → KnowsWaiting w b
+drained_noted w cut a b drained known =
+    senders_fewer w a b drained.many (λ l. drained_fewer (cut l) (sender_of l a).messages (sender_of l b).messages (drained.each l).messages) known

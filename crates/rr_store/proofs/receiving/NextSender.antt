@@ -1,10 +1,8 @@
 -- Senders are looked through one after another.
-use Rattle.std.proofs.Common.{◌≡◌, ◌<◌, ◌≤◌, ◌+◌, ℕ, Bool, true, false, List, [], ◌∷◌, Option, None, Some, Ok, Err, length, refl, sym, ap, ◌∙◌, subst, ⊎_elim, arith}
-use Rattle.std.specs.Prelude.{Result}
+use Rattle.std.proofs.Common.{◌≡◌, ◌<◌, ◌≤◌, ◌+◌, ℕ, Bool, true, false, List, [], ◌∷◌, length, refl, sym, ap, ◌∙◌, ⊎_elim, arith}
 use Rattle.std.proofs.lemmas.Bool.{cases_eq, cases_lt, false≢true}
 use Rattle.rr_store.specs.Parts.{Sender}
-use Rattle.rr_protocol.specs.declared.error.ReceiveError.{ReceiveError}
-use Rattle.rr_store.specs.Receiving.{queue_from, borrowed_from, CanBegin, IsLookedThrough, IsNextFrom, IsNextSender}
+use Rattle.rr_store.specs.Receiving.{queue_from, borrowed_from, IsLookedThrough}
 
 module _ {T N H : Type 0} (senders : List (Sender T N H)) (receiver channel most from : ℕ) where
   -- before the first
@@ -41,28 +39,6 @@ module _ {T N H : Type 0} (senders : List (Sender T N H)) (receiver channel most
     clear = λ e. absurd (false≢true (sym e));
     at_limit = λ _. (n, omega arith, there, full, some);
   }
-
-  -- what is told of the senders from the first on is told of all
-  pub from_first : (answer : Result (Option ℕ) ReceiveError) → IsNextFrom 0 senders receiver channel most answer
-      → IsNextSender senders receiver channel most answer
-  from_first (Ok (Some sender)) told = told
-  from_first (Ok None) told = λ sender there. told sender (omega arith) there
-  from_first (Err ReceiveError.ExceedsMaxBorrows) (none, some) = (λ sender there room. none sender (omega arith) there room, some)
-  from_first (Err (ReceiveError.ConnectionFailure failure)) told = told
-
-  -- and so is what is told from one on that gives something
-  pub from_giving : IsNextSender senders receiver channel most (Ok (Some from)) → (answer : Result (Option ℕ) ReceiveError)
-      → IsNextFrom from senders receiver channel most answer → IsNextSender senders receiver channel most answer
-  from_giving gives (Ok (Some sender)) told = told
-  from_giving gives (Ok None) told = absurd (omega (arith, gives.1, ap length (told from (omega arith) gives.0)))
-  from_giving gives (Err ReceiveError.ExceedsMaxBorrows) (none, some) =
-      absurd (omega (arith, gives.1, ap length (none from (omega arith) gives.0 gives.2)))
-  from_giving gives (Err (ReceiveError.ConnectionFailure failure)) told = told
-
-  pub from_begin : CanBegin senders receiver channel most from → (answer : Result (Option ℕ) ReceiveError)
-      → IsNextFrom from senders receiver channel most answer → IsNextSender senders receiver channel most answer
-  from_begin begins answer told =
-      ⊎_elim (λ e. from_first answer (subst (λ n. IsNextFrom n senders receiver channel most answer) e told)) (λ gives. from_giving gives answer told) begins
 
 -- a list without elements
 pub empty_of : {X : Type 0} (xs : List X) → (0 < length xs → ⊥) → xs ≡ []

@@ -1,5 +1,5 @@
 //! What changes on either side as a port leaves.
-ghost use Rattle.std.specs.Prelude.{◌≡◌, ℕ, ◌+◌, ◌≤◌, ◌==◌, ◌&&◌, ◌<◌, IsSomeAnd, OnOk, Some, length, slice_get, slice_set, map, take, None, true};
+ghost use Rattle.std.specs.Prelude.{◌≡◌, ℕ, ◌+◌, ◌≤◌, ◌==◌, ◌&&◌, ◌<◌, IsSomeAnd, OnOk, Some, length, slice_get, slice_index_or, slice_set, [], map, take, None, true};
 ghost use Rattle.std.specs.List.{list_any};
 ghost use Rattle.rr_store.specs.Creating.{idle_left, is_idle};
 ghost use Rattle.rr_store.specs.Draining.{AreApart, AreThere, HaveQueues, SendersDrained};
@@ -64,19 +64,23 @@ impl<B: Body, N: Copy, H: Drop, P: Drop> Side<B, N, H, P> {
         false
     }
 
-    /// Drops what is queued for a receiver, one step a channel and an entry.
+    /// Drops what is queued for a receiver, one step a channel and an entry. Looks at the senders that are noted.
     #[cold]
     pub fn clear_for(&mut self, receiver: usize)
         requires { HaveQueues self.old.senders receiver }
         ensures rest { self.new ≡ record self.old { senders = self.new.senders } }
         ensures drained { SendersDrained (λ l r. r == receiver) self.old.senders self.new.senders }
     {
-        let senders = &mut self.senders;
-        for sender in 0..senders.len() {
-            if has_queued(senders.as_slice(), sender, receiver) {
-                clear_for(senders, sender, receiver);
-            }
+        for channel in 0..self.channels() {
+            self.clear_channel(receiver, channel);
         }
+    }
+
+    /// Returns on how many channels each sender has queues to each receiver.
+    fn channels(&self) -> usize
+        ensures { (l r : ℕ) → l < length self.now.senders → r < length (sender_of l self.now.senders).messages.queues → length (slice_index_or (sender_of l self.now.senders).messages.queues r []) ≡ result }
+    {
+        self.waiting.channels
     }
 
     /// Drops what is queued, for each of these receivers, of the oldest ports that left: of as many as there is no room for as one

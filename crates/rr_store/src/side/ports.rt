@@ -1,8 +1,9 @@
 //! Ports by index and by number, their creation, and those that left.
-ghost use Rattle.std.specs.Prelude.{◌≡◌, ◌≢◌, ℕ, ◌<◌, ◌==◌, ◌&&◌, [], ◌∷◌, ◌++◌, true, IfOk, IsSome, IsSomeAnd, OnErr, OnOk, Some, length, slice_get, slice_set, vec_capacity, vec_len};
+ghost use Rattle.std.specs.Prelude.{◌≡◌, ◌≢◌, ℕ, ◌<◌, ◌==◌, ◌&&◌, [], ◌∷◌, ◌++◌, true, IfOk, IsSome, IsSomeAnd, OnErr, OnOk, Some, count_by, length, replicate, slice_get, slice_set, vec_capacity, vec_len};
 ghost use Rattle.std.specs.List.{list_any, position, remove};
 ghost use Rattle.rr_table.specs.TableView.{IsRenewed, with_row};
-ghost use Rattle.rr_store.specs.Creating.{left_at, new_sender};
+ghost use Rattle.rr_store.specs.Creating.{is_between, left_at, new_sender};
+ghost use Rattle.rr_store.specs.KnownWaiting.{AreAlike, AreSentAgain};
 ghost use Rattle.rr_store.specs.Order.{IsRising};
 ghost use Rattle.rr_store.specs.Views.{sender_of};
 
@@ -33,6 +34,7 @@ impl<B: Body, N: Copy, H: Drop, P: Drop> Side<B, N, H, P> {
     }
 
     /// Returns how many senders there are: of the connected ports, and of those that left.
+    #[inline(always)]
     pub fn sender_count(&self) -> usize
         ensures { result ≡ length self.now.senders }
     {
@@ -57,16 +59,25 @@ impl<B: Body, N: Copy, H: Drop, P: Drop> Side<B, N, H, P> {
 }
 
 impl<B: Body, N: Copy, H: Drop, P: ConnectedPort> Side<B, N, H, P> {
-    /// Returns where among the ports the one with this number stands, in O(log ports). Looks at the one in the middle first.
+    /// Returns where among the ports the one with this number stands, in O(log ports). Looks at the first one, and then as far before
+    /// the last one as the number is below that one's, where it stands if all since were created one after another.
     #[inline(always)]
     pub fn index_of(&self, number: u64) -> usize
         requires rising { IsRising P.id self.now.ports }
         requires present { IsSome (position (λ p. P.id p == number) self.now.ports) }
         ensures { position (λ p. P.id p == number) self.now.ports ≡ Some result }
     {
-        let middle = self.ports.len() / 2;
-        if of_this_hub(self.ports.get(middle)).details().id == number {
-            return middle;
+        let first = of_this_hub(self.ports.get(0)).details().id;
+        if first == number {
+            return 0;
+        }
+        let most = self.ports.len().saturating_sub(1);
+        let last = of_this_hub(self.ports.get(most)).details().id;
+        let guess = most.saturating_sub(last.saturating_sub(number) as usize);
+        if let Some(port) = self.ports.get(guess) {
+            if port.details().id == number {
+                return guess;
+            }
         }
         of_this_hub(index_by_halving(self.ports.as_slice(), number))
     }
@@ -125,36 +136,60 @@ impl<B: Body, N: Copy, H: Drop, P: ConnectedPort> Side<B, N, H, P> {
         }
     }
 
-    /// Returns a receiver, of so many, that no port is.
+    /// Returns the first receiver, of so many, that no port is, in O(ports * log ports).
     pub fn free_receiver(&self, receivers: usize) -> usize
         requires { length self.now.ports < receivers }
         ensures inside { result < receivers }
         ensures vacant { (i : ℕ) (p : P) → slice_get self.now.ports i ≡ Some p → P.receiver p ≢ result }
     {
-        for receiver in 0..receivers {
-            if !is_taken(self.ports.as_slice(), receiver) {
-                return receiver;
+        let mut low = 0;
+        let mut high = self.ports.len() + 1;
+        while low + 1 < high {
+            let middle = low + (high - low) / 2;
+            if self.receivers_between(low, middle) < middle - low {
+                high = middle;
+            } else {
+                low = middle;
             }
         }
-        unreachable!()
+        low
     }
 
-    /// Adds a port, the sender from which it sends, and a row of the table for its messages. Returns `AllocError` if memory was
-    /// refused; nothing has changed then.
+    /// Returns how many ports have a receiver from one on, below another.
+    fn receivers_between(&self, low: usize, high: usize) -> usize
+        ensures { result ≡ count_by (λ p. is_between low high (P.receiver p)) self.now.ports }
+    {
+        let mut count = 0;
+        for port in self.ports.as_slice() {
+            if is_between(low, high, port.details().receiver) {
+                count += 1;
+            }
+        }
+        count
+    }
+
+    /// Adds a port, the sender from which it sends, with these queues, as all have, and a row of the table for its messages. Returns
+    /// `AllocError` if memory was refused; nothing has changed then.
     pub fn insert(
         &mut self,
         alloc: Global,
         table: &mut Table<HandleEntry>,
         port: P,
         messages: Sender<B, N, H>,
+        receivers: usize,
+        channels: usize,
         may_answer: Vec<u64>,
         row_len: usize,
     ) -> Result<(), AllocError>
+        requires unsent { messages.queues ≡ replicate receivers (replicate channels []) }
+        requires alike { AreAlike receivers channels self.old.senders }
         ensures ok { OnOk result (self.new ≡ record self.old { ports = self.old.ports ++ port ∷ []; senders = self.old.senders ++ new_sender (P.id port) (length table.old.rows) (P.receiver port) may_answer.items messages ∷ [] }) }
         ensures table { OnOk result (table.new ≡ with_row table.old row_len) }
         ensures err { OnErr result (self.new ≡ self.old) }
         ensures unchanged { OnErr result (table.new ≡ table.old) }
     {
+        let count = self.senders.len();
+        self.waiting.reserve(alloc, count, receivers, channels)?;
         let row = reserve_row(alloc, &mut self.ports, &mut self.senders, table, row_len)?;
         let details = port.details();
         self.senders.push_reserved(OwnedSender {
@@ -183,6 +218,7 @@ impl<B: Body, N: Copy, H: Drop, P: ConnectedPort> Side<B, N, H, P> {
         may_answer: Vec<u64>,
         row_len: usize,
     ) -> Result<(), AllocError>
+        requires again { AreSentAgain self.old.senders messages.queues }
         requires listed { index < length self.old.left }
         requires sender { P.sender port < length self.old.senders }
         requires row { (sender_of (P.sender port) self.old.senders).row < length table.old.rows }
@@ -258,9 +294,10 @@ fn renew_row<P: Drop>(
     table.renew_row(alloc, row, row_len, NO_HANDLE)
 }
 
-/// Returns whether a port is this receiver.
-fn is_taken<P: ConnectedPort>(ports: &[P], receiver: usize) -> bool
-    ensures { result ≡ list_any (λ p. P.receiver p == receiver) ports.now }
+/// Returns whether a number is one from another on, below a third.
+#[inline(always)]
+fn is_between(low: usize, high: usize, number: usize) -> bool
+    ensures { result ≡ is_between low high number }
 {
-    ports.iter().any(|port| port.details().receiver == receiver)
+    !(number < low) && number < high
 }

@@ -1,11 +1,12 @@
 //! Entries that wait, are looked for, taken, and dropped.
-ghost use Rattle.std.specs.Prelude.{◌≡◌, ◌+◌, ◌*◌, ◌<◌, ◌^◌, ℕ, [], Some, length, map, slice_get, slice_index, slice_index_or, not};
+ghost use Rattle.std.specs.Prelude.{◌≡◌, ◌+◌, ◌*◌, ◌<◌, ◌≤◌, ◌^◌, ◌↔◌, ℕ, [], IfSome, IsTrue, Some, length, map, slice_get, slice_index, slice_index_or, not};
 ghost use Rattle.rr_sender.specs.Senders.{uses};
 ghost use Rattle.rr_store.specs.Asked.{CanTake};
 ghost use Rattle.rr_store.specs.Delivering.{HasQueue, handed_on};
 ghost use Rattle.rr_store.specs.Ports.{server_part, sender_part};
 ghost use Rattle.rr_store.specs.Draining.{HaveQueues};
-ghost use Rattle.rr_store.specs.Receiving.{HaveChannels, IsNextFrom, queue_from};
+ghost use Rattle.rr_store.specs.KnownWaiting.{IsNextWaiting};
+ghost use Rattle.rr_store.specs.Receiving.{HaveChannels, IsNextFrom, IsNextSender, borrowed_from, queue_from};
 ghost use Rattle.rr_store.specs.Sending.{HasQueues, after_queued};
 ghost use Rattle.rr_store.specs.Sides.{with_channel_emptied, with_first_taken, with_sender, with_sent};
 ghost use Rattle.rr_store.specs.Views.{sender_of};
@@ -18,23 +19,85 @@ use rr_protocol::ReceiveError;
 use rr_slots::Body;
 
 impl<B: Body, N: Copy, H: Drop, P: Drop> Side<B, N, H, P> {
-    /// Returns whether a message is queued for a receiver on a channel. Looks at most once at each sender.
+    /// Returns whether a message is queued for a receiver on a channel. Looks at most once at each sender that is noted.
     #[inline(always)]
     pub fn is_waiting(&self, receiver: usize, channel: usize) -> bool
         requires receiver { HaveQueues self.now.senders receiver }
         requires channel { HaveChannels self.now.senders receiver channel }
         ensures { result ≡ has_entry receiver channel self.now.senders }
     {
-        for sender in &self.senders {
-            if sender.messages.has_entries(receiver, channel) {
+        let mut start = 0;
+        while let Some(sender) = self.next_waiting(receiver, channel, start) {
+            if self.has_entries(sender, receiver, channel) {
                 return true;
             }
+            start = sender + 1;
         }
         false
     }
 
+    /// Returns the first sender from one on from which something may wait for a receiver on a channel: if there are several, one that
+    /// is noted.
+    #[inline(always)]
+    pub(crate) fn next_waiting(&self, receiver: usize, channel: usize, from: usize) -> Option<usize>
+        requires receiver { HaveQueues self.now.senders receiver }
+        requires channel { HaveChannels self.now.senders receiver channel }
+        ensures next { IsNextWaiting self.now.senders receiver channel from result }
+        ensures fits { IfSome result (λ sender. sender + 1 < 2 ^ 64) }
+    {
+        let count = self.senders.len();
+        if 1 < count {
+            return self.next_noted(receiver, channel, from);
+        }
+        if from < count { Some(from) } else { None }
+    }
+
+    /// Returns the first sender from one on, of several, that is noted for a receiver on a channel.
+    #[cold]
+    fn next_noted(&self, receiver: usize, channel: usize, from: usize) -> Option<usize>
+        requires several { 1 < length self.now.senders }
+        requires receiver { HaveQueues self.now.senders receiver }
+        requires channel { HaveChannels self.now.senders receiver channel }
+        ensures next { IsNextWaiting self.now.senders receiver channel from result }
+        ensures fits { IfSome result (λ sender. sender + 1 < 2 ^ 64) }
+    {
+        self.waiting.next_from(receiver, channel, from)
+    }
+
+    /// Returns whether no sender is there from which something may wait for a receiver on a channel: nothing waits then. Looks once.
+    #[inline(always)]
+    pub fn is_idle(&self, receiver: usize, channel: usize) -> bool
+        requires receiver { HaveQueues self.now.senders receiver }
+        requires channel { HaveChannels self.now.senders receiver channel }
+        ensures { IsTrue result → (sender : ℕ) → sender < length self.now.senders → queue_from self.now.senders receiver channel sender ≡ [] }
+    {
+        1 < self.senders.len() && self.waiting.is_empty(receiver, channel)
+    }
+
+    /// Returns whether a sender has something queued for a receiver on a channel.
+    #[inline(always)]
+    pub(crate) fn has_entries(&self, sender: usize, receiver: usize, channel: usize) -> bool
+        requires sender { sender < length self.now.senders }
+        requires receiver { HaveQueues self.now.senders receiver }
+        requires channel { HaveChannels self.now.senders receiver channel }
+        ensures { IsTrue result ↔ (0 < length (queue_from self.now.senders receiver channel sender)) }
+    {
+        self.senders[sender].messages.has_entries(receiver, channel)
+    }
+
+    /// Returns how many a receiver has from a sender on a channel.
+    #[inline(always)]
+    pub(crate) fn borrowed(&self, sender: usize, receiver: usize, channel: usize) -> usize
+        requires sender { sender < length self.now.senders }
+        requires receiver { HaveQueues self.now.senders receiver }
+        requires channel { HaveChannels self.now.senders receiver channel }
+        ensures { result ≡ borrowed_from self.now.senders receiver channel sender }
+    {
+        self.senders[sender].messages.borrowed(receiver, channel)
+    }
+
     /// Returns from which sender, of those from one on, a receiver takes next on a channel, of which it may have `most` from each.
-    /// Returns `None` if those have no message queued.
+    /// Returns `None` if those have no message queued. Looks at those that are noted.
     ///
     /// # Errors
     ///
@@ -52,19 +115,47 @@ impl<B: Body, N: Copy, H: Drop, P: Drop> Side<B, N, H, P> {
         ensures { IsNextFrom from self.now.senders receiver channel most result }
     {
         let mut is_at_limit = false;
-        let senders = &self.senders;
-        for sender in from..senders.len() {
-            if senders[sender].messages.has_entries(receiver, channel) {
-                if senders[sender].messages.borrowed(receiver, channel) < most {
+        let mut start = from;
+        while let Some(sender) = self.next_waiting(receiver, channel, start) {
+            if self.has_entries(sender, receiver, channel) {
+                if self.borrowed(sender, receiver, channel) < most {
                     return Ok(Some(sender));
                 }
                 is_at_limit = true;
             }
+            start = sender + 1;
         }
         if is_at_limit {
             return Err(ReceiveError::ExceedsMaxBorrows);
         }
         Ok(None)
+    }
+
+    /// Returns whether a receiver takes next from the only sender on a channel, of which it may have `most`: from sender 0. Returns
+    /// `None` if it has no message queued, or there is no sender.
+    ///
+    /// # Errors
+    ///
+    /// - `ExceedsMaxBorrows` if a message is queued where the receiver has so many.
+    #[inline(always)]
+    pub fn only_sender(
+        &self,
+        receiver: usize,
+        channel: usize,
+        most: usize,
+    ) -> Result<Option<usize>, ReceiveError>
+        requires only { length self.now.senders ≤ 1 }
+        requires receiver { HaveQueues self.now.senders receiver }
+        requires channel { HaveChannels self.now.senders receiver channel }
+        ensures { IsNextSender self.now.senders receiver channel most result }
+    {
+        if self.sender_count() == 0 || !self.has_entries(0, receiver, channel) {
+            return Ok(None);
+        }
+        if self.borrowed(0, receiver, channel) < most {
+            return Ok(Some(0));
+        }
+        Err(ReceiveError::ExceedsMaxBorrows)
     }
 
     /// Takes the oldest entry out of a queue, and returns its slot.
@@ -75,20 +166,99 @@ impl<B: Body, N: Copy, H: Drop, P: Drop> Side<B, N, H, P> {
         ensures within { result < length (sender_of sender self.old.senders).messages.held }
         ensures taken { self.new ≡ with_first_taken self.old sender receiver channel result }
     {
+        let slot = self.take_first(sender, receiver, channel);
+        self.forget_if_empty(sender, receiver, channel);
+        slot
+    }
+
+    /// Takes the oldest entry out of a queue. Its sender stays noted.
+    #[inline(always)]
+    fn take_first(&mut self, sender: usize, receiver: usize, channel: usize) -> usize
+        requires { CanTake self.old.senders sender receiver channel }
+        ensures first { slice_get (queue_from self.old.senders receiver channel sender) 0 ≡ Some result }
+        ensures within { result < length (sender_of sender self.old.senders).messages.held }
+        ensures taken { self.new ≡ with_first_taken self.old sender receiver channel result }
+    {
         self.senders[sender].messages.take(receiver, channel)
     }
 
-    /// Drops what is queued for a receiver on a channel.
+    /// Notes a sender no more from which nothing waits for a receiver on a channel. With one sender nothing is noted.
+    #[inline(always)]
+    pub(crate) fn forget_if_empty(&mut self, sender: usize, receiver: usize, channel: usize)
+        requires sender { sender < length self.old.senders }
+        requires receiver { receiver < length (sender_of sender self.old.senders).messages.queues }
+        requires channel { channel < length (slice_index_or (sender_of sender self.old.senders).messages.queues receiver []) }
+        ensures { self.new ≡ self.old }
+    {
+        if 1 < self.senders.len() {
+            self.forget_empty(sender, receiver, channel);
+        }
+    }
+
+    /// Notes one of several senders no more from which nothing waits for a receiver on a channel.
+    #[cold]
+    fn forget_empty(&mut self, sender: usize, receiver: usize, channel: usize)
+        requires several { 1 < length self.old.senders }
+        requires sender { sender < length self.old.senders }
+        requires receiver { receiver < length (sender_of sender self.old.senders).messages.queues }
+        requires channel { channel < length (slice_index_or (sender_of sender self.old.senders).messages.queues receiver []) }
+        ensures { self.new ≡ self.old }
+    {
+        if !self.senders[sender].messages.has_entries(receiver, channel) {
+            self.waiting.forget(receiver, channel, sender);
+        }
+    }
+
+    /// Drops what is queued for a receiver on a channel. Looks at the senders that are noted.
     #[inline(always)]
     pub fn clear_channel(&mut self, receiver: usize, channel: usize)
         requires receiver { HaveQueues self.old.senders receiver }
         requires channel { HaveChannels self.old.senders receiver channel }
         ensures { self.new ≡ with_channel_emptied self.old receiver channel }
     {
-        let senders = &mut self.senders;
-        for sender in 0..senders.len() {
-            senders[sender].messages.clear_queue(receiver, channel);
+        let count = self.sender_count();
+        if 1 < count {
+            self.clear_noted(receiver, channel);
+        } else if count == 1 {
+            self.drop_queue(0, receiver, channel);
         }
+    }
+
+    /// Drops what is queued for a receiver on a channel, where there are several senders. Looks at those that are noted.
+    #[cold]
+    fn clear_noted(&mut self, receiver: usize, channel: usize)
+        requires receiver { HaveQueues self.old.senders receiver }
+        requires channel { HaveChannels self.old.senders receiver channel }
+        ensures { self.new ≡ with_channel_emptied self.old receiver channel }
+    {
+        let mut start = 0;
+        while let Some(sender) = self.next_waiting(receiver, channel, start) {
+            self.clear_queue(sender, receiver, channel);
+            start = sender + 1;
+        }
+    }
+
+    /// Drops what is queued from a sender for a receiver on a channel, and notes the sender no more.
+    #[inline(always)]
+    fn clear_queue(&mut self, sender: usize, receiver: usize, channel: usize)
+        requires sender { sender < length self.old.senders }
+        requires receiver { receiver < length (sender_of sender self.old.senders).messages.queues }
+        requires channel { channel < length (slice_index_or (sender_of sender self.old.senders).messages.queues receiver []) }
+        ensures { self.new ≡ with_sender self.old sender (channel_cleared receiver channel) }
+    {
+        self.drop_queue(sender, receiver, channel);
+        self.forget_if_empty(sender, receiver, channel);
+    }
+
+    /// Drops what is queued from a sender for a receiver on a channel. The sender stays noted.
+    #[inline(always)]
+    fn drop_queue(&mut self, sender: usize, receiver: usize, channel: usize)
+        requires sender { sender < length self.old.senders }
+        requires receiver { receiver < length (sender_of sender self.old.senders).messages.queues }
+        requires channel { channel < length (slice_index_or (sender_of sender self.old.senders).messages.queues receiver []) }
+        ensures { self.new ≡ with_sender self.old sender (channel_cleared receiver channel) }
+    {
+        self.senders[sender].messages.clear_queue(receiver, channel);
     }
 
     /// Puts a slot into the queue to each server, but for queues that are full and may not overflow, and notes that each of the
@@ -113,6 +283,8 @@ impl<B: Body, N: Copy, H: Drop, P: Drop> Side<B, N, H, P> {
             owned.messages.put(server.port.receiver, 0, slot, overflow);
             owned.may_answer[slot * receivers + server.port.receiver] = server.port.id;
         }
+        let count = self.senders.len();
+        self.waiting.note_each(count, servers, sender);
     }
 
     /// Makes a handle's hold of a slot the hold of an entry in the queue to the receiver that is reached. Gives it back if none is
@@ -135,6 +307,8 @@ impl<B: Body, N: Copy, H: Drop, P: Drop> Side<B, N, H, P> {
             Some(receiver) => {
                 let messages = &mut self.senders[sender].messages;
                 messages.hand_over(receiver, channel, slot, overflow);
+                let count = self.senders.len();
+                self.waiting.note_among(count, receiver, channel, sender);
             }
             None => self.senders[sender].messages.give_back(slot),
         }

@@ -1,10 +1,10 @@
 //! Requests that nobody waits for, which a receive drops.
-ghost use Rattle.std.specs.Prelude.{◌≡◌, ◌<◌, ◌↔◌, ℕ, [], Some, map, length, slice_index_or, IsTrue};
+ghost use Rattle.std.specs.Prelude.{◌≡◌, ◌<◌, ◌≤◌, ◌↔◌, ℕ, [], Some, map, length, slice_index_or, IsTrue};
 ghost use Rattle.rr_sender.specs.Senders.{queue_at};
 ghost use Rattle.rr_store.specs.Ports.{sender_part};
 ghost use Rattle.rr_store.specs.Draining.{HaveQueues};
-ghost use Rattle.rr_store.specs.Receiving.{HaveChannels, IsNextFrom};
-ghost use Rattle.rr_store.specs.Skimming.{IsFrontAlive, IsSkimmedTo, SkimsSender, is_waited};
+ghost use Rattle.rr_store.specs.Receiving.{HaveChannels, IsNextFrom, IsNextSender};
+ghost use Rattle.rr_store.specs.Skimming.{IsFrontAlive, IsSkimmedTo, QueueSkimmed, SkimsSender, is_waited};
 
 use crate::side::Side;
 use crate::{HandleEntry, OwnedSender, RequestDetails};
@@ -14,8 +14,8 @@ use rr_table::{Place, Table};
 
 impl<B: Body, H: Drop, P: Drop> Side<B, RequestDetails, H, P> {
     /// Returns from which sender, of those from one on, a receiver takes its next request, of which it may have `most` from each.
-    /// Drops the requests that nobody waits for from the fronts of the queues that it looks at, where the receiver may have one
-    /// more. Returns `None` if those senders have no request queued then.
+    /// Looks at the senders that are noted. Drops the requests that nobody waits for from the fronts of the queues that it looks at,
+    /// where the receiver may have one more. Returns `None` if those senders have no request queued then.
     ///
     /// # Errors
     ///
@@ -35,20 +35,83 @@ impl<B: Body, H: Drop, P: Drop> Side<B, RequestDetails, H, P> {
         ensures next { IsNextFrom from self.new.senders receiver 0 most result }
     {
         let mut is_at_limit = false;
-        let senders = &mut self.senders;
-        for sender in from..senders.len() {
-            if senders[sender].messages.borrowed(receiver, 0) < most {
-                if skim_sender(&mut senders[sender], table, receiver) {
+        let mut start = from;
+        while let Some(sender) = self.next_waiting(receiver, 0, start) {
+            if self.borrowed(sender, receiver, 0) < most {
+                if self.skim_queue(table, sender, receiver) {
                     return Ok(Some(sender));
                 }
-            } else if senders[sender].messages.has_entries(receiver, 0) {
+            } else if self.has_entries(sender, receiver, 0) {
                 is_at_limit = true;
             }
+            start = sender + 1;
         }
         if is_at_limit {
             return Err(ReceiveError::ExceedsMaxBorrows);
         }
         Ok(None)
+    }
+
+    /// The same, where there is one sender at most, which is looked at.
+    ///
+    /// # Errors
+    ///
+    /// - `ExceedsMaxBorrows` if a request is queued where the receiver has so many.
+    #[inline(always)]
+    pub fn skim_only(
+        &mut self,
+        table: &Table<HandleEntry>,
+        receiver: usize,
+        most: usize,
+    ) -> Result<Option<usize>, ReceiveError>
+        requires only { length self.old.senders ≤ 1 }
+        requires receiver { HaveQueues self.old.senders receiver }
+        requires channel { HaveChannels self.old.senders receiver 0 }
+        ensures rest { self.new ≡ record self.old { senders = self.new.senders } }
+        ensures skimmed { IsSkimmedTo table.now receiver most self.old.senders self.new.senders result }
+        ensures next { IsNextSender self.new.senders receiver 0 most result }
+    {
+        if self.sender_count() == 0 {
+            return Ok(None);
+        }
+        if self.borrowed(0, receiver, 0) < most {
+            if self.skim_front(table, 0, receiver) {
+                return Ok(Some(0));
+            }
+            return Ok(None);
+        }
+        if self.has_entries(0, receiver, 0) {
+            return Err(ReceiveError::ExceedsMaxBorrows);
+        }
+        Ok(None)
+    }
+
+    /// Drops the requests that nobody waits for from the front of a sender's queue. Returns whether a request remains, and notes the
+    /// sender no more if none does.
+    #[inline(always)]
+    fn skim_queue(&mut self, table: &Table<HandleEntry>, sender: usize, receiver: usize) -> bool
+        requires sender { sender < length self.old.senders }
+        requires receiver { HaveQueues self.old.senders receiver }
+        requires channel { HaveChannels self.old.senders receiver 0 }
+        ensures { QueueSkimmed table.now receiver sender self.old self.new result }
+    {
+        let remaining = self.skim_front(table, sender, receiver);
+        if !remaining {
+            self.forget_if_empty(sender, receiver, 0);
+        }
+        remaining
+    }
+
+    /// Drops the requests that nobody waits for from the front of a sender's queue, which stays noted. Returns whether a request
+    /// remains.
+    #[inline(always)]
+    fn skim_front(&mut self, table: &Table<HandleEntry>, sender: usize, receiver: usize) -> bool
+        requires sender { sender < length self.old.senders }
+        requires receiver { HaveQueues self.old.senders receiver }
+        requires channel { HaveChannels self.old.senders receiver 0 }
+        ensures { QueueSkimmed table.now receiver sender self.old self.new result }
+    {
+        skim_sender(&mut self.senders[sender], table, receiver)
     }
 }
 

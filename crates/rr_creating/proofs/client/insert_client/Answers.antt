@@ -3,6 +3,7 @@ use Rattle.rr_store.specs.Parts.{ClientPart, Parts}
 use Rattle.rr_store.specs.Opened.{opened}
 use Rattle.rr_store.specs.Ports.{client_part}
 use Rattle.rr_store.proofs.base.lists.Seen.{seen_vacant}
+use Rattle.rr_creating.proofs.steps.Alike.{shaped_again, shaped_alike}
 use Rattle.rr_creating.proofs.steps.Client.{left_asked, core_again, core_then, ok_again, ok_then}
 use Rattle.rr_creating.proofs.steps.Rooms.{as_many, one_more, then_ok}
 use Rattle.rr_creating.proofs.client.insert_client.Goals as goal
@@ -63,3 +64,17 @@ returns-in-None-clause-senders g c =
     then_ok c.append_client.result
     (λ added. ap (λ (q : Parts _ _ _ _ _). length q.client_senders) added
     ∙ one_more p.client_senders p.left_clients _ c.in-None.ensures) c.append_client.ensures.ok
+
+pub append_client-requires-clause-unsent : goal.append_client-requires-clause-unsent
+append_client-requires-clause-unsent g c = c.in_ok-client.ensures.messages.queues
+
+pub append_client-requires-clause-alike : goal.append_client-requires-clause-alike
+append_client-requires-clause-alike g c =
+    let l = c.args.store.now.limits in
+    shaped_alike c.args.store.now.clients.senders l.max_servers 1 l.max_active_requests_per_client c.requires.core.sound.sized.client_senders
+
+pub append_client_again-requires-clause-again : goal.append_client_again-requires-clause-again
+append_client_again-requires-clause-again g c =
+    let l = c.args.store.now.limits in
+    shaped_again c.args.store.now.clients.senders l.max_servers 1 l.max_active_requests_per_client c.requires.core.sound.sized.client_senders _ _ _ _
+    c.in_ok-client.ensures.messages

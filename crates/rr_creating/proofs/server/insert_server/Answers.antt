@@ -3,6 +3,8 @@ use Rattle.rr_store.specs.Parts.{ServerPart, Parts}
 use Rattle.rr_store.specs.Opened.{opened}
 use Rattle.rr_store.specs.Ports.{server_part}
 use Rattle.rr_store.proofs.base.lists.Seen.{seen_vacant}
+use Rattle.rr_protocol.specs.Limits.{worst_case_requests}
+use Rattle.rr_creating.proofs.steps.Alike.{shaped_again, shaped_alike}
 use Rattle.rr_creating.proofs.steps.Server.{next_asked, clients_asked, hub_asked, counts_asked, loans_asked, left_asked, core_again, core_then, ok_again, ok_then}
 use Rattle.rr_creating.proofs.steps.Rooms.{as_many, one_more, then_ok}
 use Rattle.rr_creating.proofs.server.insert_server.Goals as goal
@@ -94,3 +96,21 @@ returns-in-None-clause-senders g c =
     then_ok c.append_server.result
     (λ added. ap (λ (q : Parts _ _ _ _ _). length q.server_senders) added
     ∙ one_more p.server_senders p.left_servers _ c.in-None.ensures) c.append_server.ensures.ok
+
+pub append_server-requires-clause-hub : goal.append_server-requires-clause-hub
+append_server-requires-clause-hub g c = c.requires.core.sound.sized.limits_fit
+
+pub append_server-requires-clause-unsent : goal.append_server-requires-clause-unsent
+append_server-requires-clause-unsent g c = c.in_ok-messages.ensures.queues
+
+pub append_server-requires-clause-alike : goal.append_server-requires-clause-alike
+append_server-requires-clause-alike g c =
+    let l = c.args.store.now.limits in
+    shaped_alike c.args.store.now.servers.senders l.max_clients (worst_case_requests l) l.max_response_buffer_size
+    c.requires.core.sound.sized.server_senders
+
+pub append_server_again-requires-clause-again : goal.append_server_again-requires-clause-again
+append_server_again-requires-clause-again g c =
+    let l = c.args.store.now.limits in
+    shaped_again c.args.store.now.servers.senders l.max_clients (worst_case_requests l) l.max_response_buffer_size
+    c.requires.core.sound.sized.server_senders _ _ _ _ c.in_ok-messages.ensures

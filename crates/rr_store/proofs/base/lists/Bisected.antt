@@ -1,9 +1,9 @@
 -- What a bisection of a list whose numbers rise leaves to look at.
-use Rattle.std.proofs.Common.{◌≡◌, ◌<◌, ◌≤◌, ◌+◌, ℕ, List, Option, None, Some, length, get_or, refl, sym, ap, ◌∙◌, ⊎_elim, arith}
+use Rattle.std.proofs.Common.{◌≡◌, ◌⊎◌, ◌<◌, ◌≤◌, ◌+◌, ◌-◌, ℕ, zero, suc, List, Option, None, Some, length, get_or, refl, sym, ap, ◌∙◌, ⊎_elim, arith}
 use Rattle.std.specs.Prelude.{◌==◌, slice_get}
 use Rattle.std.specs.List.{position}
 use Rattle.std.proofs.lemmas.Bool.{cases_lt, eq-eqb, eqb-true}
-use Rattle.std.proofs.lemmas.Option.{slice_get-get_or}
+use Rattle.std.proofs.lemmas.Option.{slice_get-get_or, slice_get_within}
 use Rattle.rr_store.specs.Order.{IsRising}
 use Rattle.rr_store.proofs.base.lists.Replaced.{standing}
 use Rattle.rr_store.proofs.base.lists.Rising.{rising_once}
@@ -16,6 +16,31 @@ pub record IsBetween {X : Type 0} (read : X → ℕ) (xs : List X) (n low high :
   pub above : (i : ℕ) (x : X) → slice_get xs i ≡ Some x → high ≤ i → n < read x
 
 module _ {X : Type 0} (read : X → ℕ) (xs : List X) (n : ℕ) where
+  -- numbers that rise are as far apart at least as their places
+  apart : IsRising read xs → (d i : ℕ) (x y : X) → slice_get xs i ≡ Some x → slice_get xs (i + d) ≡ Some y → read x + d ≤ read y
+  apart rising zero i x y at there =
+      let f : Some x ≡ Some y = sym at ∙ ap (slice_get xs) (let e : i ≡ i + 0 = omega arith in e) ∙ there in
+      let is : x ≡ y = cc in
+      omega (arith, ap read is)
+  apart rising (suc d) i x y at there =
+      let z = get_or xs (i + d) x in
+      let between = slice_get-get_or xs (i + d) x (omega (arith, slice_get_within xs (i + suc d) y there)) in
+      omega (arith, apart rising d i x z at between, rising (i + d) (i + suc d) z y between there (omega arith))
+
+  -- so the first and the last one say where a number may stand
+  pub between_start : IsRising read xs → (most : ℕ) → length xs ≡ most + 1 → (first last : X) → slice_get xs 0 ≡ Some first
+      → slice_get xs most ≡ Some last → (high : ℕ) → high ≤ most + 1 → (n - read first < high) ⊎ (high ≡ most + 1)
+      → IsBetween read xs n (most - (read last - n)) high
+  between_start rising most many first last at_first at_last high fits wide = record {
+    inside = omega (arith, many, fits);
+    below = λ i x at h. let step = apart rising (most - i) i x last at
+        (ap (slice_get xs) (let e : i + (most - i) ≡ most = omega (arith, h) in e) ∙ at_last) in omega (arith, step, h);
+    above = λ i x at h.
+        let step = apart rising i 0 first x at_first (ap (slice_get xs) (let e : 0 + i ≡ i = omega arith in e) ∙ at) in
+        let there = slice_get_within xs i x at in
+        ⊎_elim (λ w. omega (arith, step, h, w)) (λ w. absurd (omega (arith, h, w, there, many))) wide;
+  }
+
   -- nothing is left
   pub between_none : (low high : ℕ) → IsBetween read xs n low high → high ≤ low → position (λ x. read x == n) xs ≡ None
   between_none low high between done = go (position (λ x. read x == n) xs) refl

@@ -1,8 +1,9 @@
 -- Requests that nobody waits for leave the fronts of queues.
-use Rattle.std.proofs.Common.{zero, suc, ◌≡◌, ◌<◌, ◌+◌, ℕ, Bool, true, false, List, [], ◌∷◌, ◌++◌, Option, None, Some, Ok, length, refl, sym, ap, ◌∙◌, subst, ⊎_elim, arith}
+use Rattle.std.proofs.Common.{zero, suc, ◌≡◌, ◌<◌, ◌+◌, ℕ, Bool, true, false, List, [], ◌∷◌, ◌++◌, Option, None, Some, Ok, length, refl, sym, ap, ◌∙◌, subst, ⊎_elim, length-drop, arith}
 use Rattle.std.specs.Prelude.{IfSome, Result, drop, slice_get, slice_set, slice_index_or}
-use Rattle.std.proofs.lemmas.Bool.{cases_eq, false≢true}
+use Rattle.std.proofs.lemmas.Bool.{cases_eq}
 use Rattle.std.proofs.lemmas.List.{get_or-set_same, get_or-set_other, set-get_or, length-set}
+use Rattle.std.proofs.lemmas.Option.{slice_get_within}
 use Rattle.rr_table.specs.TableView.{TableView}
 use Rattle.rr_protocol.specs.declared.error.ReceiveError.{ReceiveError}
 use Rattle.rr_sender.specs.Senders.{at_two, queue_at, borrowed_at}
@@ -10,10 +11,13 @@ use Rattle.rr_sender.proofs.EntryLaws.{length-set_two}
 use Rattle.rr_store.specs.declared.handle_entry.HandleEntry.{HandleEntry}
 use Rattle.rr_store.specs.declared.details.RequestDetails.{RequestDetails}
 use Rattle.rr_store.specs.Parts.{Sender}
-use Rattle.rr_store.specs.Receiving.{borrowed_from, queue_from, IsLookedThrough, IsNextFrom, IsNextSender, Reaches}
-use Rattle.rr_store.specs.Skimming.{is_waited, first_skimmed, SkimsSender, IsFrontAlive, SkimsSenders, IsSkimmed, IsSkimmedTo}
+use Rattle.rr_store.specs.Receiving.{borrowed_from, queue_from, IsLookedThrough, IsNextFrom, Reaches}
+use Rattle.rr_store.specs.Skimming.{is_waited, first_skimmed, SkimsSender, IsFrontAlive, SkimsSenders, IsSkimmed, IsSkimmedTo, QueueSkimmed}
+use Rattle.rr_store.specs.Sides.{SideParts}
 use Rattle.rr_store.specs.Views.{sender_of, no_sender}
 use Rattle.rr_store.proofs.base.lists.SetTwo.{row_length}
+use Rattle.rr_store.proofs.base.senders.Fewer.{IsFewer, fewer_same, fewer_set, fewer_twice}
+use Rattle.rr_store.proofs.base.senders.Noted.{queue_inside}
 use Rattle.rr_store.proofs.receiving.NextSender.{looked_at_empty, empty_of}
 
 -- an element that is set twice
@@ -39,6 +43,16 @@ module _ {T H : Type 0} (table : TableView HandleEntry) (receiver : ℕ) where
         borrowed = r.borrowed;
       }
 
+  -- no queue has an entry that had none
+  pub skims_fewer : (n : ℕ) (a b : Sender T RequestDetails H) → SkimsSender table receiver n a b → IsFewer a.messages.queues b.messages.queues
+  skims_fewer zero a b e = subst (λ (s : Sender T RequestDetails H). IsFewer a.messages.queues s.messages.queues) (sym e) (fewer_same a.messages.queues)
+  skims_fewer (suc n) a b (slot, f, d, more) =
+      let inside = queue_inside a.messages.queues receiver 0 (slice_get_within (queue_at a.messages receiver 0) 0 slot f) in
+      fewer_twice a.messages.queues (first_skimmed receiver a).messages.queues b.messages.queues
+      (fewer_set a.messages.queues receiver 0 (drop 1 (queue_at a.messages receiver 0)) inside.0 inside.1
+      (omega (arith, length-drop 1 (queue_at a.messages receiver 0))))
+      (skims_fewer n (first_skimmed receiver a) b more)
+
   -- the queue is there
   pub skim_reach : (n : ℕ) (a b : Sender T RequestDetails H) → SkimsSender table receiver n a b → receiver < length a.messages.queues
       → 0 < length (slice_index_or a.messages.queues receiver [])
@@ -46,6 +60,17 @@ module _ {T H : Type 0} (table : TableView HandleEntry) (receiver : ℕ) where
   skim_reach n a b steps there some =
       let alike = skim_alike n a b steps in
       (omega (arith, there, alike.rows), omega (arith, some, alike.row))
+
+  -- also that of a side's sender
+  pub skimmed_reach : {P : Type 0} (sender : ℕ) (old new : SideParts T RequestDetails H P) (b : Bool) → QueueSkimmed table receiver sender old new b
+      → sender < length old.senders → receiver < length (sender_of sender old.senders).messages.queues
+      → 0 < length (slice_index_or (sender_of sender old.senders).messages.queues receiver [])
+      → (receiver < length (sender_of sender new.senders).messages.queues)
+      × (0 < length (slice_index_or (sender_of sender new.senders).messages.queues receiver []))
+  skimmed_reach sender old new b q there row column =
+      subst (λ (s : Sender T RequestDetails H). (receiver < length s.messages.queues) × (0 < length (slice_index_or s.messages.queues receiver [])))
+      (sym (ap (λ (s : SideParts T RequestDetails H _). sender_of sender s.senders) q.is ∙ get_or-set_same old.senders sender q.it no_sender there))
+      (skim_reach q.steps (sender_of sender old.senders) q.it q.skims row column)
 
   -- one more leaves it
   pub skim_more : (n : ℕ) (a b : Sender T RequestDetails H) → SkimsSender table receiver n a b → (slot : ℕ)
@@ -106,27 +131,6 @@ module _ {T H : Type 0} (table : TableView HandleEntry) (receiver : ℕ) where
         → IsSkimmedTo table receiver most b c told → IsSkimmedTo table receiver most a c told
     skimmed_then a b c told before after = record { skimmed = skimmed_twice a b c before after.skimmed; front = after.front }
 
-    -- a sender whose first request somebody waits for passes a skim
-    skims_pass : (ls : List ℕ) (a b : List (Sender T RequestDetails H)) → SkimsSenders table receiver most ls a b → (n : ℕ)
-        → IsFrontAlive table receiver (sender_of n a) → sender_of n b ≡ sender_of n a
-    skims_pass [] a b e n alive = ap (sender_of n) e
-    skims_pass (l ∷ ls) a b (slot, there, few, first, dead, more) n alive =
-        let y = first_skimmed receiver (sender_of l a) in
-        let same : sender_of n (slice_set a l y) ≡ sender_of n a =
-        get_or-set_other a l n y no_sender (λ e. false≢true (sym dead
-        ∙ subst (λ o. IfSome o (λ s. is_waited table (sender_of l a) s ≡ true)) first (subst (λ k. IsFrontAlive table receiver (sender_of k a)) e alive))) in
-        skims_pass ls (slice_set a l y) b more n (subst (IsFrontAlive table receiver) (sym same) alive) ∙ same
-
-    -- and still gives something
-    pub still_gives : (a b : List (Sender T RequestDetails H)) → IsSkimmed table receiver most a b → (n : ℕ)
-        → IsFrontAlive table receiver (sender_of n a) → IsNextSender a receiver 0 most (Ok (Some n)) → IsNextSender b receiver 0 most (Ok (Some n))
-    still_gives a b so n alive gives =
-        let same = skims_pass so.senders a b so.steps n alive in (
-          omega (arith, gives.0, so.many),
-          subst (λ (x : Sender T RequestDetails H). 0 < length (queue_at x.messages receiver 0)) (sym same) gives.1,
-          subst (λ (x : Sender T RequestDetails H). borrowed_at x.messages receiver 0 < most) (sym same) gives.2,
-        )
-
     -- one sender was skimmed
     pub skimmed_sender : (n : ℕ) (a b : List (Sender T RequestDetails H)) → IsSkimmed table receiver most a b → n < length b
         → borrowed_from b receiver 0 n < most
@@ -172,6 +176,10 @@ no_front (x ∷ xs) e h = let f : Some x ≡ None = e in cc
 -- a sender is told once
 told_is : (n m : ℕ) → (let told : ℕ → Result (Option ℕ) ReceiveError = λ l. Ok (Some l) in told n ≡ told m) → n ≡ m
 told_is n m e = cc
+
+-- none is told
+none_told : (n : ℕ) → (let told : Option ℕ → Result (Option ℕ) ReceiveError = λ o. Ok o in told None ≡ told (Some n)) → ⊥
+none_told n e = cc
 
 -- a sender that is not looked through yet changes, and those before it stay
 pub looked_apart : {T N H : Type 0} (senders : List (Sender T N H)) (receiver channel most from n : ℕ) (x : Sender T N H) (b : Bool)
@@ -230,3 +238,7 @@ module _ {T H : Type 0} (table : TableView HandleEntry) (receiver most from n : 
     skimmed = skimmed_here;
     front = λ sender e. subst (IsFrontAlive table receiver) (sym (ap (λ l. sender_of l (slice_set now n x)) (sym (told_is n sender e)) ∙ here)) alive;
   }
+
+  -- or has nothing then
+  pub skimmed_empty : IsSkimmedTo table receiver most old (slice_set now n x) (Ok None)
+  skimmed_empty = record { skimmed = skimmed_here; front = λ sender e. absurd (none_told sender e) }

@@ -145,7 +145,7 @@ module _ {T N H : Type 0} (senders : List (Sender T N H)) (receivers channels ca
 -- senders are emptied one after another
 module _ {T N H : Type 0} (receiver channel : ℕ) (senders : List (Sender T N H)) where
   -- the sender at an index
-  dropped_at : (all : List (Sender T N H)) (l : ℕ) → sender_of l (map (channel_cleared receiver channel) all)
+  pub dropped_at : (all : List (Sender T N H)) (l : ℕ) → sender_of l (map (channel_cleared receiver channel) all)
       ≡ channel_cleared receiver channel (sender_of l all)
   dropped_at [] l = refl
   dropped_at (x ∷ all) zero = refl

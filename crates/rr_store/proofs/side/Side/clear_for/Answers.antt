@@ -1,73 +1,37 @@
-use Rattle.std.proofs.Common.{◌<◌, ◌+◌, length, map, refl, sym, ap, ◌∙◌, subst, arith}
-use Rattle.rr_store.specs.Draining.{HaveQueues}
-use Rattle.rr_store.specs.Leaving.{has_queued}
-use Rattle.rr_store.specs.Ports.{sender_part}
-use Rattle.rr_store.specs.Views.{sender_of}
-use Rattle.rr_store.proofs.base.senders.Stored.{in_senders, past_senders}
-use Rattle.rr_store.proofs.base.lookups.Asking.{senders_many}
-use Rattle.rr_store.proofs.leaving.Expiring.{IsClearedBelow, cleared_all, cleared_more, cleared_past, cleared_start}
+use Rattle.std.proofs.Common.{map, refl, ap, arith}
+use Rattle.rr_store.specs.Clearing.{channel_cleared}
+use Rattle.rr_store.specs.Sides.{SideParts}
+use Rattle.rr_store.proofs.leaving.Channels.{channels_still, drained_for, drained_next, drained_start, queues_still}
 use Rattle.rr_store.proofs.side.Side.clear_for.Goals as goal
-use Rattle.rr_store.proofs.side.Side.clear_for.Goals.{In-loop-sender, then-has_queued, else-has_queued}
 
--- the sender whose turn it is was there
-was : (g : _) (c : In-loop-sender g) → c.loop-sender.sender < length (map sender_part c.self.inside.senders.items)
-was g c =
-    in_senders c.self.inside.senders.items c.loop-sender-test.true c.len-sender-end.ensures c.self.inside.senders.ok.0
+pub loop-channel-init : goal.loop-channel-init
+loop-channel-init g c = (drained_start c.args.receiver c.args.self.now.senders, refl)
 
--- it is there
-there : (g : _) (c : In-loop-sender g) → c.loop-sender.sender < length c.loop-sender.senders.items
-there g c = senders_many c.loop-sender.senders.items _ (omega (arith, was g c, c.loop-sender.invariant.drained.many))
+pub clear_channel-requires-clause-receiver : goal.clear_channel-requires-clause-receiver
+clear_channel-requires-clause-receiver g c =
+    queues_still c.args.receiver c.args.self.now.senders c.loop-channel.self.senders c.loop-channel.channel c.loop-channel.invariant.0 c.requires
 
--- and has its queues
-queues : (g : _) (c : In-loop-sender g)
-    → c.args.receiver < length (sender_of c.loop-sender.sender (map sender_part c.loop-sender.senders.items)).messages.queues
-queues g c =
-    let asked : HaveQueues (map sender_part c.self.inside.senders.items) c.args.receiver = rw (← c.self.view_is) at c.requires in
-    omega (
-      arith,
-      asked c.loop-sender.sender (was g c),
-      (c.loop-sender.invariant.drained.each c.loop-sender.sender).messages.receivers,
+pub clear_channel-requires-clause-channel : goal.clear_channel-requires-clause-channel
+clear_channel-requires-clause-channel g c =
+    channels_still c.args.receiver c.args.self.now.senders c.loop-channel.self.senders c.loop-channel.channel c.loop-channel.invariant.0 c.requires
+    c.channels-channel-end.result c.channels-channel-end.ensures c.loop-channel-test.true
+
+pub loop-channel-preserved : goal.loop-channel-preserved
+loop-channel-preserved g c =
+    let before = c.args.self.now.senders in
+    let now = c.loop-channel.self.senders in
+    let n = c.loop-channel.channel in
+    let so = c.loop-channel.invariant in
+    rw c.clear_channel.ensures (
+      drained_next c.args.receiver before now n so.0 c.requires (channels_still c.args.receiver before now n so.0 c.requires
+          c.channels-channel-end.result c.channels-channel-end.ensures c.loop-channel-test.true),
+      ap (λ (s : SideParts _ _ _ _). record s { senders = map (channel_cleared c.args.receiver n) now }) so.1,
     )
 
-pub has_queued-requires-clause-sender : goal.has_queued-requires-clause-sender
-has_queued-requires-clause-sender g c =
-    subst (λ items. c.loop-sender.sender < length items) (sym c.as_slice.ensures.value)
-    (there g (goal.at.has_queued-requires-clause-sender g c).In-loop-sender)
-
-pub has_queued-requires-clause-queues : goal.has_queued-requires-clause-queues
-has_queued-requires-clause-queues g c =
-    subst (λ items. c.args.receiver < length (sender_of c.loop-sender.sender (map sender_part items)).messages.queues)
-    (sym c.as_slice.ensures.value) (queues g (goal.at.has_queued-requires-clause-queues g c).In-loop-sender)
-
-pub clear_for-requires-clause-sender : goal.clear_for-requires-clause-sender
-clear_for-requires-clause-sender g c = there g (goal.at.clear_for-requires-clause-sender g c).In-loop-sender
-
-pub clear_for-requires-clause-queues : goal.clear_for-requires-clause-queues
-clear_for-requires-clause-queues g c = queues g (goal.at.clear_for-requires-clause-queues g c).In-loop-sender
-
-pub loop-sender-init : goal.loop-sender-init
-loop-sender-init g c = cleared_start c.args.receiver (map sender_part c.self.inside.senders.items)
-
-pub loop-sender-preserved : goal.loop-sender-preserved
-loop-sender-preserved g c =
-    let before = map sender_part c.self.inside.senders.items in
-    let now = map sender_part c.loop-sender.senders.items in
-    let n = c.loop-sender.sender in
-    elim c.if-has_queued.branch [
-      | then-has_queued w ↦ subst (λ after. IsClearedBelow c.args.receiver (n + 1) before (map sender_part after.items)) (sym w.senders-is)
-          (cleared_more c.args.receiver n before now c.loop-sender.invariant (map sender_part w.clear_for.new.senders.items)
-          w.clear_for.ensures)
-      | else-has_queued w ↦ subst (λ after. IsClearedBelow c.args.receiver (n + 1) before (map sender_part after.items)) (sym w.senders-is)
-          (cleared_past c.args.receiver n before now c.loop-sender.invariant
-          (ap (λ items. has_queued (sender_of n (map sender_part items)) c.args.receiver) (sym c.as_slice.ensures.value)
-          ∙ sym c.has_queued.ensures ∙ w.if-has_queued.false))
-    ]
+pub returns-clause-rest : goal.returns-clause-rest
+returns-clause-rest g c = c.loop-channel.invariant.1
 
 pub returns-clause-drained : goal.returns-clause-drained
 returns-clause-drained g c =
-    rw (← c.self.view_is) (cleared_all c.args.receiver c.loop-sender.sender (map sender_part c.self.inside.senders.items)
-    (map sender_part c.loop-sender.senders.items) c.loop-sender.invariant
-    (past_senders c.self.inside.senders.items c.loop-sender-test.false c.len-sender-end.ensures c.self.inside.senders.ok.0))
-
-pub returns-clause-rest : goal.returns-clause-rest
-returns-clause-rest g c = rw (← c.self.view_is) refl
+    drained_for c.args.receiver c.args.self.now.senders c.loop-channel.self.senders c.loop-channel.channel c.loop-channel.invariant.0 c.requires
+    (λ l r there row. let wide = c.channels-channel-end.ensures l r there row in omega (arith, wide, c.loop-channel-test.false))

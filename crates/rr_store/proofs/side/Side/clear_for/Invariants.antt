@@ -1,8 +1,8 @@
-use Rattle.std.proofs.Common.{map}
-use Rattle.rr_store.specs.Ports.{sender_part}
-use Rattle.rr_store.proofs.leaving.Expiring.{IsClearedBelow}
+use Rattle.std.proofs.Common.{◌≡◌}
+use Rattle.rr_store.proofs.leaving.Channels.{AreDrainedBelow}
 use Rattle.rr_store.proofs.side.Side.clear_for.Given as goal
 
--- the senders so far are cleared
-abbrev pub invariant-loop-sender : goal.invariant-loop-sender
-invariant-loop-sender g l = IsClearedBelow l.receiver l.sender (map sender_part l.initial.senders.items) (map sender_part l.senders.items)
+-- the channels so far are cleared
+abbrev pub invariant-loop-channel : goal.invariant-loop-channel
+invariant-loop-channel g l =
+    AreDrainedBelow l.receiver l.channel l.initial.self.senders l.self.senders × (l.self ≡ record l.initial.self { senders = l.self.senders })

@@ -5,6 +5,7 @@ use Rattle.rr_store.specs.Parts.{Sender}
 use Rattle.rr_store.specs.SideInside.{side_of}
 use Rattle.rr_store.proofs.base.lookups.Asking.{senders_many}
 use Rattle.rr_store.proofs.base.senders.Stored.{stored_changed, stored_is}
+use Rattle.rr_store.proofs.base.senders.Noted.{sender_noted}
 use Rattle.rr_store.proofs.side.Side.clear_mark.Goals as goal
 use Rattle.rr_store.proofs.side.Side.clear_mark.Goals.{After-index_mut}
 
@@ -34,3 +35,8 @@ returns g c =
     rw (← c.self.view_is) (ap (λ ls. record (side_of c.self.inside) { senders = ls })
     (stored_changed items c.args.sender c.index_mut.result.now (senders_many items c.args.sender there) c.index_mut.ensures.value _
     (without_mark (c.args.slot * c.args.receivers + c.args.receiver)) refl))
+
+pub invariant_of-self : goal.invariant_of-self
+invariant_of-self g c =
+    sender_noted _ c.self.inside.senders.items c.args.sender _ _ (rw (← c.self.view_is) at c.requires.sender) c.index_mut.ensures.value
+    (refl) c.self.invariant

@@ -3,6 +3,7 @@ use Rattle.rr_store.specs.Loaning.{with_one_loan}
 use Rattle.rr_store.specs.SideInside.{side_of}
 use Rattle.rr_store.proofs.base.lookups.Asking.{senders_many}
 use Rattle.rr_store.proofs.base.senders.Stored.{stored_changed}
+use Rattle.rr_store.proofs.base.senders.Noted.{sender_noted}
 use Rattle.rr_store.proofs.side.Side.count_loan.Goals as goal
 
 pub returns : goal.returns
@@ -12,3 +13,8 @@ returns g c =
     rw (← c.self.view_is) (ap (λ ls. record (side_of c.self.inside) { senders = ls })
     (stored_changed items c.args.sender c.index_mut.result.now (senders_many items c.args.sender there) c.index_mut.ensures.value _
     with_one_loan refl))
+
+pub invariant_of-self : goal.invariant_of-self
+invariant_of-self g c =
+    sender_noted _ c.self.inside.senders.items c.args.sender _ _ (rw (← c.self.view_is) at c.requires.sender) c.index_mut.ensures.value
+    (refl) c.self.invariant

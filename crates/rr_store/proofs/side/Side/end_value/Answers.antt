@@ -5,6 +5,7 @@ use Rattle.rr_store.specs.Leaving.{valueless}
 use Rattle.rr_store.specs.Loaning.{with_sender_at}
 use Rattle.rr_store.specs.Ports.{sender_part}
 use Rattle.rr_store.specs.SideInside.{side_of}
+use Rattle.rr_store.proofs.base.senders.Noted.{sender_noted}
 use Rattle.rr_store.proofs.base.senders.Ports.{asked_within, of_read, to_read}
 use Rattle.rr_store.proofs.base.senders.Stored.{stored_changed}
 use Rattle.rr_store.proofs.side.Side.end_value.Goals.{After-details-sender}
@@ -44,3 +45,10 @@ returns g c =
       ports = slice_set s.ports i (c.end_value.ensures k);
       senders = (changed ∙ ap (λ n. with_sender_at s.senders n valueless) c.details-sender.ensures.sender) k;
     }))
+
+pub invariant_of-self : goal.invariant_of-self
+invariant_of-self g c =
+    let items = c.self.inside.senders.items in
+    let there = its_sender g (goal.at.invariant_of-self g c).After-details-sender in
+    sender_noted _ items c.details-sender.result.sender _ _ (omega (arith, there, length-map items sender_part)) c.index_mut.ensures.value refl
+    c.self.invariant

@@ -4,6 +4,7 @@ use Rattle.rr_store.specs.Draining.{AreThere, HaveQueues, SendersDrained}
 use Rattle.rr_store.specs.Leaving.{is_of, outdated}
 use Rattle.rr_store.specs.Ports.{sender_part}
 use Rattle.rr_store.proofs.base.lists.ReadAt.{item_at}
+use Rattle.rr_store.proofs.leaving.Drained.{drained_noted}
 use Rattle.rr_store.proofs.leaving.OutdatedAt.{expired_all, expired_more, expired_start, queues_kept}
 use Rattle.rr_store.proofs.side.Side.expire.Goals as goal
 
@@ -63,3 +64,8 @@ returns-clause-drained g c =
     rw (← c.self.view_is, ← c.as_slice-left.ensures.value) (expired_all c.as_slice-left.result.now c.args.leaving c.args.room
     g.R.ConnectedPort.receiver c.args.receivers.now (map sender_part c.self.inside.senders.items) c.loop-port.port-index
     (map sender_part c.loop-port.senders.items) c.loop-port.invariant (omega (arith, c.loop-port-test.false)))
+
+pub invariant_of-self : goal.invariant_of-self
+invariant_of-self g c =
+    drained_noted c.self.inside.waiting _ (map sender_part c.self.inside.senders.items) (map sender_part c.loop-port.senders.items)
+    c.loop-port.invariant.drained c.self.invariant

@@ -1,27 +1,19 @@
-use Rattle.std.proofs.Common.{◌<◌, length, sym, ap, ◌∙◌, arith}
-use Rattle.std.specs.Prelude.{slice_get}
-use Rattle.std.proofs.lemmas.Bool.{false≢true, eq-eqb}
-use Rattle.std.proofs.lemmas.List.Folds.{list_any_at}
-use Rattle.std.proofs.lemmas.Option.{slice_get_within, get_or_from_slice_get}
-use Rattle.rr_store.proofs.base.lists.Pigeons.{each_number}
+use Rattle.std.proofs.Common.{◌≡◌, ◌<◌, ◌+◌, ◌-◌, ◌/◌, subst, arith}
+use Rattle.rr_store.proofs.base.lists.Ranges.{between, between_one, between_split}
 use Rattle.rr_store.proofs.side.Side.free_receiver.Goals as goal
 
-pub returns-then-not-is_taken-clause-vacant : goal.returns-then-not-is_taken-clause-vacant
-returns-then-not-is_taken-clause-vacant g c i port at same =
-    let ports = c.as_slice.result.now in
-    let there = ap (λ xs. slice_get xs i) c.as_slice.ensures.value ∙ (rw (← c.self.view_is) at at) in
-    false≢true
-    (sym (sym c.is_taken.ensures ∙ c.if-not-is_taken.true)
-    ∙ list_any_at _ ports i port (slice_get_within _ i port there)
-    (eq-eqb _ _ (ap g.P.ConnectedPort.receiver (get_or_from_slice_get ports i port port there) ∙ same)))
+pub loop-low-preserved : goal.loop-low-preserved
+loop-low-preserved g c =
+    let low = c.loop-low.low in
+    let high = c.loop-low.high in
+    let split = between_split g.P.ConnectedPort.receiver low (low + (high - low) / 2) high (omega arith) (omega (arith, c.loop-low-test.true))
+    c.args.self.now.ports in
+    (omega (arith, split, c.loop-low.invariant.0, c.receivers_between.ensures, c.if-receivers_between-middle.false), c.loop-low.invariant.1)
 
-pub unreachable-requires : goal.unreachable-requires
-unreachable-requires g c =
-    let few : length c.self.inside.ports.items < c.args.receivers = rw (← c.self.view_is) at c.requires in
-    omega (
-      arith,
-      few,
-      c.loop-receiver-test.false,
-      each_number g.P.ConnectedPort.receiver c.loop-receiver.receiver c.self.inside.ports.items
-          (rw (← c.self.view_is) at c.loop-receiver.invariant),
-    )
+pub returns-clause-vacant : goal.returns-clause-vacant
+returns-clause-vacant g c i port at same =
+    let low = c.loop-low.low in
+    let ports = c.args.self.now.ports in
+    let next : c.loop-low.high ≡ low + 1 = omega (arith, c.loop-low-test.false, c.loop-low.invariant.0) in
+    let few = subst (λ h. between g.P.ConnectedPort.receiver low h ports + low < h) next c.loop-low.invariant.0 in
+    between_one g.P.ConnectedPort.receiver low ports (omega (arith, few)) i port at same

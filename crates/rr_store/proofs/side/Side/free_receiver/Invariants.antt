@@ -1,8 +1,10 @@
-use Rattle.std.proofs.Common.{◌≡◌, ◌<◌, ℕ, true}
-use Rattle.std.specs.Prelude.{◌==◌}
-use Rattle.std.specs.List.{list_any}
+use Rattle.std.proofs.Common.{◌<◌, ◌≤◌, ◌+◌, ◌-◌}
+use Rattle.rr_store.proofs.base.lists.Ranges.{between}
 use Rattle.rr_store.proofs.side.Side.free_receiver.Given as goal
 
--- the receivers so far are taken
-abbrev pub invariant-loop-receiver : goal.invariant-loop-receiver
-invariant-loop-receiver g l = (k : ℕ) → k < l.receiver → list_any (λ p. g.P.ConnectedPort.receiver p == k) l.self.ports ≡ true
+-- fewer ports than numbers are in the range
+abbrev pub invariant-loop-low : goal.invariant-loop-low
+invariant-loop-low g l = (between g.P.ConnectedPort.receiver l.low l.high l.self.ports + l.low < l.high) × (l.high ≤ l.receivers)
+
+abbrev pub decreases-loop-low : goal.decreases-loop-low
+decreases-loop-low g l = l.high - l.low

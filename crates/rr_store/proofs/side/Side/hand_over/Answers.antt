@@ -1,9 +1,13 @@
-use Rattle.std.proofs.Common.{◌≡◌, ◌<◌, Some, None, map, subst}
+use Rattle.std.proofs.Common.{◌≡◌, ◌<◌, Some, None, length, map, ap, subst, arith}
+use Rattle.std.proofs.lemmas.List.{length-map}
+use Rattle.rr_sender.specs.Senders.{put, queue_at}
 use Rattle.std.specs.Prelude.{slice_index}
 use Rattle.rr_store.specs.Delivering.{HasQueue, handed_on}
 use Rattle.rr_store.specs.Parts.{Sender}
 use Rattle.rr_store.specs.Ports.{sender_part}
 use Rattle.rr_store.specs.Views.{sender_of}
+use Rattle.rr_store.proofs.base.senders.Noted.{has_place, sender_noted}
+use Rattle.rr_store.proofs.base.senders.OneQueue.{queue_among}
 use Rattle.rr_store.proofs.base.senders.Stored.{stored_is, sent_set}
 use Rattle.rr_store.proofs.side.Side.hand_over.Goals as goal
 use Rattle.rr_store.proofs.side.Side.hand_over.Goals.{After-index_mut}
@@ -51,3 +55,26 @@ returns-in-None g c =
     let there = rw (← c.self.view_is) at c.requires.sender in
     rw (← c.self.view_is, c.in-None.is) (sent_set c.self.inside c.args.sender _ there c.index_mut-in-None.ensures.value _
     (λ m. handed_on m c.args.overflow c.args.channel c.args.slot None) c.give_back.ensures)
+
+pub note_among-requires : goal.note_among-requires
+note_among-requires g c several =
+    let items = c.self.inside.senders.items in
+    let has = rw (← c.self.view_is, c.in-Some.is) at c.requires.queue in
+    has_place c.self.inside.waiting (map sender_part items) c.self.invariant
+    (omega (arith, several, c.len-count.ensures, c.self.inside.senders.ok.0, length-map items sender_part)) c.in-Some.receiver c.args.channel
+    c.args.sender (rw (← c.self.view_is) at c.requires.sender) has.0 has.1
+
+pub invariant_of-self : goal.invariant_of-self
+invariant_of-self g c =
+    let items = c.self.inside.senders.items in
+    let m = c.index_mut.result.now.messages in
+    let has = queue g (goal.at.invariant_of-self g c).After-index_mut in
+    queue_among items c.args.sender c.index_mut.result.now _ (rw (← c.self.view_is) at c.requires.sender) c.index_mut.ensures.value
+    c.in-Some.receiver c.args.channel has.0 has.1 (put c.args.overflow m.capacity (queue_at m c.in-Some.receiver c.args.channel) c.args.slot)
+    (ap (λ m. m.queues) c.hand_over.ensures) c.self.inside.waiting c.note_among.new.self c.len-count.result
+    (omega (arith, c.len-count.ensures, c.self.inside.senders.ok.0, length-map items sender_part)) c.note_among.ensures c.self.invariant
+
+pub invariant_of-self-in-None : goal.invariant_of-self-in-None
+invariant_of-self-in-None g c =
+    sender_noted _ c.self.inside.senders.items c.args.sender _ _ (rw (← c.self.view_is) at c.requires.sender) c.index_mut-in-None.ensures.value
+    (ap (λ m. m.queues) c.give_back.ensures) c.self.invariant

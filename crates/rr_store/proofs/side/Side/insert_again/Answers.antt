@@ -1,4 +1,4 @@
-use Rattle.std.proofs.Common.{◌≡◌, ◌<◌, [], ◌∷◌, ◌++◌, ℕ, length, sym, ap, ◌∙◌, subst, arith}
+use Rattle.std.proofs.Common.{◌≡◌, ◌<◌, [], ◌∷◌, ◌++◌, ℕ, length, map, sym, ap, ◌∙◌, subst, arith}
 use Rattle.rr_table.specs.TableView.{IsRenewed}
 use Rattle.rr_store.specs.Creating.{new_sender}
 use Rattle.rr_store.specs.Parts.{Sender}
@@ -7,6 +7,7 @@ use Rattle.rr_store.specs.SideInside.{side_of}
 use Rattle.rr_store.specs.Views.{sender_of}
 use Rattle.rr_store.proofs.base.lists.Replaced.{map-set_one}
 use Rattle.rr_store.proofs.base.senders.Inserted.{changed, new_set, row_is, sender_read}
+use Rattle.rr_store.proofs.base.senders.Ready.{again_noted}
 use Rattle.rr_store.proofs.side.Side.insert_again.Goals as goal
 use Rattle.rr_store.proofs.side.Side.insert_again.Goals.{After-index}
 
@@ -46,3 +47,10 @@ returns-clause-ok g c =
     (sym (read g (goal.at.returns-clause-ok g c).After-index)) port.ensures.receiver)
     (c.push_reserved.ensures.items ∙ ap (λ xs. xs ++ c.args.port ∷ []) c.renew_row.ensures.ports) c.remove.ensures.items
     c.remove.ensures.capacity)
+
+pub invariant_of-self-2 : goal.invariant_of-self-2
+invariant_of-self-2 g c =
+    let senders = map sender_part c.self.inside.senders.items in
+    again_noted c.self.inside.waiting c.self.inside.senders.items c.self.invariant _ c.details-details.result.sender
+    (subst (λ n. n < length senders) (sym c.details-details.ensures.sender) (rw (← c.self.view_is) at c.requires.sender))
+    (rw (← c.self.view_is) at c.requires.again)

@@ -1,9 +1,9 @@
 use Rattle.std.proofs.Common.{◌≡◌, ◌<◌, ◌+◌, ◌*◌, ◌^◌, ℕ, List, Some, length, map, refl, sym, ap, ◌∙◌, subst, arith}
 use Rattle.std.specs.Prelude.{slice_get, slice_index}
 use Rattle.std.specs.Vec.{with_item}
-use Rattle.std.proofs.lemmas.List.{drop_all, length-set}
+use Rattle.std.proofs.lemmas.List.{drop_all, length-map, length-set}
 use Rattle.std.proofs.lemmas.Simd.{map-map}
-use Rattle.rr_sender.specs.Senders.{uses}
+use Rattle.rr_sender.specs.Senders.{Messages, uses}
 use Rattle.rr_store.specs.declared.port.OwnedSender.{OwnedSender}
 use Rattle.rr_store.specs.declared.port.ServerPort.{ServerPort}
 use Rattle.rr_store.specs.Parts.{Sender, ServerPart}
@@ -15,7 +15,9 @@ use Rattle.rr_store.proofs.base.lists.ReadAt.{item_at}
 use Rattle.rr_store.proofs.base.lookups.Asking.{senders_many}
 use Rattle.rr_store.proofs.base.senders.Stored.{stored_changed, stored_is}
 use Rattle.rr_store.proofs.sending.put.All.{mark_next, put_next}
-use Rattle.rr_store.proofs.side.Side.queue.Goals.{After-index_mut-owned, After-server-item}
+use Rattle.rr_store.proofs.sending.put.Came.{IsPutTo, each_noted, put_to}
+use Rattle.rr_store.proofs.base.senders.Noted.{has_place}
+use Rattle.rr_store.proofs.side.Side.queue.Goals.{After-index_mut-owned, After-loop-server, After-server-item}
 use Rattle.rr_store.proofs.side.Side.queue.Goals as goal
 
 -- the sender that is lent
@@ -152,3 +154,28 @@ returns g c =
     (ap sender_part c.loop-server.invariant.3
     ∙ ap (λ m. record x { messages = m; may_answer = c.loop-server.owned.may_answer.items }) queued
     ∙ ap (λ ms. record (after_queued overflow receivers slot (map server_part servers) x) { may_answer = ms }) marked)))
+
+-- what was put
+puts : (g : _) (c : After-loop-server g) → c.loop-server.owned.messages ≡ after_puts c.args.overflow c.args.slot c.index_mut-owned.result.now.messages (receivers_of c.args.servers.now)
+puts g c =
+    ap (λ (ss : List (ServerPort _)). after_puts c.args.overflow c.args.slot c.loop-server.owned.messages (receivers_of ss))
+    (sym (drop_all c.loop-server.server-index c.args.servers.now c.loop-server-test.false)) ∙ c.loop-server.invariant.0.rest
+
+pub note_each-requires : goal.note_each-requires
+note_each-requires g c several i s at =
+    let items = c.self.inside.senders.items in
+    let there = rw (← c.self.view_is) at c.requires.sender in
+    let has = (rw (← c.self.view_is) at c.requires.queues) i s at in
+    has_place c.self.inside.waiting (map sender_part items) c.self.invariant
+    (omega (arith, several, c.len-count.ensures, c.self.inside.senders.ok.0, length-map items sender_part)) s.port.receiver 0 c.args.sender there has.0
+    has.1
+
+pub invariant_of-self : goal.invariant_of-self
+invariant_of-self g c =
+    let items = c.self.inside.senders.items in
+    let first = c.index_mut-owned.result.now in
+    each_noted items c.args.sender first c.loop-server.owned (rw (← c.self.view_is) at c.requires.sender) c.index_mut-owned.ensures.value
+    c.args.servers.now
+    (subst (λ (m : Messages _ _ _). IsPutTo c.args.servers.now first.messages.queues m.queues) (sym (puts g (goal.at.invariant_of-self g c).After-loop-server))
+    (put_to c.args.overflow c.args.slot c.args.servers.now first.messages)) c.self.inside.waiting c.note_each.new.self c.len-count.result
+    (omega (arith, c.len-count.ensures, c.self.inside.senders.ok.0, length-map items sender_part)) c.note_each.ensures c.self.invariant

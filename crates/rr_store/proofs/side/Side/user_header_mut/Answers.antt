@@ -2,6 +2,7 @@ use Rattle.std.proofs.Common.{◌≡◌, Some, refl, sym, subst}
 use Rattle.std.specs.Prelude.{slice_get}
 use Rattle.rr_sender.specs.Senders.{with_user_header}
 use Rattle.rr_store.proofs.base.senders.Stored.{sent_set, stored_is}
+use Rattle.rr_store.proofs.base.senders.Noted.{sender_noted}
 use Rattle.rr_store.proofs.side.Side.user_header_mut.Goals as goal
 
 pub returns : goal.returns
@@ -15,3 +16,8 @@ returns g c =
             (sym (stored_is c.self.inside.senders.items c.args.sender _ there c.index_mut.ensures.value)) c.user_header_mut.ensures.value;
       },
     ))
+
+pub invariant_of-self-lent : goal.invariant_of-self-lent
+invariant_of-self-lent g c w =
+    sender_noted _ c.self.inside.senders.items c.args.sender _ _ (rw (← c.self.view_is) at c.requires.sender) c.index_mut.ensures.value
+    (refl) c.self.invariant

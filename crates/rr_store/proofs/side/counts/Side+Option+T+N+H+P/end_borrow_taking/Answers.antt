@@ -6,6 +6,7 @@ use Rattle.rr_store.specs.Ports.{sender_part}
 use Rattle.rr_store.specs.Releasing.{borrow_given_back}
 use Rattle.rr_store.specs.Views.{sender_of}
 use Rattle.rr_store.proofs.base.senders.Stored.{stored_is, sent_set}
+use Rattle.rr_store.proofs.base.senders.Noted.{sender_noted}
 use Rattle.rr_store.proofs.side.counts.Side+Option+T+N+H+P.end_borrow_taking.Goals as goal
 use Rattle.rr_store.proofs.side.counts.Side+Option+T+N+H+P.end_borrow_taking.Goals.{After-index_mut}
 
@@ -36,3 +37,8 @@ returns-clause-given g c =
     let there = rw (← c.self.view_is) at c.requires.sender in
     rw (← c.self.view_is) (sent_set c.self.inside c.args.sender _ there c.index_mut.ensures.value _ (λ m. borrow_given_back m c.args.receiver
     c.args.channel c.args.slot) (c.take_back.ensures.given ∙ ap (λ m. given_back m c.args.slot) c.end_borrow.ensures))
+
+pub invariant_of-self : goal.invariant_of-self
+invariant_of-self g c =
+    sender_noted _ c.self.inside.senders.items c.args.sender _ _ (rw (← c.self.view_is) at c.requires.sender) c.index_mut.ensures.value
+    (ap (λ m. m.queues) c.take_back.ensures.given ∙ ap (λ m. m.queues) c.end_borrow.ensures) c.self.invariant

@@ -3,6 +3,7 @@ use Rattle.rr_slots.specs.Elements.{option_elements}
 use Rattle.rr_slots.specs.Pools.{with_elements}
 use Rattle.rr_sender.specs.Senders.{content_at, with_changed_at}
 use Rattle.rr_store.proofs.base.senders.Stored.{sent_set, stored_is}
+use Rattle.rr_store.proofs.base.senders.Noted.{sender_noted}
 use Rattle.rr_store.proofs.side.lending.Side+Option+T+N+H+P.option_mut.Goals as goal
 
 pub returns : goal.returns
@@ -16,3 +17,8 @@ returns g c =
             (sym (stored_is c.self.inside.senders.items c.args.sender _ there c.index_mut.ensures.value)) c.option_mut.ensures.value;
       },
     ))
+
+pub invariant_of-self-lent : goal.invariant_of-self-lent
+invariant_of-self-lent g c w =
+    sender_noted _ c.self.inside.senders.items c.args.sender _ _ (rw (← c.self.view_is) at c.requires.sender) c.index_mut.ensures.value
+    (refl) c.self.invariant

@@ -1,9 +1,0 @@
-use Rattle.std.proofs.Common.{map}
-use Rattle.rr_store.specs.Clearing.{IsClearedBelow}
-use Rattle.rr_store.specs.Ports.{sender_part}
-use Rattle.rr_store.proofs.side.Side.clear_channel.Given as goal
-
--- the senders so far are emptied
-abbrev pub invariant-loop-sender : goal.invariant-loop-sender
-invariant-loop-sender g l = IsClearedBelow l.receiver l.channel l.sender (map sender_part l.initial.senders.items)
-    (map sender_part l.senders.items)
