@@ -1,6 +1,7 @@
 //! A hub's core: all ports, handles and messages of a service, each call a step of the message machine.
 #![tactic(auto)]
 
+mod at_once;
 mod connected;
 mod create;
 mod header;

@@ -1,9 +1,13 @@
 //! Sends.
-ghost use Rattle.std.specs.Prelude.{◌≡◌, Some};
+ghost use Rattle.std.specs.Prelude.{◌≡◌, ◌<◌, ◌∷◌, [], IsTrue, Some};
+ghost use Rattle.rr_hub.specs.Copies.{SendsRequestAtOnce, SendsResponseAtOnce};
 ghost use Rattle.rr_protocol.specs.declared.kind.Kind.TheVariants as kind;
 ghost use Rattle.rr_protocol.specs.Queries.{kind_at};
 ghost use Rattle.rr_protocol.specs.Sends.{SendsRequest, SendsResponse};
+ghost use Rattle.rr_protocol.specs.State.{numbers_left};
+ghost use Rattle.rr_slots.specs.Families.{takes_len};
 
+use crate::at_once::{send_request_at_once, send_response_at_once};
 use crate::state::Core;
 use rr_protocol::{BackpressureFn, RequestSendError, SendError};
 use rr_sending::{send_request_at, send_response_at};
@@ -70,5 +74,55 @@ impl<QB: Body, QH: Default + Drop, PB: Body, PH: Default + Drop, K: Backpressure
     {
         let place = self.parts.locate(id);
         send_response_at(&mut self.parts, id.number(), place)
+    }
+
+    /// Loans a request of one element, writes the element and sends it, as `loan_request`, `write_request` and `send_request` do one
+    /// after another, with one look at the place of its handle. Takes no memory. After iceoryx2's `Client::send_copy`.
+    ///
+    /// # Errors
+    ///
+    /// - `SendError(LoanError(..))` as `loan_request`. The hub is unchanged, and the element is dropped.
+    /// - `ExceedsMaxActiveRequests` and `SendError(UnableToDeliver)` as `send_request`. The request is released.
+    #[inline(always)]
+    pub fn send_request_copy(
+        &mut self,
+        client: u64,
+        element: QB::Item,
+    ) -> Result<HandleId, RequestSendError>
+        requires kind { kind_at self.old client ≡ Some kind.Client }
+        requires number { 0 < numbers_left self.old }
+        requires len { IsTrue (takes_len QB.family 1) }
+        requires one { (body : QB) → QB.asked_len body ≡ 1 }
+        ensures { SendsRequestAtOnce QH.is_default K.action self.old client 1 (element ∷ []) result self.new }
+    {
+        send_request_at_once(&mut self.parts, client, element)
+    }
+
+    /// Loans a response of one element, writes the element and sends it, as `loan_response`, `write_response` and `send_response` do
+    /// one after another, with one look at the place of its handle. Takes no memory. After iceoryx2's `ActiveRequest::send_copy`.
+    ///
+    /// # Errors
+    ///
+    /// - `LoanError(..)` as `loan_response`. The hub is unchanged, and the element is dropped.
+    /// - `UnableToDeliver` as `send_response`. The response is released.
+    #[inline(always)]
+    pub fn send_response_copy(
+        &mut self,
+        active: &HandleId,
+        element: PB::Item,
+    ) -> Result<(), SendError>
+        requires kind { kind_at self.old active.now ≡ Some kind.ActiveRequest }
+        requires number { 0 < numbers_left self.old }
+        requires len { IsTrue (takes_len PB.family 1) }
+        requires one { (body : PB) → PB.asked_len body ≡ 1 }
+        ensures { SendsResponseAtOnce PH.is_default K.action self.old active.now 1 (element ∷ []) result self.new }
+    {
+        let place = active.place();
+        if self.parts.is_place_of(active.number(), place) {
+            send_response_at_once(&mut self.parts, active.number(), place, element)
+        } else {
+            let place = self.parts.locate(active);
+            send_response_at_once(&mut self.parts, active.number(), place, element)
+        }
     }
 }

@@ -2,8 +2,10 @@
 #![tactic(auto)]
 
 mod limits;
+mod loaned;
 mod request;
 mod response;
 
+pub use loaned::Loaned;
 pub use request::loan_request;
 pub use response::loan_response_at;

@@ -5,6 +5,7 @@ pub mod OwningRefusals
 pub mod OwningResponses
 pub mod Sureties
 pub mod LoanTold
+pub mod SendTold
 pub mod OwningWrites
 pub mod OwningSends
 pub mod SkimLaws
@@ -38,6 +39,8 @@ pub mod AwaitedReceives
 pub mod HandleReleases
 pub mod ResponseSends
 pub mod SentLaws
+pub mod SentTells
+pub mod AtOnceLaws
 pub mod Unchanged
 pub mod RespondLaws
 pub mod DrainLaws

@@ -7,7 +7,7 @@ use Rattle.rr_protocol.specs.Loans.{LoansRequest, LoansResponse}
 use Rattle.rr_protocol.specs.State.{State}
 use Rattle.rr_laws.specs.Unreduced.{ClientHasPool, ServerHasPool}
 use Rattle.rr_ports.specs.Facts.{Answers, AskedLen, Asks, Has, IsFree, Keeps, Names, Of, WholePool, numbers_left}
-use Rattle.rr_ports.specs.Loaning.{with_complete_request, with_complete_response}
+use Rattle.rr_hub.specs.Copies.{with_complete_request, with_complete_response}
 use Rattle.rr_ports.specs.Owning.{IsBelow, KeepsOwned, Owns}
 use Rattle.rr_ports.specs.Queues.{KeepsAwaited, KeepsHeard}
 

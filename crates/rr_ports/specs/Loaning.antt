@@ -6,8 +6,8 @@ use Rattle.rr_protocol.specs.declared.error.RequestSendError.{RequestSendError}
 use Rattle.rr_protocol.specs.declared.error.SendError.{SendError}
 use Rattle.rr_protocol.specs.Loans.{LoansRequest, LoansResponse}
 use Rattle.rr_protocol.specs.Sends.{SendsRequest, SendsResponse}
-use Rattle.rr_protocol.specs.State.{State, with_changed}
-use Rattle.rr_protocol.specs.Writing.{after_init, with_elements, with_request_content, with_response_content}
+use Rattle.rr_protocol.specs.State.{State}
+use Rattle.rr_hub.specs.Copies.{with_complete_request, with_complete_response}
 
 -- the elements are one default
 abbrev pub IsOneDefault : {T : Type 0} → (T → Type 0) → List T → Type 0
@@ -18,14 +18,6 @@ abbrev pub AreDefaults : {T : Type 0} → (T → Type 0) → ℕ → List T → 
 AreDefaults IsDefault len elements = (length elements ≡ len) × All IsDefault elements
 
 module _ {Q QH P PH K : Type 0} where
-  -- after a request got its elements and was made one that can be sent
-  abbrev pub with_complete_request : State Q QH P PH K → ℕ → List Q → State Q QH P PH K
-  with_complete_request s n elements = with_changed (with_changed s n (with_request_content (with_elements elements))) n after_init
-
-  -- after a response did
-  abbrev pub with_complete_response : State Q QH P PH K → ℕ → List P → State Q QH P PH K
-  with_complete_response s n elements = with_changed (with_changed s n (with_response_content (with_elements elements))) n after_init
-
   -- a client loans a request, whose elements are written at once; or nothing changes
   abbrev pub LoansComplete : (QH → Type 0) → (List Q → Type 0) → State Q QH P PH K → ℕ → ℕ → Result ℕ LoanError → State Q QH P PH K → Type 0
   LoansComplete IsDefault Are old n len (Ok number) new =

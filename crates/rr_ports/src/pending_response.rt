@@ -16,7 +16,7 @@ use crate::handle::Handle;
 use crate::hub::Hub;
 use crate::response;
 use crate::response::Response;
-use rr_hub::{BackpressureFn, HandleId, Kind, ReceiveError, RequestHeader};
+use rr_hub::{BackpressureFn, HandleId, Kind, ReceiveError, RequestHeader, RequestSendError};
 use rr_slots::Body;
 use std::marker::{Model, PhantomData};
 
@@ -55,6 +55,22 @@ impl<QB> Model for PendingResponse<QB> {
     ghost Value = { ℕ };
 
     ghost view = { λ handle. handle.id };
+}
+
+/// Makes the handle of a request that was sent.
+#[inline(always)]
+pub(crate) fn sent<QB>(
+    id: Result<HandleId, RequestSendError>,
+) -> Result<PendingResponse<QB>, RequestSendError>
+    ensures { result ≡ id }
+{
+    match id {
+        Ok(id) => Ok(PendingResponse {
+            id,
+            of: PhantomData,
+        }),
+        Err(error) => Err(error),
+    }
 }
 
 impl<QB: Body> PendingResponse<QB> {

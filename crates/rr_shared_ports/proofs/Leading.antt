@@ -25,7 +25,8 @@ use Rattle.rr_commands.specs.PortRun.{KeepsAsked, PortEvent, PortRun, PortStep}
 use Rattle.rr_laws.proofs.Opening.{open_active, some_and}
 use Rattle.rr_ports.specs.Factories.{CreatesClientBy, CreatesServerBy, Factory}
 use Rattle.rr_ports.specs.Facts.{Keeps}
-use Rattle.rr_ports.specs.Loaning.{LoansComplete, LoansResponseComplete, SendsElements, SendsResponseElements, with_complete_request, with_complete_response}
+use Rattle.rr_ports.specs.Loaning.{LoansComplete, LoansResponseComplete, SendsElements, SendsResponseElements}
+use Rattle.rr_hub.specs.Copies.{with_complete_request, with_complete_response}
 use Rattle.rr_ports.specs.Responding.{RespondsSlice}
 use Rattle.rr_ports.specs.Sending.{SendsPending}
 use Rattle.rr_ports.specs.Shortcuts.{HearsCopy, ReceivesCopy, TellsCopy}

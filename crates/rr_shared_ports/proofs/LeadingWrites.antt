@@ -13,7 +13,7 @@ use Rattle.rr_commands.specs.PortRun.{KeepsAsked}
 use Rattle.rr_ports.specs.declared.try_send.Refused.{Refused}
 use Rattle.rr_ports.specs.Draining.{Drains}
 use Rattle.rr_ports.specs.Filling.{FillsRequest, FillsResponse}
-use Rattle.rr_ports.specs.Loaning.{with_complete_request, with_complete_response}
+use Rattle.rr_hub.specs.Copies.{with_complete_request, with_complete_response}
 use Rattle.rr_ports.specs.Shortcuts.{HearsCopy, ReceivesCopy}
 use Rattle.rr_ports.specs.Updates.{UpdatesRequest, UpdatesResponse}
 use Rattle.rr_shared_ports.specs.declared.error.WriteError.{WriteError}

@@ -7,7 +7,8 @@ ghost use Rattle.rr_protocol.specs.Writing.{after_init, filled, with_elements, w
 ghost use Rattle.rr_store.specs.Opened.{opened};
 ghost use Rattle.rr_store.specs.Reaching.{IsCore};
 ghost use Rattle.rr_store.specs.Views.{state_of};
-ghost use Rattle.rr_table.specs.TableView.{IsAt};
+ghost use Rattle.rr_table.specs.TableView.{IsAt, table_entry};
+ghost use Rattle.std.specs.FinMap.{get};
 
 use rr_protocol::{BackpressureFn, Kind};
 use rr_slots::{Body, FillBody};
@@ -32,6 +33,32 @@ pub fn write_request_at<
     ensures view { state_of (opened store.new) ≡ with_changed (with_changed (state_of (opened store.old)) number (with_request_content (with_elements (element ∷ [])))) number after_init }
 {
     let entry = store.table.at(number, place);
+    write_request_entry(store, number, place, entry, element);
+}
+
+/// Does what `write_request_at` does, where the caller knows what is kept in the place.
+#[inline(always)]
+pub fn write_request_entry<
+    QB: Body,
+    QH: Default + Drop,
+    PB: Body,
+    PH: Default + Drop,
+    K: BackpressureFn,
+>(
+    store: &mut Store<QB, QH, PB, PH, K>,
+    number: u64,
+    place: Place,
+    entry: HandleEntry,
+    element: QB::Item,
+)
+    requires core { IsCore (opened store.old) }
+    requires entry { get store.old.table.entries number ≡ Some (table_entry place entry) }
+    requires kind { kind_at (state_of (opened store.old)) number ≡ Some Kind.RequestMutUninit }
+    requires one { (body : QB) → QB.asked_len body ≡ 1 }
+    ensures core { IsCore (opened store.new) }
+    ensures entry { get store.new.table.entries number ≡ Some (table_entry place (record entry { stage = Stage.RequestMut })) }
+    ensures view { state_of (opened store.new) ≡ with_changed (with_changed (state_of (opened store.old)) number (with_request_content (with_elements (element ∷ [])))) number after_init }
+{
     // What it returns isn't read: its clause says that one element is asked for here.
     let asked = store.clients.body(entry.sender, entry.slot);
     let _ = asked;
@@ -61,6 +88,32 @@ pub fn write_response_at<
     ensures view { state_of (opened store.new) ≡ with_changed (with_changed (state_of (opened store.old)) number (with_response_content (with_elements (element ∷ [])))) number after_init }
 {
     let entry = store.table.at(number, place);
+    write_response_entry(store, number, place, entry, element);
+}
+
+/// Does what `write_response_at` does, where the caller knows what is kept in the place.
+#[inline(always)]
+pub fn write_response_entry<
+    QB: Body,
+    QH: Default + Drop,
+    PB: Body,
+    PH: Default + Drop,
+    K: BackpressureFn,
+>(
+    store: &mut Store<QB, QH, PB, PH, K>,
+    number: u64,
+    place: Place,
+    entry: HandleEntry,
+    element: PB::Item,
+)
+    requires core { IsCore (opened store.old) }
+    requires entry { get store.old.table.entries number ≡ Some (table_entry place entry) }
+    requires kind { kind_at (state_of (opened store.old)) number ≡ Some Kind.ResponseMutUninit }
+    requires one { (body : PB) → PB.asked_len body ≡ 1 }
+    ensures core { IsCore (opened store.new) }
+    ensures entry { get store.new.table.entries number ≡ Some (table_entry place (record entry { stage = Stage.ResponseMut })) }
+    ensures view { state_of (opened store.new) ≡ with_changed (with_changed (state_of (opened store.old)) number (with_response_content (with_elements (element ∷ [])))) number after_init }
+{
     // What it returns isn't read: its clause says that one element is asked for here.
     let asked = store.servers.body(entry.sender, entry.slot);
     let _ = asked;

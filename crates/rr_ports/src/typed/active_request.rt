@@ -138,8 +138,7 @@ impl<QB: Body> ActiveRequest<QB> {
         ensures sure { (port request room : ℕ) → Has hub.old self.now (Of port request) → 1 ≤ room → Has hub.old self.now (WholePool room) → Owns hub.old port 1 → Has hub.old port Discards → (error : _) → result ≢ Err error }
         ensures sure_first { (port request room : ℕ) → Has hub.old self.now (Of port request) → 1 ≤ room → Has hub.old self.now (WholePool room) → Owns hub.old port 1 → AwaitsNothing hub.old request → (error : _) → result ≢ Err error }
     {
-        let response = self.loan_uninit(hub)?;
-        let response = response.write_payload(hub, value);
-        response.send(hub)
+        hub.core.reached();
+        hub.core.send_response_copy(&self.id, value)
     }
 }

@@ -16,8 +16,8 @@ use crate::client::Client;
 use crate::hub::Hub;
 use crate::pending_response::PendingResponse;
 use crate::request_mut::RequestMut;
-use crate::request_mut_uninit;
 use crate::request_mut_uninit::RequestMutUninit;
+use crate::{pending_response, request_mut_uninit};
 use rr_hub::{BackpressureFn, LoanError, RequestSendError};
 use rr_slots::Body;
 
@@ -143,9 +143,8 @@ impl<T: Drop> Client<Option<T>> {
         ensures few_active { (most : ℕ) → Owns hub.old self.now most → IsBelow most hub.old.limits.max_active_requests_per_client → result ≢ Err RequestSendError.ExceedsMaxActiveRequests }
         ensures sure { (room : ℕ) → 1 ≤ room → Has hub.old self.now (WholePool room) → Has hub.old self.now Discards → Owns hub.old self.now 0 → (error : _) → result ≢ Err error }
     {
-        let request = self.loan_uninit(hub)?;
-        let request = request.write_payload(hub, value);
-        request.send(hub)
+        hub.core.reached();
+        pending_response::sent(hub.core.send_request_copy(self.number, value))
     }
 
     /// Sends a value and waits for no answer: the pending response is released at once. A server still receives the request where

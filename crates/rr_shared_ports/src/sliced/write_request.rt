@@ -5,7 +5,7 @@ ghost use Rattle.std.specs.Prelude.{◌≡◌, ◌∷◌, [], IfErr, IfOk};
 ghost use Rattle.rr_ports.specs.Facts.{Keeps, Names};
 ghost use Rattle.rr_protocol.specs.declared.kind.Kind.TheVariants as kind;
 ghost use Rattle.rr_protocol.specs.State.{empty_hub, with_changed};
-ghost use Rattle.rr_ports.specs.Loaning.{with_complete_request};
+ghost use Rattle.rr_hub.specs.Copies.{with_complete_request};
 ghost use Rattle.rr_protocol.specs.Writing.{with_element, with_request_content};
 ghost use Rattle.rr_shared_ports.specs.Turns.{MakesCall};
 ghost use Rattle.rr_shared_ports.specs.Tries.{Pushes, RequestIsComplete, WritesSlice};

@@ -1,4 +1,4 @@
-use Rattle.rr_ports.specs.Loaning.{with_complete_request}
+use Rattle.rr_hub.specs.Copies.{with_complete_request}
 use Rattle.rr_shared_ports.specs.Tries.{WritesSlice}
 use Rattle.rr_shared_ports.proofs.Telling.{at, is_tried}
 use Rattle.rr_shared_ports.proofs.Leading.{stepped_on}
