@@ -4,6 +4,7 @@
 pub mod calls;
 pub mod chains;
 pub mod frames;
+pub mod large;
 pub mod pools;
 pub mod refusals;
 pub mod slices;
