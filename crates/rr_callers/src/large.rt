@@ -24,6 +24,19 @@ fn fill(slot: &mut Option<Block>, word: u64) {
     }
 }
 
+/// Writes a block by value. It stands alone, since a function makes room for its locals each time that it is called, and writes it.
+#[cold]
+#[inline(never)]
+fn written(hub: &mut Blocks, request: RequestMutUninit<Block>, word: u64) -> RequestMut<Block>
+    requires { Names hub.old request kind.RequestMutUninit }
+    ensures same { result ≡ request }
+    ensures kind { Names hub.new result kind.RequestMut }
+    ensures keeps { Keeps (request ∷ []) hub.old hub.new }
+    ensures numbers { numbers_left hub.new ≡ numbers_left hub.old }
+{
+    request.write_payload(hub, [word; 8192])
+}
+
 /// Makes a request whose block was filled one that can be sent. Writes the block by value if it is not complete.
 fn completed(hub: &mut Blocks, request: RequestMutUninit<Block>, word: u64) -> RequestMut<Block>
     requires { Names hub.old request kind.RequestMutUninit }
@@ -35,7 +48,7 @@ fn completed(hub: &mut Blocks, request: RequestMutUninit<Block>, word: u64) -> R
     if request.is_complete(hub) {
         return request.assume_init(hub);
     }
-    request.write_payload(hub, [word; 8192])
+    written(hub, request, word)
 }
 
 /// Sends a block that is filled where it lies.
