@@ -7,5 +7,5 @@ mod request;
 mod response;
 
 pub use loaned::Loaned;
-pub use request::loan_request;
-pub use response::loan_response_at;
+pub use request::{loan_request, new_request_details, request_loan_limit};
+pub use response::{loan_response_at, new_response_details, response_loan_limit};

@@ -75,7 +75,7 @@ pub fn loan_request<QB: Body, QH: Default + Drop, PB: Body, PH: Default + Drop, 
 /// Returns the first reason against one more request of `len` elements: it is too long for the client, or the client has as
 /// many on loan as it may. Returns `None` if there is no such reason.
 #[inline(always)]
-fn request_loan_limit<
+pub fn request_loan_limit<
     QB: Body,
     QH: Default + Drop,
     PB: Body,
@@ -98,7 +98,7 @@ fn request_loan_limit<
 
 /// Returns the details of the next request of the client at an index.
 #[inline(always)]
-fn new_request_details<
+pub fn new_request_details<
     QB: Body,
     QH: Default + Drop,
     PB: Body,

@@ -95,7 +95,7 @@ pub fn loan_response_at<
 /// Returns the first reason against one more response of `len` elements: it is too long for the server, or as many are on
 /// loan as may be, from the server or from an active request that has `loans`. Returns `None` if there is no such reason.
 #[inline(always)]
-fn response_loan_limit<
+pub fn response_loan_limit<
     QB: Body,
     QH: Default + Drop,
     PB: Body,
@@ -119,7 +119,7 @@ fn response_loan_limit<
 
 /// Returns the details of the next response to the request in a slot, from an active request of a server.
 #[inline(always)]
-fn new_response_details<
+pub fn new_response_details<
     QB: Body,
     QH: Default + Drop,
     PB: Body,

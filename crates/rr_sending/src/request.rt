@@ -123,10 +123,13 @@ pub fn request_refusal_at<
 
 /// Returns to how many connected servers the queue from a sender takes one more.
 #[inline(always)]
-fn open_connections<QB: Body, QH: Default + Drop, PB: Body, PH: Default + Drop, K: BackpressureFn>(
-    store: &Store<QB, QH, PB, PH, K>,
-    sender: usize,
-) -> usize
+pub fn open_connections<
+    QB: Body,
+    QH: Default + Drop,
+    PB: Body,
+    PH: Default + Drop,
+    K: BackpressureFn,
+>(store: &Store<QB, QH, PB, PH, K>, sender: usize) -> usize
     requires sender { sender < length (opened store.now).client_senders }
     requires queues { (i : ℕ) (s : ServerPart K) → slice_get (opened store.now).servers i ≡ Some s → (s.receiver < length (sender_of sender (opened store.now).client_senders).messages.queues) × (0 < length (slice_index_or (sender_of sender (opened store.now).client_senders).messages.queues s.receiver [])) }
     ensures { result ≡ count_by (is_open_to (opened store.now) sender) (opened store.now).servers }
@@ -140,7 +143,7 @@ fn open_connections<QB: Body, QH: Default + Drop, PB: Body, PH: Default + Drop, 
 /// Returns the first reason against one more request from a sender, of which so many queues take one more: its client has
 /// too many pending responses, or the queue to some server is full, may not overflow, and is not passed over.
 #[inline(always)]
-fn request_send_limit<
+pub fn request_send_limit<
     QB: Body,
     QH: Default + Drop,
     PB: Body,

@@ -111,7 +111,7 @@ pub fn is_response_refused_at<
 
 /// Returns whether the queue that a response reaches is full, may not overflow, and is not passed over.
 #[inline(always)]
-fn is_response_refused<
+pub fn is_response_refused<
     QB: Body,
     QH: Default + Drop,
     PB: Body,

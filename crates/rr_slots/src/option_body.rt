@@ -41,10 +41,12 @@ impl<T: Drop> Body for Option<T> {
         Ok(())
     }
 
+    #[inline(always)]
     fn push(&mut self, item: T) {
         *self = Some(item);
     }
 
+    #[inline(always)]
     fn clear(&mut self) {
         *self = None;
     }

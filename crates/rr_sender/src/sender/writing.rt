@@ -21,6 +21,7 @@ impl<B: Body, N: Copy, H: Drop> Sender<B, N, H> {
     }
 
     /// Appends an element to what stands in a slot, which is not complete.
+    #[inline(always)]
     pub fn push(&mut self, slot: usize, item: B::Item)
         requires { length (content_at self.old slot).elements < (content_at self.old slot).asked_len }
         ensures { self.new ≡ with_changed_at self.old slot (appended item) }
@@ -29,6 +30,7 @@ impl<B: Body, N: Copy, H: Drop> Sender<B, N, H> {
     }
 
     /// Drops the elements in a slot. As many are asked for as before.
+    #[inline(always)]
     pub fn clear(&mut self, slot: usize)
         requires { slot < length self.old.held }
         ensures { self.new ≡ with_changed_at self.old slot (with_elements []) }
@@ -37,6 +39,7 @@ impl<B: Body, N: Copy, H: Drop> Sender<B, N, H> {
     }
 
     /// Makes an element the only one in a slot, where one is asked for at least. Old ones are dropped.
+    #[inline(always)]
     pub fn write(&mut self, slot: usize, element: B::Item)
         requires slot { slot < length self.old.held }
         requires asked { 0 < (content_at self.old slot).asked_len }

@@ -10,6 +10,7 @@ impl<B: Body> Pool<B> {
     ghost use Rattle.rr_slots.specs.PoolLends.{lends_element};
 
     /// Appends an element to what stands in a slot, which is not complete.
+    #[inline(always)]
     pub fn push(&mut self, slot: usize, item: B::Item)
         requires { length (content_at self.old slot).elements < (content_at self.old slot).asked_len }
         ensures { self.new ≡ with_changed_at self.old slot (appended item) }
@@ -19,6 +20,7 @@ impl<B: Body> Pool<B> {
     }
 
     /// Drops the elements in a slot. As many are asked for as before.
+    #[inline(always)]
     pub fn clear(&mut self, slot: usize)
         requires { slot < length self.old.contents }
         ensures { self.new ≡ with_changed_at self.old slot (with_elements []) }
@@ -28,6 +30,7 @@ impl<B: Body> Pool<B> {
     }
 
     /// Makes an element the only one in a slot, where one is asked for at least. Old ones are dropped.
+    #[inline(always)]
     pub fn write(&mut self, slot: usize, element: B::Item)
         requires slot { slot < length self.old.contents }
         requires asked { 0 < (content_at self.old slot).asked_len }
