@@ -3,3 +3,9 @@ pub mod OneChannel
 pub mod OwnServer
 pub mod OfCore
 pub mod AtOnce
+pub mod Reaching
+pub mod Returning
+pub mod RequestSteps
+pub mod RequestSends
+pub mod ResponseSteps
+pub mod ResponseSends

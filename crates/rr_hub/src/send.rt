@@ -77,7 +77,7 @@ impl<QB: Body, QH: Default + Drop, PB: Body, PH: Default + Drop, K: Backpressure
     }
 
     /// Loans a request of one element, writes the element and sends it, as `loan_request`, `write_request` and `send_request` do one
-    /// after another, with one look at the place of its handle. Takes no memory. After iceoryx2's `Client::send_copy`.
+    /// after another. Its handle is made once, as a pending response. Takes no memory. After iceoryx2's `Client::send_copy`.
     ///
     /// # Errors
     ///
@@ -99,7 +99,7 @@ impl<QB: Body, QH: Default + Drop, PB: Body, PH: Default + Drop, K: Backpressure
     }
 
     /// Loans a response of one element, writes the element and sends it, as `loan_response`, `write_response` and `send_response` do
-    /// one after another, with one look at the place of its handle. Takes no memory. After iceoryx2's `ActiveRequest::send_copy`.
+    /// one after another. The response gets no handle. Takes no memory. After iceoryx2's `ActiveRequest::send_copy`.
     ///
     /// # Errors
     ///

@@ -4,7 +4,7 @@ use Rattle.rr_store.specs.Opened.{opened}
 use Rattle.rr_hub.specs.Copies.{IsOfCore}
 use Rattle.rr_hub.proofs.laws.OfCore.{of_core}
 use Rattle.rr_hub.proofs.queries.Naming.{handle_then}
-use Rattle.rr_hub.proofs.at_once.send_loaned_request.Goals as goal
+use Rattle.rr_hub.proofs.at_once.request.send_loaned_request.Goals as goal
 
 pub send_request_entry-requires-clause-kind : goal.send_request_entry-requires-clause-kind
 send_request_entry-requires-clause-kind g c =

@@ -4,7 +4,7 @@ use Rattle.rr_store.specs.Opened.{opened}
 use Rattle.rr_hub.specs.Copies.{IsOfCore}
 use Rattle.rr_hub.proofs.laws.OfCore.{of_core}
 use Rattle.rr_hub.proofs.queries.Naming.{handle_then}
-use Rattle.rr_hub.proofs.at_once.send_loaned_response.Goals as goal
+use Rattle.rr_hub.proofs.at_once.response.send_loaned_response.Goals as goal
 
 pub send_response_entry-requires-clause-kind : goal.send_response_entry-requires-clause-kind
 send_response_entry-requires-clause-kind g c =

@@ -8,7 +8,7 @@ use Rattle.rr_hub.proofs.Unnamed.{by_response}
 use Rattle.rr_hub.proofs.laws.AtOnce.{response_at_once}
 use Rattle.rr_hub.proofs.laws.NextNumber.{next_names_nothing}
 use Rattle.rr_hub.proofs.queries.Naming.{handle_then}
-use Rattle.rr_hub.proofs.at_once.send_response_at_once.Goals as goal
+use Rattle.rr_hub.proofs.at_once.response.send_response_in_steps.Goals as goal
 
 pub send_loaned_response-requires-clause-kind : goal.send_loaned_response-requires-clause-kind
 send_loaned_response-requires-clause-kind g c =
