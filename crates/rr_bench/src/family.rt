@@ -1,17 +1,17 @@
-//! The two families of messages.
+//! The families of messages.
 #![tactic(auto, using(rr_ports::proofs::Frames::callers), unfolding(rr_ports::specs::Facts::Keeps, rr_ports::specs::Facts::IsFree))]
 
 ghost use Rattle.std.specs.Prelude.{◌≡◌, ◌<◌, ◌≤◌, ◌+◌, IfOk, []};
 ghost use Rattle.rr_protocol.specs.declared.kind.Kind.TheVariants as kind;
 ghost use Rattle.rr_ports.specs.Facts.{IsFree, Keeps, Names, numbers_left};
 
-use crate::payload::Payload;
+use crate::payload::{Page, Payload};
 use crate::trip_error::TripError;
 use rr_ports::{
     ActiveRequest, BackpressureStrategy, Client, ClientCreateError, LoanError, NoHandler,
     PendingResponse, RequestMut, RequestSendError, SendError, Server, ServerCreateError,
 };
-use rr_slots::{Body, SliceBody};
+use rr_slots::{Body, KeptBody, SliceBody};
 
 /// A hub whose requests and responses are of one family.
 pub type Hub<B> = rr_ports::Hub<B, u64, B, u64, NoHandler>;
@@ -141,9 +141,68 @@ impl<T: Payload> Family for Option<T> {
         let Some(response) = pending.receive(hub)? else {
             return Err(TripError::NothingCame);
         };
-        if T::is_taken() {
-            return Ok(response.into_payload(hub).last_word());
-        }
+        Ok(response.into_payload(hub).last_word())
+    }
+}
+
+impl<T: Page> Family for KeptBody<T> {
+    fn client(hub: &mut Hub<Self>, _len: usize) -> Result<Client<Self>, ClientCreateError> {
+        hub.client_builder()
+            .backpressure_strategy(BackpressureStrategy::RetryUntilDelivered)
+            .create(hub)
+    }
+
+    fn server(hub: &mut Hub<Self>, _len: usize) -> Result<Server<Self>, ServerCreateError> {
+        hub.server_builder()
+            .backpressure_strategy(BackpressureStrategy::RetryUntilDelivered)
+            .create(hub)
+    }
+
+    #[inline(always)]
+    fn request(
+        hub: &mut Hub<Self>,
+        client: &Client<Self>,
+        _len: usize,
+        word: u64,
+    ) -> Result<RequestMut<Self>, LoanError> {
+        let request = client.loan_kept(hub)?;
+        request.update(hub, |page: &mut T| page.fill(word));
+        Ok(request)
+    }
+
+    #[inline(always)]
+    fn word_asked(hub: &Hub<Self>, active: &ActiveRequest<Self>) -> Option<u64> {
+        Some(active.payload(hub).last_word())
+    }
+
+    #[inline(always)]
+    fn ask(
+        hub: &mut Hub<Self>,
+        client: &Client<Self>,
+        len: usize,
+        word: u64,
+    ) -> Result<PendingResponse<Self>, RequestSendError> {
+        let request = Self::request(hub, client, len, word)?;
+        request.send(hub)
+    }
+
+    #[inline(always)]
+    fn respond(
+        hub: &mut Hub<Self>,
+        active: &ActiveRequest<Self>,
+        _len: usize,
+        word: u64,
+    ) -> Result<(), SendError> {
+        let response = active.loan_kept(hub)?;
+        response.update(hub, |page: &mut T| page.fill(word));
+        response.send(hub)
+    }
+
+    #[inline(always)]
+    fn conclude(hub: &mut Hub<Self>, pending: &PendingResponse<Self>) -> Result<u64, TripError> {
+        let Some(response) = pending.receive(hub)? else {
+            return Err(TripError::NothingCame);
+        };
         let word = response.payload(hub).last_word();
         response.release(hub);
         Ok(word)

@@ -18,7 +18,7 @@ use crate::shapes::{
     CLIENTS, HANDLES, LARGE, LARGE_SLICE, MANY_CLIENTS, PAGE, PAGE_SLICE, PAIR, PASSED, POOLS,
     SERVERS, SLICE, Shape,
 };
-use rr_slots::SliceBody;
+use rr_slots::{KeptBody, SliceBody};
 use std::env;
 use std::process::ExitCode;
 
@@ -28,8 +28,8 @@ const USAGE: &str = "usage: rr_bench [time | grow | count N [CLIENTS]]";
 /// Does a job with each payload, by value and as a slice.
 fn payloads(rt: &HostRuntime, job: Job) -> anyhow::Result<()> {
     run::<Option<u64>>(rt, &PAIR, job)?;
-    run::<Option<[u64; 512]>>(rt, &PAGE, job)?;
-    run::<Option<[u64; 8192]>>(rt, &LARGE, job)?;
+    run::<KeptBody<[u64; 512]>>(rt, &PAGE, job)?;
+    run::<KeptBody<[u64; 8192]>>(rt, &LARGE, job)?;
     run::<SliceBody<u64>>(rt, &SLICE, job)?;
     run::<SliceBody<u64>>(rt, &PAGE_SLICE, job)?;
     run::<SliceBody<u64>>(rt, &LARGE_SLICE, job)

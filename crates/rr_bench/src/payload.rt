@@ -15,9 +15,6 @@ pub trait Payload: Drop {
     /// Returns the last word.
     fn last_word(&self) -> u64
         ensures { result ≡ last self.now };
-
-    /// Returns whether a receiver takes it out of its slot. A word is taken, and a page is read where it lies.
-    fn is_taken() -> bool;
 }
 
 impl Payload for u64 {
@@ -30,47 +27,35 @@ impl Payload for u64 {
     fn last_word(&self) -> u64 {
         *self
     }
-
-    #[inline(always)]
-    fn is_taken() -> bool {
-        true
-    }
 }
 
-impl Payload for [u64; 512] {
-    ghost use Rattle.std.specs.Prelude.{slice_index};
+/// A large value: it is filled with one word where it lies, and read there by its last word.
+pub trait Page: Copy + Default {
+    /// Fills it with a word.
+    fn fill(&mut self, word: u64);
 
-    ghost last = { λ words. slice_index words 511 };
+    /// Returns the last word.
+    fn last_word(&self) -> u64;
+}
 
-    fn filled(word: u64) -> Self {
-        [word; 512]
+impl Page for [u64; 512] {
+    #[inline(always)]
+    fn fill(&mut self, word: u64) {
+        self.as_mut_slice().fill(word);
     }
 
     fn last_word(&self) -> u64 {
         self[511]
     }
-
-    #[inline(always)]
-    fn is_taken() -> bool {
-        false
-    }
 }
 
-impl Payload for [u64; 8192] {
-    ghost use Rattle.std.specs.Prelude.{slice_index};
-
-    ghost last = { λ words. slice_index words 8191 };
-
-    fn filled(word: u64) -> Self {
-        [word; 8192]
+impl Page for [u64; 8192] {
+    #[inline(always)]
+    fn fill(&mut self, word: u64) {
+        self.as_mut_slice().fill(word);
     }
 
     fn last_word(&self) -> u64 {
         self[8191]
-    }
-
-    #[inline(always)]
-    fn is_taken() -> bool {
-        false
     }
 }

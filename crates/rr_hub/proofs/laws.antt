@@ -3,6 +3,7 @@ pub mod OneChannel
 pub mod OwnServer
 pub mod OfCore
 pub mod AtOnce
+pub mod Written
 pub mod Reaching
 pub mod Returning
 pub mod RequestSteps

@@ -2,10 +2,8 @@
 #![tactic(auto)]
 
 mod limits;
-mod loaned;
 mod request;
 mod response;
 
-pub use loaned::Loaned;
 pub use request::{loan_request, new_request_details, request_loan_limit};
 pub use response::{loan_response_at, new_response_details, response_loan_limit};

@@ -1,5 +1,5 @@
 //! Loans of requests.
-ghost use Rattle.std.specs.Prelude.{◌≡◌, ◌≢◌, ◌<◌, Some, Ok, Err, IfOk, IfErr, IsTrue, IsSomeAnd, length, slice_get};
+ghost use Rattle.std.specs.Prelude.{◌≡◌, ◌≢◌, ◌<◌, Some, Err, IsTrue, IsSomeAnd, length, slice_get};
 ghost use Rattle.rr_slots.specs.Families.{takes_len};
 ghost use Rattle.rr_protocol.specs.Loans.{LoansRequest};
 ghost use Rattle.rr_protocol.specs.Queries.{kind_at};
@@ -10,18 +10,15 @@ ghost use Rattle.rr_store.specs.Reaching.{IsCore};
 ghost use Rattle.rr_store.specs.Views.{state_of};
 ghost use Rattle.rr_store.specs.Changes.{request_loan_limit};
 ghost use Rattle.rr_store.specs.Loaning.{loan_details};
-ghost use Rattle.rr_table.specs.TableView.{table_entry};
-ghost use Rattle.std.specs.FinMap.{get};
 ghost use Rattle.rr_protocol.specs.declared.kind.Kind.TheVariants as kind;
 
 use crate::limits::is_too_long;
-use crate::loaned::Loaned;
 use rr_protocol::{BackpressureFn, LoanError};
 use rr_slots::Body;
-use rr_store::{HandleEntry, RequestDetails, Stage, Store};
+use rr_store::{HandleEntry, HandleId, RequestDetails, Stage, Store};
 
 /// Loans a request of `len` elements, a length that the body's family takes, from a client whose value lives. It has the next
-/// number, of which one remains, any free channel and a default user header. Returns the number and where its handle stands.
+/// number, of which one remains, any free channel and a default user header.
 ///
 /// # Errors
 ///
@@ -35,16 +32,13 @@ pub fn loan_request<QB: Body, QH: Default + Drop, PB: Body, PH: Default + Drop, 
     store: &mut Store<QB, QH, PB, PH, K>,
     client: u64,
     len: usize,
-) -> Result<Loaned, LoanError>
+) -> Result<HandleId, LoanError>
     requires core { IsCore (opened store.old) }
     requires kind { kind_at (state_of (opened store.old)) client ≡ Some kind.Client }
     requires number { 0 < numbers_left (state_of (opened store.old)) }
     requires len { IsTrue (takes_len QB.family len) }
     ensures core { IsCore (opened store.new) }
-    ensures loaned { IfOk result (λ handle. LoansRequest QH.is_default (state_of (opened store.old)) client len (Ok handle.number) (state_of (opened store.new))) }
-    ensures refused { IfErr result (λ error. LoansRequest QH.is_default (state_of (opened store.old)) client len (Err error) (state_of (opened store.new))) }
-    ensures entry { IfOk result (λ handle. get store.new.table.entries handle.number ≡ Some (table_entry handle.place handle.entry)) }
-    ensures stage { IfOk result (λ handle. handle.entry.stage ≡ Stage.RequestMutUninit) }
+    ensures loans { LoansRequest QH.is_default (state_of (opened store.old)) client len result (state_of (opened store.new)) }
     ensures unreduced { ClientHasPool store.old.limits (state_of (opened store.old)) client len → result ≢ Err LoanError.OutOfMemory }
 {
     let index = store.clients.index_of(client);
@@ -62,11 +56,7 @@ pub fn loan_request<QB: Body, QH: Default + Drop, PB: Body, PH: Default + Drop, 
                 slot: place.index,
             };
             let number = store.add(place, entry);
-            Ok(Loaned {
-                number,
-                place,
-                entry,
-            })
+            Ok(HandleId::new(number, place))
         }
         Err(_) => Err(LoanError::OutOfMemory),
     }

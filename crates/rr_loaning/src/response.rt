@@ -1,5 +1,5 @@
 //! Loans of responses.
-ghost use Rattle.std.specs.Prelude.{◌≡◌, ◌≢◌, ◌<◌, Some, Ok, Err, IfOk, IfErr, IsTrue, IsSomeAnd, length, slice_get};
+ghost use Rattle.std.specs.Prelude.{◌≡◌, ◌≢◌, ◌<◌, Some, Err, IsTrue, IsSomeAnd, length, slice_get};
 ghost use Rattle.rr_slots.specs.Families.{takes_len};
 ghost use Rattle.rr_protocol.specs.Loans.{LoansResponse};
 ghost use Rattle.rr_protocol.specs.Queries.{kind_at};
@@ -8,23 +8,20 @@ ghost use Rattle.rr_laws.specs.Unreduced.{ServerHasPool};
 ghost use Rattle.rr_store.specs.Opened.{opened};
 ghost use Rattle.rr_store.specs.Reaching.{IsCore};
 ghost use Rattle.rr_store.specs.Views.{state_of, sender_of};
-ghost use Rattle.rr_table.specs.TableView.{IsAt, table_entry};
-ghost use Rattle.std.specs.FinMap.{get};
+ghost use Rattle.rr_table.specs.TableView.{IsAt};
 ghost use Rattle.rr_store.specs.Answering.{response_loan_details_of};
 ghost use Rattle.rr_store.specs.Changes.{response_loan_limit};
 ghost use Rattle.rr_store.specs.Sound.{request_details};
 ghost use Rattle.rr_protocol.specs.declared.kind.Kind.TheVariants as kind;
 
 use crate::limits::{is_at_loan_limit, is_too_long};
-use crate::loaned::Loaned;
 use rr_protocol::{BackpressureFn, LoanError};
 use rr_slots::Body;
-use rr_store::{HandleEntry, ResponseDetails, Stage, Store};
+use rr_store::{HandleEntry, HandleId, ResponseDetails, Stage, Store};
 use rr_table::Place;
 
 /// Loans a response of `len` elements, a length that the body's family takes, from the active request that stands in this
-/// place. It has the next number, of which one remains, and a default user header, and goes to the request's channel. Returns the
-/// number and where its handle stands.
+/// place. It has the next number, of which one remains, and a default user header, and goes to the request's channel.
 ///
 /// # Errors
 ///
@@ -45,17 +42,14 @@ pub fn loan_response_at<
     number: u64,
     place: Place,
     len: usize,
-) -> Result<Loaned, LoanError>
+) -> Result<HandleId, LoanError>
     requires core { IsCore (opened store.old) }
     requires at { IsAt store.old.table number place }
     requires kind { kind_at (state_of (opened store.old)) number ≡ Some kind.ActiveRequest }
     requires number { 0 < numbers_left (state_of (opened store.old)) }
     requires len { IsTrue (takes_len PB.family len) }
     ensures core { IsCore (opened store.new) }
-    ensures loaned { IfOk result (λ handle. LoansResponse PH.is_default (state_of (opened store.old)) number len (Ok handle.number) (state_of (opened store.new))) }
-    ensures refused { IfErr result (λ error. LoansResponse PH.is_default (state_of (opened store.old)) number len (Err error) (state_of (opened store.new))) }
-    ensures entry { IfOk result (λ handle. get store.new.table.entries handle.number ≡ Some (table_entry handle.place handle.entry)) }
-    ensures stage { IfOk result (λ handle. handle.entry.stage ≡ Stage.ResponseMutUninit) }
+    ensures loans { LoansResponse PH.is_default (state_of (opened store.old)) number len result (state_of (opened store.new)) }
     ensures unreduced { ServerHasPool store.old.limits (state_of (opened store.old)) number len → result ≢ Err LoanError.OutOfMemory }
 {
     let active = store.table.at(number, place);
@@ -82,11 +76,7 @@ pub fn loan_response_at<
                 slot: own.index,
             };
             let loaned = store.add(own, entry);
-            Ok(Loaned {
-                number: loaned,
-                place: own,
-                entry,
-            })
+            Ok(HandleId::new(loaned, own))
         }
         Err(_) => Err(LoanError::OutOfMemory),
     }

@@ -5,6 +5,7 @@ mod fixtures;
 mod folds;
 mod handlers;
 mod hubs;
+mod kept;
 mod loans;
 mod pools;
 mod turns;

@@ -1,5 +1,5 @@
 //! Receiving requests.
-ghost use Rattle.std.specs.Prelude.{◌≡◌, ◌<◌, Some, false, true};
+ghost use Rattle.std.specs.Prelude.{◌≡◌, ◌<◌, ℕ, [], IfNone, IfSome, Ok, Some, false, length, true};
 ghost use Rattle.rr_protocol.specs.Queries.{kind_at};
 ghost use Rattle.rr_protocol.specs.Receives.{ReceivesRequest};
 ghost use Rattle.rr_protocol.specs.State.{numbers_left};
@@ -8,7 +8,7 @@ ghost use Rattle.rr_store.specs.Reaching.{IsCore};
 ghost use Rattle.rr_store.specs.Views.{state_of};
 ghost use Rattle.rr_store.specs.Changes.{with_request_senders};
 ghost use Rattle.rr_store.specs.Draining.{HaveQueues};
-ghost use Rattle.rr_store.specs.Receiving.{HaveChannels, IsNextFrom, IsNextSender};
+ghost use Rattle.rr_store.specs.Receiving.{HaveChannels, IsNextFrom, IsNextSender, queue_from};
 ghost use Rattle.rr_store.specs.Skimming.{IsSkimmedTo};
 ghost use Rattle.rr_protocol.specs.declared.kind.Kind.TheVariants as kind;
 
@@ -46,7 +46,7 @@ pub fn receive_request<
     let receiver = store.servers.receiver_of_port(index);
     match next_request_sender(store, receiver) {
         Ok(Some(sender)) => {
-            let slot = store.clients.take(sender, receiver, 0);
+            let slot = store.clients.take_first(sender, receiver, 0);
             let own = store.clients.place_at_receiver(sender, receiver, slot);
             let entry = HandleEntry {
                 stage: Stage::ActiveRequest(server, 0),
@@ -90,7 +90,7 @@ fn next_request_sender<
 
 /// Returns from which client's sender a server takes its next request, if its receives go round, and lets the one after it be the
 /// first next time. Looks once if no client's request waits.
-#[cold]
+#[inline(always)]
 fn request_sender_in_turn<
     QB: Body,
     QH: Default + Drop,
@@ -98,6 +98,7 @@ fn request_sender_in_turn<
     PH: Default + Drop,
     K: BackpressureFn,
 >(store: &mut Store<QB, QH, PB, PH, K>, receiver: usize) -> Result<Option<usize>, ReceiveError>
+    requires several { 1 < length store.old.clients.senders }
     requires receiver { HaveQueues store.old.clients.senders receiver }
     requires channel { HaveChannels store.old.clients.senders receiver 0 }
     ensures rest { opened store.new ≡ with_request_senders (opened store.old) store.new.clients.senders }
@@ -105,19 +106,91 @@ fn request_sender_in_turn<
     ensures skimmed { store.old.limits.enable_fire_and_forget_requests ≡ false → IsSkimmedTo store.old.table receiver store.old.limits.max_active_requests_per_client store.old.clients.senders store.new.clients.senders result }
     ensures next { IsNextSender store.new.clients.senders receiver 0 store.old.limits.max_active_requests_per_client result }
 {
-    if store.clients.is_idle(receiver, 0) {
+    let Some(first) = first_request_sender(store, receiver) else {
         return Ok(None);
-    }
-    let turn = store.request_turns.at(receiver, 0);
-    let found = request_sender_around(store, receiver, turn);
+    };
+    let found = request_sender_beginning(store, receiver, first);
     if let Ok(Some(sender)) = found {
-        let after = sender.saturating_add(1);
-        store.request_turns.set(receiver, 0, after);
+        store.request_turns.set(receiver, 0, sender.wrapping_add(1));
     }
     found
 }
 
+/// Returns at which client's sender a server looks first, if its receives go round. The sender from which it took last is noted no
+/// more if nothing waits from it. Returns `None` if no client's request waits.
+#[cold]
+fn first_request_sender<
+    QB: Body,
+    QH: Default + Drop,
+    PB: Body,
+    PH: Default + Drop,
+    K: BackpressureFn,
+>(store: &mut Store<QB, QH, PB, PH, K>, receiver: usize) -> Option<usize>
+    requires several { 1 < length store.old.clients.senders }
+    requires receiver { HaveQueues store.old.clients.senders receiver }
+    requires channel { HaveChannels store.old.clients.senders receiver 0 }
+    ensures kept { opened store.new ≡ opened store.old }
+    ensures there { IfSome result (λ sender. sender < length store.old.clients.senders) }
+    ensures idle { IfNone result ((sender : ℕ) → sender < length store.old.clients.senders → queue_from store.old.clients.senders receiver 0 sender ≡ []) }
+{
+    let turn = store.request_turns.at(receiver, 0);
+    let first = store.clients.next_around(receiver, 0, turn)?;
+    store.clients.forget_before(receiver, 0, turn, first);
+    Some(first)
+}
+
+/// Returns from which client's sender a server takes next: from this one, or else from one of those that come after it, in turn.
+#[inline(always)]
+fn request_sender_beginning<
+    QB: Body,
+    QH: Default + Drop,
+    PB: Body,
+    PH: Default + Drop,
+    K: BackpressureFn,
+>(
+    store: &mut Store<QB, QH, PB, PH, K>,
+    receiver: usize,
+    first: usize,
+) -> Result<Option<usize>, ReceiveError>
+    requires sender { first < length store.old.clients.senders }
+    requires receiver { HaveQueues store.old.clients.senders receiver }
+    requires channel { HaveChannels store.old.clients.senders receiver 0 }
+    ensures rest { opened store.new ≡ with_request_senders (opened store.old) store.new.clients.senders }
+    ensures kept { store.old.limits.enable_fire_and_forget_requests ≡ true → opened store.new ≡ opened store.old }
+    ensures skimmed { store.old.limits.enable_fire_and_forget_requests ≡ false → IsSkimmedTo store.old.table receiver store.old.limits.max_active_requests_per_client store.old.clients.senders store.new.clients.senders result }
+    ensures next { IsNextSender store.new.clients.senders receiver 0 store.old.limits.max_active_requests_per_client result }
+{
+    match request_sender_at(store, receiver, first) {
+        Some(sender) => Ok(Some(sender)),
+        None => request_sender_around(store, receiver, first),
+    }
+}
+
+/// Returns a client's sender if a server takes its next request from it.
+#[inline(always)]
+fn request_sender_at<QB: Body, QH: Default + Drop, PB: Body, PH: Default + Drop, K: BackpressureFn>(
+    store: &mut Store<QB, QH, PB, PH, K>,
+    receiver: usize,
+    sender: usize,
+) -> Option<usize>
+    requires sender { sender < length store.old.clients.senders }
+    requires receiver { HaveQueues store.old.clients.senders receiver }
+    requires channel { HaveChannels store.old.clients.senders receiver 0 }
+    ensures rest { opened store.new ≡ with_request_senders (opened store.old) store.new.clients.senders }
+    ensures kept { store.old.limits.enable_fire_and_forget_requests ≡ true → opened store.new ≡ opened store.old }
+    ensures skimmed { store.old.limits.enable_fire_and_forget_requests ≡ false → IsSkimmedTo store.old.table receiver store.old.limits.max_active_requests_per_client store.old.clients.senders store.new.clients.senders (Ok result) }
+    ensures next { IfSome result (λ sender. IsNextSender store.new.clients.senders receiver 0 store.old.limits.max_active_requests_per_client (Ok (Some sender))) }
+{
+    let most = store.limits.max_active_requests_per_client;
+    if store.limits.enable_fire_and_forget_requests {
+        store.clients.forget_if_empty(sender, receiver, 0);
+        return store.clients.ready_at(sender, receiver, 0, most);
+    }
+    store.clients.skim_at(&store.table, sender, receiver, most)
+}
+
 /// Returns from which client's sender a server takes next: looks from one on, and then, if that isn't the first, at all.
+#[cold]
 fn request_sender_around<
     QB: Body,
     QH: Default + Drop,

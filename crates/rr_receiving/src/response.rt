@@ -1,5 +1,5 @@
 //! Receiving responses.
-ghost use Rattle.std.specs.Prelude.{◌≡◌, None, Some, IfOk, IfSome};
+ghost use Rattle.std.specs.Prelude.{◌≡◌, ◌<◌, None, Some, IfOk, IfSome, length};
 ghost use Rattle.rr_protocol.specs.declared.kind.Kind.TheVariants as kind;
 ghost use Rattle.rr_protocol.specs.Queries.{kind_at};
 ghost use Rattle.rr_protocol.specs.Receives.{ReceivesResponse};
@@ -96,37 +96,39 @@ fn response_sender_in_turn<B: Body, H: Drop, P: Drop>(
     channel: usize,
     most: usize,
 ) -> Result<Option<usize>, ReceiveError>
+    requires several { 1 < length servers.now.senders }
     requires receiver { HaveQueues servers.now.senders receiver }
     requires channel { HaveChannels servers.now.senders receiver channel }
     ensures { IsNextSender servers.now.senders receiver channel most result }
 {
-    if servers.is_idle(receiver, channel) {
-        return Ok(None);
-    }
     let turn = turns.at(receiver, channel);
-    let found = response_sender_around(servers, receiver, channel, most, turn);
+    let Some(first) = servers.next_around(receiver, channel, turn) else {
+        return Ok(None);
+    };
+    let found = response_sender_around(servers, receiver, channel, most, first);
     if let Ok(Some(sender)) = found {
         turns.set(receiver, channel, sender.saturating_add(1));
     }
     found
 }
 
-/// Returns from which server's sender a client takes next: looks from one on, and then, if that isn't the first, at all.
+/// Returns from which server's sender a client takes next: from this one, or else from one of those that come after it, in turn.
 fn response_sender_around<B: Body, H: Drop, P: Drop>(
     servers: &Side<B, ResponseDetails, H, P>,
     receiver: usize,
     channel: usize,
     most: usize,
-    turn: usize,
+    first: usize,
 ) -> Result<Option<usize>, ReceiveError>
+    requires sender { first < length servers.now.senders }
     requires receiver { HaveQueues servers.now.senders receiver }
     requires channel { HaveChannels servers.now.senders receiver channel }
     ensures { IsNextSender servers.now.senders receiver channel most result }
 {
-    if turn == 0 {
-        return servers.next_sender(receiver, channel, most, 0);
+    if let Some(sender) = servers.ready_at(first, receiver, channel, most) {
+        return Ok(Some(sender));
     }
-    match servers.next_sender(receiver, channel, most, turn) {
+    match servers.next_sender(receiver, channel, most, first) {
         Ok(Some(sender)) => Ok(Some(sender)),
         _ => servers.next_sender(receiver, channel, most, 0),
     }

@@ -1,6 +1,6 @@
 -- Sets of senders stay with what is noted of their words, and a look that goes by that finds the next member.
-use Rattle.std.proofs.Common.{zero, suc, ◌≡◌, ◌≢◌, ◌⊎◌, ◌↔◌, inl, inr, ℕ, ◌+◌, ◌*◌, ◌/◌, ◌%◌, ◌^◌, ◌<◌, ◌≤◌, Option, None, Some, IfNone, List, [], length, refl, sym, ap, subst, ◌∙◌, arith}
-use Rattle.std.specs.Prelude.{slice_get, slice_index_or, Vec}
+use Rattle.std.proofs.Common.{suc, ◌≡◌, ◌≢◌, ◌⊎◌, inl, inr, ℕ, ◌+◌, ◌*◌, ◌/◌, ◌%◌, ◌^◌, ◌<◌, ◌≤◌, Option, None, Some, IfNone, length, refl, sym, ap, subst, ◌∙◌, arith}
+use Rattle.std.specs.Prelude.{slice_index_or, Vec}
 use Rattle.std.specs.Global.{Global}
 use Rattle.std.specs.Int.{bit_at}
 use Rattle.std.specs.Option.{option_map_or}
@@ -8,7 +8,7 @@ use Rattle.std.proofs.lemmas.Bool.{cases_eq, cases_lt}
 use Rattle.std.proofs.lemmas.Nat.Bits.{bit_at-zero}
 use Rattle.std.proofs.lemmas.Option.{slice_get_past}
 use Rattle.rr_sender.specs.declared.bit_sets.BitSets.{BitSets}
-use Rattle.rr_sender.specs.BitSets.{HasWord, IsBitChanged, IsColumnAdded, IsFirstFrom, IsNextInWord, has, word_of}
+use Rattle.rr_sender.specs.BitSets.{HasWord, IsColumnAdded, IsFirstFrom, IsNextInWord, has, word_of}
 use Rattle.rr_sender.specs.SenderSets.{HasRoom, IsEven, KnowsWords}
 
 -- a word past the last column is empty

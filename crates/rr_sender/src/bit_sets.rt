@@ -1,6 +1,6 @@
 //! Sets of numbers, as words of bits.
-ghost use Rattle.std.specs.Prelude.{◌≡◌, ◌+◌, ◌<◌, ◌≤◌, ◌/◌, ◌^◌, ◌%◌, [], IfNone, IfOk, OnOk, length, replicate, vec_capacity, vec_len, ℕ};
-ghost use Rattle.rr_sender.specs.BitSets.{HasWord, IsBitChanged, IsColumnAdded, IsFirstFrom, IsNextInWord, IsWordChanged, word_of};
+ghost use Rattle.std.specs.Prelude.{◌≡◌, ◌+◌, ◌<◌, ◌≤◌, ◌/◌, ◌^◌, ◌%◌, [], IfNone, IfOk, IfSome, OnOk, length, replicate, vec_capacity, vec_len, ℕ};
+ghost use Rattle.rr_sender.specs.BitSets.{HasWord, IsBitChanged, IsColumnAdded, IsFirstFrom, IsNextInWord, IsWordChanged, has, word_of};
 
 use std::alloc::{AllocError, Global};
 
@@ -65,6 +65,15 @@ impl BitSets {
         }
     }
 
+    /// Returns a word that a set has.
+    #[inline(always)]
+    fn known_word(&self, set: usize, index: usize) -> u64
+        requires { HasWord self.now set index }
+        ensures { result ≡ word_of self.now set index }
+    {
+        self.columns[index][set]
+    }
+
     /// Makes other bits a word of a set.
     #[inline(always)]
     fn set_word(&mut self, set: usize, index: usize, word: u64)
@@ -74,25 +83,37 @@ impl BitSets {
         self.columns[index][set] = word;
     }
 
-    /// Puts a number into a set that has a place for it.
+    /// Puts a number into a set that has a place for it. Returns the word for it as it was.
     #[inline(always)]
-    pub(crate) fn insert(&mut self, set: usize, number: usize)
+    pub(crate) fn insert(&mut self, set: usize, number: usize) -> u64
         requires { HasWord self.old set (number / 64) }
-        ensures { IsBitChanged 1 set number self.old self.new }
+        ensures there { IsBitChanged 1 set number self.old self.new }
+        ensures before { result ≡ word_of self.old set (number / 64) }
     {
-        let word = self.word(set, number / 64);
+        let word = self.known_word(set, number / 64);
         self.set_word(set, number / 64, word | 1 << (number % 64));
+        word
     }
 
-    /// Takes a number out of a set that has a place for it.
+    /// Takes a number out of a set that has a place for it. Returns the word for it as it is then.
     #[inline(always)]
-    pub(crate) fn remove(&mut self, set: usize, number: usize)
+    pub(crate) fn remove(&mut self, set: usize, number: usize) -> u64
         requires { HasWord self.old set (number / 64) }
         ensures gone { IsBitChanged 0 set number self.old self.new }
         ensures less { word_of self.new set (number / 64) ≤ word_of self.old set (number / 64) }
+        ensures after { result ≡ word_of self.new set (number / 64) }
     {
-        let word = self.word(set, number / 64);
-        self.set_word(set, number / 64, word & !(1 << (number % 64)));
+        let word = self.known_word(set, number / 64);
+        let rest = word & !(1 << (number % 64));
+        self.set_word(set, number / 64, rest);
+        rest
+    }
+
+    /// Returns whether a set is known to have at most one number. It is not if there are several columns.
+    #[inline(always)]
+    pub(crate) fn is_in_one_word(&self, set: usize) -> bool {
+        let word = self.word(set, 0);
+        self.columns.len() == 1 && word & word.wrapping_sub(1) == 0
     }
 
     /// Returns the first number of a set from one on that stands in the same word.
@@ -106,6 +127,22 @@ impl BitSets {
             return None;
         }
         Some(from + rest.trailing_zeros() as usize)
+    }
+
+    /// Returns the first number of a set in one of its words: the first from another number on, if that stands in the same word, and,
+    /// if there is none, the first of all.
+    #[inline(always)]
+    pub(crate) fn next_around_in_word(&self, set: usize, index: usize, from: usize) -> Option<usize>
+        requires { index < 2 ^ 58 }
+        ensures member { IfSome result (λ number. has self.now set number ≡ 1) }
+        ensures empty { IfNone result (word_of self.now set index ≡ 0) }
+    {
+        if index == from / 64 {
+            if let Some(number) = self.next_in_word(set, from) {
+                return Some(number);
+            }
+        }
+        self.next_in_word(set, index * 64)
     }
 
     /// Returns the first number of a set from one on, looking at one word after another.

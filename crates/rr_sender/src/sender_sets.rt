@@ -1,6 +1,6 @@
 //! For each queue, the senders from which something may wait in it.
-ghost use Rattle.std.specs.Prelude.{◌≡◌, ◌≤◌, ◌+◌, ◌*◌, ◌<◌, ◌/◌, ◌^◌, [], IsTrue, None, OnErr, OnOk, length};
-ghost use Rattle.rr_sender.specs.BitSets.{HasWord, IsBitChanged, IsFirstFrom};
+ghost use Rattle.std.specs.Prelude.{◌≡◌, ◌≤◌, ◌+◌, ◌*◌, ◌<◌, ◌/◌, ◌^◌, [], IfNone, IfSome, None, OnErr, OnOk, length};
+ghost use Rattle.rr_sender.specs.BitSets.{HasWord, IsBitChanged, IsFirstFrom, has};
 ghost use Rattle.rr_sender.specs.SenderSets.{HasRoom, IsEven, IsInEach};
 
 use crate::bit_sets::BitSets;
@@ -71,8 +71,9 @@ impl SenderSets {
         requires { HasWord self.old set (sender / 64) }
         ensures { IsBitChanged 1 set sender self.old self.new }
     {
-        self.members.insert(set, sender);
-        self.words.insert(set, sender / 64);
+        if self.members.insert(set, sender) == 0 {
+            self.words.insert(set, sender / 64);
+        }
     }
 
     /// Puts a sender into each of so many sets, which have room for it.
@@ -92,18 +93,31 @@ impl SenderSets {
         requires { HasWord self.old set (sender / 64) }
         ensures { IsBitChanged 0 set sender self.old self.new }
     {
-        self.members.remove(set, sender);
-        if self.members.word(set, sender / 64) == 0 {
+        if self.members.remove(set, sender) == 0 {
             self.words.remove(set, sender / 64);
         }
     }
 
-    /// Returns whether a set is empty. Takes a look at one word for each 4,096 senders.
+    /// Returns the first member of a set from a sender on, and, if there is none, the first of all. Takes one look, at one word for each
+    /// 4,096 senders, if the set is empty.
     #[inline(always)]
-    pub fn is_empty(&self, set: usize) -> bool
-        ensures { IsTrue result → IsFirstFrom self.now set 0 None }
+    pub fn next_around(&self, set: usize, from: usize) -> Option<usize>
+        ensures member { IfSome result (λ sender. has self.now set sender ≡ 1) }
+        ensures empty { IfNone result (IsFirstFrom self.now set 0 None) }
     {
-        self.words.next_from(set, 0).is_none()
+        let Some(first) = self.words.next_from(set, 0) else {
+            return None;
+        };
+        if self.words.is_in_one_word(set) {
+            return self.members.next_around_in_word(set, first, from);
+        }
+        if let Some(sender) = self.members.next_in_word(set, from) {
+            return Some(sender);
+        }
+        if let Some(word) = self.words.next_from(set, from / 64 + 1) {
+            return self.members.next_in_word(set, word * 64);
+        }
+        self.members.next_in_word(set, first * 64)
     }
 
     /// Returns the first member of a set from a sender on.

@@ -7,9 +7,5 @@ mod request;
 mod response;
 
 pub use deliverable::{takes_request, takes_response};
-pub use request::{
-    open_connections, request_refusal_at, request_send_limit, send_request_at, send_request_entry,
-};
-pub use response::{
-    is_response_refused, is_response_refused_at, send_response_at, send_response_entry,
-};
+pub use request::{open_connections, request_refusal_at, request_send_limit, send_request_at};
+pub use response::{is_response_refused, is_response_refused_at, send_response_at};

@@ -9,8 +9,7 @@ ghost use Rattle.rr_protocol.specs.State.{IsRequestMutAnd};
 ghost use Rattle.rr_store.specs.Opened.{opened};
 ghost use Rattle.rr_store.specs.Reaching.{IsCore};
 ghost use Rattle.rr_store.specs.Views.{state_of, sender_of};
-ghost use Rattle.rr_table.specs.TableView.{IsAt, table_entry};
-ghost use Rattle.std.specs.FinMap.{get};
+ghost use Rattle.rr_table.specs.TableView.{IsAt};
 ghost use Rattle.std.specs.List.{position, list_any};
 ghost use Rattle.rr_store.specs.Changes.{is_closed_to, is_open_to};
 ghost use Rattle.rr_store.specs.Order.{IsRising};
@@ -56,33 +55,6 @@ pub fn send_request_at<
     ensures sends { SendsRequest K.action (state_of (opened store.old)) number result (state_of (opened store.new)) }
 {
     let entry = store.table.at(number, place);
-    send_request_entry(store, number, place, entry)
-}
-
-/// Does what `send_request_at` does, where the caller knows what is kept in the place.
-///
-/// # Errors
-///
-/// - As `send_request_at`.
-#[inline(always)]
-pub fn send_request_entry<
-    QB: Body,
-    QH: Default + Drop,
-    PB: Body,
-    PH: Default + Drop,
-    K: BackpressureFn,
->(
-    store: &mut Store<QB, QH, PB, PH, K>,
-    number: u64,
-    place: Place,
-    entry: HandleEntry,
-) -> Result<usize, RequestSendError>
-    requires core { IsCore (opened store.old) }
-    requires entry { get store.old.table.entries number ≡ Some (table_entry place entry) }
-    requires kind { kind_at (state_of (opened store.old)) number ≡ Some kind.RequestMut }
-    ensures core { IsCore (opened store.new) }
-    ensures sends { SendsRequest K.action (state_of (opened store.old)) number result (state_of (opened store.new)) }
-{
     let connections = open_connections(store, entry.sender);
     if let Some(refusal) = request_send_limit(store, entry.sender, connections) {
         release_request_at(store, number, place);

@@ -7,8 +7,7 @@ ghost use Rattle.rr_protocol.specs.State.{IsResponseMutAnd};
 ghost use Rattle.rr_store.specs.Opened.{opened};
 ghost use Rattle.rr_store.specs.Reaching.{IsCore};
 ghost use Rattle.rr_store.specs.Views.{state_of, sender_of};
-ghost use Rattle.rr_table.specs.TableView.{IsAt, table_entry};
-ghost use Rattle.std.specs.FinMap.{get};
+ghost use Rattle.rr_table.specs.TableView.{IsAt};
 ghost use Rattle.std.specs.List.{position};
 ghost use Rattle.rr_store.specs.Delivering.{HasQueue, is_blocked_in};
 ghost use Rattle.rr_store.specs.Order.{IsRising};
@@ -20,7 +19,7 @@ use crate::full::{discards, is_response_blocked};
 use rr_protocol::{BackpressureFn, SendError};
 use rr_releasing::{leave_server_of_sender_if_unused, release_response_loan_at};
 use rr_slots::Body;
-use rr_store::{HandleEntry, ResponseDetails, Store};
+use rr_store::{ResponseDetails, Store};
 use rr_table::Place;
 
 /// Sends the response that stands in this place to its request, if that is still a pending response of a connected client,
@@ -45,33 +44,6 @@ pub fn send_response_at<
     ensures sends { SendsResponse K.action (state_of (opened store.old)) number result (state_of (opened store.new)) }
 {
     let entry = store.table.at(number, place);
-    send_response_entry(store, number, place, entry)
-}
-
-/// Does what `send_response_at` does, where the caller knows what is kept in the place.
-///
-/// # Errors
-///
-/// - As `send_response_at`.
-#[inline(always)]
-pub fn send_response_entry<
-    QB: Body,
-    QH: Default + Drop,
-    PB: Body,
-    PH: Default + Drop,
-    K: BackpressureFn,
->(
-    store: &mut Store<QB, QH, PB, PH, K>,
-    number: u64,
-    place: Place,
-    entry: HandleEntry,
-) -> Result<(), SendError>
-    requires core { IsCore (opened store.old) }
-    requires entry { get store.old.table.entries number ≡ Some (table_entry place entry) }
-    requires kind { kind_at (state_of (opened store.old)) number ≡ Some kind.ResponseMut }
-    ensures core { IsCore (opened store.new) }
-    ensures sends { SendsResponse K.action (state_of (opened store.old)) number result (state_of (opened store.new)) }
-{
     let details = store.servers.details(entry.sender, entry.slot);
     let reach = store.clients.reached_receiver(&store.table, details);
     if is_response_refused(store, entry.sender, details, reach) {

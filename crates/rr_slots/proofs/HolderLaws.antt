@@ -8,7 +8,7 @@ use Rattle.std.proofs.Math.ListN.{get_or-append}
 use Rattle.std.proofs.lemmas.Option.{get_or_from_slice_get, slice_get-map, slice_get_within}
 use Rattle.rr_slots.specs.declared.slot.Slot.{Slot}
 use Rattle.rr_slots.specs.Threads.{slot_with, holders_of, next_of, all_free, IsThreaded, LeadsThroughFree}
-use Rattle.rr_slots.proofs.ThreadLaws.{first_zero, first_within, leads_after_take, leads_after_free, leads_as_before, leads_at_first}
+use Rattle.rr_slots.proofs.ThreadLaws.{first_zero, first_within, leads_after_take, leads_after_free, leads_as_before, leads_at_last}
 
 module _ (slots : List Slot) where
   -- what stands at a slot, as numbers
@@ -64,31 +64,31 @@ all_counted (h ∷ hs) =
     (h == 0) as (λ b. cond b 1 0 + cond (not b) 1 0 ≡ 1) [ true ↦ refl | false ↦ refl ] in
     omega (arith, all_counted hs, split, sum_by-cons (λ n. cond (n == 0) 1 0) h hs, sum_by-cons (λ n. cond (not (n == 0)) 1 0) h hs)
 
--- free slots, each followed by the next one
+-- free slots, each followed by the one before it
 length-all_free : (n : ℕ) → length (all_free n) ≡ n
 length-all_free zero = refl
-length-all_free (suc n) = length-append (all_free n) (slot_with 0 (n + 1) ∷ []) ∙ omega (arith, length-all_free n)
+length-all_free (suc n) = length-append (all_free n) (slot_with 0 (n - 1) ∷ []) ∙ omega (arith, length-all_free n)
 
 pub holders-all_free : (n : ℕ) → map holders_of (all_free n) ≡ replicate n 0
 holders-all_free zero = refl
 holders-all_free (suc n) =
-    map-append holders_of (all_free n) (slot_with 0 (n + 1) ∷ []) ∙ ap (λ xs. xs ++ 0 ∷ []) (holders-all_free n) ∙ replicate_more n 0
+    map-append holders_of (all_free n) (slot_with 0 (n - 1) ∷ []) ∙ ap (λ xs. xs ++ 0 ∷ []) (holders-all_free n) ∙ replicate_more n 0
     ∙ let more : n + 1 ≡ suc n = omega arith in ap (λ k. replicate {A = ℕ} k 0) more
 
-next-all_free : (n i : ℕ) → i < n → get_or (map next_of (all_free n)) i 0 ≡ i + 1
+next-all_free : (n i : ℕ) → i < n → get_or (map next_of (all_free n)) i 0 ≡ i - 1
 next-all_free zero i h = absurd (omega arith)
 next-all_free (suc n) i h =
-    rw (map-append next_of (all_free n) (slot_with 0 (n + 1) ∷ []))
+    rw (map-append next_of (all_free n) (slot_with 0 (n - 1) ∷ []))
     (let len : length (map next_of (all_free n)) ≡ n = length-map (all_free n) next_of ∙ length-all_free n in
     ⊎_elim
-    (λ l. get_or-append {A = ℕ} (map next_of (all_free n)) ((n + 1) ∷ []) 0 i (omega (arith, len)) ∙ next-all_free n i l)
+    (λ l. get_or-append {A = ℕ} (map next_of (all_free n)) ((n - 1) ∷ []) 0 i (omega (arith, len)) ∙ next-all_free n i l)
     (λ l. let last : i - n ≡ 0 = omega arith in
-    get_or-append_right {X = ℕ} (map next_of (all_free n)) ((n + 1) ∷ []) n i 0 len l ∙ ap {B = ℕ} (λ k. get_or ((n + 1) ∷ []) k 0) last
+    get_or-append_right {X = ℕ} (map next_of (all_free n)) ((n - 1) ∷ []) n i 0 len l ∙ ap {B = ℕ} (λ k. get_or ((n - 1) ∷ []) k 0) last
     ∙ omega arith)
     (cases_lt i n))
 
-pub all_threaded : (n : ℕ) → IsThreaded (all_free n) 0 n
-all_threaded n = rw (holders-all_free n) (leads_at_first n (map next_of (all_free n)) (next-all_free n))
+pub all_threaded : (n : ℕ) → IsThreaded (all_free n) (n - 1) n
+all_threaded n = rw (holders-all_free n) (leads_at_last n (map next_of (all_free n)) (next-all_free n))
 
 -- no more slots are free than there are, and a write adds none
 pub free_within : (slots : List Slot) (slot first free : ℕ) (state : Slot) → IsThreaded (slice_set slots slot state) first free

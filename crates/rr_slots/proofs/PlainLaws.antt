@@ -1,6 +1,7 @@
 -- A part of a list at its front, that is written through a slice.
-use Rattle.std.proofs.Common.{◌≡◌, ◌≤◌, ◌<◌, ℕ, ◌+◌, ◌-◌, zero, suc, List, [], ◌∷◌, ◌++◌, length, take, drop, refl, sym, ap, ◌∙◌, arith, Some}
+use Rattle.std.proofs.Common.{◌≡◌, ◌≤◌, ◌<◌, ℕ, zero, suc, List, [], ◌∷◌, ◌++◌, length, take, drop, refl, sym, ap, ◌∙◌, arith, Some}
 use Rattle.std.specs.List.{refill, slice_get, slice_index_or}
+use Rattle.rr_slots.specs.Elements.{option_elements}
 use Rattle.std.proofs.lemmas.List.{length-append, length-drop, length-take-le, take-append-le, take-take}
 
 module _ {X : Type 0} where
@@ -30,3 +31,9 @@ module _ {X : Type 0} where
   front_get (suc n) [] i x below within is = absurd (omega (arith, within))
   front_get (suc n) (y ∷ xs) zero x below within is = ap Some (sym is)
   front_get (suc n) (y ∷ xs) (suc i) x below within is = front_get n xs i x (omega (arith, below)) (omega (arith, within)) is
+
+  -- a list of one element is what its first element is as an option
+  pub only_element : (xs : List X) → length xs ≡ 1 → option_elements (slice_get xs 0) ≡ xs
+  only_element [] one = absurd (omega (arith, one))
+  only_element (x ∷ []) one = refl
+  only_element (x ∷ y ∷ zs) one = absurd (omega (arith, one))

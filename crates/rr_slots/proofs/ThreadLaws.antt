@@ -1,6 +1,6 @@
 -- A step of the list that leads through the free slots.
-use Rattle.std.proofs.Common.{◌≡◌, ℕ, suc, zero, ◌+◌, ◌<◌, ◌≤◌, List, ◌∷◌, cond, eqb, get_or, length, refl, sym, ap, ◌∙◌, subst, ⊎_elim, inl, inr, arith, add-one}
-use Rattle.std.specs.Prelude.{slice_set, ◌⊎◌, count_by, replicate}
+use Rattle.std.proofs.Common.{◌≡◌, ℕ, suc, zero, ◌+◌, ◌-◌, ◌<◌, ◌≤◌, List, ◌∷◌, cond, eqb, get_or, length, refl, sym, ap, ◌∙◌, subst, ⊎_elim, arith, add-one}
+use Rattle.std.specs.Prelude.{slice_set, count_by, replicate}
 use Rattle.std.proofs.lemmas.Bool.{cases_eq, eq-eqb, ne_eqb, cases_lt}
 use Rattle.std.proofs.lemmas.List.{get_or-set_same, get_or-set_other, get_or_past, get_or_default, length-replicate, get_or-replicate}
 use Rattle.std.proofs.lemmas.List.Sums.{sum_by-set, sum_by-cons}
@@ -101,43 +101,46 @@ module _ {hs ls : List ℕ} where
             (cases_eq i slot));
       }
 
--- links that lead to the next slot
-thread_rising-out : (ls : List ℕ) (h n i : ℕ) → ((k : ℕ) → k < h + n → get_or ls k 0 ≡ k + 1) → (i < h) ⊎ (h + n ≤ i)
-    → times i (thread ls h n) ≡ 0
-thread_rising-out ls h zero i each out = refl
-thread_rising-out ls h (suc n) i each out =
-    times-other i h _ (λ e. ⊎_elim (λ l. omega arith) (λ l. omega arith) out)
-    ∙ ap (λ x. times i (thread ls x n)) (each h (omega arith))
-    ∙ thread_rising-out ls (h + 1) n i (λ k l. each k (omega arith)) (⊎_elim (λ l. inl (omega arith)) (λ l. inr (omega arith)) out)
+-- links that lead to the slot before
+next_falling : (ls : List ℕ) (n i : ℕ) → ((k : ℕ) → k < suc n → get_or ls k 0 ≡ k - 1)
+    → times i (thread ls (get_or ls (suc n - 1) 0) n) ≡ times i (thread ls (n - 1) n)
+next_falling ls n i each =
+    let before : get_or ls (suc n - 1) 0 ≡ n - 1 = omega (arith, each (suc n - 1) (omega arith)) in
+    ap (λ x. times i (thread ls x n)) before
 
-thread_rising-in : (ls : List ℕ) (h n i : ℕ) → ((k : ℕ) → k < h + n → get_or ls k 0 ≡ k + 1) → h ≤ i → i < h + n
-    → times i (thread ls h n) ≡ 1
-thread_rising-in ls h zero i each low high = absurd (omega arith)
-thread_rising-in ls h (suc n) i each low high =
-    let next : times i (thread ls (get_or ls h 0) n) ≡ times i (thread ls (h + 1) n) = ap (λ x. times i (thread ls x n))
-    (each h (omega arith)) in
+thread_falling-out : (ls : List ℕ) (n i : ℕ) → ((k : ℕ) → k < n → get_or ls k 0 ≡ k - 1) → n ≤ i → times i (thread ls (n - 1) n) ≡ 0
+thread_falling-out ls zero i each out = refl
+thread_falling-out ls (suc n) i each out =
+    times-other i (suc n - 1) _ (λ e. omega arith) ∙ next_falling ls n i each
+    ∙ thread_falling-out ls n i (λ k l. each k (omega arith)) (omega arith)
+
+thread_falling-in : (ls : List ℕ) (n i : ℕ) → ((k : ℕ) → k < n → get_or ls k 0 ≡ k - 1) → i < n → times i (thread ls (n - 1) n) ≡ 1
+thread_falling-in ls zero i each within = absurd (omega arith)
+thread_falling-in ls (suc n) i each within =
+    let rest : List ℕ = thread ls (get_or ls (suc n - 1) 0) n in
     ⊎_elim
-    (λ e. let P : ℕ → Type 0 = λ k. times i (k ∷ thread ls (get_or ls h 0) n) ≡ 1 in
+    (λ e. let P : ℕ → Type 0 = λ k. times i (k ∷ rest) ≡ 1 in
     subst P (sym e) (omega (
       arith,
-      times-head i (thread ls (get_or ls h 0) n),
-      thread_rising-out ls (h + 1) n i (λ k l. each k (omega arith)) (inl (omega arith)),
+      times-head i rest,
+      next_falling ls n i each,
+      thread_falling-out ls n i (λ k l. each k (omega arith)) (omega arith),
     )))
-    (λ e. times-other i h _ e ∙ next ∙ thread_rising-in ls (h + 1) n i (λ k l. each k (omega arith)) (omega arith) (omega arith))
-    (cases_eq h i)
+    (λ e. times-other i (suc n - 1) rest e ∙ next_falling ls n i each
+    ∙ thread_falling-in ls n i (λ k l. each k (omega arith)) (omega arith))
+    (cases_eq (suc n - 1) i)
 
 all_zero : (n : ℕ) → count_by (λ h. eqb h 0) (replicate n 0) ≡ n
 all_zero zero = refl
 all_zero (suc n) = sum_by-cons is_zero 0 (replicate n 0) ∙ omega (arith, all_zero n)
 
--- slots that nobody holds, each followed by the next one
-pub leads_at_first : (n : ℕ) (ls : List ℕ) → ((k : ℕ) → k < n → get_or ls k 0 ≡ k + 1) → LeadsThroughFree (replicate n 0) ls 0 n
-leads_at_first n ls each = record {
+-- slots that nobody holds, each followed by the one before it
+pub leads_at_last : (n : ℕ) (ls : List ℕ) → ((k : ℕ) → k < n → get_or ls k 0 ≡ k - 1) → LeadsThroughFree (replicate n 0) ls (n - 1) n
+leads_at_last n ls each = record {
   stored = sym (all_zero n);
   each_once = λ i. ⊎_elim
-      (λ h. thread_rising-in ls 0 n i (λ k p. each k (omega arith)) (omega arith) (omega arith)
-      ∙ sym (ap is_zero (get_or-replicate n i 0 1 h)))
-      (λ h. thread_rising-out ls 0 n i (λ k p. each k (omega arith)) (inr (omega arith))
+      (λ h. thread_falling-in ls n i each h ∙ sym (ap is_zero (get_or-replicate n i 0 1 h)))
+      (λ h. thread_falling-out ls n i each h
       ∙ sym (ap is_zero (get_or_past (replicate n 0) i 1 (omega (arith, length-replicate {A = ℕ} n 0)))))
       (cases_lt i n);
 }

@@ -1,5 +1,5 @@
 -- Slots with their holders, and the list that leads through the free ones.
-use Rattle.std.specs.Prelude.{◌≡◌, zero, suc, ℕ, ◌+◌, cond, ◌==◌, List, [], ◌∷◌, ◌++◌, map, count_by, slice_index_or}
+use Rattle.std.specs.Prelude.{◌≡◌, zero, suc, ℕ, ◌+◌, ◌-◌, cond, ◌==◌, List, [], ◌∷◌, ◌++◌, map, count_by, slice_index_or}
 use Rattle.rr_slots.specs.declared.slot.Slot.{Slot}
 
 -- slots, and how often one of them was looked at
@@ -22,10 +22,10 @@ holders_of slot = slot.holders
 abbrev pub next_of : Slot → ℕ
 next_of slot = slot.next
 
--- n free slots, each followed by the next one
+-- n free slots, each followed by the one before it
 abbrev pub all_free : ℕ → List Slot
 all_free zero = []
-all_free (suc n) = all_free n ++ slot_with 0 (n + 1) ∷ []
+all_free (suc n) = all_free n ++ slot_with 0 (n - 1) ∷ []
 
 -- the n slots that the numbers lead through, from a first one on
 abbrev pub thread : List ℕ → ℕ → ℕ → List ℕ

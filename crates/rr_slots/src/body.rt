@@ -118,16 +118,21 @@ pub trait FillBody: Body {
         ensures asked { Self.asked_len self.new ≡ Self.asked_len self.old }
         ensures room { Self.room self.old ≤ Self.room self.new };
 
-    /// Makes the body complete, by whatever elements, or by copies of this one. Old ones are dropped.
-    fn complete(&mut self, element: Self::Item)
-        ensures len { length (Self.elements self.new) ≡ Self.asked_len self.old }
-        ensures asked { Self.asked_len self.new ≡ Self.asked_len self.old }
-        ensures room { Self.room self.old ≤ Self.room self.new };
-
     /// Makes copies of these its elements, of which there are as many as are asked for. Old ones are dropped.
     fn copy(&mut self, elements: &[Self::Item])
         requires { length elements.now ≡ Self.asked_len self.old }
         ensures elements { Self.elements self.new ≡ elements.now }
+        ensures asked { Self.asked_len self.new ≡ Self.asked_len self.old }
+        ensures room { Self.room self.old ≤ Self.room self.new };
+}
+
+/// A body whose memory keeps what was written there, from message to message.
+pub trait KeepBody: Body {
+    ghost use Rattle.std.specs.Prelude.{length};
+
+    /// Makes the body complete, by whatever elements: by those that stand in its memory, where nothing is filled.
+    fn complete(&mut self)
+        ensures len { length (Self.elements self.new) ≡ Self.asked_len self.old }
         ensures asked { Self.asked_len self.new ≡ Self.asked_len self.old }
         ensures room { Self.room self.old ≤ Self.room self.new };
 }

@@ -30,7 +30,8 @@ impl Model for Holders {
 }
 
 impl Holders {
-    /// So many slots that nobody holds.
+    /// So many slots that nobody holds. The last one is taken first: what stands for slot 0 in large tables, which begin at borders of
+    /// pages, shares lines of a processor's cache.
     pub(crate) fn new(alloc: Global, slots: usize) -> Result<Self, AllocError>
         ensures free { IfOk result (λ h. h.holders ≡ replicate slots 0) }
         ensures looks { IfOk result (λ h. h.looks ≡ 0) }
@@ -38,7 +39,7 @@ impl Holders {
         Ok(Holders {
             slots: WatchedSlots::new(alloc, slots)?,
             padding: [0; 7],
-            first_free: 0,
+            first_free: slots.saturating_sub(1),
             free: slots,
         })
     }

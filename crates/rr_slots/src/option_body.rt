@@ -86,10 +86,6 @@ impl<T: Copy> FillBody for Option<T> {
         *self = Some(element);
     }
 
-    fn complete(&mut self, element: T) {
-        self.fill(element);
-    }
-
     fn copy(&mut self, elements: &[T]) {
         *self = Some(elements[0]);
     }

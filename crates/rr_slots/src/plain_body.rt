@@ -1,7 +1,7 @@
 //! A body of any number of elements that can be copied.
-ghost use Rattle.std.specs.Prelude.{◌≡◌};
+ghost use Rattle.std.specs.Prelude.{◌≡◌, ◌≤◌, vec_capacity, vec_len};
 
-use crate::body::{Body, FillBody, LendBody};
+use crate::body::{Body, FillBody, KeepBody, LendBody};
 use crate::family::Family;
 use std::alloc::{AllocError, Global};
 use std::marker::Model;
@@ -125,18 +125,19 @@ impl<T: Copy> FillBody for PlainBody<T> {
         self.len = self.asked;
     }
 
-    fn complete(&mut self, element: T) {
-        if self.items.len() < self.asked {
-            // There is room for as many as are asked for.
-            let _ = self.items.resize(self.asked, element);
-        }
-        self.len = self.asked;
-    }
-
     fn copy(&mut self, elements: &[T]) {
         self.items.clear();
         // There is room for as many as are asked for.
         let _ = self.items.extend_from_slice(elements);
+        self.len = self.asked;
+    }
+}
+
+impl<T: Copy + Default> KeepBody for PlainBody<T> {
+    fn complete(&mut self) {
+        if self.items.len() < self.asked {
+            fill_rest(&mut self.items, self.asked);
+        }
         self.len = self.asked;
     }
 }
@@ -156,4 +157,17 @@ impl<T: Copy> LendBody for PlainBody<T> {
     fn slice_mut(&mut self) -> &mut [T] {
         self.items.slice_mut(..self.len)
     }
+}
+
+/// Appends default elements up to a length, for which there is room. It stands alone, since a function writes all its locals each time
+/// that it is called.
+#[cold]
+#[inline(never)]
+fn fill_rest<T: Copy + Default>(items: &mut Vec<T>, len: usize)
+    requires less { vec_len items.old ≤ len }
+    requires room { len ≤ vec_capacity items.old }
+    ensures len { vec_len items.new ≡ len }
+    ensures room { vec_capacity items.old ≤ vec_capacity items.new }
+{
+    let _ = items.resize(len, T::default());
 }

@@ -117,10 +117,6 @@ impl<T: Copy> FillBody for SliceBody<T> {
         let _ = self.items.resize(self.asked, element);
     }
 
-    fn complete(&mut self, element: T) {
-        self.fill(element);
-    }
-
     fn copy(&mut self, elements: &[T]) {
         self.items.clear();
         // There is room for as many as are asked for.

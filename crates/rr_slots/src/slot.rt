@@ -11,7 +11,7 @@ use std::marker::Model;
 pub(crate) struct Slot {
     /// How many hold it.
     pub(crate) holders: usize,
-    /// The slot that is free after it, of no meaning while it is held. The last free one names a slot that isn't there.
+    /// The slot that is free after it, of no meaning while it is held. The last free one names any.
     pub(crate) next: usize,
 }
 
@@ -33,7 +33,7 @@ impl Model for WatchedSlots {
 impl WatchedSlots {
     ghost use Rattle.rr_slots.specs.Threads.{watched};
 
-    /// Free slots, each followed by the next one, which nobody looked at.
+    /// Free slots, each followed by the one before it, which nobody looked at.
     pub(crate) fn new(alloc: Global, slots: usize) -> Result<Self, AllocError>
         ensures { IfOk result (λ s. s ≡ watched (all_free slots) 0) }
     {
@@ -64,7 +64,7 @@ impl WatchedSlots {
     }
 }
 
-/// So many free slots, each followed by the next one.
+/// So many free slots, each followed by the one before it.
 fn free_slots(alloc: Global, slots: usize) -> Result<Vec<Slot>, AllocError>
     ensures { IfOk result (λ free. free.items ≡ all_free slots) }
 {
@@ -72,7 +72,7 @@ fn free_slots(alloc: Global, slots: usize) -> Result<Vec<Slot>, AllocError>
     for slot in 0..slots {
         free.push_reserved(Slot {
             holders: 0,
-            next: slot + 1,
+            next: slot.saturating_sub(1),
         });
     }
     Ok(free)

@@ -1,5 +1,5 @@
 //! What a core keeps of its connected ports, and the senders from which ports send.
-ghost use Rattle.std.specs.Prelude.{◌≡◌, ◌==◌, false, IsSome, Some};
+ghost use Rattle.std.specs.Prelude.{◌≡◌, ◌==◌, false, IfSome, Some};
 ghost use Rattle.std.specs.List.{position};
 ghost use Rattle.rr_store.specs.Order.{IsRising};
 
@@ -165,10 +165,24 @@ impl<K: Drop> ConnectedPort for ServerPort<K> {
     }
 }
 
+/// Returns an index among the ports, whose numbers rise, if the one with this number stands there.
+#[inline(always)]
+pub(crate) fn index_if_at<P: ConnectedPort>(ports: &[P], index: usize, id: u64) -> Option<usize>
+    requires { IsRising P.id ports.now }
+    ensures { IfSome result (λ found. position (λ p. P.id p == id) ports.now ≡ Some found) }
+{
+    if let Some(port) = ports.get(index) {
+        if port.details().id == id {
+            return Some(index);
+        }
+    }
+    None
+}
+
 /// Returns where among the ports, whose numbers rise, the one with this number stands, in O(log ports).
 ///
 /// It stands at most as far behind the first one as its number is above that one's, and at most as far before the last one as its
-/// number is below that one's. What is left is halved: one look finds any of ports that were created one after another.
+/// number is below that one's, where it stands if all since were created one after another. What is left is halved.
 #[cold]
 pub(crate) fn index_by_halving<P: ConnectedPort>(ports: &[P], id: u64) -> Option<usize>
     requires { IsRising P.id ports.now }
@@ -182,6 +196,9 @@ pub(crate) fn index_by_halving<P: ConnectedPort>(ports: &[P], id: u64) -> Option
     let before = ports[most].details().id.saturating_sub(id) as usize;
     let mut low = most.saturating_sub(before);
     let mut high = if behind < most { behind + 1 } else { most + 1 };
+    if let Some(index) = index_if_at(ports, low, id) {
+        return Some(index);
+    }
     while low < high {
         let middle = low + (high - low) / 2;
         let found = ports[middle].details().id;

@@ -7,11 +7,10 @@ ghost use Rattle.rr_protocol.specs.Writing.{after_init, filled, with_elements, w
 ghost use Rattle.rr_store.specs.Opened.{opened};
 ghost use Rattle.rr_store.specs.Reaching.{IsCore};
 ghost use Rattle.rr_store.specs.Views.{state_of};
-ghost use Rattle.rr_table.specs.TableView.{IsAt, table_entry};
-ghost use Rattle.std.specs.FinMap.{get};
+ghost use Rattle.rr_table.specs.TableView.{IsAt};
 
 use rr_protocol::{BackpressureFn, Kind};
-use rr_slots::{Body, FillBody};
+use rr_slots::{Body, FillBody, KeepBody};
 use rr_store::{HandleEntry, Stage, Store};
 use rr_table::Place;
 
@@ -33,32 +32,6 @@ pub fn write_request_at<
     ensures view { state_of (opened store.new) ≡ with_changed (with_changed (state_of (opened store.old)) number (with_request_content (with_elements (element ∷ [])))) number after_init }
 {
     let entry = store.table.at(number, place);
-    write_request_entry(store, number, place, entry, element);
-}
-
-/// Does what `write_request_at` does, where the caller knows what is kept in the place.
-#[inline(always)]
-pub fn write_request_entry<
-    QB: Body,
-    QH: Default + Drop,
-    PB: Body,
-    PH: Default + Drop,
-    K: BackpressureFn,
->(
-    store: &mut Store<QB, QH, PB, PH, K>,
-    number: u64,
-    place: Place,
-    entry: HandleEntry,
-    element: QB::Item,
-)
-    requires core { IsCore (opened store.old) }
-    requires entry { get store.old.table.entries number ≡ Some (table_entry place entry) }
-    requires kind { kind_at (state_of (opened store.old)) number ≡ Some Kind.RequestMutUninit }
-    requires one { (body : QB) → QB.asked_len body ≡ 1 }
-    ensures core { IsCore (opened store.new) }
-    ensures entry { get store.new.table.entries number ≡ Some (table_entry place (record entry { stage = Stage.RequestMut })) }
-    ensures view { state_of (opened store.new) ≡ with_changed (with_changed (state_of (opened store.old)) number (with_request_content (with_elements (element ∷ [])))) number after_init }
-{
     // What it returns isn't read: its clause says that one element is asked for here.
     let asked = store.clients.body(entry.sender, entry.slot);
     let _ = asked;
@@ -88,32 +61,6 @@ pub fn write_response_at<
     ensures view { state_of (opened store.new) ≡ with_changed (with_changed (state_of (opened store.old)) number (with_response_content (with_elements (element ∷ [])))) number after_init }
 {
     let entry = store.table.at(number, place);
-    write_response_entry(store, number, place, entry, element);
-}
-
-/// Does what `write_response_at` does, where the caller knows what is kept in the place.
-#[inline(always)]
-pub fn write_response_entry<
-    QB: Body,
-    QH: Default + Drop,
-    PB: Body,
-    PH: Default + Drop,
-    K: BackpressureFn,
->(
-    store: &mut Store<QB, QH, PB, PH, K>,
-    number: u64,
-    place: Place,
-    entry: HandleEntry,
-    element: PB::Item,
-)
-    requires core { IsCore (opened store.old) }
-    requires entry { get store.old.table.entries number ≡ Some (table_entry place entry) }
-    requires kind { kind_at (state_of (opened store.old)) number ≡ Some Kind.ResponseMutUninit }
-    requires one { (body : PB) → PB.asked_len body ≡ 1 }
-    ensures core { IsCore (opened store.new) }
-    ensures entry { get store.new.table.entries number ≡ Some (table_entry place (record entry { stage = Stage.ResponseMut })) }
-    ensures view { state_of (opened store.new) ≡ with_changed (with_changed (state_of (opened store.old)) number (with_response_content (with_elements (element ∷ [])))) number after_init }
-{
     // What it returns isn't read: its clause says that one element is asked for here.
     let asked = store.servers.body(entry.sender, entry.slot);
     let _ = asked;
@@ -227,16 +174,16 @@ pub fn copy_response_at<
     store.servers.copy(entry.sender, entry.slot, elements);
 }
 
-/// Makes the request that is being written in this place complete, by whatever elements, or by copies of this one, and one that can be
-/// sent. Those that were written before are dropped.
+/// Makes the request that is being written in this place complete, by whatever elements: by those that its memory keeps, and
+/// one that can be sent.
 #[inline(always)]
 pub fn complete_request_at<
-    QB: FillBody,
+    QB: KeepBody,
     QH: Default + Drop,
     PB: Body,
     PH: Default + Drop,
     K: BackpressureFn,
->(store: &mut Store<QB, QH, PB, PH, K>, number: u64, place: Place, element: QB::Item)
+>(store: &mut Store<QB, QH, PB, PH, K>, number: u64, place: Place)
     requires core { IsCore (opened store.old) }
     requires at { IsAt store.old.table number place }
     requires kind { kind_at (state_of (opened store.old)) number ≡ Some Kind.RequestMutUninit }
@@ -249,19 +196,19 @@ pub fn complete_request_at<
         ..entry
     };
     store.table.set_at(number, place, ready);
-    store.clients.complete(entry.sender, entry.slot, element);
+    store.clients.complete(entry.sender, entry.slot);
 }
 
-/// Makes the response that is being written in this place complete, by whatever elements, or by copies of this one, and one that can be
-/// sent. Those that were written before are dropped.
+/// Makes the response that is being written in this place complete, by whatever elements: by those that its memory keeps, and
+/// one that can be sent.
 #[inline(always)]
 pub fn complete_response_at<
     QB: Body,
     QH: Default + Drop,
-    PB: FillBody,
+    PB: KeepBody,
     PH: Default + Drop,
     K: BackpressureFn,
->(store: &mut Store<QB, QH, PB, PH, K>, number: u64, place: Place, element: PB::Item)
+>(store: &mut Store<QB, QH, PB, PH, K>, number: u64, place: Place)
     requires core { IsCore (opened store.old) }
     requires at { IsAt store.old.table number place }
     requires kind { kind_at (state_of (opened store.old)) number ≡ Some Kind.ResponseMutUninit }
@@ -274,5 +221,5 @@ pub fn complete_response_at<
         ..entry
     };
     store.table.set_at(number, place, ready);
-    store.servers.complete(entry.sender, entry.slot, element);
+    store.servers.complete(entry.sender, entry.slot);
 }

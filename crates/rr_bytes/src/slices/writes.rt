@@ -177,7 +177,7 @@ fn complete_request<T: Copy + Default, H: Copy + Default, K: BackpressureFn>(
     ensures completes { IsSomeAnd (handle_at core.old id.now) (λ handle. CompletesHandle core.old id.now handle core.new) }
     ensures kind { kind_at core.new id.now ≡ Some kind.RequestMut }
 {
-    core.complete_request(id, T::default());
+    core.complete_request(id);
 }
 
 /// Makes a response that is being written complete, and one that can be sent.
@@ -189,7 +189,7 @@ fn complete_response<T: Copy + Default, H: Copy + Default, K: BackpressureFn>(
     ensures completes { IsSomeAnd (handle_at core.old id.now) (λ handle. CompletesHandle core.old id.now handle core.new) }
     ensures kind { kind_at core.new id.now ≡ Some kind.ResponseMut }
 {
-    core.complete_response(id, T::default());
+    core.complete_response(id);
 }
 
 /// Fills a request that is being written.

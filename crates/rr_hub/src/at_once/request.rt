@@ -1,6 +1,5 @@
 //! Requests of one element that are loaned, written and sent at once.
 ghost use Rattle.std.specs.Prelude.{◌≡◌, ◌<◌, ◌∷◌, [], ℕ, IfErr, IfOk, IsTrue, Ok, Err, Some};
-ghost use Rattle.std.specs.FinMap.{get};
 ghost use Rattle.rr_hub.specs.Copies.{IsOfCore, SendsRequestAtOnce, with_complete_request};
 ghost use Rattle.rr_protocol.specs.declared.kind.Kind.TheVariants as kind;
 ghost use Rattle.rr_protocol.specs.Queries.{kind_at};
@@ -10,14 +9,13 @@ ghost use Rattle.rr_slots.specs.Families.{takes_len};
 ghost use Rattle.rr_store.specs.Opened.{opened};
 ghost use Rattle.rr_store.specs.Reaching.{IsCore};
 ghost use Rattle.rr_store.specs.Views.{state_of};
-ghost use Rattle.rr_table.specs.TableView.{table_entry};
 
-use rr_loaning::{Loaned, loan_request, new_request_details, request_loan_limit};
+use rr_loaning::{loan_request, new_request_details, request_loan_limit};
 use rr_protocol::{BackpressureFn, LoanError, RequestSendError, SendError};
-use rr_sending::{open_connections, request_send_limit, send_request_entry};
+use rr_sending::{open_connections, request_send_limit, send_request_at};
 use rr_slots::Body;
 use rr_store::{HandleEntry, HandleId, Stage, Store};
-use rr_writing::write_request_entry;
+use rr_writing::write_request_at;
 
 /// Loans a request of one element from a client whose value lives, writes the element and sends it.
 ///
@@ -104,7 +102,7 @@ fn send_request_in_steps<
     ensures sends { SendsRequestAtOnce QH.is_default K.action (state_of (opened store.old)) client 1 (element ∷ []) result (state_of (opened store.new)) }
 {
     match loan_request(store, client, 1) {
-        Ok(loaned) => send_loaned_request(store, loaned, element),
+        Ok(request) => send_loaned_request(store, request, element),
         Err(error) => Err(RequestSendError::SendError(SendError::LoanError(error))),
     }
 }
@@ -114,7 +112,6 @@ fn send_request_in_steps<
 /// # Errors
 ///
 /// - As `send_request_at`.
-#[inline(always)]
 fn send_loaned_request<
     QB: Body,
     QH: Default + Drop,
@@ -123,31 +120,24 @@ fn send_loaned_request<
     K: BackpressureFn,
 >(
     store: &mut Store<QB, QH, PB, PH, K>,
-    loaned: Loaned,
+    request: HandleId,
     element: QB::Item,
 ) -> Result<HandleId, RequestSendError>
     requires core { IsCore (opened store.old) }
-    requires entry { get store.old.table.entries loaned.number ≡ Some (table_entry loaned.place loaned.entry) }
-    requires kind { kind_at (state_of (opened store.old)) loaned.number ≡ Some kind.RequestMutUninit }
+    requires kind { kind_at (state_of (opened store.old)) request ≡ Some kind.RequestMutUninit }
     requires one { (body : QB) → QB.asked_len body ≡ 1 }
     ensures core { IsCore (opened store.new) }
-    ensures ready { IsOfCore (with_complete_request (state_of (opened store.old)) loaned.number (element ∷ [])) }
-    ensures same { IfOk result (λ pending. pending ≡ loaned.number) }
-    ensures sent { IfOk result (λ pending. (connections : ℕ) × SendsRequest K.action (with_complete_request (state_of (opened store.old)) loaned.number (element ∷ [])) loaned.number (Ok connections) (state_of (opened store.new))) }
-    ensures refused { IfErr result (λ error. SendsRequest K.action (with_complete_request (state_of (opened store.old)) loaned.number (element ∷ [])) loaned.number (Err error) (state_of (opened store.new))) }
+    ensures ready { IsOfCore (with_complete_request (state_of (opened store.old)) request (element ∷ [])) }
+    ensures same { IfOk result (λ pending. pending ≡ request) }
+    ensures sent { IfOk result (λ pending. (connections : ℕ) × SendsRequest K.action (with_complete_request (state_of (opened store.old)) request (element ∷ [])) request (Ok connections) (state_of (opened store.new))) }
+    ensures refused { IfErr result (λ error. SendsRequest K.action (with_complete_request (state_of (opened store.old)) request (element ∷ [])) request (Err error) (state_of (opened store.new))) }
 {
-    let Loaned {
-        number,
-        place,
-        entry,
-    } = loaned;
-    write_request_entry(store, number, place, entry, element);
-    let ready = HandleEntry {
-        stage: Stage::RequestMut,
-        ..entry
-    };
-    match send_request_entry(store, number, place, ready) {
-        Ok(_) => Ok(HandleId::new(number, place)),
+    let number = request.number();
+    let place = store.locate(&request);
+    write_request_at(store, number, place, element);
+    let place = store.locate(&request);
+    match send_request_at(store, number, place) {
+        Ok(_) => Ok(request),
         Err(error) => Err(error),
     }
 }

@@ -1,6 +1,5 @@
 //! Responses of one element that are loaned, written and sent at once.
 ghost use Rattle.std.specs.Prelude.{◌≡◌, ◌<◌, ◌∷◌, [], IsTrue, Some};
-ghost use Rattle.std.specs.FinMap.{get};
 ghost use Rattle.rr_hub.specs.Copies.{IsOfCore, SendsResponseAtOnce, with_complete_response};
 ghost use Rattle.rr_protocol.specs.declared.kind.Kind.TheVariants as kind;
 ghost use Rattle.rr_protocol.specs.Queries.{kind_at};
@@ -10,15 +9,15 @@ ghost use Rattle.rr_slots.specs.Families.{takes_len};
 ghost use Rattle.rr_store.specs.Opened.{opened};
 ghost use Rattle.rr_store.specs.Reaching.{IsCore};
 ghost use Rattle.rr_store.specs.Views.{state_of};
-ghost use Rattle.rr_table.specs.TableView.{IsAt, table_entry};
+ghost use Rattle.rr_table.specs.TableView.{IsAt};
 
-use rr_loaning::{Loaned, loan_response_at, new_response_details, response_loan_limit};
+use rr_loaning::{loan_response_at, new_response_details, response_loan_limit};
 use rr_protocol::{BackpressureFn, LoanError, SendError};
-use rr_sending::{is_response_refused, send_response_entry};
+use rr_sending::{is_response_refused, send_response_at};
 use rr_slots::Body;
-use rr_store::{HandleEntry, Stage, Store};
+use rr_store::{HandleId, Store};
 use rr_table::Place;
-use rr_writing::write_response_entry;
+use rr_writing::write_response_at;
 
 /// Loans a response of one element from the active request that stands in this place, writes the element and sends it.
 ///
@@ -105,7 +104,7 @@ fn send_response_in_steps<
     ensures sends { SendsResponseAtOnce PH.is_default K.action (state_of (opened store.old)) active 1 (element ∷ []) result (state_of (opened store.new)) }
 {
     match loan_response_at(store, active, place, 1) {
-        Ok(loaned) => send_loaned_response(store, loaned, element),
+        Ok(response) => send_loaned_response(store, &response, element),
         Err(error) => Err(SendError::LoanError(error)),
     }
 }
@@ -115,31 +114,27 @@ fn send_response_in_steps<
 /// # Errors
 ///
 /// - As `send_response_at`.
-#[inline(always)]
 fn send_loaned_response<
     QB: Body,
     QH: Default + Drop,
     PB: Body,
     PH: Default + Drop,
     K: BackpressureFn,
->(store: &mut Store<QB, QH, PB, PH, K>, loaned: Loaned, element: PB::Item) -> Result<(), SendError>
+>(
+    store: &mut Store<QB, QH, PB, PH, K>,
+    response: &HandleId,
+    element: PB::Item,
+) -> Result<(), SendError>
     requires core { IsCore (opened store.old) }
-    requires entry { get store.old.table.entries loaned.number ≡ Some (table_entry loaned.place loaned.entry) }
-    requires kind { kind_at (state_of (opened store.old)) loaned.number ≡ Some kind.ResponseMutUninit }
+    requires kind { kind_at (state_of (opened store.old)) response.now ≡ Some kind.ResponseMutUninit }
     requires one { (body : PB) → PB.asked_len body ≡ 1 }
     ensures core { IsCore (opened store.new) }
-    ensures ready { IsOfCore (with_complete_response (state_of (opened store.old)) loaned.number (element ∷ [])) }
-    ensures sends { SendsResponse K.action (with_complete_response (state_of (opened store.old)) loaned.number (element ∷ [])) loaned.number result (state_of (opened store.new)) }
+    ensures ready { IsOfCore (with_complete_response (state_of (opened store.old)) response.now (element ∷ [])) }
+    ensures sends { SendsResponse K.action (with_complete_response (state_of (opened store.old)) response.now (element ∷ [])) response.now result (state_of (opened store.new)) }
 {
-    let Loaned {
-        number,
-        place,
-        entry,
-    } = loaned;
-    write_response_entry(store, number, place, entry, element);
-    let ready = HandleEntry {
-        stage: Stage::ResponseMut,
-        ..entry
-    };
-    send_response_entry(store, number, place, ready)
+    let number = response.number();
+    let place = store.locate(response);
+    write_response_at(store, number, place, element);
+    let place = store.locate(response);
+    send_response_at(store, number, place)
 }

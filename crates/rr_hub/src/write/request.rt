@@ -7,7 +7,7 @@ ghost use Rattle.rr_protocol.specs.Writing.{is_complete, with_element, with_elem
 
 use crate::state::Core;
 use rr_protocol::{BackpressureFn, Kind};
-use rr_slots::{Body, FillBody};
+use rr_slots::{Body, FillBody, KeepBody};
 use rr_store::HandleId;
 use rr_writing::{complete_request_at, copy_request_at, fill_request_at, write_request_at};
 
@@ -99,19 +99,6 @@ impl<QB: FillBody, QH: Default + Drop, PB: Body, PH: Default + Drop, K: Backpres
         fill_request_at(&mut self.parts, id.number(), place, element);
     }
 
-    /// Makes a request that is being written complete, by whatever elements, or by copies of this one, and the request one that can be
-    /// sent. Elements that were written before are dropped.
-    ///
-    /// After iceoryx2's `RequestMutUninit::assume_init` of a payload that is written afterwards, in place.
-    #[inline(always)]
-    pub fn complete_request(&mut self, id: &HandleId, element: QB::Item)
-        requires { kind_at self.old id.now ≡ Some Kind.RequestMutUninit }
-        ensures { (elements : List QB.Item) × IsSomeAnd (option_and_then request_in (handle_at self.old id.now)) (λ m. m.content.asked_len ≡ length elements) × (self.new ≡ with_changed (with_changed self.old id.now (with_request_content (with_elements elements))) id.now after_init) }
-    {
-        let place = self.parts.locate(id);
-        complete_request_at(&mut self.parts, id.number(), place, element);
-    }
-
     /// Makes copies of these the elements of a request that is being written and asks for as many, and the request one that can be sent.
     /// Elements that were written before are dropped.
     ///
@@ -124,5 +111,26 @@ impl<QB: FillBody, QH: Default + Drop, PB: Body, PH: Default + Drop, K: Backpres
     {
         let place = self.parts.locate(id);
         copy_request_at(&mut self.parts, id.number(), place, elements);
+    }
+}
+
+impl<QB: KeepBody, QH: Default + Drop, PB: Body, PH: Default + Drop, K: BackpressureFn> Core<
+    QB,
+    QH,
+    PB,
+    PH,
+    K,
+> {
+    /// Makes a request that is being written complete, by whatever elements: by those that the memory of its slot keeps; and the request one
+    /// that can be sent.
+    ///
+    /// After iceoryx2's `RequestMutUninit::assume_init` of a payload that is written afterwards, in place.
+    #[inline(always)]
+    pub fn complete_request(&mut self, id: &HandleId)
+        requires { kind_at self.old id.now ≡ Some Kind.RequestMutUninit }
+        ensures { (elements : List QB.Item) × IsSomeAnd (option_and_then request_in (handle_at self.old id.now)) (λ m. m.content.asked_len ≡ length elements) × (self.new ≡ with_changed (with_changed self.old id.now (with_request_content (with_elements elements))) id.now after_init) }
+    {
+        let place = self.parts.locate(id);
+        complete_request_at(&mut self.parts, id.number(), place);
     }
 }

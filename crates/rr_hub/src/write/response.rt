@@ -7,7 +7,7 @@ ghost use Rattle.rr_protocol.specs.Writing.{is_complete, with_element, with_elem
 
 use crate::state::Core;
 use rr_protocol::{BackpressureFn, Kind};
-use rr_slots::{Body, FillBody};
+use rr_slots::{Body, FillBody, KeepBody};
 use rr_store::HandleId;
 use rr_writing::{complete_response_at, copy_response_at, fill_response_at, write_response_at};
 
@@ -99,19 +99,6 @@ impl<QB: Body, QH: Default + Drop, PB: FillBody, PH: Default + Drop, K: Backpres
         fill_response_at(&mut self.parts, id.number(), place, element);
     }
 
-    /// Makes a response that is being written complete, by whatever elements, or by copies of this one, and the response one that can be
-    /// sent. Elements that were written before are dropped.
-    ///
-    /// After iceoryx2's `ResponseMutUninit::assume_init` of a payload that is written afterwards, in place.
-    #[inline(always)]
-    pub fn complete_response(&mut self, id: &HandleId, element: PB::Item)
-        requires { kind_at self.old id.now ≡ Some Kind.ResponseMutUninit }
-        ensures { (elements : List PB.Item) × IsSomeAnd (option_and_then response_in (handle_at self.old id.now)) (λ m. m.content.asked_len ≡ length elements) × (self.new ≡ with_changed (with_changed self.old id.now (with_response_content (with_elements elements))) id.now after_init) }
-    {
-        let place = self.parts.locate(id);
-        complete_response_at(&mut self.parts, id.number(), place, element);
-    }
-
     /// Makes copies of these the elements of a response that is being written and asks for as many, and the response one that can be sent.
     /// Elements that were written before are dropped.
     ///
@@ -124,5 +111,26 @@ impl<QB: Body, QH: Default + Drop, PB: FillBody, PH: Default + Drop, K: Backpres
     {
         let place = self.parts.locate(id);
         copy_response_at(&mut self.parts, id.number(), place, elements);
+    }
+}
+
+impl<QB: Body, QH: Default + Drop, PB: KeepBody, PH: Default + Drop, K: BackpressureFn> Core<
+    QB,
+    QH,
+    PB,
+    PH,
+    K,
+> {
+    /// Makes a response that is being written complete, by whatever elements: by those that the memory of its slot keeps; and the response one
+    /// that can be sent.
+    ///
+    /// After iceoryx2's `ResponseMutUninit::assume_init` of a payload that is written afterwards, in place.
+    #[inline(always)]
+    pub fn complete_response(&mut self, id: &HandleId)
+        requires { kind_at self.old id.now ≡ Some Kind.ResponseMutUninit }
+        ensures { (elements : List PB.Item) × IsSomeAnd (option_and_then response_in (handle_at self.old id.now)) (λ m. m.content.asked_len ≡ length elements) × (self.new ≡ with_changed (with_changed self.old id.now (with_response_content (with_elements elements))) id.now after_init) }
+    {
+        let place = self.parts.locate(id);
+        complete_response_at(&mut self.parts, id.number(), place);
     }
 }

@@ -5,7 +5,7 @@ ghost use Rattle.rr_slots.specs.Pools.{appended, filled, with_elements};
 ghost use Rattle.rr_sender.specs.Senders.{CompletesAt, content_at, given_back, uses, with_changed_at};
 
 use crate::sender::Sender;
-use rr_slots::{Body, FillBody, LendBody};
+use rr_slots::{Body, FillBody, KeepBody, LendBody};
 
 impl<B: Body, N: Copy, H: Drop> Sender<B, N, H> {
     ghost use Rattle.rr_sender.specs.SenderLends.{lends_user_header, lends_element};
@@ -67,14 +67,6 @@ impl<B: FillBody, N: Copy, H: Drop> Sender<B, N, H> {
         self.pool.fill(slot, element);
     }
 
-    /// Makes what stands in a slot complete, by whatever elements, or by copies of this one. Old ones are dropped.
-    pub fn complete(&mut self, slot: usize, element: B::Item)
-        requires { slot < length self.old.held }
-        ensures { CompletesAt self.old slot self.new }
-    {
-        self.pool.complete(slot, element);
-    }
-
     /// Makes copies of these the elements in a slot, where as many are asked for. Old ones are dropped.
     pub fn copy(&mut self, slot: usize, elements: &[B::Item])
         requires slot { slot < length self.old.held }
@@ -82,6 +74,16 @@ impl<B: FillBody, N: Copy, H: Drop> Sender<B, N, H> {
         ensures { self.new ≡ with_changed_at self.old slot (with_elements elements.now) }
     {
         self.pool.copy(slot, elements);
+    }
+}
+
+impl<B: KeepBody, N: Copy, H: Drop> Sender<B, N, H> {
+    /// Makes what stands in a slot complete, by whatever elements: by those that its memory keeps.
+    pub fn complete(&mut self, slot: usize)
+        requires { slot < length self.old.held }
+        ensures { CompletesAt self.old slot self.new }
+    {
+        self.pool.complete(slot);
     }
 }
 

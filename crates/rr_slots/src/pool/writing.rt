@@ -3,7 +3,7 @@ ghost use Rattle.std.specs.Prelude.{◌≡◌, ◌<◌, [], ◌∷◌, length, s
 ghost use Rattle.std.specs.Borrow.{sem, Lends};
 ghost use Rattle.rr_slots.specs.Pools.{CompletesAt, content_at, appended, filled, given_back, with_changed_at, with_elements};
 
-use crate::body::{Body, FillBody, LendBody};
+use crate::body::{Body, FillBody, KeepBody, LendBody};
 use crate::pool::Pool;
 
 impl<B: Body> Pool<B> {
@@ -62,15 +62,6 @@ impl<B: FillBody> Pool<B> {
         whole.fill(element);
     }
 
-    /// Makes what stands in a slot complete, by whatever elements, or by copies of this one. Old ones are dropped.
-    pub fn complete(&mut self, slot: usize, element: B::Item)
-        requires { slot < length self.old.contents }
-        ensures { CompletesAt self.old slot self.new }
-    {
-        let completed = &mut self.bodies[slot];
-        completed.complete(element);
-    }
-
     /// Makes copies of these the elements in a slot, where as many are asked for. Old ones are dropped.
     pub fn copy(&mut self, slot: usize, elements: &[B::Item])
         requires slot { slot < length self.old.contents }
@@ -79,6 +70,17 @@ impl<B: FillBody> Pool<B> {
     {
         let copied = &mut self.bodies[slot];
         copied.copy(elements);
+    }
+}
+
+impl<B: KeepBody> Pool<B> {
+    /// Makes what stands in a slot complete, by whatever elements: by those that its memory keeps.
+    pub fn complete(&mut self, slot: usize)
+        requires { slot < length self.old.contents }
+        ensures { CompletesAt self.old slot self.new }
+    {
+        let completed = &mut self.bodies[slot];
+        completed.complete();
     }
 }
 

@@ -7,7 +7,7 @@ ghost use Rattle.rr_store.specs.KnownWaiting.{AreAlike, AreSentAgain};
 ghost use Rattle.rr_store.specs.Order.{IsRising};
 ghost use Rattle.rr_store.specs.Views.{sender_of};
 
-use crate::port::index_by_halving;
+use crate::port::{index_by_halving, index_if_at};
 use crate::side::Side;
 use crate::this_hub::of_this_hub;
 use crate::{ConnectedPort, HandleEntry, LeftPort, OwnedSender, Stage};
@@ -59,8 +59,8 @@ impl<B: Body, N: Copy, H: Drop, P: Drop> Side<B, N, H, P> {
 }
 
 impl<B: Body, N: Copy, H: Drop, P: ConnectedPort> Side<B, N, H, P> {
-    /// Returns where among the ports the one with this number stands, in O(log ports). Looks at the first one, and then as far before
-    /// the last one as the number is below that one's, where it stands if all since were created one after another.
+    /// Returns where among the ports the one with this number stands, in O(log ports). Looks at the first one, and then as far behind
+    /// it as the number is above that one's, where it stands if all up to it were created one after another and are still there.
     #[inline(always)]
     pub fn index_of(&self, number: u64) -> usize
         requires rising { IsRising P.id self.now.ports }
@@ -71,13 +71,9 @@ impl<B: Body, N: Copy, H: Drop, P: ConnectedPort> Side<B, N, H, P> {
         if first == number {
             return 0;
         }
-        let most = self.ports.len().saturating_sub(1);
-        let last = of_this_hub(self.ports.get(most)).details().id;
-        let guess = most.saturating_sub(last.saturating_sub(number) as usize);
-        if let Some(port) = self.ports.get(guess) {
-            if port.details().id == number {
-                return guess;
-            }
+        let behind = number.wrapping_sub(first) as usize;
+        if let Some(index) = index_if_at(self.ports.as_slice(), behind, number) {
+            return index;
         }
         of_this_hub(index_by_halving(self.ports.as_slice(), number))
     }

@@ -1,5 +1,5 @@
 //! Entries that wait, are looked for, taken, and dropped.
-ghost use Rattle.std.specs.Prelude.{◌≡◌, ◌+◌, ◌*◌, ◌<◌, ◌≤◌, ◌^◌, ◌↔◌, ℕ, [], IfSome, IsTrue, Some, length, map, slice_get, slice_index, slice_index_or, not};
+ghost use Rattle.std.specs.Prelude.{◌≡◌, ◌+◌, ◌*◌, ◌<◌, ◌≤◌, ◌^◌, ◌↔◌, ℕ, [], IfNone, IfSome, IsTrue, Ok, Some, length, map, slice_get, slice_index, slice_index_or, not};
 ghost use Rattle.rr_sender.specs.Senders.{uses};
 ghost use Rattle.rr_store.specs.Asked.{CanTake};
 ghost use Rattle.rr_store.specs.Delivering.{HasQueue, handed_on};
@@ -64,14 +64,39 @@ impl<B: Body, N: Copy, H: Drop, P: Drop> Side<B, N, H, P> {
         self.waiting.next_from(receiver, channel, from)
     }
 
-    /// Returns whether no sender is there from which something may wait for a receiver on a channel: nothing waits then. Looks once.
+    /// Returns the first sender from one on, of several, from which something may wait for a receiver on a channel, and, if there is
+    /// none, the first of all. Returns `None` if there is none either: nothing waits then.
     #[inline(always)]
-    pub fn is_idle(&self, receiver: usize, channel: usize) -> bool
+    pub fn next_around(&self, receiver: usize, channel: usize, from: usize) -> Option<usize>
+        requires several { 1 < length self.now.senders }
         requires receiver { HaveQueues self.now.senders receiver }
         requires channel { HaveChannels self.now.senders receiver channel }
-        ensures { IsTrue result → (sender : ℕ) → sender < length self.now.senders → queue_from self.now.senders receiver channel sender ≡ [] }
+        ensures there { IfSome result (λ sender. sender < length self.now.senders) }
+        ensures idle { IfNone result ((sender : ℕ) → sender < length self.now.senders → queue_from self.now.senders receiver channel sender ≡ []) }
     {
-        1 < self.senders.len() && self.waiting.is_empty(receiver, channel)
+        self.waiting.next_around(receiver, channel, from)
+    }
+
+    /// Returns a sender if a receiver takes next from it on a channel, of which it may have `most`.
+    #[inline(always)]
+    pub fn ready_at(
+        &self,
+        sender: usize,
+        receiver: usize,
+        channel: usize,
+        most: usize,
+    ) -> Option<usize>
+        requires sender { sender < length self.now.senders }
+        requires receiver { HaveQueues self.now.senders receiver }
+        requires channel { HaveChannels self.now.senders receiver channel }
+        ensures { IfSome result (λ sender. IsNextSender self.now.senders receiver channel most (Ok (Some sender))) }
+    {
+        if self.has_entries(sender, receiver, channel)
+            && self.borrowed(sender, receiver, channel) < most
+        {
+            return Some(sender);
+        }
+        None
     }
 
     /// Returns whether a sender has something queued for a receiver on a channel.
@@ -171,9 +196,9 @@ impl<B: Body, N: Copy, H: Drop, P: Drop> Side<B, N, H, P> {
         slot
     }
 
-    /// Takes the oldest entry out of a queue. Its sender stays noted.
+    /// Takes the oldest entry out of a queue, and returns its slot. Its sender stays noted.
     #[inline(always)]
-    fn take_first(&mut self, sender: usize, receiver: usize, channel: usize) -> usize
+    pub fn take_first(&mut self, sender: usize, receiver: usize, channel: usize) -> usize
         requires { CanTake self.old.senders sender receiver channel }
         ensures first { slice_get (queue_from self.old.senders receiver channel sender) 0 ≡ Some result }
         ensures within { result < length (sender_of sender self.old.senders).messages.held }
@@ -182,9 +207,23 @@ impl<B: Body, N: Copy, H: Drop, P: Drop> Side<B, N, H, P> {
         self.senders[sender].messages.take(receiver, channel)
     }
 
+    /// Notes the sender before a turn, from which was taken last, no more if nothing waits from it for a receiver on a channel, unless it
+    /// is looked at next.
+    #[inline(always)]
+    pub fn forget_before(&mut self, receiver: usize, channel: usize, turn: usize, next: usize)
+        requires receiver { HaveQueues self.old.senders receiver }
+        requires channel { HaveChannels self.old.senders receiver channel }
+        ensures { self.new ≡ self.old }
+    {
+        let last = turn.wrapping_sub(1);
+        if last != next && last < self.senders.len() {
+            self.forget_if_empty(last, receiver, channel);
+        }
+    }
+
     /// Notes a sender no more from which nothing waits for a receiver on a channel. With one sender nothing is noted.
     #[inline(always)]
-    pub(crate) fn forget_if_empty(&mut self, sender: usize, receiver: usize, channel: usize)
+    pub fn forget_if_empty(&mut self, sender: usize, receiver: usize, channel: usize)
         requires sender { sender < length self.old.senders }
         requires receiver { receiver < length (sender_of sender self.old.senders).messages.queues }
         requires channel { channel < length (slice_index_or (sender_of sender self.old.senders).messages.queues receiver []) }

@@ -1,5 +1,5 @@
 //! Requests that nobody waits for, which a receive drops.
-ghost use Rattle.std.specs.Prelude.{◌≡◌, ◌<◌, ◌≤◌, ◌↔◌, ℕ, [], Some, map, length, slice_index_or, IsTrue};
+ghost use Rattle.std.specs.Prelude.{◌≡◌, ◌<◌, ◌≤◌, ◌↔◌, ℕ, [], IfSome, Ok, Some, map, length, slice_index_or, IsTrue};
 ghost use Rattle.rr_sender.specs.Senders.{queue_at};
 ghost use Rattle.rr_store.specs.Ports.{sender_part};
 ghost use Rattle.rr_store.specs.Draining.{HaveQueues};
@@ -84,6 +84,32 @@ impl<B: Body, H: Drop, P: Drop> Side<B, RequestDetails, H, P> {
             return Err(ReceiveError::ExceedsMaxBorrows);
         }
         Ok(None)
+    }
+
+    /// Returns a sender if a receiver takes its next request from it, of which it may have `most`. Drops the requests that nobody waits
+    /// for from the front of its queue, where the receiver may have one more.
+    #[inline(always)]
+    pub fn skim_at(
+        &mut self,
+        table: &Table<HandleEntry>,
+        sender: usize,
+        receiver: usize,
+        most: usize,
+    ) -> Option<usize>
+        requires sender { sender < length self.old.senders }
+        requires receiver { HaveQueues self.old.senders receiver }
+        requires channel { HaveChannels self.old.senders receiver 0 }
+        ensures rest { self.new ≡ record self.old { senders = self.new.senders } }
+        ensures skimmed { IsSkimmedTo table.now receiver most self.old.senders self.new.senders (Ok result) }
+        ensures next { IfSome result (λ sender. IsNextSender self.new.senders receiver 0 most (Ok (Some sender))) }
+    {
+        if self.borrowed(sender, receiver, 0) >= most {
+            return None;
+        }
+        if self.skim_queue(table, sender, receiver) {
+            return Some(sender);
+        }
+        None
     }
 
     /// Drops the requests that nobody waits for from the front of a sender's queue. Returns whether a request remains, and notes the

@@ -8,7 +8,7 @@ ghost use Rattle.rr_store.specs.Views.{sender_of};
 ghost use Rattle.rr_store.specs.Writing.{is_written};
 
 use crate::side::Side;
-use rr_slots::{AcquireError, Body, FillBody};
+use rr_slots::{AcquireError, Body, FillBody, KeepBody};
 use rr_table::Place;
 
 impl<B: Body, N: Copy, H: Drop, P: Drop> Side<B, N, H, P> {
@@ -118,16 +118,6 @@ impl<B: FillBody, N: Copy, H: Drop, P: Drop> Side<B, N, H, P> {
         self.senders[sender].messages.fill(slot, element);
     }
 
-    /// Makes the message in a slot complete, by whatever elements, or by copies of this one. Old ones are dropped.
-    #[inline(always)]
-    pub fn complete(&mut self, sender: usize, slot: usize, element: B::Item)
-        requires sender { sender < length self.old.senders }
-        requires slot { slot < length (sender_of sender self.old.senders).messages.held }
-        ensures { CompletesSent self.old sender slot self.new }
-    {
-        self.senders[sender].messages.complete(slot, element);
-    }
-
     /// Makes copies of these the elements of the message in a slot, where as many are asked for. Old ones are dropped.
     #[inline(always)]
     pub fn copy(&mut self, sender: usize, slot: usize, elements: &[B::Item])
@@ -137,5 +127,17 @@ impl<B: FillBody, N: Copy, H: Drop, P: Drop> Side<B, N, H, P> {
         ensures { self.new ≡ with_sent self.old sender (λ m. with_changed_at m slot (with_elements elements.now)) }
     {
         self.senders[sender].messages.copy(slot, elements);
+    }
+}
+
+impl<B: KeepBody, N: Copy, H: Drop, P: Drop> Side<B, N, H, P> {
+    /// Makes the message in a slot complete, by whatever elements: by those that its memory keeps.
+    #[inline(always)]
+    pub fn complete(&mut self, sender: usize, slot: usize)
+        requires sender { sender < length self.old.senders }
+        requires slot { slot < length (sender_of sender self.old.senders).messages.held }
+        ensures { CompletesSent self.old sender slot self.new }
+    {
+        self.senders[sender].messages.complete(slot);
     }
 }

@@ -1,6 +1,6 @@
 //! From which senders something may wait for each receiver, on each channel.
-ghost use Rattle.std.specs.Prelude.{◌≡◌, ◌+◌, ◌*◌, ◌<◌, ◌≤◌, ◌/◌, ◌^◌, ℕ, [], IsTrue, None, OnErr, OnOk, length};
-ghost use Rattle.rr_sender.specs.BitSets.{HasWord, IsBitChanged, IsFirstFrom};
+ghost use Rattle.std.specs.Prelude.{◌≡◌, ◌+◌, ◌*◌, ◌<◌, ◌≤◌, ◌/◌, ◌^◌, ℕ, [], IfNone, IfSome, None, OnErr, OnOk, length};
+ghost use Rattle.rr_sender.specs.BitSets.{HasWord, IsBitChanged, IsFirstFrom, has};
 ghost use Rattle.rr_sender.specs.SenderSets.{IsEven};
 ghost use Rattle.rr_store.specs.KnownWaiting.{AreNotedAmong, HasPlace, HavePlaces, IsGrown, IsNotedAmong, IsReady, set_of};
 
@@ -182,13 +182,15 @@ impl Waiting {
             .remove(receiver * self.channels + channel, sender);
     }
 
-    /// Returns whether no sender is noted for a receiver on a channel.
+    /// Returns the first sender from one on that is noted for a receiver on a channel, and, if there is none, the first of all.
     #[inline(always)]
-    pub(crate) fn is_empty(&self, receiver: usize, channel: usize) -> bool
+    pub(crate) fn next_around(&self, receiver: usize, channel: usize, from: usize) -> Option<usize>
         requires { set_of self.now receiver channel < 2 ^ 64 }
-        ensures { IsTrue result → IsFirstFrom self.now.senders (set_of self.now receiver channel) 0 None }
+        ensures noted { IfSome result (λ sender. has self.now.senders (set_of self.now receiver channel) sender ≡ 1) }
+        ensures empty { IfNone result (IsFirstFrom self.now.senders (set_of self.now receiver channel) 0 None) }
     {
-        self.senders.is_empty(receiver * self.channels + channel)
+        self.senders
+            .next_around(receiver * self.channels + channel, from)
     }
 
     /// Returns the first sender from one on that is noted for a receiver on a channel.

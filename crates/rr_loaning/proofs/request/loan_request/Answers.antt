@@ -1,6 +1,5 @@
-use Rattle.std.proofs.Common.{◌≡◌, ◌<◌, ◌+◌, ◌^◌, length, ap}
+use Rattle.std.proofs.Common.{◌≡◌, ◌<◌, ◌+◌, ◌^◌, length, ap, ◌∙◌}
 use Rattle.std.specs.Prelude.{◌==◌}
-use Rattle.rr_map_laws.proofs.MapLaws.{get-insert_same}
 use Rattle.rr_laws.proofs.Memory.{request_finds_memory}
 use Rattle.rr_store.specs.Asked.{CanInsert}
 use Rattle.rr_store.specs.Opened.{opened}
@@ -28,8 +27,8 @@ request_loan_limit-requires-clause-sender g c =
     c.args.store.now.clients.senders) (limit_asked (opened c.args.store.now) c.requires.core c.args.client c.requires.kind _ (seen_found
     client_part c.args.store.now.clients.ports (λ (x : ClientPart _). x.port.id == c.args.client) _ c.index_of-index.ensures))
 
-pub returns-in-Some-clause-refused : goal.returns-in-Some-clause-refused
-returns-in-Some-clause-refused g c =
+pub returns-in-Some-clause-loans : goal.returns-in-Some-clause-loans
+returns-in-Some-clause-loans g c =
     refused (opened c.args.store.now) c.requires.core c.args.client c.requires.kind _ (seen_found client_part
     c.args.store.now.clients.ports (λ (x : ClientPart _). x.port.id == c.args.client) _ c.index_of-index.ensures) _ _
     c.request_loan_limit.ensures
@@ -114,8 +113,8 @@ returns-in-Ok-clause-core g c =
     c.count_request_loan.new.self c.count_request_loan.ensures) c.in-Ok.ensures.full c.requires.number _
     c.add-number.ensures.number _ c.add-number.ensures.added g.QH.Default.is_default c.default.ensures
 
-pub returns-in-Ok-clause-loaned : goal.returns-in-Ok-clause-loaned
-returns-in-Ok-clause-loaned g c =
+pub returns-in-Ok-clause-loans : goal.returns-in-Ok-clause-loans
+returns-in-Ok-clause-loans g c =
     loans (opened c.args.store.now) c.requires.core c.args.client c.requires.kind _ (seen_found client_part
     c.args.store.now.clients.ports (λ (x : ClientPart _). x.port.id == c.args.client) _ c.index_of-index.ensures) _ _
     c.request_loan_limit.ensures
@@ -125,13 +124,13 @@ returns-in-Ok-clause-loaned g c =
     c.in-Ok.ensures.free c.in-Ok.ensures.unused (ap (λ s. opened (record c.args.store.now { clients = s })) c.in-Ok.ensures.ok) _
     (loaned_by (record c.args.store.now { clients = c.loan.new.self }) c.index_of-index.result c.sender_of_port-sender.result
     c.count_request_loan.new.self c.count_request_loan.ensures) c.in-Ok.ensures.full c.requires.number _
-    c.add-number.ensures.number _ c.add-number.ensures.added g.QH.Default.is_default c.default.ensures
+    (c.new.ensures ∙ c.add-number.ensures.number) _ c.add-number.ensures.added g.QH.Default.is_default c.default.ensures
 
 pub returns-in-Err-clause-core : goal.returns-in-Err-clause-core
 returns-in-Err-clause-core g c = rw (ap (λ s. opened (record c.args.store.now { clients = s })) c.in-Err.ensures.err) c.requires.core
 
-pub returns-in-Err-clause-refused : goal.returns-in-Err-clause-refused
-returns-in-Err-clause-refused g c =
+pub returns-in-Err-clause-loans : goal.returns-in-Err-clause-loans
+returns-in-Err-clause-loans g c =
     out_of_memory (opened c.args.store.now) c.requires.core c.args.client c.requires.kind _ (seen_found client_part
     c.args.store.now.clients.ports (λ (x : ClientPart _). x.port.id == c.args.client) _ c.index_of-index.ensures) _ _
     c.request_loan_limit.ensures c.in_default.is _ (seen_at client_part c.args.store.now.clients.ports c.index_of-index.result
@@ -142,8 +141,4 @@ returns-in-Err-clause-refused g c =
 pub returns-in-Err-clause-unreduced : goal.returns-in-Err-clause-unreduced
 returns-in-Err-clause-unreduced g c pool same =
     request_finds_memory (_) (c.requires.core.reached) g.QH.Default.is_default c.args.client c.args.len _ pool
-    (returns-in-Err-clause-refused g c)
-
-pub returns-in-Ok-clause-entry : goal.returns-in-Ok-clause-entry
-returns-in-Ok-clause-entry g c =
-    rw (ap (λ p. p.table) c.add-number.ensures.added) (get-insert_same c.args.store.now.table.entries c.args.store.now.next _ c.add-number.result c.add-number.ensures.number)
+    (returns-in-Err-clause-loans g c)

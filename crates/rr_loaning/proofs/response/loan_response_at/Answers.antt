@@ -1,6 +1,5 @@
 use Rattle.std.proofs.Common.{◌≡◌, ◌<◌, ◌+◌, ◌^◌, length, sym, ◌∙◌, arith, ap}
 use Rattle.std.specs.Prelude.{◌==◌}
-use Rattle.rr_map_laws.proofs.MapLaws.{get-insert_same}
 use Rattle.rr_laws.proofs.Memory.{response_finds_memory}
 use Rattle.rr_store.specs.Asked.{CanInsert}
 use Rattle.rr_store.specs.Opened.{opened}
@@ -37,8 +36,8 @@ response_loan_limit-requires-clause-sender g c =
     (sym c.active.ensures ∙ c.in-Some.is) _ (seen_found server_part c.args.store.now.servers.ports (λ (x : ServerPart _).
     x.port.id == c.in-Some.found.0) _ c.index_of-index.ensures))
 
-pub returns-in-Some-response_loan_limit-clause-refused : goal.returns-in-Some-response_loan_limit-clause-refused
-returns-in-Some-response_loan_limit-clause-refused g c =
+pub returns-in-Some-response_loan_limit-clause-loans : goal.returns-in-Some-response_loan_limit-clause-loans
+returns-in-Some-response_loan_limit-clause-loans g c =
     refused (opened c.args.store.now) c.requires.core c.args.number c.args.place c.at-active.result c.at-active.ensures c.requires.kind _
     _ (sym
     c.active.ensures ∙ c.in-Some.is) _ (seen_found server_part c.args.store.now.servers.ports (λ (x : ServerPart _).
@@ -151,8 +150,8 @@ returns-in-Ok-clause-core g c =
     { servers = c.count_loan.new.self; table = t })) c.set_at.ensures) c.in-Ok.ensures.full c.requires.number _
     c.add-loaned.ensures.number _ c.add-loaned.ensures.added g.PH.Default.is_default c.default.ensures
 
-pub returns-in-Ok-clause-loaned : goal.returns-in-Ok-clause-loaned
-returns-in-Ok-clause-loaned g c =
+pub returns-in-Ok-clause-loans : goal.returns-in-Ok-clause-loans
+returns-in-Ok-clause-loans g c =
     loans_told (opened c.args.store.now) c.requires.core c.args.number c.args.place c.at-active.result c.at-active.ensures
     c.requires.kind _ _ (sym
     c.active.ensures ∙ c.in-Some.is) _ (seen_found server_part c.args.store.now.servers.ports (λ (x : ServerPart _).
@@ -163,14 +162,14 @@ returns-in-Ok-clause-loaned g c =
     c.in-Ok.ensures.unused (ap (λ s. opened (record c.args.store.now { servers = s })) c.in-Ok.ensures.ok) _ (ap (λ s. opened (record
     c.args.store.now { servers = s })) c.count_loan.ensures) _ (ap (λ t. opened (record c.args.store.now
     { servers = c.count_loan.new.self; table = t })) c.set_at.ensures) c.in-Ok.ensures.full c.requires.number _
-    c.add-loaned.ensures.number _ c.add-loaned.ensures.added g.PH.Default.is_default c.default.ensures
+    (c.new.ensures ∙ c.add-loaned.ensures.number) _ c.add-loaned.ensures.added g.PH.Default.is_default c.default.ensures
 
 pub returns-in-Err-clause-core : goal.returns-in-Err-clause-core
 returns-in-Err-clause-core g c =
     rw (ap (λ s. opened (record c.args.store.now { servers = s })) c.in-Err.ensures.err) c.requires.core
 
-pub returns-in-Err-clause-refused : goal.returns-in-Err-clause-refused
-returns-in-Err-clause-refused g c =
+pub returns-in-Err-clause-loans : goal.returns-in-Err-clause-loans
+returns-in-Err-clause-loans g c =
     out_of_memory (opened c.args.store.now) c.requires.core c.args.number c.args.place c.at-active.result c.at-active.ensures
     c.requires.kind _ _
     (sym c.active.ensures ∙ c.in-Some.is) _ (seen_found server_part c.args.store.now.servers.ports (λ (x : ServerPart _).
@@ -182,9 +181,5 @@ returns-in-Err-clause-refused g c =
 
 pub returns-in-Err-clause-unreduced : goal.returns-in-Err-clause-unreduced
 returns-in-Err-clause-unreduced g c pool same =
-    response_finds_memory _ c.requires.core.reached g.PH.Default.is_default c.args.number c.args.len _ pool (returns-in-Err-clause-refused g
+    response_finds_memory _ c.requires.core.reached g.PH.Default.is_default c.args.number c.args.len _ pool (returns-in-Err-clause-loans g
     c)
-
-pub returns-in-Ok-clause-entry : goal.returns-in-Ok-clause-entry
-returns-in-Ok-clause-entry g c =
-    rw (ap (λ p. p.table) c.add-loaned.ensures.added) (get-insert_same c.set_at.new.self.entries c.args.store.now.next _ c.add-loaned.result c.add-loaned.ensures.number)

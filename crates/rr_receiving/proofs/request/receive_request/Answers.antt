@@ -12,7 +12,7 @@ use Rattle.rr_store.proofs.base.lists.Seen.{kept_rising, kept_some, seen_at, see
 use Rattle.rr_store.proofs.base.senders.Ports.{told_at}
 use Rattle.rr_receiving.proofs.steps.Request.{server_asked, order_asked, queues_asked, skimmed_core, none_then, error_then}
 use Rattle.rr_receiving.proofs.steps.Request.{active_place_asked, add_asked, core_then, receives_then}
-use Rattle.rr_receiving.proofs.request.receive_request.Goals.{After-receiver_of_port-receiver, After-take-slot, After-place_at_receiver-own}
+use Rattle.rr_receiving.proofs.request.receive_request.Goals.{After-receiver_of_port-receiver, After-take_first-slot, After-place_at_receiver-own}
 use Rattle.rr_receiving.proofs.request.receive_request.Goals as goal
 
 pub index_of-index-requires-clause-rising : goal.index_of-index-requires-clause-rising
@@ -45,10 +45,10 @@ next_request_sender-requires-clause-channel g c =
     (reach g (goal.at.next_request_sender-requires-clause-channel g c).After-receiver_of_port-receiver).1
 
 -- the place of the handle can be counted
-countable : (g : _) (c : After-take-slot g) → (c.in-Ok-Some.sender < length c.take-slot.new.self.senders)
+countable : (g : _) (c : After-take_first-slot g) → (c.in-Ok-Some.sender < length c.take_first-slot.new.self.senders)
     × (c.receiver_of_port-receiver.result + 1 < 2 ^ 64)
-    × ((c.receiver_of_port-receiver.result + 1) * length (sender_of c.in-Ok-Some.sender c.take-slot.new.self.senders).messages.held
-    + c.take-slot.result < 2 ^ 64)
+    × ((c.receiver_of_port-receiver.result + 1) * length (sender_of c.in-Ok-Some.sender c.take_first-slot.new.self.senders).messages.held
+    + c.take_first-slot.result < 2 ^ 64)
 countable g c =
     active_place_asked (opened c.args.store.now) c.requires.core c.args.server c.requires.kind _ (told_at (λ (s : ServerPart _).
     s.port.id == c.args.server) (opened c.args.store.now).servers (λ (s : ServerPart _). c.receiver_of_port-receiver.result ≡ s.receiver)
@@ -57,20 +57,20 @@ countable g c =
     c.receiver_of_port-receiver.result ≡ x.receiver) c.receiver_of_port-receiver.ensures)) _
     c.next_request_sender.ensures.rest c.next_request_sender.ensures.kept _ c.next_request_sender.ensures.skimmed
     c.next_request_sender.ensures.next _
-    (c.in-Ok-Some.is ∙ ap Ok c.in-Ok-Some.field-0-is) c.requires.number _ _ c.take-slot.ensures.first
-    c.take-slot.ensures.within (ap (λ s. opened (record c.next_request_sender.new.store { clients = s })) c.take-slot.ensures.taken)
+    (c.in-Ok-Some.is ∙ ap Ok c.in-Ok-Some.field-0-is) c.requires.number _ _ c.take_first-slot.ensures.first
+    c.take_first-slot.ensures.within (ap (λ s. opened (record c.next_request_sender.new.store { clients = s })) c.take_first-slot.ensures.taken)
 
 pub place_at_receiver-own-requires-clause-sender : goal.place_at_receiver-own-requires-clause-sender
 place_at_receiver-own-requires-clause-sender g c =
-    (countable g (goal.at.place_at_receiver-own-requires-clause-sender g c).After-take-slot).0
+    (countable g (goal.at.place_at_receiver-own-requires-clause-sender g c).After-take_first-slot).0
 
 pub place_at_receiver-own-requires-clause-receiver : goal.place_at_receiver-own-requires-clause-receiver
 place_at_receiver-own-requires-clause-receiver g c =
-    (countable g (goal.at.place_at_receiver-own-requires-clause-receiver g c).After-take-slot).1
+    (countable g (goal.at.place_at_receiver-own-requires-clause-receiver g c).After-take_first-slot).1
 
 pub place_at_receiver-own-requires-clause-slot : goal.place_at_receiver-own-requires-clause-slot
 place_at_receiver-own-requires-clause-slot g c =
-    (countable g (goal.at.place_at_receiver-own-requires-clause-slot g c).After-take-slot).2
+    (countable g (goal.at.place_at_receiver-own-requires-clause-slot g c).After-take_first-slot).2
 
 -- the handle can be put there
 addable : (g : _) (c : After-place_at_receiver-own g)
@@ -84,8 +84,8 @@ addable g c =
     c.receiver_of_port-receiver.result ≡ x.receiver) c.receiver_of_port-receiver.ensures)) _
     c.next_request_sender.ensures.rest c.next_request_sender.ensures.kept _ c.next_request_sender.ensures.skimmed
     c.next_request_sender.ensures.next _
-    (c.in-Ok-Some.is ∙ ap Ok c.in-Ok-Some.field-0-is) c.requires.number _ _ c.take-slot.ensures.first
-    c.take-slot.ensures.within (ap (λ s. opened (record c.next_request_sender.new.store { clients = s })) c.take-slot.ensures.taken) _
+    (c.in-Ok-Some.is ∙ ap Ok c.in-Ok-Some.field-0-is) c.requires.number _ _ c.take_first-slot.ensures.first
+    c.take_first-slot.ensures.within (ap (λ s. opened (record c.next_request_sender.new.store { clients = s })) c.take_first-slot.ensures.taken) _
     c.place_at_receiver-own.ensures
 
 pub add-number-requires-clause-vacant : goal.add-number-requires-clause-vacant
@@ -103,8 +103,8 @@ returns-in-Ok-Some-clause-core g c =
     c.receiver_of_port-receiver.result ≡ x.receiver) c.receiver_of_port-receiver.ensures)) _
     c.next_request_sender.ensures.rest c.next_request_sender.ensures.kept _ c.next_request_sender.ensures.skimmed
     c.next_request_sender.ensures.next _
-    (c.in-Ok-Some.is ∙ ap Ok c.in-Ok-Some.field-0-is) c.requires.number _ _ c.take-slot.ensures.first
-    c.take-slot.ensures.within (ap (λ s. opened (record c.next_request_sender.new.store { clients = s })) c.take-slot.ensures.taken) _
+    (c.in-Ok-Some.is ∙ ap Ok c.in-Ok-Some.field-0-is) c.requires.number _ _ c.take_first-slot.ensures.first
+    c.take_first-slot.ensures.within (ap (λ s. opened (record c.next_request_sender.new.store { clients = s })) c.take_first-slot.ensures.taken) _
     c.place_at_receiver-own.ensures _ _
     c.add-number.ensures.number c.add-number.ensures.added _ c.new.ensures
 
@@ -117,8 +117,8 @@ returns-in-Ok-Some-clause-receives g c =
     c.receiver_of_port-receiver.result ≡ x.receiver) c.receiver_of_port-receiver.ensures)) _
     c.next_request_sender.ensures.rest c.next_request_sender.ensures.kept _ c.next_request_sender.ensures.skimmed
     c.next_request_sender.ensures.next _
-    (c.in-Ok-Some.is ∙ ap Ok c.in-Ok-Some.field-0-is) c.requires.number _ _ c.take-slot.ensures.first
-    c.take-slot.ensures.within (ap (λ s. opened (record c.next_request_sender.new.store { clients = s })) c.take-slot.ensures.taken) _
+    (c.in-Ok-Some.is ∙ ap Ok c.in-Ok-Some.field-0-is) c.requires.number _ _ c.take_first-slot.ensures.first
+    c.take_first-slot.ensures.within (ap (λ s. opened (record c.next_request_sender.new.store { clients = s })) c.take_first-slot.ensures.taken) _
     c.place_at_receiver-own.ensures _ _
     c.add-number.ensures.number c.add-number.ensures.added _ c.new.ensures
 

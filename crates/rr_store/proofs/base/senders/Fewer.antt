@@ -3,7 +3,6 @@ use Rattle.std.proofs.Common.{◌≡◌, inl, inr, ℕ, ◌<◌, ◌≤◌, List
 use Rattle.std.specs.Prelude.{slice_set, slice_index_or}
 use Rattle.std.proofs.lemmas.Bool.{cases_eq}
 use Rattle.std.proofs.lemmas.List.{get_or-set_other, get_or-set_same, length-set}
-use Rattle.rr_sender.specs.BitSets.{has}
 use Rattle.rr_sender.specs.Senders.{at_two, set_two}
 use Rattle.rr_sender.proofs.EntryLaws.{at_two-set_two, length-set_two}
 use Rattle.rr_store.specs.KnownWaiting.{KnowsWaiting}

@@ -9,4 +9,4 @@ pub returns-clause-unnamed : goal.returns-clause-unnamed
 returns-clause-unnamed g c =
     rw (← c.self.view_is) (by_request (state_of (opened c.self.inside.parts))
     (next_names_nothing (opened c.self.inside.parts) empty_hand c.self.invariant.sound) g.QH.Default.is_default c.args.client c.args.len _ _
-    c.loan_request_id.ensures.loans)
+    c.loan_request.ensures.loans)

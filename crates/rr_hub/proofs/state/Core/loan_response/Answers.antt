@@ -9,7 +9,7 @@ use Rattle.rr_hub.proofs.state.Core.loan_response.Goals as goal
 
 pub returns-then-is_place_of-clause-unreduced : goal.returns-then-is_place_of-clause-unreduced
 returns-then-is_place_of-clause-unreduced g c pool same =
-    c.loan_response_id.ensures.unreduced
+    c.loan_response_at.ensures.unreduced
     (rw c.number-then-is_place_of.ensures (subst (λ s. ServerHasPool s.limits s c.args.active.now c.args.len) (sym c.self.view_is) pool))
     same
 
@@ -17,11 +17,11 @@ pub returns-then-is_place_of-clause-unnamed : goal.returns-then-is_place_of-clau
 returns-then-is_place_of-clause-unnamed g c =
     rw (← c.self.view_is) (by_response (state_of (opened c.self.inside.parts))
     (next_names_nothing (opened c.self.inside.parts) empty_hand c.self.invariant.sound) g.PH.Default.is_default _ c.args.len _ _
-    c.loan_response_id.ensures.loans)
+    c.loan_response_at.ensures.loans)
 
 pub returns-else-is_place_of-clause-unreduced : goal.returns-else-is_place_of-clause-unreduced
 returns-else-is_place_of-clause-unreduced g c pool same =
-    c.loan_response_id-else-is_place_of.ensures.unreduced
+    c.loan_response_at-else-is_place_of.ensures.unreduced
     (rw c.number-else-is_place_of.ensures (subst (λ s. ServerHasPool s.limits s c.args.active.now c.args.len) (sym c.self.view_is)
     pool)) same
 
@@ -29,4 +29,4 @@ pub returns-else-is_place_of-clause-unnamed : goal.returns-else-is_place_of-clau
 returns-else-is_place_of-clause-unnamed g c =
     rw (← c.self.view_is) (by_response (state_of (opened c.self.inside.parts))
     (next_names_nothing (opened c.self.inside.parts) empty_hand c.self.invariant.sound) g.PH.Default.is_default _ c.args.len _ _
-    c.loan_response_id-else-is_place_of.ensures.loans)
+    c.loan_response_at-else-is_place_of.ensures.loans)

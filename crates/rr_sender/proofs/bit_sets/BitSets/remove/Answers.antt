@@ -1,10 +1,10 @@
-use Rattle.std.proofs.Common.{bit_and, ◌*◌, ◌^◌, ◌%◌, ◌/◌, ◌≤◌, ap, sym, ◌∙◌, subst, arith, w64}
+use Rattle.std.proofs.Common.{arith}
 use Rattle.std.proofs.lemmas.Nat.{and_le_l}
 use Rattle.rr_sender.proofs.BitLaws.{removed}
 use Rattle.rr_sender.proofs.bit_sets.BitSets.remove.Goals as goal
 
 pub returns-clause-gone : goal.returns-clause-gone
-returns-clause-gone c = removed _ _ _ _ (rw (← c.word-word.ensures) c.set_word.ensures)
+returns-clause-gone c = removed _ _ _ _ (rw (← c.known_word-word.ensures) c.set_word.ensures)
 
 pub returns-clause-less : goal.returns-clause-less
-returns-clause-less c = omega (arith, c.set_word.ensures.here, c.word-word.ensures, and_le_l)
+returns-clause-less c = omega (arith, c.set_word.ensures.here, c.known_word-word.ensures, and_le_l)

@@ -1,5 +1,4 @@
-use Rattle.std.proofs.Common.{arith, rules}
-use Rattle.rr_sender.proofs.SetLaws.{first_here, found_first, none_after, word_fits}
+use Rattle.rr_sender.proofs.SetLaws.{found_first}
 use Rattle.rr_sender.proofs.sender_sets.SenderSets.next_from.Goals as goal
 
 pub returns-in-Some-next_from : goal.returns-in-Some-next_from

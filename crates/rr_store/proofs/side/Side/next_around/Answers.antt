@@ -4,13 +4,13 @@ use Rattle.rr_store.specs.Draining.{HaveQueues}
 use Rattle.rr_store.specs.Ports.{sender_part}
 use Rattle.rr_store.specs.Receiving.{HaveChannels}
 use Rattle.rr_store.proofs.base.senders.Noted.{set_within}
-use Rattle.rr_store.proofs.side.Side.is_idle.Goals as goal
+use Rattle.rr_store.proofs.side.Side.next_around.Goals as goal
 
-pub is_empty-requires : goal.is_empty-requires
-is_empty-requires g c =
+pub next_around-requires : goal.next_around-requires
+next_around-requires g c =
     let items = c.self.inside.senders.items in
     let senders = map sender_part items in
-    let there : 0 < length senders = omega (arith, c.if-len-gt1.true, c.len.ensures, c.self.inside.senders.ok.0, length-map items sender_part) in
+    let there : 0 < length senders = omega (arith, (rw (← c.self.view_is) at c.requires.several)) in
     let queues : HaveQueues senders c.args.receiver = rw (← c.self.view_is) at c.requires.receiver in
     let channels : HaveChannels senders c.args.receiver c.args.channel = rw (← c.self.view_is) at c.requires.channel in
     let set = set_within c.self.inside.waiting senders c.self.invariant 0 c.args.receiver c.args.channel there (queues 0 there) (channels 0 there) in
