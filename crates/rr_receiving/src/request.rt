@@ -133,6 +133,9 @@ fn first_request_sender<
     ensures there { IfSome result (λ sender. sender < length store.old.clients.senders) }
     ensures idle { IfNone result ((sender : ℕ) → sender < length store.old.clients.senders → queue_from store.old.clients.senders receiver 0 sender ≡ []) }
 {
+    if store.clients.is_idle(receiver, 0) {
+        return None;
+    }
     let turn = store.request_turns.at(receiver, 0);
     let first = store.clients.next_around(receiver, 0, turn)?;
     store.clients.forget_before(receiver, 0, turn, first);

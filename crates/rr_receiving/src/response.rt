@@ -20,7 +20,8 @@ use rr_table::Place;
 /// number.
 ///
 /// The receives of a pending response go round the servers: the one after that from which it received last comes first. Returns
-/// `None` if no server's response waits. Takes O(senders from which something may wait), and no memory. After iceoryx2's `PendingResponse::receive`.
+/// `None` if no server's response waits. Takes O(senders from which something may wait), and no memory. After iceoryx2's
+/// `PendingResponse::receive`.
 ///
 /// # Errors
 ///

@@ -1,5 +1,5 @@
 //! For each queue, the senders from which something may wait in it.
-ghost use Rattle.std.specs.Prelude.{◌≡◌, ◌≤◌, ◌+◌, ◌*◌, ◌<◌, ◌/◌, ◌^◌, [], IfNone, IfSome, None, OnErr, OnOk, length};
+ghost use Rattle.std.specs.Prelude.{◌≡◌, ◌≤◌, ◌+◌, ◌*◌, ◌<◌, ◌/◌, ◌^◌, [], IfNone, IfSome, IsTrue, None, OnErr, OnOk, length};
 ghost use Rattle.rr_sender.specs.BitSets.{HasWord, IsBitChanged, IsFirstFrom, has};
 ghost use Rattle.rr_sender.specs.SenderSets.{HasRoom, IsEven, IsInEach};
 
@@ -96,6 +96,14 @@ impl SenderSets {
         if self.members.remove(set, sender) == 0 {
             self.words.remove(set, sender / 64);
         }
+    }
+
+    /// Returns whether a set is known to be empty: one word tells it, where there is room for at most 4,096 senders.
+    #[inline(always)]
+    pub fn is_known_empty(&self, set: usize) -> bool
+        ensures { IsTrue result → IsFirstFrom self.now set 0 None }
+    {
+        self.words.columns() == 1 && self.words.word(set, 0) == 0
     }
 
     /// Returns the first member of a set from a sender on, and, if there is none, the first of all. Takes one look, at one word for each

@@ -182,7 +182,7 @@ pub(crate) fn index_if_at<P: ConnectedPort>(ports: &[P], index: usize, id: u64) 
 /// Returns where among the ports, whose numbers rise, the one with this number stands, in O(log ports).
 ///
 /// It stands at most as far behind the first one as its number is above that one's, and at most as far before the last one as its
-/// number is below that one's, where it stands if all since were created one after another. What is left is halved.
+/// number is below that one's. What is left is halved.
 #[cold]
 pub(crate) fn index_by_halving<P: ConnectedPort>(ports: &[P], id: u64) -> Option<usize>
     requires { IsRising P.id ports.now }
@@ -196,9 +196,6 @@ pub(crate) fn index_by_halving<P: ConnectedPort>(ports: &[P], id: u64) -> Option
     let before = ports[most].details().id.saturating_sub(id) as usize;
     let mut low = most.saturating_sub(before);
     let mut high = if behind < most { behind + 1 } else { most + 1 };
-    if let Some(index) = index_if_at(ports, low, id) {
-        return Some(index);
-    }
     while low < high {
         let middle = low + (high - low) / 2;
         let found = ports[middle].details().id;

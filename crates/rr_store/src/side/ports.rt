@@ -59,8 +59,9 @@ impl<B: Body, N: Copy, H: Drop, P: Drop> Side<B, N, H, P> {
 }
 
 impl<B: Body, N: Copy, H: Drop, P: ConnectedPort> Side<B, N, H, P> {
-    /// Returns where among the ports the one with this number stands, in O(log ports). Looks at the first one, and then as far behind
-    /// it as the number is above that one's, where it stands if all up to it were created one after another and are still there.
+    /// Returns where among the ports the one with this number stands, in O(log ports). Looks at the first one, then as far behind it as
+    /// the number is above that one's, where it stands if all up to it were created one after another and are still there, and then as
+    /// far before the last one as the number is below that one's, where it stands if all from it on are.
     #[inline(always)]
     pub fn index_of(&self, number: u64) -> usize
         requires rising { IsRising P.id self.now.ports }
@@ -73,6 +74,12 @@ impl<B: Body, N: Copy, H: Drop, P: ConnectedPort> Side<B, N, H, P> {
         }
         let behind = number.wrapping_sub(first) as usize;
         if let Some(index) = index_if_at(self.ports.as_slice(), behind, number) {
+            return index;
+        }
+        let most = self.ports.len().saturating_sub(1);
+        let last = of_this_hub(self.ports.get(most)).details().id;
+        let before = most.wrapping_sub(last.wrapping_sub(number) as usize);
+        if let Some(index) = index_if_at(self.ports.as_slice(), before, number) {
             return index;
         }
         of_this_hub(index_by_halving(self.ports.as_slice(), number))

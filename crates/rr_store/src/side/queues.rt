@@ -64,6 +64,17 @@ impl<B: Body, N: Copy, H: Drop, P: Drop> Side<B, N, H, P> {
         self.waiting.next_from(receiver, channel, from)
     }
 
+    /// Returns whether it is known that nothing waits for a receiver on a channel, where there are several senders. Looks at one word.
+    #[inline(always)]
+    pub fn is_idle(&self, receiver: usize, channel: usize) -> bool
+        requires several { 1 < length self.now.senders }
+        requires receiver { HaveQueues self.now.senders receiver }
+        requires channel { HaveChannels self.now.senders receiver channel }
+        ensures { IsTrue result → (sender : ℕ) → sender < length self.now.senders → queue_from self.now.senders receiver channel sender ≡ [] }
+    {
+        self.waiting.is_known_empty(receiver, channel)
+    }
+
     /// Returns the first sender from one on, of several, from which something may wait for a receiver on a channel, and, if there is
     /// none, the first of all. Returns `None` if there is none either: nothing waits then.
     #[inline(always)]

@@ -1,5 +1,5 @@
 //! From which senders something may wait for each receiver, on each channel.
-ghost use Rattle.std.specs.Prelude.{◌≡◌, ◌+◌, ◌*◌, ◌<◌, ◌≤◌, ◌/◌, ◌^◌, ℕ, [], IfNone, IfSome, None, OnErr, OnOk, length};
+ghost use Rattle.std.specs.Prelude.{◌≡◌, ◌+◌, ◌*◌, ◌<◌, ◌≤◌, ◌/◌, ◌^◌, ℕ, [], IfNone, IfSome, IsTrue, None, OnErr, OnOk, length};
 ghost use Rattle.rr_sender.specs.BitSets.{HasWord, IsBitChanged, IsFirstFrom, has};
 ghost use Rattle.rr_sender.specs.SenderSets.{IsEven};
 ghost use Rattle.rr_store.specs.KnownWaiting.{AreNotedAmong, HasPlace, HavePlaces, IsGrown, IsNotedAmong, IsReady, set_of};
@@ -180,6 +180,16 @@ impl Waiting {
     {
         self.senders
             .remove(receiver * self.channels + channel, sender);
+    }
+
+    /// Returns whether it is known that no sender is noted for a receiver on a channel. Looks at one word.
+    #[inline(always)]
+    pub(crate) fn is_known_empty(&self, receiver: usize, channel: usize) -> bool
+        requires { set_of self.now receiver channel < 2 ^ 64 }
+        ensures { IsTrue result → IsFirstFrom self.now.senders (set_of self.now receiver channel) 0 None }
+    {
+        self.senders
+            .is_known_empty(receiver * self.channels + channel)
     }
 
     /// Returns the first sender from one on that is noted for a receiver on a channel, and, if there is none, the first of all.
