@@ -155,6 +155,7 @@ fn request_sender_beginning<
     receiver: usize,
     first: usize,
 ) -> Result<Option<usize>, ReceiveError>
+    requires several { 1 < length store.old.clients.senders }
     requires sender { first < length store.old.clients.senders }
     requires receiver { HaveQueues store.old.clients.senders receiver }
     requires channel { HaveChannels store.old.clients.senders receiver 0 }
@@ -176,6 +177,7 @@ fn request_sender_at<QB: Body, QH: Default + Drop, PB: Body, PH: Default + Drop,
     receiver: usize,
     sender: usize,
 ) -> Option<usize>
+    requires several { 1 < length store.old.clients.senders }
     requires sender { sender < length store.old.clients.senders }
     requires receiver { HaveQueues store.old.clients.senders receiver }
     requires channel { HaveChannels store.old.clients.senders receiver 0 }
@@ -186,8 +188,7 @@ fn request_sender_at<QB: Body, QH: Default + Drop, PB: Body, PH: Default + Drop,
 {
     let most = store.limits.max_active_requests_per_client;
     if store.limits.enable_fire_and_forget_requests {
-        store.clients.forget_if_empty(sender, receiver, 0);
-        return store.clients.ready_at(sender, receiver, 0, most);
+        return store.clients.ready_or_forgotten(sender, receiver, 0, most);
     }
     store.clients.skim_at(&store.table, sender, receiver, most)
 }

@@ -110,6 +110,30 @@ impl<B: Body, N: Copy, H: Drop, P: Drop> Side<B, N, H, P> {
         None
     }
 
+    /// Returns a sender, one of several, if a receiver takes next from it on a channel, of which it may have `most`. The sender is noted
+    /// no more if nothing waits from it.
+    #[inline(always)]
+    pub fn ready_or_forgotten(
+        &mut self,
+        sender: usize,
+        receiver: usize,
+        channel: usize,
+        most: usize,
+    ) -> Option<usize>
+        requires several { 1 < length self.old.senders }
+        requires sender { sender < length self.old.senders }
+        requires receiver { HaveQueues self.old.senders receiver }
+        requires channel { HaveChannels self.old.senders receiver channel }
+        ensures kept { self.new ≡ self.old }
+        ensures ready { IfSome result (λ sender. IsNextSender self.old.senders receiver channel most (Ok (Some sender))) }
+    {
+        let ready = self.ready_at(sender, receiver, channel, most);
+        if ready.is_none() {
+            self.forget_empty(sender, receiver, channel);
+        }
+        ready
+    }
+
     /// Returns whether a sender has something queued for a receiver on a channel.
     #[inline(always)]
     pub(crate) fn has_entries(&self, sender: usize, receiver: usize, channel: usize) -> bool

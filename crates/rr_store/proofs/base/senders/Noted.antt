@@ -1,5 +1,5 @@
 -- From which senders something may wait stays known.
-use Rattle.std.proofs.Common.{◌≡◌, ◌≢◌, ◌⊎◌, inl, inr, ℕ, ◌+◌, ◌*◌, ◌/◌, ◌<◌, ◌≤◌, Option, Some, List, [], length, map, get_or, refl, sym, ap, ap₂, subst, ◌∙◌, arith}
+use Rattle.std.proofs.Common.{◌≡◌, ◌≢◌, ◌⊎◌, inl, inr, ℕ, ◌+◌, ◌*◌, ◌/◌, ◌^◌, ◌<◌, ◌≤◌, Option, Some, List, [], length, map, get_or, refl, sym, ap, ap₂, subst, ◌∙◌, arith}
 use Rattle.std.specs.Prelude.{slice_get, slice_set, slice_index_or}
 use Rattle.std.proofs.lemmas.Bool.{cases_eq, cases_lt}
 use Rattle.std.proofs.lemmas.List.{length-map, length-set}
@@ -9,13 +9,14 @@ use Rattle.std.proofs.Math.ListN.{get_or-eq_default}
 use Rattle.rr_sender.specs.declared.bit_sets.BitSets.{BitSets}
 use Rattle.rr_sender.specs.BitSets.{HasWord, IsBitChanged, has}
 use Rattle.rr_sender.specs.SenderSets.{IsEven}
+use Rattle.rr_store.specs.Draining.{HaveQueues}
 use Rattle.rr_store.specs.KnownWaiting.{AreAlike, AreNotedBelow, HasPlace, IsNotedAmong, KnowsWaiting, set_of}
 use Rattle.rr_store.specs.declared.port.OwnedSender.{OwnedSender}
 use Rattle.rr_store.specs.declared.port.ServerPort.{ServerPort}
 use Rattle.rr_store.specs.declared.side.waiting.Waiting.{Waiting}
 use Rattle.rr_store.specs.Parts.{Sender}
 use Rattle.rr_store.specs.Ports.{sender_part}
-use Rattle.rr_store.specs.Receiving.{queue_from}
+use Rattle.rr_store.specs.Receiving.{HaveChannels, queue_from}
 use Rattle.rr_store.specs.Views.{no_sender, sender_of}
 use Rattle.rr_store.proofs.base.lists.Replaced.{map-set_one, set_alike}
 use Rattle.rr_store.proofs.base.senders.Stored.{stored_is}
@@ -30,6 +31,13 @@ set_within w senders known l r c there row column =
     let columns = known.alike.columns l r there at in
     let inside : c < w.channels = omega (arith, column, columns) in
     (inside, omega (arith, mul-add-lt r w.channels c w.receivers at inside, mul_comm w.channels w.receivers, known.sets))
+
+-- the number of the set of a queue that is there, where there are several senders
+pub set_fits : {T N H : Type 0} (w : Waiting) (senders : List (Sender T N H)) → KnowsWaiting w senders → (r c : ℕ) → 1 < length senders
+    → HaveQueues senders r → HaveChannels senders r c → set_of w r c < 2 ^ 64
+set_fits w senders known r c several queues channels =
+    let there : 0 < length senders = omega (arith, several) in
+    omega (arith, (set_within w senders known 0 r c there (queues 0 there) (channels 0 there)).1, known.fits)
 
 module _ {T N H : Type 0} (w : Waiting) (before after : List (Sender T N H)) (known : KnowsWaiting w before) (many : length after ≡ length before)
   where
