@@ -6,7 +6,7 @@ ghost use Rattle.rr_protocol.specs.declared.kind.Kind.TheVariants as kind;
 ghost use Rattle.rr_ports.specs.Facts.{IsFree, Keeps, Names, numbers_left};
 
 use crate::payload::{Page, Payload};
-use crate::trip_error::TripError;
+use crate::trip_error::{TripError, unlikely};
 use rr_ports::{
     ActiveRequest, BackpressureStrategy, Client, ClientCreateError, LoanError, NoHandler,
     PendingResponse, RequestMut, RequestSendError, SendError, Server, ServerCreateError,
@@ -139,7 +139,7 @@ impl<T: Payload> Family for Option<T> {
     #[inline(always)]
     fn conclude(hub: &mut Hub<Self>, pending: &PendingResponse<Self>) -> Result<u64, TripError> {
         let Some(response) = pending.receive(hub)? else {
-            return Err(TripError::NothingCame);
+            return Err(unlikely(TripError::NothingCame));
         };
         Ok(response.into_payload(hub).last_word())
     }
@@ -201,7 +201,7 @@ impl<T: Page> Family for KeptBody<T> {
     #[inline(always)]
     fn conclude(hub: &mut Hub<Self>, pending: &PendingResponse<Self>) -> Result<u64, TripError> {
         let Some(response) = pending.receive(hub)? else {
-            return Err(TripError::NothingCame);
+            return Err(unlikely(TripError::NothingCame));
         };
         let word = response.payload(hub).last_word();
         response.release(hub);
@@ -266,7 +266,7 @@ impl<T: Payload + Copy> Family for SliceBody<T> {
     #[inline(always)]
     fn conclude(hub: &mut Hub<Self>, pending: &PendingResponse<Self>) -> Result<u64, TripError> {
         let Some(response) = pending.receive(hub)? else {
-            return Err(TripError::NothingCame);
+            return Err(unlikely(TripError::NothingCame));
         };
         let word = match response.payload(hub).last() {
             Some(element) => Ok(element.last_word()),

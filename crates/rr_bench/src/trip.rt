@@ -7,7 +7,7 @@ ghost use Rattle.rr_ports.specs.Facts.{Keeps, Names, numbers_left};
 ghost use Rattle.rr_bench.specs.Onlookers.{AreServers};
 
 use crate::family::{Family, Hub};
-use crate::trip_error::TripError;
+use crate::trip_error::{TripError, unlikely};
 use rr_ports::{ActiveRequest, Client, PendingResponse, Server};
 
 /// Sends a response that is filled with one more than the word that came.
@@ -35,11 +35,11 @@ fn answer<B: Family>(hub: &mut Hub<B>, server: &Server<B>, len: usize) -> Result
     ensures numbers { numbers_left hub.old ≤ numbers_left hub.new + 2 }
 {
     let Some(active) = server.receive(hub)? else {
-        return Err(TripError::NothingCame);
+        return Err(unlikely(TripError::NothingCame));
     };
     if let Err(error) = respond(hub, &active, len) {
         active.release(hub);
-        return Err(error);
+        return Err(unlikely(error));
     }
     active.release(hub);
     Ok(())
@@ -84,7 +84,7 @@ fn round_trip<B: Family>(
         }
         Err(error) => {
             pending.release(hub);
-            Err(error)
+            Err(unlikely(error))
         }
     }
 }
@@ -163,11 +163,4 @@ pub fn trips<B: Family>(
         look_around(hub, onlookers)?;
     }
     Ok(sum)
-}
-
-/// Returns an error. Lets the compiler place what leads to it beside the path of a whole round trip, as it does with a panic.
-#[cold]
-#[inline(never)]
-fn unlikely(error: TripError) -> TripError {
-    error
 }
