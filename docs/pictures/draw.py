@@ -59,14 +59,14 @@ POOL = [
 
 # Nanoseconds a round trip, the best of all samples (docs/DESIGN.md, "Speed").
 TIMES = [
-    ("8 bytes", 86),
-    ("8 bytes, 1,000 clients", 106),
-    ("slice of 8 bytes", 123),
-    ("4,096 bytes in one element", 285),
-    ("slice of 4,096 bytes", 338),
-    ("8 bytes, 64 servers", 982),
-    ("65,536 bytes in one element", 3635),
-    ("slice of 65,536 bytes", 3855),
+    ("8 bytes", 88),
+    ("8 bytes, 1,000 clients", 107),
+    ("slice of 8 bytes", 125),
+    ("4,096 bytes in one element", 283),
+    ("slice of 4,096 bytes", 298),
+    ("8 bytes, 64 servers", 972),
+    ("65,536 bytes in one element", 3591),
+    ("slice of 65,536 bytes", 3527),
 ]
 
 
