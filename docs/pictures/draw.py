@@ -65,8 +65,8 @@ TIMES = [
     ("4,096 bytes in one element", 283),
     ("slice of 4,096 bytes", 298),
     ("8 bytes, 64 servers", 972),
-    ("65,536 bytes in one element", 3591),
     ("slice of 65,536 bytes", 3527),
+    ("65,536 bytes in one element", 3591),
 ]
 
 
