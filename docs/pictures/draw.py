@@ -26,7 +26,7 @@ text { fill: #f0f6fc }
 
 # What stands on what, the lowest last: a name, and what it knows.
 LAYERS = [
-    ("rr, rr_hello, rr_rpc, rr_jobs ..", "programs"),
+    ("rr, rr_hello, rr_example_jobs ..", "programs"),
     ("rr_shared_ports  rr_shared  rr_locked", "threads: ports and commands under a lock"),
     ("rr_ports  rr_run", "iceoryx2's names; lists of commands"),
     ("rr_hub", "the core: each call is a step of the message machine"),

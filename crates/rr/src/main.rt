@@ -1,7 +1,7 @@
 //! The program `rr`: hands its words and the standard streams to `serve`, and ends with its answer.
 #![tactic(auto)]
 
-use rr_serve::{Stop, ended, serve};
+use rr_script::{Stop, ended, serve};
 use std::env;
 use std::io::{self, BufReader, ErrorKind, Write};
 use std::process::ExitCode;

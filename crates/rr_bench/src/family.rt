@@ -1,15 +1,13 @@
-//! The families of messages.
+//! The families of messages: a word, an element that is written where it lies, and a slice of words.
 #![tactic(auto, using(rr_ports::proofs::Frames::callers), unfolding(rr_ports::specs::Facts::Keeps, rr_ports::specs::Facts::IsFree))]
 
-ghost use Rattle.std.specs.Prelude.{◌≡◌, ◌<◌, ◌≤◌, ◌+◌, IfOk, []};
+ghost use Rattle.std.specs.Prelude.{◌<◌, ◌≤◌, ◌+◌, IfOk, []};
 ghost use Rattle.rr_protocol.specs.declared.kind.Kind.TheVariants as kind;
 ghost use Rattle.rr_ports.specs.Facts.{IsFree, Keeps, Names, numbers_left};
 
-use crate::payload::{Page, Payload};
-use crate::trip_error::{TripError, unlikely};
 use rr_ports::{
-    ActiveRequest, BackpressureStrategy, Client, ClientCreateError, LoanError, NoHandler,
-    PendingResponse, RequestMut, RequestSendError, SendError, Server, ServerCreateError,
+    ActiveRequest, Client, ClientCreateError, NoHandler, PendingResponse, ReceiveError,
+    RequestSendError, SendError, Server, ServerCreateError,
 };
 use rr_slots::{Body, KeptBody, SliceBody};
 
@@ -19,34 +17,22 @@ pub type Hub<B> = rr_ports::Hub<B, u64, B, u64, NoHandler>;
 /// A family of messages: how they are written and read.
 pub trait Family: Body {
     /// Creates a client whose requests have at most `len` elements.
-    fn client(hub: &mut Hub<Self>, len: usize) -> Result<Client<Self>, ClientCreateError>
+    fn client(hub: &mut Hub<Self>, _len: usize) -> Result<Client<Self>, ClientCreateError>
         ensures free { IfOk result (λ client. IsFree [] hub.old client) }
         ensures kind { IfOk result (λ client. Names hub.new client kind.Client) }
-        ensures keeps { Keeps [] hub.old hub.new };
+        ensures keeps { Keeps [] hub.old hub.new }
+    {
+        hub.client_builder().create(hub)
+    }
 
     /// Creates a server whose responses have at most `len` elements.
-    fn server(hub: &mut Hub<Self>, len: usize) -> Result<Server<Self>, ServerCreateError>
+    fn server(hub: &mut Hub<Self>, _len: usize) -> Result<Server<Self>, ServerCreateError>
         ensures free { IfOk result (λ server. IsFree [] hub.old server) }
         ensures kind { IfOk result (λ server. Names hub.new server kind.Server) }
-        ensures keeps { Keeps [] hub.old hub.new };
-
-    /// Loans a request, and fills it with a word.
-    fn request(
-        hub: &mut Hub<Self>,
-        client: &Client<Self>,
-        len: usize,
-        word: u64,
-    ) -> Result<RequestMut<Self>, LoanError>
-        requires client { Names hub.old client.now kind.Client }
-        requires numbers { 0 < numbers_left hub.old }
-        ensures free { IfOk result (λ request. IsFree [] hub.old request) }
-        ensures kind { IfOk result (λ request. Names hub.new request kind.RequestMut) }
         ensures keeps { Keeps [] hub.old hub.new }
-        ensures numbers { numbers_left hub.old ≤ numbers_left hub.new + 1 };
-
-    /// Returns the last word of a request. Returns `None` if it has no elements.
-    fn word_asked(hub: &Hub<Self>, active: &ActiveRequest<Self>) -> Option<u64>
-        requires { Names hub.now active.now kind.ActiveRequest };
+    {
+        hub.server_builder().create(hub)
+    }
 
     /// Sends a request that is filled with a word.
     fn ask(
@@ -62,60 +48,26 @@ pub trait Family: Body {
         ensures keeps { Keeps [] hub.old hub.new }
         ensures numbers { numbers_left hub.old ≤ numbers_left hub.new + 1 };
 
-    /// Sends a response that is filled with a word.
+    /// Sends a response that is filled with one more than the last word that came.
     fn respond(
         hub: &mut Hub<Self>,
         active: &ActiveRequest<Self>,
         len: usize,
-        word: u64,
     ) -> Result<(), SendError>
         requires active { Names hub.old active.now kind.ActiveRequest }
         requires numbers { 0 < numbers_left hub.old }
-        ensures keeps { Keeps [] hub.old hub.new }
-        ensures numbers { numbers_left hub.old ≤ numbers_left hub.new + 1 };
+        ensures { Keeps [] hub.old hub.new };
 
-    /// Receives a response, and returns its last word.
-    ///
-    /// # Errors
-    ///
-    /// - `NothingCame` if none is queued.
-    /// - `NoElements` if it has none.
-    /// - `ReceiveError` as the receive.
-    fn conclude(hub: &mut Hub<Self>, pending: &PendingResponse<Self>) -> Result<u64, TripError>
+    /// Receives a response, and releases it. Returns its last word, or `None` if there is none.
+    fn take(
+        hub: &mut Hub<Self>,
+        pending: &PendingResponse<Self>,
+    ) -> Result<Option<u64>, ReceiveError>
         requires { Names hub.old pending.now kind.PendingResponse }
-        ensures keeps { Keeps [] hub.old hub.new }
-        ensures numbers { numbers_left hub.new ≡ numbers_left hub.old };
+        ensures { Keeps [] hub.old hub.new };
 }
 
-impl<T: Payload> Family for Option<T> {
-    fn client(hub: &mut Hub<Self>, _len: usize) -> Result<Client<Self>, ClientCreateError> {
-        hub.client_builder()
-            .backpressure_strategy(BackpressureStrategy::RetryUntilDelivered)
-            .create(hub)
-    }
-
-    fn server(hub: &mut Hub<Self>, _len: usize) -> Result<Server<Self>, ServerCreateError> {
-        hub.server_builder()
-            .backpressure_strategy(BackpressureStrategy::RetryUntilDelivered)
-            .create(hub)
-    }
-
-    #[inline(always)]
-    fn request(
-        hub: &mut Hub<Self>,
-        client: &Client<Self>,
-        _len: usize,
-        word: u64,
-    ) -> Result<RequestMut<Self>, LoanError> {
-        let request = client.loan_uninit(hub)?;
-        Ok(request.write_payload(hub, T::filled(word)))
-    }
-
-    #[inline(always)]
-    fn word_asked(hub: &Hub<Self>, active: &ActiveRequest<Self>) -> Option<u64> {
-        Some(active.payload(hub).last_word())
-    }
-
+impl Family for Option<u64> {
     #[inline(always)]
     fn ask(
         hub: &mut Hub<Self>,
@@ -123,7 +75,7 @@ impl<T: Payload> Family for Option<T> {
         _len: usize,
         word: u64,
     ) -> Result<PendingResponse<Self>, RequestSendError> {
-        client.send_copy(hub, T::filled(word))
+        client.send_copy(hub, word)
     }
 
     #[inline(always)]
@@ -131,58 +83,33 @@ impl<T: Payload> Family for Option<T> {
         hub: &mut Hub<Self>,
         active: &ActiveRequest<Self>,
         _len: usize,
-        word: u64,
     ) -> Result<(), SendError> {
-        active.send_copy(hub, T::filled(word))
+        let word = *active.payload(hub);
+        active.send_copy(hub, word.wrapping_add(1))
     }
 
     #[inline(always)]
-    fn conclude(hub: &mut Hub<Self>, pending: &PendingResponse<Self>) -> Result<u64, TripError> {
-        let Some(response) = pending.receive(hub)? else {
-            return Err(unlikely(TripError::NothingCame));
-        };
-        Ok(response.into_payload(hub).last_word())
+    fn take(
+        hub: &mut Hub<Self>,
+        pending: &PendingResponse<Self>,
+    ) -> Result<Option<u64>, ReceiveError> {
+        match pending.receive(hub)? {
+            Some(response) => Ok(Some(response.into_payload(hub))),
+            None => Ok(None),
+        }
     }
 }
 
-impl<T: Page> Family for KeptBody<T> {
-    fn client(hub: &mut Hub<Self>, _len: usize) -> Result<Client<Self>, ClientCreateError> {
-        hub.client_builder()
-            .backpressure_strategy(BackpressureStrategy::RetryUntilDelivered)
-            .create(hub)
-    }
-
-    fn server(hub: &mut Hub<Self>, _len: usize) -> Result<Server<Self>, ServerCreateError> {
-        hub.server_builder()
-            .backpressure_strategy(BackpressureStrategy::RetryUntilDelivered)
-            .create(hub)
-    }
-
-    #[inline(always)]
-    fn request(
-        hub: &mut Hub<Self>,
-        client: &Client<Self>,
-        _len: usize,
-        word: u64,
-    ) -> Result<RequestMut<Self>, LoanError> {
-        let request = client.loan_kept(hub)?;
-        request.update(hub, |page: &mut T| page.fill(word));
-        Ok(request)
-    }
-
-    #[inline(always)]
-    fn word_asked(hub: &Hub<Self>, active: &ActiveRequest<Self>) -> Option<u64> {
-        Some(active.payload(hub).last_word())
-    }
-
+impl<const N: usize> Family for KeptBody<[u64; N]> {
     #[inline(always)]
     fn ask(
         hub: &mut Hub<Self>,
         client: &Client<Self>,
-        len: usize,
+        _len: usize,
         word: u64,
     ) -> Result<PendingResponse<Self>, RequestSendError> {
-        let request = Self::request(hub, client, len, word)?;
+        let request = client.loan_kept(hub)?;
+        request.update(hub, |page: &mut [u64; N]| page.as_mut_slice().fill(word));
         request.send(hub)
     }
 
@@ -191,53 +118,37 @@ impl<T: Page> Family for KeptBody<T> {
         hub: &mut Hub<Self>,
         active: &ActiveRequest<Self>,
         _len: usize,
-        word: u64,
     ) -> Result<(), SendError> {
+        let word = active.payload(hub).as_slice().last().copied().unwrap_or(0);
         let response = active.loan_kept(hub)?;
-        response.update(hub, |page: &mut T| page.fill(word));
+        response.update(
+            hub,
+            |page: &mut [u64; N]| page.as_mut_slice().fill(word.wrapping_add(1)),
+        );
         response.send(hub)
     }
 
     #[inline(always)]
-    fn conclude(hub: &mut Hub<Self>, pending: &PendingResponse<Self>) -> Result<u64, TripError> {
+    fn take(
+        hub: &mut Hub<Self>,
+        pending: &PendingResponse<Self>,
+    ) -> Result<Option<u64>, ReceiveError> {
         let Some(response) = pending.receive(hub)? else {
-            return Err(unlikely(TripError::NothingCame));
+            return Ok(None);
         };
-        let word = response.payload(hub).last_word();
+        let word = response.payload(hub).as_slice().last().copied();
         response.release(hub);
         Ok(word)
     }
 }
 
-impl<T: Payload + Copy> Family for SliceBody<T> {
+impl Family for SliceBody<u64> {
     fn client(hub: &mut Hub<Self>, len: usize) -> Result<Client<Self>, ClientCreateError> {
-        hub.client_builder()
-            .backpressure_strategy(BackpressureStrategy::RetryUntilDelivered)
-            .initial_max_slice_len(len)
-            .create(hub)
+        hub.client_builder().initial_max_slice_len(len).create(hub)
     }
 
     fn server(hub: &mut Hub<Self>, len: usize) -> Result<Server<Self>, ServerCreateError> {
-        hub.server_builder()
-            .backpressure_strategy(BackpressureStrategy::RetryUntilDelivered)
-            .initial_max_slice_len(len)
-            .create(hub)
-    }
-
-    #[inline(always)]
-    fn request(
-        hub: &mut Hub<Self>,
-        client: &Client<Self>,
-        len: usize,
-        word: u64,
-    ) -> Result<RequestMut<Self>, LoanError> {
-        let request = client.loan_slice_uninit(hub, len)?;
-        Ok(request.fill(hub, T::filled(word)))
-    }
-
-    #[inline(always)]
-    fn word_asked(hub: &Hub<Self>, active: &ActiveRequest<Self>) -> Option<u64> {
-        Some(active.payload(hub).last()?.last_word())
+        hub.server_builder().initial_max_slice_len(len).create(hub)
     }
 
     #[inline(always)]
@@ -247,7 +158,8 @@ impl<T: Payload + Copy> Family for SliceBody<T> {
         len: usize,
         word: u64,
     ) -> Result<PendingResponse<Self>, RequestSendError> {
-        let request = Self::request(hub, client, len, word)?;
+        let request = client.loan_slice_uninit(hub, len)?;
+        let request = request.fill(hub, word);
         request.send(hub)
     }
 
@@ -256,23 +168,23 @@ impl<T: Payload + Copy> Family for SliceBody<T> {
         hub: &mut Hub<Self>,
         active: &ActiveRequest<Self>,
         len: usize,
-        word: u64,
     ) -> Result<(), SendError> {
+        let word = active.payload(hub).last().copied().unwrap_or(0);
         let response = active.loan_slice_uninit(hub, len)?;
-        let response = response.fill(hub, T::filled(word));
+        let response = response.fill(hub, word.wrapping_add(1));
         response.send(hub)
     }
 
     #[inline(always)]
-    fn conclude(hub: &mut Hub<Self>, pending: &PendingResponse<Self>) -> Result<u64, TripError> {
+    fn take(
+        hub: &mut Hub<Self>,
+        pending: &PendingResponse<Self>,
+    ) -> Result<Option<u64>, ReceiveError> {
         let Some(response) = pending.receive(hub)? else {
-            return Err(unlikely(TripError::NothingCame));
+            return Ok(None);
         };
-        let word = match response.payload(hub).last() {
-            Some(element) => Ok(element.last_word()),
-            None => Err(TripError::NoElements),
-        };
+        let word = response.payload(hub).last().copied();
         response.release(hub);
-        word
+        Ok(word)
     }
 }

@@ -1,57 +1,45 @@
-//! Times round trips through the ports of `rr_ports`, of two threads at a hub of `rr_locked`, and of threads at one of `rr_shared`.
+//! Times and counts round trips: through the ports of `rr_ports`, of threads at hubs of `rr_locked` and `rr_shared`, and through the
+//! ports of `rr_shared_ports`. Without words it makes some of each kind, and checks what their answers come to.
 #![tactic(auto)]
 
+mod crowd;
 mod family;
+mod idle;
 mod locked;
-mod pair;
-mod payload;
+mod pages;
 mod rows;
-mod service;
-mod shapes;
 mod shared;
+mod threads;
 mod trip;
-mod trip_error;
 
-use crate::rows::Job;
-use crate::service::run;
-use crate::shapes::{
-    CLIENTS, HANDLES, LARGE, LARGE_SLICE, MANY_CLIENTS, PAGE, PAGE_SLICE, PAIR, PASSED, POOLS,
-    SERVERS, SLICE, Shape,
-};
-use rr_slots::{KeptBody, SliceBody};
+use crate::crowd::{ALONE, Shape};
+use crate::idle::idle;
+use crate::rows::{FOUR, GROWN, LARGEST, MANY, NAP, Row, SLEEP, TIMED, TRIPS, Work, make, sample};
+use anyhow::bail;
 use std::env;
-use std::process::ExitCode;
 
-/// What the program takes.
-const USAGE: &str = "usage: rr_bench [time | grow | count N [CLIENTS]]";
+/// What the program takes: nothing; samples of all rows, or of those of ports in larger hubs; so many round trips, after so many clients
+/// came and left; so many of one thread or of four at a hub of `rr_shared`; so many of two threads that sleep, of two that also nap at
+/// random times, or of each of two such clients with four servers; a server that waits for a second.
+const USAGE: &str =
+    "usage: rr_bench [time | grow | count N [CLIENTS] | (trips | four | sleep | nap | many) N | idle]";
 
-/// Does a job with each payload, by value and as a slice.
-fn payloads(rt: &HostRuntime, job: Job) -> anyhow::Result<()> {
-    run::<Option<u64>>(rt, &PAIR, job)?;
-    run::<KeptBody<[u64; 512]>>(rt, &PAGE, job)?;
-    run::<KeptBody<[u64; 8192]>>(rt, &LARGE, job)?;
-    run::<SliceBody<u64>>(rt, &SLICE, job)?;
-    run::<SliceBody<u64>>(rt, &PAGE_SLICE, job)?;
-    run::<SliceBody<u64>>(rt, &LARGE_SLICE, job)
+/// How often each client asks where no word says it.
+const CHECKED: u64 = 1_000;
+
+/// Returns the row of a word.
+fn row_of(word: &str) -> anyhow::Result<Row> {
+    match word {
+        "trips" => Ok(TRIPS),
+        "four" => Ok(FOUR),
+        "sleep" => Ok(SLEEP),
+        "nap" => Ok(NAP),
+        "many" => Ok(MANY),
+        _ => bail!("{USAGE}"),
+    }
 }
 
-/// Does a job with 8 bytes in a hub of one client and one server, and in larger ones.
-fn larger(rt: &HostRuntime, job: Job) -> anyhow::Result<()> {
-    run::<Option<u64>>(rt, &PAIR, job)?;
-    run::<Option<u64>>(rt, &POOLS, job)?;
-    run::<Option<u64>>(rt, &HANDLES, job)?;
-    run::<Option<u64>>(rt, &PASSED, job)?;
-    run::<Option<u64>>(rt, &SERVERS, job)?;
-    run::<Option<u64>>(rt, &CLIENTS, job)
-}
-
-/// Makes so many round trips of 8 bytes, after so many clients came and left, and prints their sum.
-fn count(rt: &HostRuntime, count: u64, passed: u64) -> anyhow::Result<()> {
-    let shape = Shape { passed, ..PAIR };
-    run::<Option<u64>>(rt, &shape, Job::Count(count))
-}
-
-fn main(rt: HostRuntime) -> anyhow::Result<ExitCode> {
+fn main(rt: HostRuntime) -> anyhow::Result<()> {
     let mut words = Vec::new(rt.alloc());
     for word in env::args(&rt)?.skip(1) {
         words.push(word)?;
@@ -59,28 +47,24 @@ fn main(rt: HostRuntime) -> anyhow::Result<ExitCode> {
     let mut words = words.iter().map(|word| word.as_str());
     match (words.next(), words.next(), words.next(), words.next()) {
         (None, ..) => {
-            payloads(&rt, Job::Check)?;
-            larger(&rt, Job::Check)?;
-            locked::check(&rt, rt.alloc())?;
-            shared::check(&rt, rt.alloc())?;
+            make(&rt, rt.alloc(), &TIMED, CHECKED)?;
+            make(&rt, rt.alloc(), &GROWN, CHECKED)?;
+            make(&rt, rt.alloc(), &[FOUR, NAP, MANY], CHECKED)
         }
-        (Some("time"), None, ..) => {
-            payloads(&rt, Job::Time)?;
-            locked::time(&rt, rt.alloc())?;
-            shared::time(&rt, rt.alloc())?;
-        }
+        (Some("time"), None, ..) => sample(&rt, rt.alloc(), &TIMED),
         (Some("grow"), None, ..) => {
-            larger(&rt, Job::Grow)?;
-            run::<Option<u64>>(&rt, &MANY_CLIENTS, Job::Grow)?;
+            sample(&rt, rt.alloc(), &GROWN)?;
+            sample(&rt, rt.alloc(), &LARGEST)
         }
-        (Some("count"), Some(trips), None, _) => count(&rt, trips.parse()?, 0)?,
-        (Some("count"), Some(trips), Some(clients), None) => {
-            count(&rt, trips.parse()?, clients.parse()?)?;
+        (Some("idle"), None, ..) => idle(&rt, rt.alloc()),
+        (Some("count"), Some(trips), clients, None) => {
+            let passed = clients.unwrap_or("0").parse()?;
+            let row = Row("ports", 1, 8, 0, 1, Work::Crowd(Shape { passed, ..ALONE }));
+            make(&rt, rt.alloc(), &[row], trips.parse()?)
         }
-        _ => {
-            eprintln!(rt; "{USAGE}")?;
-            return Ok(ExitCode::from(2));
+        (Some(word), Some(trips), None, _) => {
+            make(&rt, rt.alloc(), &[row_of(word)?], trips.parse()?)
         }
+        _ => bail!("{USAGE}"),
     }
-    Ok(ExitCode::SUCCESS)
 }

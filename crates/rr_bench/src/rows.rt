@@ -1,147 +1,213 @@
-//! The rows that are printed.
-#![tactic(auto, using(rr_ports::proofs::Frames::callers, crate::proofs::Frames::servers), unfolding(rr_ports::specs::Facts::Keeps, rr_ports::specs::Facts::IsFree))]
+//! The rows: what is timed, under which name, and how often.
+use crate::crowd::{ALONE, CLIENTS, HANDLES, Job, MOST, PASSED, POOLS, SERVERS, Shape, time_crowd};
+use crate::locked::{time_book, time_lock, time_pair, time_workers};
+use crate::pages::time_pages;
+use crate::shared::time_shared;
+use crate::threads::Pace::{Alone, Nap, Sleep, Spin};
+use crate::threads::{Pace, time_threads};
+use crate::trip::time_ports;
+use anyhow::ensure;
+use rr_slots::{KeptBody, SliceBody};
+use std::alloc::Global;
+use std::sync::Wait;
+use std::thread::Threads;
+use std::time::{Clock, Instant};
 
-ghost use Rattle.std.specs.Prelude.{◌≡◌, ◌<◌, ◌+◌, ◌^◌, []};
-ghost use Rattle.rr_protocol.specs.declared.kind.Kind.TheVariants as kind;
-ghost use Rattle.rr_ports.specs.Facts.{Keeps, Names};
-ghost use Rattle.rr_bench.specs.Onlookers.{AreServers};
-
-use crate::family::{Family, Hub};
-use crate::shapes::Shape;
-use crate::trip::{looks, trips};
-use anyhow::bail;
-use rr_ports::{Client, Server};
-use std::time::Instant;
-
-/// What is done in the hub of a shape.
+/// What the answers came to, and how long they took.
 #[derive(Clone, Copy)]
-pub enum Job {
-    /// A few round trips are made, and their sum is checked.
-    Check,
-    /// Samples are timed and printed, and their sums are checked.
-    Time,
-    /// The same, and then looks for requests are timed where none waits.
-    Grow,
-    /// So many round trips are made, and their sum is printed.
-    Count(u64),
+pub struct Timed {
+    /// The sum of the answers. Each is one more than what was asked, and 0, 1, .. were asked.
+    pub sum: u64,
+    /// In nanoseconds.
+    pub nanos: u128,
 }
 
-/// The samples of a row.
-pub const SAMPLES: usize = 7;
-
-/// The round trips that are made to check their sum.
-const CHECKED: u64 = 10;
-
-/// Returns what so many round trips come to: one less than a power of two.
-fn expected_sum(count: u64) -> u64
-    ensures { count < 64 → result + 1 ≡ 2 ^ count }
-{
-    if count < 64 {
-        (1u64 << count) - 1
-    } else {
-        u64::MAX
-    }
-}
-
-/// Makes round trips and checks their sum.
-fn checked<B: Family>(
-    hub: &mut Hub<B>,
-    client: &Client<B>,
-    server: &Server<B>,
-    onlookers: &[Server<B>],
-    len: usize,
-    count: u64,
-) -> anyhow::Result<()>
-    requires client { Names hub.old client.now kind.Client }
-    requires server { Names hub.old server.now kind.Server }
-    requires onlookers { AreServers hub.old onlookers.now }
-    ensures { Keeps [] hub.old hub.new }
-{
-    let sum = trips(hub, client, server, onlookers, len, count)?;
-    if sum != expected_sum(count) {
-        bail!("{count} round trips came to {sum}");
-    }
-    Ok(())
-}
-
-/// Prints the samples of a shape.
-fn sample<B: Family>(
-    rt: &HostRuntime,
-    hub: &mut Hub<B>,
-    client: &Client<B>,
-    server: &Server<B>,
-    onlookers: &[Server<B>],
-    shape: &Shape,
-) -> anyhow::Result<()>
-    requires client { Names hub.old client.now kind.Client }
-    requires server { Names hub.old server.now kind.Server }
-    requires onlookers { AreServers hub.old onlookers.now }
-    ensures { Keeps [] hub.old hub.new }
-{
-    for _ in 0..SAMPLES {
-        let start = Instant::now(rt)?;
-        checked(hub, client, server, onlookers, shape.len, shape.trips)?;
+impl Timed {
+    /// Ends a measurement.
+    pub fn since(rt: &impl Clock, start: Instant, sum: u64) -> anyhow::Result<Timed> {
         let nanos = start.elapsed(rt)?.as_nanos();
+        Ok(Timed { sum, nanos })
+    }
+}
+
+/// What makes the round trips of a row.
+#[derive(Clone, Copy)]
+pub enum Work {
+    /// A client and a server of `rr_ports`, whose messages are words.
+    Word,
+    /// The same of elements of 4,096 bytes, which are written where they lie.
+    Page,
+    /// The same of 65,536 bytes.
+    Large,
+    /// The same of slices of words.
+    Slice,
+    /// The same of words, among other ports and handles.
+    Crowd(Shape),
+    /// Receives there, where nothing waits.
+    Idle(Shape),
+    /// Submissions at a hub of `rr_locked`.
+    Pair,
+    /// The two workers of `rr_script`. The hub's making and its end are in it.
+    Workers,
+    /// A lock that is taken and given back.
+    Lock,
+    /// Questions about a number that names nothing, as the history of a book grows.
+    Book,
+    /// Submissions at a hub of `rr_shared`.
+    Shared,
+    /// So many clients and so many servers of `rr_shared_ports`.
+    Ports(Pace, usize, usize),
+    /// A client and a server there in one thread, whose messages are slices of 64 KiB.
+    Pages,
+}
+
+/// A row: its name, how many threads it has, the bytes of a message, how often each client asks, how many answers come where each
+/// asks once, and what makes the round trips.
+#[derive(Clone, Copy)]
+pub struct Row(
+    pub &'static str,
+    pub u64,
+    pub usize,
+    pub u64,
+    pub u64,
+    pub Work,
+);
+
+/// The rows of `time`.
+pub const TIMED: [Row; 19] = [
+    Row("ports", 1, 8, 20_000, 1, Work::Word),
+    Row("ports", 1, 4_096, 5_000, 1, Work::Page),
+    Row("ports", 1, 65_536, 200, 1, Work::Large),
+    Row("ports-slice", 1, 8, 20_000, 1, Work::Slice),
+    Row("ports-slice", 1, 4_096, 1_000, 1, Work::Slice),
+    Row("ports-slice", 1, 65_536, 50, 1, Work::Slice),
+    Row("pair", 1, 8, 100_000, 1, Work::Pair),
+    Row("pair", 2, 8, 100_000, 1, Work::Pair),
+    Row("locked", 2, 8, 100_000, 1, Work::Workers),
+    Row("lock", 1, 0, 100_000, 1, Work::Lock),
+    Row("book", 1, 0, 1_000_000, 1, Work::Book),
+    TRIPS,
+    Row("shared", 2, 8, 100_000, 1, Work::Shared),
+    Row("shared", 8, 8, 6_250, 16, Work::Shared),
+    Row("threads", 1, 8, 100_000, 1, Work::Ports(Alone, 1, 1)),
+    Row("threads-spin", 2, 8, 100_000, 1, Work::Ports(Spin, 1, 1)),
+    SLEEP,
+    Row("threads-slice", 1, 65_536, 10_000, 1, Work::Pages),
+    Row("threads-sleep", 8, 8, 10_000, 16, Work::Ports(Sleep, 4, 4)),
+];
+
+/// One thread at a hub of `rr_shared`.
+pub const TRIPS: Row = Row("shared", 1, 8, 100_000, 1, Work::Shared);
+
+/// Two threads that ask and two that answer there.
+pub const FOUR: Row = Row("shared", 4, 8, 25_000, 4, Work::Shared);
+
+/// Two threads that wait for each other and sleep.
+pub const SLEEP: Row = Row("threads-sleep", 2, 8, 100_000, 1, Work::Ports(Sleep, 1, 1));
+
+/// Two threads that also sleep at random times.
+pub const NAP: Row = Row("threads-nap", 2, 8, 100_000, 1, Work::Ports(Nap, 1, 1));
+
+/// Two such clients and four such servers.
+pub const MANY: Row = Row("threads-nap", 6, 8, 100_000, 8, Work::Ports(Nap, 2, 4));
+
+/// The rows of `grow`.
+pub const GROWN: [Row; 9] = [
+    Row("ports", 1, 8, 20_000, 1, Work::Crowd(ALONE)),
+    Row("ports-idle", 1, 8, 20_000, 1, Work::Idle(ALONE)),
+    Row("ports-pools", 1, 8, 20_000, 1, Work::Crowd(POOLS)),
+    Row("ports-handles", 1, 8, 20_000, 1, Work::Crowd(HANDLES)),
+    Row("ports-passed", 1, 8, 20_000, 1, Work::Crowd(PASSED)),
+    Row("ports-servers", 1, 8, 1_000, 1, Work::Crowd(SERVERS)),
+    Row("ports-servers-idle", 1, 8, 1_000, 64, Work::Idle(SERVERS)),
+    Row("ports-clients", 1, 8, 10_000, 1, Work::Crowd(CLIENTS)),
+    Row("ports-clients-idle", 1, 8, 10_000, 1, Work::Idle(CLIENTS)),
+];
+
+/// Those of `grow` that take long to make.
+pub const LARGEST: [Row; 2] = [
+    Row("ports-many-clients", 1, 8, 10_000, 1, Work::Crowd(MOST)),
+    Row("ports-many-clients-idle", 1, 8, 10_000, 1, Work::Idle(MOST)),
+];
+
+/// How often each row is timed.
+const SAMPLES: usize = 7;
+
+/// Lets each client of a row ask so often.
+fn made<R: Threads + Wait + Sync + Clock>(
+    rt: &R,
+    alloc: Global,
+    row: Row,
+    trips: u64,
+) -> anyhow::Result<Timed> {
+    let Row(_, threads, bytes, .., work) = row;
+    match work {
+        Work::Word => time_ports::<Option<u64>, R>(rt, alloc, 1, trips),
+        Work::Page => time_ports::<KeptBody<[u64; 512]>, R>(rt, alloc, 1, trips),
+        Work::Large => time_ports::<KeptBody<[u64; 8192]>, R>(rt, alloc, 1, trips),
+        Work::Slice => time_ports::<SliceBody<u64>, R>(rt, alloc, bytes / 8, trips),
+        Work::Crowd(shape) => time_crowd(rt, alloc, &shape, Job::Trips(trips)),
+        Work::Idle(shape) => time_crowd(rt, alloc, &shape, Job::Looks(trips)),
+        Work::Pair => time_pair(rt, alloc, threads, trips),
+        Work::Workers => time_workers(rt, alloc, trips),
+        Work::Lock => time_lock(rt, trips),
+        Work::Book => time_book(rt, alloc, trips),
+        Work::Shared => time_shared(rt, alloc, threads, trips),
+        Work::Ports(pace, clients, servers) => {
+            time_threads(rt, alloc, pace, clients, servers, trips)
+        }
+        Work::Pages => time_pages(rt, alloc, trips),
+    }
+}
+
+/// Lets each client of a row ask so often, and checks the sum of the answers.
+fn checked<R: Threads + Wait + Sync + Clock>(
+    rt: &R,
+    alloc: Global,
+    row: Row,
+    trips: u64,
+) -> anyhow::Result<Timed> {
+    let timed = made(rt, alloc, row, trips)?;
+    let sum = trips.wrapping_mul(trips.wrapping_add(1)) / 2;
+    ensure!(
+        timed.sum == sum.wrapping_mul(row.4),
+        "{} came to {}",
+        row.0,
+        timed.sum
+    );
+    Ok(timed)
+}
+
+/// Lets each client of each row ask so often, and prints what the answers come to.
+pub fn make<R: Threads + Wait + Sync + Clock + Print>(
+    rt: &R,
+    alloc: Global,
+    rows: &[Row],
+    trips: u64,
+) -> anyhow::Result<()> {
+    for row in rows {
+        let Timed { sum, .. } = checked(rt, alloc, *row, trips)?;
+        let Row(name, threads, bytes, ..) = *row;
         println!(rt;
-            "N\t{}\t1\t{}\t{nanos}\t{}",
-            shape.name, shape.bytes, shape.trips
+            "{name}, threads: {threads}, bytes: {bytes}: {trips} round trips come to {sum}"
         )?;
     }
     Ok(())
 }
 
-/// Prints the samples of looks for requests where none waits, by the server and by each onlooker.
-fn sample_looks<B: Family>(
-    rt: &HostRuntime,
-    hub: &mut Hub<B>,
-    server: &Server<B>,
-    onlookers: &[Server<B>],
-    shape: &Shape,
-) -> anyhow::Result<()>
-    requires server { Names hub.old server.now kind.Server }
-    requires onlookers { AreServers hub.old onlookers.now }
-    ensures { Keeps [] hub.old hub.new }
-{
-    for _ in 0..SAMPLES {
-        let start = Instant::now(rt)?;
-        looks(hub, server, onlookers, shape.trips)?;
-        let nanos = start.elapsed(rt)?.as_nanos();
-        println!(rt;
-            "N\t{}-idle\t1\t{}\t{nanos}\t{}",
-            shape.name,
-            shape.bytes,
-            shape.trips.saturating_mul(shape.limits.max_servers as u64)
-        )?;
+/// Prints samples of each row: its name, threads, bytes, the nanoseconds, and how many answers came in them.
+pub fn sample<R: Threads + Wait + Sync + Clock + Print>(
+    rt: &R,
+    alloc: Global,
+    rows: &[Row],
+) -> anyhow::Result<()> {
+    for row in rows {
+        let Row(name, threads, bytes, trips, answers, _) = *row;
+        for _ in 0..SAMPLES {
+            let Timed { nanos, .. } = checked(rt, alloc, *row, trips)?;
+            let count = trips.wrapping_mul(answers);
+            println!(rt; "N\t{name}\t{threads}\t{bytes}\t{nanos}\t{count}")?;
+        }
     }
     Ok(())
-}
-
-/// Does a job.
-pub fn work<B: Family>(
-    rt: &HostRuntime,
-    hub: &mut Hub<B>,
-    client: &Client<B>,
-    server: &Server<B>,
-    onlookers: &[Server<B>],
-    shape: &Shape,
-    job: Job,
-) -> anyhow::Result<()>
-    requires client { Names hub.old client.now kind.Client }
-    requires server { Names hub.old server.now kind.Server }
-    requires onlookers { AreServers hub.old onlookers.now }
-    ensures { Keeps [] hub.old hub.new }
-{
-    match job {
-        Job::Check => checked(hub, client, server, onlookers, shape.len, CHECKED),
-        Job::Time => sample(rt, hub, client, server, onlookers, shape),
-        Job::Grow => {
-            sample(rt, hub, client, server, onlookers, shape)?;
-            sample_looks(rt, hub, server, onlookers, shape)
-        }
-        Job::Count(count) => {
-            let sum = trips(hub, client, server, onlookers, shape.len, count)?;
-            println!(rt; "{sum}")?;
-            Ok(())
-        }
-    }
 }

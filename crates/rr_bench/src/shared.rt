@@ -1,16 +1,11 @@
-//! Round trips at a shared hub: by one thread, and by threads of which as many ask as answer.
+//! Round trips by commands at a shared hub, which one thread submits or several, of which as many ask as answer.
 ghost use Rattle.std.specs.Prelude.{◌≡◌};
 
-use crate::locked::TURNS;
-use crate::rows::SAMPLES;
-use anyhow::bail;
-use rr_locked::{Bell, Bells};
-use rr_ports::{Limits, UniqueNodeId};
-use rr_shared::{Naming, Reply};
-use rr_trips::{
-    Hub, HubReply, HubSeat, OpenedHub, create, new_client, new_server, payload, receive, release,
-    respond, round_trips, send_copy,
-};
+use crate::rows::Timed;
+use anyhow::{bail, ensure};
+use rr_locked::{Bell, Bells, CREATE_CLIENT, CREATE_SERVER, HubCommand};
+use rr_ports::{Limits, NoHandler, UniqueNodeId};
+use rr_shared::{Command, Naming, Opened, Reply, Seat, SharedHub};
 use std::alloc::Global;
 use std::marker::Brand;
 use std::sync::Wait;
@@ -18,254 +13,222 @@ use std::thread;
 use std::thread::Threads;
 use std::time::{Clock, Instant};
 
-/// The round trips of a sample.
-const TRIPS: u64 = 100_000;
+/// How often a thread reads its bell for one message.
+pub const TURNS: u64 = 1_000_000_000;
 
-/// A seat, whether its thread asks, and the number of its port.
-type Worker<N> = (HubSeat<N>, bool, u64);
+/// A hub of numbers, which has no name yet.
+type OpenedHub = Opened<u64, Option<u64>, u64, NoHandler>;
 
-/// Returns what a call gave, or fails with the reply that came instead.
-fn got(outcome: Result<u64, HubReply>) -> anyhow::Result<u64> {
-    match outcome {
-        Ok(number) => Ok(number),
-        Err(reply) => bail!("a call was answered {reply:?}"),
+/// A hub of numbers.
+type Hub<N> = SharedHub<N, u64, Option<u64>, u64, NoHandler>;
+
+/// A caller at a hub, and its port.
+#[derive(Drop)]
+struct At<'a, N: Naming, R> {
+    rt: &'a R,
+    hub: &'a Hub<N>,
+    seat: Seat<N, u64, u64, NoHandler>,
+    port: u64,
+}
+
+/// Returns the number that comes back, or 0 if there is none.
+fn call<N: Naming, R: Wait>(at: &mut At<N, R>, command: HubCommand) -> anyhow::Result<u64> {
+    match at.hub.submit(at.rt, &mut at.seat, command) {
+        Reply::Created(number)
+        | Reply::Pending(number, _)
+        | Reply::Active(number, _)
+        | Reply::Sent(number)
+        | Reply::Response(number) => Ok(number),
+        Reply::Payload(elements) => Ok(elements.as_slice().first().copied().unwrap_or(0)),
+        Reply::Done => Ok(0),
+        other => bail!("a call was answered {other:?}"),
     }
 }
 
-/// Times so many round trips of one thread, in nanoseconds, and checks their sum.
-fn alone<N: Naming, R: Wait + Clock>(rt: &R, opened: OpenedHub, trips: u64) -> anyhow::Result<u128>
-    requires log { opened.log_id ≡ N.log_id }
-    requires limits { opened.limits ≡ N.limits }
-    requires node_id { opened.node_id ≡ N.node_id }
-{
-    let hub = opened.named::<N>();
-    let mut asking = hub.seat();
-    let mut answering = hub.seat();
-    let client = got(create(rt, &hub, &mut asking, new_client()))?;
-    let server = got(create(rt, &hub, &mut answering, new_server()))?;
-    let start = Instant::now(rt)?;
-    let sum = round_trips(rt, &hub, &mut asking, &mut answering, client, server, trips);
-    let nanos = start.elapsed(rt)?.as_nanos();
-    let sum = got(sum)?;
-    if sum != trips.wrapping_mul(trips.wrapping_add(1)) / 2 {
-        bail!("{trips} round trips came to {sum}");
-    }
-    Ok(nanos)
+/// Waits until a bell has rung again since it had rung so often.
+fn wait(bell: &Bell, rings: u64) -> anyhow::Result<()> {
+    ensure!(bell.wait(rings, TURNS).is_some(), "a bell didn't ring");
+    Ok(())
 }
 
 /// Receives until something comes. Returns its number.
-fn wait_for<N: Naming, R: Wait>(
-    rt: &R,
-    hub: &Hub<N>,
-    seat: &mut HubSeat<N>,
+fn receive<N: Naming, R: Wait>(
+    at: &mut At<N, R>,
     bell: &Bell,
     receiver: u64,
-) -> Result<u64, HubReply> {
-    let mut left = TURNS;
+) -> anyhow::Result<u64> {
     for _ in 0..u64::MAX {
         let rings = bell.rings();
-        match receive(rt, hub, seat, receiver) {
-            Err(Reply::Nothing) => left = bell.wait(rings, left).ok_or(Reply::Nothing)?,
-            other => return other,
+        match at
+            .hub
+            .submit(at.rt, &mut at.seat, Command::Receive(receiver))
+        {
+            Reply::Active(number, _) | Reply::Response(number) => return Ok(number),
+            Reply::Nothing => wait(bell, rings)?,
+            other => bail!("a receive was answered {other:?}"),
         }
     }
-    Err(Reply::Nothing)
+    bail!("nothing came")
 }
 
-/// Sends a number to all servers, and waits for a response of each. Returns their sum.
-fn ask<N: Naming, R: Wait>(
-    rt: &R,
-    hub: &Hub<N>,
-    bells: &Bells,
-    seat: &mut HubSeat<N>,
-    client: u64,
-    servers: u64,
-    asked: u64,
-) -> Result<u64, HubReply> {
-    let heard = bells.client.rings();
-    let pending = send_copy(rt, hub, seat, client, asked)?;
-    bells.server.ring();
-    bells.client.wait(heard, TURNS).ok_or(Reply::Nothing)?;
-    let mut sum = 0u64;
-    for _ in 0..servers {
-        let response = wait_for(rt, hub, seat, &bells.client, pending)?;
-        sum = sum.wrapping_add(payload(rt, hub, seat, response)?);
-        release(rt, hub, seat, response)?;
-    }
-    release(rt, hub, seat, pending)?;
-    Ok(sum)
+/// Receives a request, and answers with the number after the one that it says.
+fn answer<N: Naming, R: Wait>(at: &mut At<N, R>, bell: &Bell) -> anyhow::Result<()> {
+    let server = at.port;
+    let active = receive(at, bell, server)?;
+    let asked = call(at, Command::Payload(active))?;
+    call(at, Command::SendCopy(active, asked.wrapping_add(1)))?;
+    call(at, Command::Release(active))?;
+    Ok(())
 }
 
-/// Asks so often. Returns the sum of all answers.
-fn ask_all<N: Naming, R: Wait>(
-    rt: &R,
-    hub: &Hub<N>,
+/// Receives a response, and releases it. Returns the number that it says.
+fn take<N: Naming, R: Wait>(at: &mut At<N, R>, bell: &Bell, pending: u64) -> anyhow::Result<u64> {
+    let response = receive(at, bell, pending)?;
+    let answer = call(at, Command::Payload(response))?;
+    call(at, Command::Release(response))?;
+    Ok(answer)
+}
+
+/// Asks all servers so often. One that is of this thread answers; else it waits at the bell before the first receive. Returns the sum
+/// of the answers.
+fn ask_all<'a, N: Naming, R: Wait>(
+    at: &mut At<'a, N, R>,
+    mut own: Option<At<'a, N, R>>,
     bells: &Bells,
-    seat: &mut HubSeat<N>,
-    client: u64,
     servers: u64,
     trips: u64,
-) -> Result<u64, HubReply> {
+) -> anyhow::Result<u64> {
+    let client = at.port;
     let mut sum = 0u64;
     for asked in 0..trips {
-        let answers = ask(rt, hub, bells, seat, client, servers, asked)?;
-        sum = sum.wrapping_add(answers);
+        let rings = bells.client.rings();
+        let pending = call(at, Command::SendCopy(client, asked))?;
+        if let Some(server) = &mut own {
+            answer(server, &bells.server)?;
+        } else {
+            bells.server.ring();
+            wait(&bells.client, rings)?;
+        }
+        for _ in 0..servers {
+            sum = sum.wrapping_add(take(at, &bells.client, pending)?);
+        }
+        call(at, Command::Release(pending))?;
     }
     Ok(sum)
 }
 
-/// Answers so many requests. Returns the sum of what was asked.
+/// Answers so many requests, and waits at the bell before each.
 fn answer_all<N: Naming, R: Wait>(
-    rt: &R,
-    hub: &Hub<N>,
+    at: &mut At<N, R>,
     bells: &Bells,
-    seat: &mut HubSeat<N>,
-    server: u64,
     requests: u64,
-) -> Result<u64, HubReply> {
-    let mut sum = 0u64;
+) -> anyhow::Result<()> {
     for answered in 0..requests {
-        bells.server.wait(answered, TURNS).ok_or(Reply::Nothing)?;
-        let active = wait_for(rt, hub, seat, &bells.server, server)?;
-        sum = sum.wrapping_add(respond(rt, hub, seat, active)?);
+        wait(&bells.server, answered)?;
+        answer(at, &bells.server)?;
         bells.client.ring();
     }
-    Ok(sum)
+    Ok(())
 }
 
-/// Does what a worker does where so many ask, and as many answer.
-fn work<N: Naming, R: Wait>(
-    rt: &R,
-    hub: &Hub<N>,
+/// Creates a port. Returns a caller with it.
+fn with_port<'a, N: Naming, R: Wait>(
+    rt: &'a R,
+    hub: &'a Hub<N>,
+    command: HubCommand,
+) -> anyhow::Result<At<'a, N, R>> {
+    let mut at = At {
+        rt,
+        hub,
+        seat: hub.seat(),
+        port: 0,
+    };
+    at.port = call(&mut at, command)?;
+    Ok(at)
+}
+
+/// Asks, once all servers are there, if the place is even, and else answers. Returns the sum of the answers that come.
+fn work<'a, N: Naming, R: Wait>(
+    rt: &'a R,
+    hub: &'a Hub<N>,
     bells: &Bells,
-    worker: Worker<N>,
+    place: usize,
     side: u64,
     trips: u64,
-) -> Result<u64, HubReply> {
-    let (mut seat, asks, port) = worker;
-    if asks {
-        ask_all(rt, hub, bells, &mut seat, port, side, trips)
-    } else {
-        let requests = side.wrapping_mul(trips);
-        answer_all(rt, hub, bells, &mut seat, port, requests)
+) -> anyhow::Result<u64> {
+    if place % 2 == 0 {
+        let mut at = with_port(rt, hub, CREATE_CLIENT)?;
+        for rings in 0..side {
+            wait(&bells.client, rings)?;
+        }
+        return ask_all(&mut at, None, bells, side, trips);
     }
+    let mut at = with_port(rt, hub, CREATE_SERVER)?;
+    bells.client.ring();
+    answer_all(&mut at, bells, side.wrapping_mul(trips))?;
+    Ok(0)
 }
 
-/// Makes so many workers that ask, and as many that answer.
-fn workers<N: Naming, R: Wait>(
+/// Makes round trips by so many threads, of which as many ask as answer. Returns the sum of the answers.
+fn together<N: Naming, R: Threads + Wait + Sync>(
     rt: &R,
     alloc: Global,
     hub: &Hub<N>,
-    side: u64,
-) -> anyhow::Result<Vec<Worker<N>>> {
-    let mut workers = Vec::new(alloc);
-    for _ in 0..side {
-        let mut asking = hub.seat();
-        let client = got(create(rt, hub, &mut asking, new_client()))?;
-        workers.push((asking, true, client))?;
-        let mut answering = hub.seat();
-        let server = got(create(rt, hub, &mut answering, new_server()))?;
-        workers.push((answering, false, server))?;
-    }
-    Ok(workers)
-}
-
-/// Lets each worker work in a thread of its own. Returns the sum of all that was asked and answered.
-fn work_all<N: Naming, R: Threads + Wait + Sync>(
-    rt: &R,
-    hub: &Hub<N>,
-    workers: Vec<Worker<N>>,
-    side: u64,
+    threads: u64,
     trips: u64,
 ) -> anyhow::Result<u64> {
     let bells = Bells::new();
     let rung = &bells;
-    let sums = thread::map_vec(
+    let side = threads / 2;
+    let sums = thread::map_indices(
         rt,
-        workers,
-        &|worker: Worker<N>| work(rt, hub, rung, worker, side, trips).ok(),
+        alloc,
+        threads as usize,
+        &|place| work(rt, hub, rung, place, side, trips),
     )?;
     let mut total = 0u64;
     for sum in sums {
-        match sum {
-            Some(sum) => total = total.wrapping_add(sum),
-            None => bail!("a worker was refused"),
-        }
+        total = total.wrapping_add(sum?);
     }
     Ok(total)
 }
 
-/// Times round trips of so many threads that ask, each so often, and as many that answer each, in nanoseconds. Checks their sum.
-fn together<N: Naming, R: Threads + Wait + Sync + Clock>(
+/// Makes round trips by one thread, or by more together. Returns the sum of the answers.
+fn shared<N: Naming, R: Threads + Wait + Sync>(
     rt: &R,
     alloc: Global,
     opened: OpenedHub,
-    side: u64,
+    threads: u64,
     trips: u64,
-) -> anyhow::Result<u128>
+) -> anyhow::Result<u64>
     requires log { opened.log_id ≡ N.log_id }
     requires limits { opened.limits ≡ N.limits }
     requires node_id { opened.node_id ≡ N.node_id }
 {
     let hub = opened.named::<N>();
-    let workers = workers(rt, alloc, &hub, side)?;
-    let start = Instant::now(rt)?;
-    let sum = work_all(rt, &hub, workers, side, trips)?;
-    let nanos = start.elapsed(rt)?.as_nanos();
-    let each = side.wrapping_mul(trips);
-    if sum != each.wrapping_mul(each) {
-        bail!("{trips} round trips of {side} clients came to {sum}");
+    if threads == 1 {
+        let mut at = with_port(rt, &hub, CREATE_CLIENT)?;
+        let own = with_port(rt, &hub, CREATE_SERVER)?;
+        return ask_all(&mut at, Some(own), &Bells::new(), 1, trips);
     }
-    Ok(nanos)
+    together(rt, alloc, &hub, threads, trips)
 }
 
-/// Opens a hub of so many clients and servers.
-fn opened(alloc: Global, side: usize) -> anyhow::Result<OpenedHub> {
+/// Times round trips of so many threads, the making of the ports and the starts of the threads included.
+pub fn time_shared<R: Threads + Wait + Sync + Clock>(
+    rt: &R,
+    alloc: Global,
+    threads: u64,
+    trips: u64,
+) -> anyhow::Result<Timed> {
+    let side = threads.max(2) as usize / 2;
     let limits = Limits {
         max_clients: side,
         max_servers: side,
         ..Limits::SMALLEST
     };
-    Ok(OpenedHub::new(alloc, limits, UniqueNodeId(7))?)
-}
-
-/// Times so many round trips of one thread.
-fn time_alone<R: Wait + Clock>(rt: &R, alloc: Global, trips: u64) -> anyhow::Result<u128> {
-    let opened = opened(alloc, 1)?;
-    alone::<Brand, R>(rt, opened, trips)
-}
-
-/// Times round trips of so many threads that ask, each so often, and as many that answer.
-fn time_together<R: Threads + Wait + Sync + Clock>(
-    rt: &R,
-    alloc: Global,
-    side: usize,
-    trips: u64,
-) -> anyhow::Result<u128> {
-    let opened = opened(alloc, side)?;
-    together::<Brand, R>(rt, alloc, opened, side as u64, trips)
-}
-
-/// Makes a few round trips, and checks them.
-pub fn check<R: Threads + Wait + Sync + Clock>(rt: &R, alloc: Global) -> anyhow::Result<()> {
-    time_alone(rt, alloc, 10)?;
-    time_together(rt, alloc, 1, 10)?;
-    time_together(rt, alloc, 4, 10)?;
-    Ok(())
-}
-
-/// Prints samples of one thread, of one that asks and one that answers, and of four and four. Of the last, each request reaches four
-/// servers, and each response is counted as a round trip.
-pub fn time<R: Threads + Wait + Sync + Clock + Print>(rt: &R, alloc: Global) -> anyhow::Result<()> {
-    for _ in 0..SAMPLES {
-        let nanos = time_alone(rt, alloc, TRIPS)?;
-        println!(rt; "N\tshared\t1\t8\t{nanos}\t{TRIPS}")?;
-    }
-    for (side, trips) in [(1, TRIPS), (4, TRIPS / 16)] {
-        for _ in 0..SAMPLES {
-            let nanos = time_together(rt, alloc, side, trips)?;
-            println!(rt; "N\tshared\t{}\t8\t{nanos}\t{TRIPS}", 2 * side)?;
-        }
-    }
-    Ok(())
+    let opened = OpenedHub::new(alloc, limits, UniqueNodeId(7))?;
+    let start = Instant::now(rt)?;
+    let sum = shared::<Brand, R>(rt, alloc, opened, threads, trips)?;
+    Timed::since(rt, start, sum)
 }

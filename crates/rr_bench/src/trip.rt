@@ -1,45 +1,52 @@
-//! One round trip.
+//! Round trips through ports of one thread.
 #![tactic(auto, using(rr_ports::proofs::Frames::callers, crate::proofs::Frames::servers), unfolding(rr_ports::specs::Facts::Keeps, rr_ports::specs::Facts::IsFree))]
 
-ghost use Rattle.std.specs.Prelude.{◌≡◌, ◌<◌, ◌≤◌, ◌+◌, []};
+ghost use Rattle.std.specs.Prelude.{◌<◌, []};
 ghost use Rattle.rr_protocol.specs.declared.kind.Kind.TheVariants as kind;
 ghost use Rattle.rr_ports.specs.Facts.{Keeps, Names, numbers_left};
 ghost use Rattle.rr_bench.specs.Onlookers.{AreServers};
 
 use crate::family::{Family, Hub};
-use crate::trip_error::{TripError, unlikely};
-use rr_ports::{ActiveRequest, Client, PendingResponse, Server};
+use crate::rows::Timed;
+use anyhow::{anyhow, bail};
+use rr_ports::{Client, Limits, PendingResponse, Server, UniqueNodeId};
+use std::alloc::Global;
+use std::time::{Clock, Instant};
 
-/// Sends a response that is filled with one more than the word that came.
-#[inline(always)]
-fn respond<B: Family>(
-    hub: &mut Hub<B>,
-    active: &ActiveRequest<B>,
-    len: usize,
-) -> Result<(), TripError>
-    requires active { Names hub.old active.now kind.ActiveRequest }
-    requires numbers { 0 < numbers_left hub.old }
-    ensures keeps { Keeps [] hub.old hub.new }
-    ensures numbers { numbers_left hub.old ≤ numbers_left hub.new + 1 }
-{
-    let word = B::word_asked(hub, active).ok_or(TripError::NoElements)?;
-    Ok(B::respond(hub, active, len, word.wrapping_add(1))?)
+/// The limits of one client and one server.
+pub const LIMITS: Limits = Limits {
+    max_loaned_requests: 2,
+    max_active_requests_per_client: 2,
+    max_response_buffer_size: 2,
+    max_borrowed_responses_per_pending_response: 2,
+    client_expired_connection_buffer: 1,
+    server_expired_connection_buffer: 1,
+    ..Limits::SMALLEST
+};
+
+/// The round trips before those that are timed, which use the memory for the first time.
+const FIRST: u64 = 10;
+
+/// Returns an error. Lets the compiler place what leads to it beside the path of a whole round trip, as it does with a panic.
+#[cold]
+#[inline(never)]
+fn unlikely(error: anyhow::Error) -> anyhow::Error {
+    error
 }
 
 /// Receives a request and responds to it.
 #[inline(always)]
-fn answer<B: Family>(hub: &mut Hub<B>, server: &Server<B>, len: usize) -> Result<(), TripError>
+fn answer<B: Family>(hub: &mut Hub<B>, server: &Server<B>, len: usize) -> anyhow::Result<()>
     requires server { Names hub.old server.now kind.Server }
     requires numbers { 1 < numbers_left hub.old }
-    ensures keeps { Keeps [] hub.old hub.new }
-    ensures numbers { numbers_left hub.old ≤ numbers_left hub.new + 2 }
+    ensures { Keeps [] hub.old hub.new }
 {
     let Some(active) = server.receive(hub)? else {
-        return Err(unlikely(TripError::NothingCame));
+        return Err(unlikely(anyhow!("no message came")));
     };
-    if let Err(error) = respond(hub, &active, len) {
+    if let Err(error) = B::respond(hub, &active, len) {
         active.release(hub);
-        return Err(unlikely(error));
+        return Err(unlikely(error.into()));
     }
     active.release(hub);
     Ok(())
@@ -52,14 +59,17 @@ fn exchange<B: Family>(
     server: &Server<B>,
     pending: &PendingResponse<B>,
     len: usize,
-) -> Result<u64, TripError>
+) -> anyhow::Result<u64>
     requires server { Names hub.old server.now kind.Server }
     requires pending { Names hub.old pending.now kind.PendingResponse }
     requires numbers { 1 < numbers_left hub.old }
     ensures { Keeps [] hub.old hub.new }
 {
     answer(hub, server, len)?;
-    B::conclude(hub, pending)
+    match B::take(hub, pending)? {
+        Some(word) => Ok(word),
+        None => Err(unlikely(anyhow!("no message came"))),
+    }
 }
 
 /// Makes a round trip with a word. Returns the word that came back.
@@ -70,7 +80,7 @@ fn round_trip<B: Family>(
     server: &Server<B>,
     len: usize,
     word: u64,
-) -> Result<u64, TripError>
+) -> anyhow::Result<u64>
     requires client { Names hub.old client.now kind.Client }
     requires server { Names hub.old server.now kind.Server }
     requires numbers { 2 < numbers_left hub.old }
@@ -89,54 +99,42 @@ fn round_trip<B: Family>(
     }
 }
 
-/// Lets a server look for a request, and releases it if one comes.
+/// Lets a server look for a request, and releases it if one comes. Returns a number if none comes, and else 0.
 #[inline(always)]
-fn look<B: Family>(hub: &mut Hub<B>, server: &Server<B>) -> Result<(), TripError>
+pub fn look<B: Family>(hub: &mut Hub<B>, server: &Server<B>, number: u64) -> anyhow::Result<u64>
     requires { Names hub.old server.now kind.Server }
     ensures { Keeps [] hub.old hub.new }
 {
     if hub.numbers_left() == 0 {
-        return Err(TripError::NoNumbersLeft);
+        bail!("the hub has no numbers left");
     }
-    if let Some(active) = server.receive(hub)? {
-        active.release(hub);
+    match server.receive(hub)? {
+        Some(active) => {
+            active.release(hub);
+            Ok(0)
+        }
+        None => Ok(number),
     }
-    Ok(())
 }
 
-/// Lets servers look for requests, and releases those that come.
+/// Lets servers look for requests. Returns the sum of the numbers of those to whom none comes.
 #[inline(always)]
-fn look_around<B: Family>(hub: &mut Hub<B>, onlookers: &[Server<B>]) -> Result<(), TripError>
+pub fn look_around<B: Family>(
+    hub: &mut Hub<B>,
+    onlookers: &[Server<B>],
+    number: u64,
+) -> anyhow::Result<u64>
     requires { AreServers hub.old onlookers.now }
     ensures { Keeps [] hub.old hub.new }
 {
+    let mut sum = 0u64;
     for server in onlookers {
-        look(hub, server)?;
+        sum = sum.wrapping_add(look(hub, server, number)?);
     }
-    Ok(())
+    Ok(sum)
 }
 
-/// Lets a server and the onlookers look for requests so often.
-#[inline(never)]
-pub fn looks<B: Family>(
-    hub: &mut Hub<B>,
-    server: &Server<B>,
-    onlookers: &[Server<B>],
-    count: u64,
-) -> Result<(), TripError>
-    requires server { Names hub.old server.now kind.Server }
-    requires onlookers { AreServers hub.old onlookers.now }
-    ensures { Keeps [] hub.old hub.new }
-{
-    for _ in 0..count {
-        look(hub, server)?;
-        look_around(hub, onlookers)?;
-    }
-    Ok(())
-}
-
-/// Makes round trips, each with the sum so far, to which the word that comes back is added, and lets the onlookers look after
-/// each. Returns the sum.
+/// Makes round trips with 0, 1, .., and lets the onlookers look after each. Returns the sum of the words that come back.
 #[inline(never)]
 pub fn trips<B: Family>(
     hub: &mut Hub<B>,
@@ -145,22 +143,66 @@ pub fn trips<B: Family>(
     onlookers: &[Server<B>],
     len: usize,
     count: u64,
-) -> Result<u64, TripError>
+) -> anyhow::Result<u64>
     requires client { Names hub.old client.now kind.Client }
     requires server { Names hub.old server.now kind.Server }
     requires onlookers { AreServers hub.old onlookers.now }
     ensures { Keeps [] hub.old hub.new }
 {
     let mut sum = 0u64;
-    for _ in 0..count {
+    for asked in 0..count {
         if hub.numbers_left() < 3 {
-            return Err(TripError::NoNumbersLeft);
+            bail!("the hub has no numbers left");
         }
-        match round_trip(hub, client, server, len, sum) {
+        match round_trip(hub, client, server, len, asked) {
             Ok(word) => sum = sum.wrapping_add(word),
             Err(error) => return Err(unlikely(error)),
         }
-        look_around(hub, onlookers)?;
+        look_around(hub, onlookers, 0)?;
     }
     Ok(sum)
+}
+
+/// Times round trips.
+pub fn timed<B: Family, R: Clock>(
+    rt: &R,
+    hub: &mut Hub<B>,
+    client: &Client<B>,
+    server: &Server<B>,
+    onlookers: &[Server<B>],
+    len: usize,
+    count: u64,
+) -> anyhow::Result<Timed>
+    requires client { Names hub.old client.now kind.Client }
+    requires server { Names hub.old server.now kind.Server }
+    requires onlookers { AreServers hub.old onlookers.now }
+    ensures { Keeps [] hub.old hub.new }
+{
+    trips(hub, client, server, onlookers, len, FIRST)?;
+    let start = Instant::now(rt)?;
+    let sum = trips(hub, client, server, onlookers, len, count)?;
+    Timed::since(rt, start, sum)
+}
+
+/// Times round trips of messages of so many elements by one client and one server.
+pub fn time_ports<B: Family, R: Clock>(
+    rt: &R,
+    alloc: Global,
+    len: usize,
+    count: u64,
+) -> anyhow::Result<Timed> {
+    let mut hub = Hub::<B>::new(alloc, LIMITS, UniqueNodeId(7))?;
+    let server = B::server(&mut hub, len)?;
+    let done = match B::client(&mut hub, len) {
+        Ok(client) => {
+            let nobody = Vec::new(alloc);
+            let done = timed(rt, &mut hub, &client, &server, &nobody, len, count);
+            nobody.destroy_empty();
+            client.release(&mut hub);
+            done
+        }
+        Err(error) => Err(error.into()),
+    };
+    server.release(&mut hub);
+    done
 }

@@ -22,7 +22,7 @@ pub use writes::WriteRefusal;
 ///
 /// # Examples
 ///
-/// Receives a response, and adds up its bytes (`rr_bytes_tests::tests::exchange`):
+/// Receives a response, and adds up its bytes:
 ///
 /// ```
 /// use rr_bytes::{Bytes, Id};

@@ -29,6 +29,15 @@ pub fn take(hub: &mut Service, pending: PendingResponse<u64>) -> Option<u64>
     came
 }
 
+/// Returns the number that came as a response, if one did, and releases it.
+pub fn received(hub: &mut Service, pending: &PendingResponse<u64>) -> Option<u64>
+    requires { Names hub.old pending.now kind.PendingResponse }
+    ensures keeps { Keeps [] hub.old hub.new }
+    ensures numbers { numbers_left hub.new ≡ numbers_left hub.old }
+{
+    pending.receive_copy(hub).unwrap_or(None)
+}
+
 /// Returns a handle that is made inside.
 pub fn ask(
     hub: &mut Service,
@@ -89,6 +98,24 @@ pub fn exchange(
     let pending = ask(hub, client, value)?;
     let _ = serve(hub, server);
     Ok(take(hub, pending))
+}
+
+/// Makes nine exchanges, each of which finds what it asks for.
+pub fn nine(hub: &mut Service, client: &Client<u64>, server: &Server<u64>)
+    requires client { Names hub.old client.now kind.Client }
+    requires server { Names hub.old server.now kind.Server }
+    requires numbers { 26 < numbers_left hub.old }
+    ensures { Keeps [] hub.old hub.new }
+{
+    let _ = exchange(hub, client, server, 1);
+    let _ = exchange(hub, client, server, 2);
+    let _ = exchange(hub, client, server, 3);
+    let _ = exchange(hub, client, server, 4);
+    let _ = exchange(hub, client, server, 5);
+    let _ = exchange(hub, client, server, 6);
+    let _ = exchange(hub, client, server, 7);
+    let _ = exchange(hub, client, server, 8);
+    let _ = exchange(hub, client, server, 9);
 }
 
 /// Takes a loan, and returns the handle that it becomes.

@@ -1,12 +1,26 @@
-//! What callers of `rr_ports` can promise and prove: one function for each form, found without a file of proofs.
+//! What callers of `rr_ports` write, promise and prove: a function for each form, of which most need no file of proofs.
 #![tactic(auto)]
 
-pub mod calls;
-pub mod chains;
+pub mod calling;
+pub mod connected;
+pub mod counting;
+pub mod creating;
+pub mod draining;
+pub mod each;
 pub mod frames;
+pub mod keeping;
 pub mod large;
+pub mod parameters;
 pub mod pools;
+pub mod queued;
 pub mod refusals;
+pub mod responding;
+pub mod sensing;
+pub mod serving;
 pub mod slices;
 pub mod steps;
+pub mod streaming;
+pub mod taking;
+pub mod telling;
+pub mod unrefused;
 pub mod values;

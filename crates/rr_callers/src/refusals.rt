@@ -7,8 +7,8 @@ ghost use Rattle.rr_ports.specs.Facts.{Discards, Has, IsFree, Keeps, Names, Whol
 ghost use Rattle.rr_ports.specs.Owning.{KeepsOwned, Owns};
 
 use crate::frames::Service;
-use rr_ports::typed::{Client, PendingResponse, Server};
-use rr_ports::{ClientCreateError, LoanError, RequestSendError, SendError};
+use rr_ports::typed::{Client, PendingResponse};
+use rr_ports::{LoanError, RequestSendError, SendError};
 
 /// Sends a number by a client that passes full queues over. It is never refused with `UnableToDeliver`.
 pub fn passed_over(
@@ -50,24 +50,6 @@ pub fn within_limits(
             unreachable!()
         }
         Err(error) => Err(error),
-    }
-}
-
-/// Receives by a server that has no handle, which exceeds no limit, and releases what came. Returns whether something did.
-pub fn heard(hub: &mut Service, server: &Server<u64>) -> bool
-    requires server { Names hub.old server.now kind.Server }
-    requires owns { Owns hub.old server.now 0 }
-    requires number { 0 < numbers_left hub.old }
-    ensures owns { Owns hub.new server.now 0 }
-    ensures keeps { Keeps [] hub.old hub.new }
-{
-    match server.receive(hub) {
-        Ok(Some(active)) => {
-            active.release(hub);
-            true
-        }
-        Ok(None) => false,
-        Err(_) => unreachable!(),
     }
 }
 
@@ -141,16 +123,4 @@ pub fn asked_by_both(hub: &mut Service, one: &Client<u64>, two: &Client<u64>)
     let second = sent(hub, two, 2);
     first.release(hub);
     second.release(hub);
-}
-
-/// Creates a client, of which no send is refused, lets it tell a number twice, and releases it.
-pub fn created(hub: &mut Service) -> Result<(), ClientCreateError>
-    requires numbers { 2 < numbers_left hub.old }
-    ensures keeps { Keeps [] hub.old hub.new }
-{
-    let client = hub.client_builder().create(hub)?;
-    told(hub, &client, 1);
-    told(hub, &client, 2);
-    client.release(hub);
-    Ok(())
 }

@@ -11,20 +11,6 @@ use rr_ports::typed::{
 };
 use rr_ports::{LoanError, RequestSendError};
 
-/// Writes a request, reads it, and releases it.
-pub fn read_back(hub: &mut Service, client: &Client<u64>, value: u64) -> Result<u64, LoanError>
-    requires client { Names hub.old client.now kind.Client }
-    requires number { 0 < numbers_left hub.old }
-    ensures value { IfOk result (λ read. read ≡ value) }
-    ensures keeps { Keeps [] hub.old hub.new }
-{
-    let request = client.loan_uninit(hub)?;
-    let request = request.write_payload(hub, value);
-    let read = *request.payload(hub);
-    request.release(hub);
-    Ok(read)
-}
-
 /// Returns a written request, and promises what it says.
 pub fn written(
     hub: &mut Service,

@@ -14,7 +14,7 @@ use std::marker::{Model, PhantomData};
 /// # Examples
 ///
 /// Counts the places of a row that follow one which is claimed. That this one is in the row stands in its claim alone. `Kind` and
-/// `InRow` are those of the example of `Says` (`rr_leaf_tests::tests::claims`):
+/// `InRow` are those of the example of `Says` (`rr_test_core::tests::claims`):
 ///
 /// ```
 /// ghost use Rattle.std.specs.Prelude.{◌≡◌, ◌-◌};

@@ -16,7 +16,7 @@ use std::marker::{Model, PhantomData};
 /// # Examples
 ///
 /// Claims two places of a row, one of them in exchange for another, and gives it back. `Place` is that of the example of `Named`, and
-/// `places_after` that of `Claim` (`rr_leaf_tests::tests::claims`):
+/// `places_after` that of `Claim` (`rr_test_core::tests::claims`):
 ///
 /// ```
 /// ghost use Rattle.std.specs.Prelude.{◌≡◌};

@@ -4,7 +4,7 @@
 ///
 /// # Examples
 ///
-/// Says of a row, whose state is its length, that a place which is taken is in it (`rr_leaf_tests::tests::claims`):
+/// Says of a row, whose state is its length, that a place which is taken is in it (`rr_test_core::tests::claims`):
 ///
 /// ```
 /// use rr_claims::Says;
@@ -32,7 +32,7 @@ pub trait Says<S, W> {
 ///
 /// # Examples
 ///
-/// Claims a place of a row by its number, as `Taken` of the example of `Says` (`rr_leaf_tests::tests::claims`):
+/// Claims a place of a row by its number, as `Taken` of the example of `Says` (`rr_test_core::tests::claims`):
 ///
 /// ```
 /// use rr_claims::Named;
@@ -42,7 +42,7 @@ pub trait Says<S, W> {
 /// }
 ///
 /// impl Named<Kind> for Place {
-///     ghost use Rattle.rr_leaf_tests.specs.declared.tests.claims.Kind.TheVariants.{Taken};
+///     ghost use Rattle.rr_test_core.specs.declared.tests.claims.Kind.TheVariants.{Taken};
 ///
 ///     ghost number = { λ place. place.number };
 ///

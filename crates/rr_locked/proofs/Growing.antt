@@ -2,8 +2,8 @@
 use Rattle.std.proofs.Common.{◌≡◌, ℕ, suc, ◌+◌, ◌*◌, ◌^◌, ◌<◌, ◌≤◌, List, [], ◌∷◌, ◌++◌, length, refl, sym, ap, ◌∙◌, subst, arith, length-append}
 use Rattle.rr_slots.specs.declared.family.Family.TheVariants.{Typed}
 use Rattle.rr_protocol.specs.declared.limits.Limits.{Limits}
-use Rattle.rr_receipt_sums.specs.Sums.{worth}
-use Rattle.rr_receipt_sums.proofs.Digits.{worth-append}
+use Rattle.rr_locked.specs.Sums.{worth}
+use Rattle.rr_locked.proofs.Digits.{worth-append}
 use Rattle.rr_locked.specs.declared.receipt.Receipt.{Receipt}
 use Rattle.rr_locked.specs.Machine.{HubState, HubCommand, HubReply, Entry, Step, LeadsTo}
 use Rattle.rr_runner.specs.Numbers.{IsZero, follow_strategy}

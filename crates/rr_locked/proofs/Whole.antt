@@ -2,9 +2,9 @@
 use Rattle.std.proofs.Common.{◌≡◌, ℕ, suc, ◌+◌, ◌^◌, ◌<◌, ◌≤◌, List, [], ◌∷◌, length, Bool, cond, Some, refl, sym, ap, ◌∙◌, inl, inr, arith}
 use Rattle.std.specs.Prelude.{◌==◌, slice_get}
 use Rattle.std.proofs.lemmas.Bool.{cases_Bool, eqb-true, eq-eqb, ne_eqb}
-use Rattle.rr_receipt_sums.specs.Numbers.{number-same}
-use Rattle.rr_receipt_sums.specs.Sums.{times, worth}
-use Rattle.rr_receipt_sums.proofs.Digits.{multiset-same, length-same}
+use Rattle.rr_locked.specs.Numbers.{number-same}
+use Rattle.rr_locked.specs.Sums.{times, worth}
+use Rattle.rr_locked.proofs.Digits.{multiset-same, length-same}
 use Rattle.rr_protocol.specs.declared.limits.Limits.{Limits}
 use Rattle.rr_locked.specs.declared.receipt.Receipt.{Receipt}
 use Rattle.rr_locked.specs.Machine.{HubCommand, HubReply, Entry}

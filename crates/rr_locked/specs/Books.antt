@@ -3,7 +3,7 @@ use Rattle.std.specs.Prelude.{◌≡◌, ◌≢◌, ⊤, ℕ, ◌+◌, ◌^◌, 
 use Rattle.rr_protocol.specs.declared.limits.Limits.{Limits}
 use Rattle.rr_protocol.specs.declared.error.HubCreateError.{HubCreateError}
 use Rattle.rr_protocol.specs.Limits.{hub_refusal}
-use Rattle.rr_receipt_sums.specs.Sums.{worth}
+use Rattle.rr_locked.specs.Sums.{worth}
 use Rattle.rr_locked.specs.declared.receipt.Receipt.{Receipt}
 use Rattle.rr_locked.specs.Machine.{HubState, Entry, LeadsTo}
 use Rattle.rr_locked.specs.Receipts.{opening_number, history_numbers}

@@ -7,7 +7,7 @@ use Rattle.rr_protocol.specs.declared.limits.Limits.{Limits}
 use Rattle.rr_protocol.specs.Codes.{limits_code}
 use Rattle.rr_commands.specs.contracts.command.Command as command_type
 use Rattle.rr_commands.specs.contracts.reply.Reply as reply_type
-use Rattle.rr_receipt_sums.specs.Numbers.{number}
+use Rattle.rr_locked.specs.Numbers.{number}
 use Rattle.rr_protocol.specs.contracts.no_handler.NoHandler as no_handler_type
 use Rattle.rr_locked.specs.declared.receipt.Receipt.{Receipt}
 use Rattle.rr_locked.specs.Machine.{HubCommand, HubReply, Entry}

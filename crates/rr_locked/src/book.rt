@@ -1,7 +1,7 @@
 //! A hub with the history of its calls.
 ghost use Rattle.std.specs.Prelude.{◌≡◌, ◌≢◌, ℕ, ◌+◌, ◌*◌, ◌^◌, ◌<◌, ◌≤◌, [], ◌∷◌, ◌++◌, IfSome, IfNone, length, IfOk, OnErr};
 ghost use Rattle.rr_commands.specs.AnswerRule.{KeepsAnswerRule};
-ghost use Rattle.rr_receipt_sums.specs.Sums.{worth};
+ghost use Rattle.rr_locked.specs.Sums.{worth};
 ghost use Rattle.rr_locked.specs.Receipts.{receipt, opening_number, history_numbers};
 ghost use Rattle.rr_locked.specs.Books.{IsLegal, CreatesBook, OpensBook};
 
@@ -9,9 +9,9 @@ use crate::hub_command::{HubCommand, HubReply, HubRunner};
 use crate::opening::Opening;
 use crate::receipt::Receipt;
 use crate::seat::Seat;
+use crate::sums::add_for;
 use rr_commands::Reply;
 use rr_protocol::{HubCreateError, Limits, UniqueNodeId};
-use rr_receipt_sums::add_for;
 use std::alloc::Global;
 use std::marker::Model;
 use std::sync::ledger::{self, Blank, Ledger, Share};
@@ -28,7 +28,7 @@ pub const PARTS: u64 = MOST_SEATS + 2;
 ///
 /// # Examples
 ///
-/// Makes a book with a client, and returns how many calls it has noted (`rr_locked_tests::tests::examples`):
+/// Makes a book with a client, and returns how many calls it has noted (`rr_test_threads::tests::examples`):
 ///
 /// ```
 /// ghost use Rattle.std.specs.Prelude.{◌≡◌};

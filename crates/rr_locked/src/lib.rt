@@ -11,6 +11,7 @@ mod opening;
 mod receipt;
 mod seat;
 mod submit;
+mod sums;
 mod worker_error;
 mod workers;
 

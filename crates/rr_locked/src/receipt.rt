@@ -5,7 +5,7 @@ use crate::hub_command::{HubCommand, HubReply};
 ///
 /// # Examples
 ///
-/// Returns the place of a seat's last call in the history (`rr_locked_tests::tests::examples`):
+/// Returns the place of a seat's last call in the history (`rr_test_threads::tests::examples`):
 ///
 /// ```
 /// use rr_locked::{Receipt, Seat};

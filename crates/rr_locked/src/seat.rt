@@ -1,6 +1,6 @@
 //! One caller's place at a hub.
 ghost use Rattle.std.specs.Prelude.{◌≡◌, ℕ, ◌+◌, ◌*◌, ◌≤◌, [], length};
-ghost use Rattle.rr_receipt_sums.specs.Sums.{worth};
+ghost use Rattle.rr_locked.specs.Sums.{worth};
 ghost use Rattle.rr_locked.specs.Receipts.{joined, receipt_numbers};
 ghost use Rattle.rr_locked.specs.Seats.{Rises};
 
@@ -13,7 +13,7 @@ use std::sync::ledger::{Ledger, Share};
 ///
 /// # Examples
 ///
-/// Returns the place of a seat's last call in the history (`rr_locked_tests::tests::examples`):
+/// Returns the place of a seat's last call in the history (`rr_test_threads::tests::examples`):
 ///
 /// ```
 /// use rr_locked::{Receipt, Seat};

@@ -16,7 +16,7 @@ use std::marker::Model;
 ///
 /// # Examples
 ///
-/// Adds an entry by each of two callers, and compares what they have seen (`rr_leaf_tests::tests::logs`):
+/// Adds an entry by each of two callers, and compares what they have seen (`rr_test_core::tests::logs`):
 ///
 /// ```
 /// ghost use Rattle.std.specs.Prelude.{◌≡◌, [], ◌∷◌, map};

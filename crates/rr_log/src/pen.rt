@@ -11,7 +11,7 @@ use std::marker::{Model, PhantomData};
 ///
 /// # Examples
 ///
-/// Adds an entry of a new caller, and promises what all entries are then (`rr_leaf_tests::tests::logs`):
+/// Adds an entry of a new caller, and promises what all entries are then (`rr_test_core::tests::logs`):
 ///
 /// ```
 /// ghost use Rattle.std.specs.Prelude.{◌≡◌, [], ◌∷◌, ◌++◌};

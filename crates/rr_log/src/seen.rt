@@ -10,7 +10,7 @@ use std::marker::{Model, PhantomData};
 ///
 /// # Examples
 ///
-/// Shows a caller all entries, and promises that they go on from those that it had seen (`rr_leaf_tests::tests::logs`):
+/// Shows a caller all entries, and promises that they go on from those that it had seen (`rr_test_core::tests::logs`):
 ///
 /// ```
 /// ghost use Rattle.std.specs.Prelude.{◌≡◌};

@@ -22,7 +22,7 @@ use std::marker::{Model, PhantomData};
 ///
 /// # Examples
 ///
-/// Sends a number as the next response, unless the client wants no more (`rr_uses::streaming`):
+/// Sends a number as the next response, unless the client wants no more (`rr_callers::streaming`):
 ///
 /// ```
 /// ghost use Rattle.std.specs.Prelude.{[]};

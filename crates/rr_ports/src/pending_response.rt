@@ -24,7 +24,7 @@ use std::marker::{Model, PhantomData};
 ///
 /// # Examples
 ///
-/// Returns the number that came as a response, if one did (`rr_uses::parameter`):
+/// Returns the number that came as a response, if one did (`rr_callers::frames`):
 ///
 /// ```
 /// ghost use Rattle.std.specs.Prelude.{◌≡◌, []};

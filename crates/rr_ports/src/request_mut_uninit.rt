@@ -23,7 +23,7 @@ use std::marker::{Model, PhantomData};
 ///
 /// # Examples
 ///
-/// Appends values to a request until it is complete or no value is left (`rr_uses::slices`):
+/// Appends values to a request until it is complete or no value is left (`rr_callers::slices`):
 ///
 /// ```
 /// ghost use Rattle.std.specs.Prelude.{◌≡◌, [], ◌∷◌};

@@ -21,7 +21,7 @@ use std::marker::{Model, PhantomData};
 ///
 /// # Examples
 ///
-/// Returns the first element of a response, which it reads where it lies (`rr_uses::slices`):
+/// Returns the first element of a response, which it reads where it lies (`rr_callers::slices`):
 ///
 /// ```
 /// ghost use Rattle.std.specs.Prelude.{[]};

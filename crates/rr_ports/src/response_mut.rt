@@ -22,7 +22,7 @@ use std::marker::{Model, PhantomData};
 ///
 /// # Examples
 ///
-/// Sends a response, and returns it if it could not be sent yet (`rr_uses::keeping`):
+/// Sends a response, and returns it if it could not be sent yet (`rr_callers::keeping`):
 ///
 /// ```
 /// ghost use Rattle.std.specs.Prelude.{◌≡◌, ◌∷◌, [], IfSome};

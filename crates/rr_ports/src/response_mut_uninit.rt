@@ -23,7 +23,7 @@ use std::marker::{Model, PhantomData};
 ///
 /// # Examples
 ///
-/// Sends a slice of one element as a response (`rr_uses::slices`):
+/// Sends a slice of one element as a response (`rr_callers::slices`):
 ///
 /// ```
 /// ghost use Rattle.std.specs.Prelude.{◌<◌, []};

@@ -27,7 +27,7 @@ use std::marker::{Model, PhantomData};
 ///
 /// # Examples
 ///
-/// Answers the oldest request with the double of its number (`rr_uses::serving`):
+/// Answers the oldest request with the double of its number (`rr_callers::serving`):
 ///
 /// ```
 /// ghost use Rattle.std.specs.Prelude.{◌<◌, []};

@@ -1,4 +1,4 @@
-//! What the program does in one thread: scripts, whose lines are commands of a runner, and the replies of least pools.
+//! What the program `rr` does: scripts, whose lines are commands of a runner; the replies of least pools; and exchanges of two threads.
 #![tactic(auto)]
 
 mod least;
@@ -10,9 +10,9 @@ mod reply_text;
 mod script;
 mod source;
 mod stop;
+mod two_workers;
 mod words;
 
-pub use output::refuse_hub;
-pub use program::{ended, serve_alone};
+pub use program::{ended, serve, serve_alone};
 pub use stop::Stop;
-pub use words::number;
+pub use two_workers::exchange;

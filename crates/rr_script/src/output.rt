@@ -14,7 +14,7 @@ pub(crate) fn tell<W: Write>(output: &mut W, first: &str, second: &str) -> Resul
 }
 
 /// Writes why no hub was made, as a reply. Returns why the program ends: the hub was refused, or that could not be written.
-pub fn refuse_hub<W: Write>(output: &mut W, error: HubCreateError) -> Stop {
+pub(crate) fn refuse_hub<W: Write>(output: &mut W, error: HubCreateError) -> Stop {
     match tell(output, "error ", hub_error(error)) {
         Ok(()) => Stop::Refused,
         Err(stop) => stop,

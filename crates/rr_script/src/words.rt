@@ -57,7 +57,7 @@ impl<'a> Words<'a> {
 }
 
 /// Returns the number that a word of decimal digits alone says. Returns `None` for another word, or if it is above 2^64 - 1.
-pub fn number(word: &str) -> Option<u64> {
+pub(crate) fn number(word: &str) -> Option<u64> {
     if word.bytes().all(|byte| byte.is_ascii_digit()) {
         word.parse::<u64>().ok()
     } else {

@@ -23,14 +23,13 @@ use std::sync::{Mutex, Wait};
 ///
 /// # Examples
 ///
-/// Creates a client in each of two threads, and compares what their seats have seen then (`rr_shared_tests::tests::threads`):
+/// Creates a client in each of two threads, and compares what their seats have seen then (`rr_test_threads::tests::threads`):
 ///
 /// ```
 /// ghost use Rattle.std.specs.Prelude.{◌≡◌};
 ///
-/// use rr_protocol::NoHandler;
-/// use rr_shared::{Naming, Opened, Reply, Seat, SharedHub};
-/// use rr_trips::new_client;
+/// use rr_protocol::{ClientSettings, NoHandler};
+/// use rr_shared::{Command, Naming, Opened, Reply, Seat, SharedHub};
 /// use std::sync::Wait;
 /// use std::thread;
 /// use std::thread::Threads;
@@ -42,7 +41,8 @@ use std::sync::{Mutex, Wait};
 /// type HubSeat<N> = Seat<N, u64, u64, NoHandler>;
 ///
 /// fn create<N: Naming, R: Wait>(rt: &R, hub: &Hub<N>, seat: &mut HubSeat<N>) -> Option<u64> {
-///     match hub.submit(rt, seat, new_client()) {
+///     let command = Command::CreateClient(ClientSettings::default());
+///     match hub.submit(rt, seat, command) {
 ///         Reply::Created(number) => Some(number),
 ///         _ => None,
 ///     }

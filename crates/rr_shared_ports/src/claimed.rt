@@ -18,7 +18,7 @@ use std::sync::Wait;
 ///
 /// # Examples
 ///
-/// Asks for a number, and waits for the answer (`rr_jobs::clients`):
+/// Asks for a number, and waits for the answer (`rr_example_jobs::clients`):
 ///
 /// ```
 /// use rr_shared_ports::Naming;

@@ -6,7 +6,7 @@ use thiserror::Error;
 ///
 /// # Examples
 ///
-/// Asks so often, or until no number is left (`rr_shared_ports_tests::tests::exchange`):
+/// Asks so often, or until no number is left (`rr_test_threads::tests::exchange`):
 ///
 /// ```
 /// use rr_shared_ports::{CallError, Naming};
@@ -49,7 +49,7 @@ pub enum CallError<E: Display> {
 ///
 /// # Examples
 ///
-/// Appends elements, and is refused one that the message has no room for (`rr_shared_ports_tests::tests::pieces`):
+/// Appends elements, and is refused one that the message has no room for (`rr_test_threads::tests::slices`):
 ///
 /// ```
 /// use rr_shared_ports::sliced::{RequestMutUninit, Seat, SharedPorts};
@@ -88,7 +88,7 @@ pub enum WriteError {
 ///
 /// # Examples
 ///
-/// Waits for a request for a moment (`rr_shared_ports_tests::tests::room`):
+/// Waits for a request for a moment (`rr_test_threads::tests::waits`):
 ///
 /// ```
 /// use rr_shared_ports::typed::{Seat, Server, SharedPorts};

@@ -8,7 +8,7 @@ use std::marker::Brand;
 ///
 /// # Examples
 ///
-/// Is generic in the name of its hub, which its caller picks (`rr_jobs::clients`):
+/// Is generic in the name of its hub, which its caller picks (`rr_example_jobs::clients`):
 ///
 /// ```
 /// use rr_shared_ports::Naming;

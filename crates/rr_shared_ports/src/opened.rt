@@ -21,7 +21,7 @@ use std::sync::Mutex;
 ///
 /// # Examples
 ///
-/// Opens a hub, and has another function name it (`rr_threads::idle`):
+/// Opens a hub, and has another function name it (`rr_bench::idle`):
 ///
 /// ```
 /// use anyhow::bail;

@@ -5,7 +5,7 @@ use rr_ports::{BackpressureFn, Body, Hub};
 ///
 /// # Examples
 ///
-/// Tells that two callers have seen one history, at a hub of any type (`rr_shared_ports_tests::tests::exchange`):
+/// Tells that two callers have seen one history, at a hub of any type (`rr_test_threads::tests::exchange`):
 ///
 /// ```
 /// ghost use Rattle.std.specs.Prelude.{◌⊎◌};

@@ -17,7 +17,7 @@ use std::sync::Wait;
 ///
 /// # Examples
 ///
-/// Releases ports or handles of any type (`rr_shared_ports_tests::tests::exchange`):
+/// Releases ports or handles of any type (`rr_test_threads::tests::exchange`):
 ///
 /// ```
 /// use rr_shared_ports::{Claimed, Naming, Ports, Release};

@@ -9,7 +9,7 @@ use std::marker::{Model, PhantomData};
 ///
 /// # Examples
 ///
-/// Takes a seat and a client in a thread of its own (`rr_jobs::clients`):
+/// Takes a seat and a client in a thread of its own (`rr_example_jobs::clients`):
 ///
 /// ```
 /// use rr_shared_ports::Naming;

@@ -19,7 +19,7 @@ use std::sync::Mutex;
 ///
 /// # Examples
 ///
-/// Lets a server answer in this thread, and each client ask in another (`rr_jobs::clients`):
+/// Lets a server answer in this thread, and each client ask in another (`rr_example_jobs::clients`):
 ///
 /// ```
 /// use rr_shared_ports::Naming;

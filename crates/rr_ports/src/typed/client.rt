@@ -107,7 +107,7 @@ impl<T: Drop> Client<Option<T>> {
     ///
     /// # Examples
     ///
-    /// Sends a number, and waits for nothing (`rr_uses::telling`):
+    /// Sends a number, and waits for nothing (`rr_callers::telling`):
     ///
     /// ```
     /// let pending = client.send_copy(hub, value)?;
@@ -157,11 +157,11 @@ impl<T: Drop> Client<Option<T>> {
     ///
     /// # Examples
     ///
-    /// Tells a server two numbers (a test of `rr_ports_tests`):
+    /// Tells a server two numbers (`rr_callers::draining`):
     ///
     /// ```
-    /// client.tell(hub, 5)?;
-    /// client.tell(hub, 6)?;
+    /// client.tell(hub, one)?;
+    /// client.tell(hub, two)?;
     /// ```
     #[inline(always)]
     pub fn tell<QH: Default + Drop, PB: Body, PH: Default + Drop, K: BackpressureFn>(

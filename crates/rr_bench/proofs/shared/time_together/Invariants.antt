@@ -1,5 +1,0 @@
-use Rattle.rr_bench.proofs.shared.time_together.Given as goal
-
--- the hub that was just opened
-abbrev pub ghosts-together : goal.ghosts-together
-ghosts-together g a = record { log_id = a.opened.log_id; limits = a.opened.limits; node_id = a.opened.node_id }

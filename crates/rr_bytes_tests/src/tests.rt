@@ -1,3 +1,0 @@
-mod copies;
-mod exchange;
-mod refusals;

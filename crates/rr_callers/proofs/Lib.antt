@@ -1,0 +1,5 @@
+mod Sensed
+mod Singles
+pub mod Folding
+pub mod Making
+mod Zipped

@@ -1,0 +1,3 @@
+pub mod Parameters
+pub mod Sensing
+pub mod Singles

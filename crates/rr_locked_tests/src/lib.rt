@@ -1,5 +1,0 @@
-//! Tests of books, locked hubs and workers, in a crate of their own: the tests of a crate are checked with the whole of it.
-#![tactic(auto)]
-
-#[cfg(test)]
-mod tests;

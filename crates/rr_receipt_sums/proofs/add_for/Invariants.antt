@@ -1,4 +1,0 @@
-use Rattle.rr_receipt_sums.proofs.add_for.Given as goal
-
-abbrev pub ghost-add_any : goal.ghost-add_any
-ghost-add_any g a = g.plus

@@ -1,0 +1,15 @@
+use mathlib.Core.List.{[], ◌∷◌}
+use denote.Exit.{no}
+use denote.Param.{param}
+use denote.Param.Send.{param_send, arg_send, given_sync, shr_send}
+use Rattle.rr_locked.proofs.bells.Bells.TheSendSync as bells
+use Rattle.rr_locked.proofs.workers.Plan.TheSendSync as plan
+use Rattle.rr_locked.proofs.Shared.{caller_send}
+use Rattle.rr_script.proofs.two_workers.Post.TheSendSync as post
+use Rattle.rr_script.proofs.two_workers.work.Goals as goal
+
+pub join-requires-send-F : goal.join-requires-send-F
+join-requires-send-F g c κs within =
+    param_send _ _ (arg_send _ no _
+    (caller_send _ g.row.L g.row.T g.L.Ledger _ _ (_ ∷ _ ∷ _ ∷ []) (given_sync _ _ c.type_bounds.sync-T)
+    (shr_send _ _ _ bells.the_sync, (post.the_send (param 0 g.row.L) g.L.Ledger, (plan.the_send, tt)))))

@@ -1,0 +1,4 @@
+pub mod Literals
+pub mod States
+pub mod AnswerRuleAtWork
+pub mod Impossible

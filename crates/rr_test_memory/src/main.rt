@@ -1,0 +1,51 @@
+//! Calls that take memory. `tests/memory/run.py` refuses it to them, one request after another.
+//!
+//! The two words after the program's name are those of a story; without them all stories are told. A story prints `call` and its
+//! words when all before its call is done; then what the call returned, and, if that is want of memory, what the same call returned
+//! when it was made again; and then what is there. The status is 4 if memory for what comes before a call was refused.
+#![tactic(auto)]
+
+mod books;
+mod commands;
+mod copies;
+mod lists;
+mod ports;
+mod stage;
+
+use crate::stage::Stage;
+use std::process::ExitCode;
+use std::rt::Env;
+use std::sync::Wait;
+use std::{env, io};
+
+/// Tells the story of these words, or all. Returns whether memory was found for all that comes before the calls.
+fn tell<R: AllocGlobal + Print + Wait>(rt: &R, only: Option<(&str, &str)>) -> io::Result<bool> {
+    let alloc = rt.alloc();
+    let mut stage = Stage {
+        output: io::writer(rt),
+        only,
+    };
+    Ok(
+        commands::tell(alloc, &mut stage)?
+            && lists::tell(alloc, &mut stage)?
+            && copies::tell(alloc, &mut stage)?
+            && ports::tell(alloc, &mut stage)?
+            && books::tell(rt, alloc, &mut stage)?,
+    )
+}
+
+/// Tells the story of the program's words, or all stories.
+fn tell_words<R: AllocGlobal + Env + Print + Wait>(rt: &R) -> io::Result<bool> {
+    let mut words = env::args(rt)?.skip(1);
+    match (words.next(), words.next()) {
+        (Some(group), Some(name)) => tell(rt, Some((group.as_str(), name.as_str()))),
+        _ => tell(rt, None),
+    }
+}
+
+fn main(rt: HostRuntime) -> ExitCode {
+    match tell_words(&rt) {
+        Ok(true) => ExitCode::SUCCESS,
+        _ => ExitCode::from(4),
+    }
+}

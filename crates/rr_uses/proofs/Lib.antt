@@ -1,6 +1,0 @@
-pub mod Hearing
-mod Sensed
-mod Singles
-pub mod Folding
-pub mod Making
-mod Zipped

@@ -1,4 +1,0 @@
-pub mod Crowd
-pub mod Parameters
-pub mod Sensing
-pub mod Singles
