@@ -93,7 +93,7 @@ pub enum Job {
     Looks(u64),
 }
 
-/// Lets a server and the onlookers look for requests so often. Returns a sum as of round trips with each.
+/// Has a server and the onlookers poll for requests `count` times. Returns a sum as if each poll were a round trip.
 #[inline(never)]
 fn looks(hub: &mut Hub, server: &Server, onlookers: &[Server], count: u64) -> anyhow::Result<u64>
     requires server { Names hub.old server.now kind.Server }
@@ -133,7 +133,7 @@ fn work<R: Clock>(
     }
 }
 
-/// Does a job beside so many more servers, which look for requests.
+/// Does a job while `left` more servers poll for requests.
 fn beside_servers<R: Clock>(
     rt: &R,
     hub: &mut Hub,
@@ -166,7 +166,7 @@ fn beside_servers<R: Clock>(
     done
 }
 
-/// Does a job while the client holds so many more requests.
+/// Does a job while the client holds `left` more requests.
 fn beside_loans<R: Clock>(
     rt: &R,
     alloc: Global,
@@ -196,7 +196,7 @@ fn beside_loans<R: Clock>(
     done
 }
 
-/// Does a job by the client in the middle, once so many more clients were created. It holds so many requests.
+/// Creates `left` more clients, and does a job by the one in the middle, which holds `held` requests.
 fn beside_clients<R: Clock>(
     rt: &R,
     alloc: Global,

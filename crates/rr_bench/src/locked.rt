@@ -184,7 +184,7 @@ pub fn time_lock<R: Wait + Clock>(rt: &R, turns: u64) -> anyhow::Result<Timed> {
     Timed::since(rt, start, sum)
 }
 
-/// Asks a book so many questions about a number that names nothing, and checks that each is in its history.
+/// Asks a book `calls` questions about a number that names nothing, and checks that each is in its history.
 fn book<L: Ledger, R: Clock>(
     rt: &R,
     alloc: Global,
@@ -210,7 +210,7 @@ fn book<L: Ledger, R: Clock>(
     Ok(timed)
 }
 
-/// Times so many questions to a book.
+/// Times `calls` questions to a book.
 pub fn time_book<R: Clock>(rt: &R, alloc: Global, calls: u64) -> anyhow::Result<Timed> {
     book::<Brand, R>(rt, alloc, Blank::new(PARTS), calls)
 }

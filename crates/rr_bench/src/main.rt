@@ -18,13 +18,14 @@ use crate::rows::{FOUR, GROWN, LARGEST, MANY, NAP, Row, SLEEP, TIMED, TRIPS, Wor
 use anyhow::bail;
 use std::env;
 
-/// What the program takes: nothing; samples of all rows, or of those of ports in larger hubs; so many round trips, after so many clients
-/// came and left; so many of one thread or of four at a hub of `rr_shared`; so many of two threads that sleep, of two that also nap at
-/// random times, or of each of two such clients with four servers; a server that waits for a second.
+/// The words of the program. Without any it makes 1,000 round trips of each row. `time` takes samples of all rows, `grow` of those in
+/// larger hubs. `count` makes N round trips after CLIENTS clients came and left, `trips` N by one thread at a hub of `rr_shared`, `four`
+/// by four, `sleep` by two threads that sleep, `nap` by two that also nap at random times, `many` by two such clients with four servers.
+/// `idle` lets a server wait for a second.
 const USAGE: &str =
     "usage: rr_bench [time | grow | count N [CLIENTS] | (trips | four | sleep | nap | many) N | idle]";
 
-/// How often each client asks where no word says it.
+/// How often each client asks if no word says it.
 const CHECKED: u64 = 1_000;
 
 /// Returns the row of a word.

@@ -76,7 +76,7 @@ fn take<N: Naming, R: Wait>(at: &mut At<N, R>, pending: &PendingResponse<N, u64>
     Some(answer)
 }
 
-/// Makes so many round trips. Returns the sum of the answers.
+/// Makes `count` round trips. Returns the sum of the answers.
 fn trips<N: Naming, R: Wait>(
     at: &mut At<N, R>,
     client: &Client<N, u64>,
@@ -96,7 +96,7 @@ fn trips<N: Naming, R: Wait>(
     sum
 }
 
-/// Creates ports, and makes so many round trips through them. Returns the sum of the answers.
+/// Creates ports, and makes `count` round trips through them. Returns the sum of the answers.
 fn with_ports<N: Naming, R: Wait>(mut at: At<N, R>, count: u64) -> anyhow::Result<u64> {
     let clients = at.hub.client_builder(at.rt).initial_max_slice_len(LEN);
     let client = at.hub.create_client(at.rt, &mut at.seat, clients)?;
@@ -122,7 +122,7 @@ fn caller<'a, N: Naming, R>(rt: &'a R, hub: &'a Hub<N>) -> At<'a, N, R> {
     }
 }
 
-/// Makes so many round trips at a hub.
+/// Makes `count` round trips at a hub.
 fn through<N: Naming, R: Wait>(rt: &R, opened: OpenedHub, count: u64) -> anyhow::Result<u64>
     requires keeper { opened.keeper_id ≡ N.keeper_id }
     requires log { opened.log_id ≡ N.log_id }
@@ -133,7 +133,7 @@ fn through<N: Naming, R: Wait>(rt: &R, opened: OpenedHub, count: u64) -> anyhow:
     with_ports(caller(rt, &hub), count)
 }
 
-/// Times so many round trips through a hub of one client and one server, the making of the ports included.
+/// Times `count` round trips through a hub of one client and one server, creation of the ports included.
 pub fn time_pages<R: Wait + Clock>(rt: &R, alloc: Global, count: u64) -> anyhow::Result<Timed> {
     let opened = OpenedHub::new(alloc, Limits::SMALLEST, UniqueNodeId(7))?;
     let start = Instant::now(rt)?;

@@ -55,7 +55,7 @@ pub enum Work {
     Book,
     /// Submissions at a hub of `rr_shared`.
     Shared,
-    /// So many clients and so many servers of `rr_shared_ports`.
+    /// Clients and servers of `rr_shared_ports`, and how many of each.
     Ports(Pace, usize, usize),
     /// A client and a server there in one thread, whose messages are slices of 64 KiB.
     Pages,
@@ -133,7 +133,7 @@ pub const LARGEST: [Row; 2] = [
 /// How often each row is timed.
 const SAMPLES: usize = 7;
 
-/// Lets each client of a row ask so often.
+/// Has each client of a row ask `trips` times.
 fn made<R: Threads + Wait + Sync + Clock>(
     rt: &R,
     alloc: Global,
@@ -160,7 +160,7 @@ fn made<R: Threads + Wait + Sync + Clock>(
     }
 }
 
-/// Lets each client of a row ask so often, and checks the sum of the answers.
+/// Has each client of a row ask `trips` times, and checks the sum of the answers.
 fn checked<R: Threads + Wait + Sync + Clock>(
     rt: &R,
     alloc: Global,
@@ -178,7 +178,7 @@ fn checked<R: Threads + Wait + Sync + Clock>(
     Ok(timed)
 }
 
-/// Lets each client of each row ask so often, and prints what the answers come to.
+/// Has each client of each row ask `trips` times, and prints the sums of the answers.
 pub fn make<R: Threads + Wait + Sync + Clock + Print>(
     rt: &R,
     alloc: Global,

@@ -45,7 +45,7 @@ fn call<N: Naming, R: Wait>(at: &mut At<N, R>, command: HubCommand) -> anyhow::R
     }
 }
 
-/// Waits until a bell has rung again since it had rung so often.
+/// Waits until a bell has rung more than `rings` times.
 fn wait(bell: &Bell, rings: u64) -> anyhow::Result<()> {
     ensure!(bell.wait(rings, TURNS).is_some(), "a bell didn't ring");
     Ok(())
@@ -89,8 +89,8 @@ fn take<N: Naming, R: Wait>(at: &mut At<N, R>, bell: &Bell, pending: u64) -> any
     Ok(answer)
 }
 
-/// Asks all servers so often. One that is of this thread answers; else it waits at the bell before the first receive. Returns the sum
-/// of the answers.
+/// Asks all servers `trips` times. If one of them is this thread's, it answers here; else this waits at the bell before its first
+/// receive. Returns the sum of the answers.
 fn ask_all<'a, N: Naming, R: Wait>(
     at: &mut At<'a, N, R>,
     mut own: Option<At<'a, N, R>>,
@@ -117,7 +117,7 @@ fn ask_all<'a, N: Naming, R: Wait>(
     Ok(sum)
 }
 
-/// Answers so many requests, and waits at the bell before each.
+/// Answers `requests` requests, and waits at the bell before each.
 fn answer_all<N: Naming, R: Wait>(
     at: &mut At<N, R>,
     bells: &Bells,
@@ -169,7 +169,7 @@ fn work<'a, N: Naming, R: Wait>(
     Ok(0)
 }
 
-/// Makes round trips by so many threads, of which as many ask as answer. Returns the sum of the answers.
+/// Makes round trips by `threads` threads, of which half ask and half answer. Returns the sum of the answers.
 fn together<N: Naming, R: Threads + Wait + Sync>(
     rt: &R,
     alloc: Global,
@@ -214,7 +214,7 @@ fn shared<N: Naming, R: Threads + Wait + Sync>(
     together(rt, alloc, &hub, threads, trips)
 }
 
-/// Times round trips of so many threads, the making of the ports and the starts of the threads included.
+/// Times round trips of `threads` threads, creation of the ports and start of the threads included.
 pub fn time_shared<R: Threads + Wait + Sync + Clock>(
     rt: &R,
     alloc: Global,

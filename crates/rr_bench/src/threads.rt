@@ -140,7 +140,7 @@ fn ask<N: Naming, R: Wait>(at: &mut At<N, R>, client: &Client<N, u64>, asked: u6
     sum
 }
 
-/// Asks so often, once all servers are there. Returns the sum of the answers.
+/// Asks `trips` times, once all servers are created. Returns the sum of the answers.
 fn ask_all<N: Naming, R: Wait + Clock>(
     at: &mut At<N, R>,
     client: &Client<N, u64>,
@@ -157,7 +157,7 @@ fn ask_all<N: Naming, R: Wait + Clock>(
     sum
 }
 
-/// Asks and answers so often. Returns the sum of the answers.
+/// Asks and answers `trips` times. Returns the sum of the answers.
 fn alone<N: Naming, R: Wait + Clock>(
     at: &mut At<N, R>,
     client: &Client<N, u64>,
@@ -175,7 +175,7 @@ fn alone<N: Naming, R: Wait + Clock>(
     sum
 }
 
-/// Lets a client and a server of this thread make so many round trips.
+/// Makes `trips` round trips by a client and a server of this thread.
 fn both<N: Naming, R: Wait + Clock>(mut at: At<N, R>, trips: u64) -> anyhow::Result<u64> {
     let clients = at.hub.client_builder(at.rt);
     let client = at.hub.create_client(at.rt, &mut at.seat, clients)?;
@@ -192,7 +192,7 @@ fn both<N: Naming, R: Wait + Clock>(mut at: At<N, R>, trips: u64) -> anyhow::Res
     sum
 }
 
-/// Creates a client, which asks so often. The last one that ends closes the hub.
+/// Creates a client, which asks `trips` times. The last client to end closes the hub.
 fn inquire<N: Naming, R: Wait + Clock>(mut at: At<N, R>, trips: u64) -> anyhow::Result<u64> {
     let clients = at.hub.client_builder(at.rt);
     let sum = match at.hub.create_client(at.rt, &mut at.seat, clients) {
@@ -274,7 +274,7 @@ fn together<N: Naming, R: Threads + Wait + Clock + Sync>(
     Ok(total)
 }
 
-/// Times so many round trips of each client with all servers, the making of the ports and the starts of the threads included.
+/// Times `trips` round trips of each client with all servers, creation of the ports and start of the threads included.
 pub fn time_threads<R: Threads + Wait + Clock + Sync>(
     rt: &R,
     alloc: Global,

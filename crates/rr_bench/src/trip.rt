@@ -184,7 +184,7 @@ pub fn timed<B: Family, R: Clock>(
     Timed::since(rt, start, sum)
 }
 
-/// Times round trips of messages of so many elements by one client and one server.
+/// Times round trips of messages of `len` elements by one client and one server.
 pub fn time_ports<B: Family, R: Clock>(
     rt: &R,
     alloc: Global,
