@@ -57,7 +57,7 @@ def story(name, start, lines):
 def all_rows():
     """Returns all rows of the tests."""
     sources = {}
-    for name in sorted(os.listdir(TESTS)):
+    for name in sorted(it for it in os.listdir(TESTS) if it.endswith(".rt")):
         with open(os.path.join(TESTS, name), encoding="utf-8") as it:
             sources[name] = it.read()
     constants = {}
