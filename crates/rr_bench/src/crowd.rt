@@ -8,7 +8,7 @@ ghost use Rattle.rr_bench.specs.Onlookers.{AreServers};
 
 use crate::family;
 use crate::rows::Timed;
-use crate::trip::{LIMITS, look, look_around, timed, trips};
+use crate::trip::{LIMITS, TripError, look, look_around, timed, trips};
 use anyhow::bail;
 use rr_ports::{Limits, UniqueNodeId, typed};
 use std::alloc::{AllocError, AllocFailed, Global};
@@ -95,7 +95,7 @@ pub enum Job {
 
 /// Has a server and the onlookers poll for requests `count` times. Returns a sum as if each poll were a round trip.
 #[inline(never)]
-fn looks(hub: &mut Hub, server: &Server, onlookers: &[Server], count: u64) -> anyhow::Result<u64>
+fn looks(hub: &mut Hub, server: &Server, onlookers: &[Server], count: u64) -> Result<u64, TripError>
     requires server { Names hub.old server.now kind.Server }
     requires onlookers { AreServers hub.old onlookers.now }
     ensures { Keeps [] hub.old hub.new }

@@ -8,10 +8,13 @@ ghost use Rattle.rr_bench.specs.Onlookers.{AreServers};
 
 use crate::family::{Family, Hub};
 use crate::rows::Timed;
-use anyhow::{anyhow, bail};
-use rr_ports::{Client, Limits, PendingResponse, Server, UniqueNodeId};
+use rr_ports::{
+    Client, Limits, PendingResponse, ReceiveError, RequestSendError, SendError, Server,
+    UniqueNodeId,
+};
 use std::alloc::Global;
 use std::time::{Clock, Instant};
+use thiserror::Error;
 
 /// The limits of one client and one server.
 pub const LIMITS: Limits = Limits {
@@ -27,22 +30,42 @@ pub const LIMITS: Limits = Limits {
 /// The round trips before those that are timed, which use the memory for the first time.
 const FIRST: u64 = 10;
 
+/// Why a round trip failed. It is small: to clear the memory of `anyhow::Error`s takes as many instructions as the trip.
+#[derive(Debug, Drop, Error)]
+pub enum TripError {
+    /// The send of the request was refused.
+    #[error("{0}")]
+    RequestSend(#[from] RequestSendError),
+    /// The send of the response was refused.
+    #[error("{0}")]
+    Send(#[from] SendError),
+    /// A receive was refused.
+    #[error("{0}")]
+    Receive(#[from] ReceiveError),
+    /// No message came.
+    #[error("no message came")]
+    NothingCame,
+    /// No number is left for a handle.
+    #[error("the hub has no numbers left")]
+    NoNumbersLeft,
+}
+
 /// Returns an error. Lets the compiler place what leads to it beside the path of a whole round trip, as it does with a panic.
 #[cold]
 #[inline(never)]
-fn unlikely(error: anyhow::Error) -> anyhow::Error {
+fn unlikely(error: TripError) -> TripError {
     error
 }
 
 /// Receives a request and responds to it.
 #[inline(always)]
-fn answer<B: Family>(hub: &mut Hub<B>, server: &Server<B>, len: usize) -> anyhow::Result<()>
+fn answer<B: Family>(hub: &mut Hub<B>, server: &Server<B>, len: usize) -> Result<(), TripError>
     requires server { Names hub.old server.now kind.Server }
     requires numbers { 1 < numbers_left hub.old }
     ensures { Keeps [] hub.old hub.new }
 {
     let Some(active) = server.receive(hub)? else {
-        return Err(unlikely(anyhow!("no message came")));
+        return Err(unlikely(TripError::NothingCame));
     };
     if let Err(error) = B::respond(hub, &active, len) {
         active.release(hub);
@@ -59,7 +82,7 @@ fn exchange<B: Family>(
     server: &Server<B>,
     pending: &PendingResponse<B>,
     len: usize,
-) -> anyhow::Result<u64>
+) -> Result<u64, TripError>
     requires server { Names hub.old server.now kind.Server }
     requires pending { Names hub.old pending.now kind.PendingResponse }
     requires numbers { 1 < numbers_left hub.old }
@@ -68,7 +91,7 @@ fn exchange<B: Family>(
     answer(hub, server, len)?;
     match B::take(hub, pending)? {
         Some(word) => Ok(word),
-        None => Err(unlikely(anyhow!("no message came"))),
+        None => Err(unlikely(TripError::NothingCame)),
     }
 }
 
@@ -80,7 +103,7 @@ fn round_trip<B: Family>(
     server: &Server<B>,
     len: usize,
     word: u64,
-) -> anyhow::Result<u64>
+) -> Result<u64, TripError>
     requires client { Names hub.old client.now kind.Client }
     requires server { Names hub.old server.now kind.Server }
     requires numbers { 2 < numbers_left hub.old }
@@ -101,12 +124,12 @@ fn round_trip<B: Family>(
 
 /// Lets a server look for a request, and releases it if one comes. Returns a number if none comes, and else 0.
 #[inline(always)]
-pub fn look<B: Family>(hub: &mut Hub<B>, server: &Server<B>, number: u64) -> anyhow::Result<u64>
+pub fn look<B: Family>(hub: &mut Hub<B>, server: &Server<B>, number: u64) -> Result<u64, TripError>
     requires { Names hub.old server.now kind.Server }
     ensures { Keeps [] hub.old hub.new }
 {
     if hub.numbers_left() == 0 {
-        bail!("the hub has no numbers left");
+        return Err(TripError::NoNumbersLeft);
     }
     match server.receive(hub)? {
         Some(active) => {
@@ -123,7 +146,7 @@ pub fn look_around<B: Family>(
     hub: &mut Hub<B>,
     onlookers: &[Server<B>],
     number: u64,
-) -> anyhow::Result<u64>
+) -> Result<u64, TripError>
     requires { AreServers hub.old onlookers.now }
     ensures { Keeps [] hub.old hub.new }
 {
@@ -143,7 +166,7 @@ pub fn trips<B: Family>(
     onlookers: &[Server<B>],
     len: usize,
     count: u64,
-) -> anyhow::Result<u64>
+) -> Result<u64, TripError>
     requires client { Names hub.old client.now kind.Client }
     requires server { Names hub.old server.now kind.Server }
     requires onlookers { AreServers hub.old onlookers.now }
@@ -152,7 +175,7 @@ pub fn trips<B: Family>(
     let mut sum = 0u64;
     for asked in 0..count {
         if hub.numbers_left() < 3 {
-            bail!("the hub has no numbers left");
+            return Err(TripError::NoNumbersLeft);
         }
         match round_trip(hub, client, server, len, asked) {
             Ok(word) => sum = sum.wrapping_add(word),

@@ -13,7 +13,7 @@ const READINGS: u64 = 1024;
 ///
 /// # Examples
 ///
-/// Rings a bell, and returns whether who waits at it hears it (`rr_test_threads::tests::examples`):
+/// Rings a bell, and returns whether who waits at it hears it (`rr_test_runs::tests::hubs::examples`):
 ///
 /// ```
 /// use rr_locked::Bell;
@@ -68,7 +68,7 @@ impl Bell {
 ///
 /// # Examples
 ///
-/// Sends a number, and returns the number that came as a response (`rr_test_threads::tests::examples`):
+/// Sends a number, and returns the number that came as a response (`rr_test_runs::tests::hubs::examples`):
 ///
 /// ```
 /// use rr_locked::{Bells, Seat, Submit, WorkerError, send_copy, take_response};

@@ -28,7 +28,7 @@ pub const PARTS: u64 = MOST_SEATS + 2;
 ///
 /// # Examples
 ///
-/// Makes a book with a client, and returns how many calls it has noted (`rr_test_threads::tests::examples`):
+/// Makes a book with a client, and returns how many calls it has noted (`rr_test_runs::tests::hubs::examples`):
 ///
 /// ```
 /// ghost use Rattle.std.specs.Prelude.{◌≡◌};

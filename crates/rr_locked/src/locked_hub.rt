@@ -19,7 +19,7 @@ use std::sync::{Mutex, Wait};
 ///
 /// # Examples
 ///
-/// Makes a hub, creates a client, and ends the sharing (`rr_test_threads::tests::examples`):
+/// Makes a hub, creates a client, and ends the sharing (`rr_test_runs::tests::hubs::examples`):
 ///
 /// ```
 /// ghost use Rattle.std.specs.Prelude.{◌≡◌};

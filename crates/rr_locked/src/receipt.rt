@@ -5,7 +5,7 @@ use crate::hub_command::{HubCommand, HubReply};
 ///
 /// # Examples
 ///
-/// Returns the place of a seat's last call in the history (`rr_test_threads::tests::examples`):
+/// Returns the place of a seat's last call in the history (`rr_test_runs::tests::hubs::examples`):
 ///
 /// ```
 /// use rr_locked::{Receipt, Seat};

@@ -13,7 +13,7 @@ use std::sync::ledger::{Ledger, Share};
 ///
 /// # Examples
 ///
-/// Returns the place of a seat's last call in the history (`rr_test_threads::tests::examples`):
+/// Returns the place of a seat's last call in the history (`rr_test_runs::tests::hubs::examples`):
 ///
 /// ```
 /// use rr_locked::{Receipt, Seat};

@@ -13,7 +13,7 @@ use std::sync::ledger::Ledger;
 ///
 /// # Examples
 ///
-/// Creates a client, and returns its number (`rr_test_threads::tests::examples`):
+/// Creates a client, and returns its number (`rr_test_runs::tests::hubs::examples`):
 ///
 /// ```
 /// use rr_commands::Reply;

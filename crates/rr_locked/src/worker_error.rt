@@ -6,7 +6,7 @@ use thiserror::Error;
 ///
 /// # Examples
 ///
-/// Sends a number, and returns the number that came as a response (`rr_test_threads::tests::examples`):
+/// Sends a number, and returns the number that came as a response (`rr_test_runs::tests::hubs::examples`):
 ///
 /// ```
 /// use rr_locked::{Bells, Seat, Submit, WorkerError, send_copy, take_response};

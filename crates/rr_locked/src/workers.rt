@@ -11,7 +11,7 @@ use std::sync::ledger::Ledger;
 ///
 /// # Examples
 ///
-/// Sends ten numbers, and returns the sum of the responses (`rr_test_threads::tests::examples`):
+/// Sends ten numbers, and returns the sum of the responses (`rr_test_runs::tests::hubs::examples`):
 ///
 /// ```
 /// use rr_locked::{Bells, Plan, Seat, Submit, WorkerError, ask_all};

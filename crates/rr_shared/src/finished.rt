@@ -21,7 +21,7 @@ use std::marker::Model;
 /// # Examples
 ///
 /// Ends the sharing of a hub, and shows two seats the whole history. Promises that they have then seen the same, and that each made
-/// just the calls that it knew of (`rr_test_threads::tests::laws`):
+/// just the calls that it knew of (`rr_test_runs::tests::hubs::laws`):
 ///
 /// ```
 /// ghost use Rattle.std.specs.Prelude.{◌≡◌};

@@ -9,7 +9,7 @@ use std::marker::Brand;
 /// # Examples
 ///
 /// Loans a request at whichever hub `N` is, whose limits stand in the clause. The client was created with a whole pool, so the loan
-/// finds a slot (`rr_test_threads::tests::laws`):
+/// finds a slot (`rr_test_runs::tests::hubs::laws`):
 ///
 /// ```
 /// ghost use Rattle.std.specs.Prelude.{◌≡◌, false};

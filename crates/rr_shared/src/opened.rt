@@ -20,7 +20,7 @@ use std::sync::Mutex;
 /// # Examples
 ///
 /// Makes a hub, and gives it to the two threads of the example of `SharedHub`, which know it as `Brand`
-/// (`rr_test_threads::tests::threads`):
+/// (`rr_test_runs::tests::hubs::threads`):
 ///
 /// ```
 /// use rr_protocol::{Limits, NoHandler, UniqueNodeId};

@@ -9,7 +9,7 @@ use std::marker::{Model, PhantomData};
 ///
 /// # Examples
 ///
-/// Receives a response, and promises that in the history which the seat has then seen, it was sent for this request (`rr_test_threads::tests::laws`):
+/// Receives a response, and promises that in the history which the seat has then seen, it was sent for this request (`rr_test_runs::tests::hubs::laws`):
 ///
 /// ```
 /// ghost use Rattle.std.specs.Prelude.{IfSome};

@@ -23,7 +23,7 @@ use std::sync::{Mutex, Wait};
 ///
 /// # Examples
 ///
-/// Creates a client in each of two threads, and compares what their seats have seen then (`rr_test_threads::tests::threads`):
+/// Creates a client in each of two threads, and compares what their seats have seen then (`rr_test_runs::tests::hubs::threads`):
 ///
 /// ```
 /// ghost use Rattle.std.specs.Prelude.{◌≡◌};

@@ -45,6 +45,7 @@ impl<N: Naming, QB: Body> Claimed<N, RequestMutUninit<QB>> {
             rt,
             seat,
             self,
+            &[],
             |ports| -> ()
                 requires { Names ports.old handle.now kind.RequestMutUninit × F.IsAlwaysCallable f }
                 ensures call { UpdatesRequest (λ c header. c.user_header ≡ header) with_user_header (FnOnceReturnsAtMut F.FnOnce f) ports.old ports.new handle.entry.now }
@@ -79,6 +80,7 @@ impl<N: Naming, QB: Body> Claimed<N, RequestMut<QB>> {
             rt,
             seat,
             self,
+            &[],
             |ports| -> ()
                 requires { Names ports.old handle.now kind.RequestMut × F.IsAlwaysCallable f }
                 ensures call { UpdatesRequest (λ c header. c.user_header ≡ header) with_user_header (FnOnceReturnsAtMut F.FnOnce f) ports.old ports.new handle.entry.now }
@@ -113,6 +115,7 @@ impl<N: Naming, PB: Body> Claimed<N, ResponseMutUninit<PB>> {
             rt,
             seat,
             self,
+            &[],
             |ports| -> ()
                 requires { Names ports.old handle.now kind.ResponseMutUninit × F.IsAlwaysCallable f }
                 ensures call { UpdatesResponse (λ c header. c.user_header ≡ header) with_user_header (FnOnceReturnsAtMut F.FnOnce f) ports.old ports.new handle.entry.now }
@@ -147,6 +150,7 @@ impl<N: Naming, PB: Body> Claimed<N, ResponseMut<PB>> {
             rt,
             seat,
             self,
+            &[],
             |ports| -> ()
                 requires { Names ports.old handle.now kind.ResponseMut × F.IsAlwaysCallable f }
                 ensures call { UpdatesResponse (λ c header. c.user_header ≡ header) with_user_header (FnOnceReturnsAtMut F.FnOnce f) ports.old ports.new handle.entry.now }

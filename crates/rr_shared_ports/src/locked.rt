@@ -1,4 +1,4 @@
-//! The calls of seats: each takes the lock once.
+//! The calls of seats: each takes the lock once, and wakes those whose waits it may have ended.
 ghost use Rattle.std.specs.Fn.{FnOnceReturnsAt, FnOnceReturnsAtMut, FnOnceTakesAt, FnOnceTakesAtMut};
 ghost use Rattle.std.specs.Prelude.{◌≡◌, ◌<◌, ◌∷◌, [], Option, Result};
 ghost use Rattle.rr_shared_ports.specs.Calls.{CanTake, IsMade, IsReceived, IsSpent, IsTried, MakesFree, ReceivesFree, SpendsFree, Takes, Tells, TriesFree, TurnsFree};
@@ -10,6 +10,7 @@ use crate::naming::Naming;
 use crate::ports::Ports;
 use crate::seat::Seat;
 use crate::shared_ports::SharedPorts;
+use crate::waking::Change;
 use rr_ports::{Handle, Refused};
 use std::fmt::Display;
 use std::sync::Wait;
@@ -52,13 +53,16 @@ impl<N: Naming, H: Ports> SharedPorts<N, H> {
         rt: &R,
         seat: &mut Seat<N, H>,
         claimed: &Claimed<N, A>,
+        changes: &[Change],
         f: F,
     ) -> U
         requires callable { (state : H) → H.names state claimed.now A.kind → FnOnceTakesAtMut F.FnOnce f state }
         requires keeps { (state : H) → (returned : U) (after : H) → FnOnceReturnsAtMut F.FnOnce f state returned after → H.steps [] state after }
         ensures { MakesCall (H.empty N.limits N.node_id) (λ before after. FnOnceReturnsAtMut F.FnOnce f before result after) seat.old seat.new }
     {
-        self.inside.lock(rt).changed(&self.log, seat, claimed, f)
+        let returned = self.inside.lock(rt).changed(&self.log, seat, claimed, f);
+        self.waking.wake(changes);
+        returned
     }
 
     /// Makes a call that needs a number and makes nothing that stays, if a number is left.
@@ -68,13 +72,16 @@ impl<N: Naming, H: Ports> SharedPorts<N, H> {
         rt: &R,
         seat: &mut Seat<N, H>,
         claimed: &Claimed<N, A>,
+        changes: &[Change],
         f: F,
     ) -> Result<U, CallError<E>>
         requires callable { (state : H) → H.names state claimed.now A.kind → 0 < H.numbers state → FnOnceTakesAtMut F.FnOnce f state }
         requires keeps { (state : H) → (returned : Result U E) (after : H) → FnOnceReturnsAtMut F.FnOnce f state returned after → H.steps [] state after }
         ensures { MakesCall (H.empty N.limits N.node_id) (Tells H.numbers (λ answer before after. FnOnceReturnsAtMut F.FnOnce f before answer after) result) seat.old seat.new }
     {
-        self.inside.lock(rt).numbered(&self.log, seat, claimed, f)
+        let returned = self.inside.lock(rt).numbered(&self.log, seat, claimed, f);
+        self.waking.wake(changes);
+        returned
     }
 
     /// Makes a handle, if a number is left, and claims it.
@@ -90,13 +97,16 @@ impl<N: Naming, H: Ports> SharedPorts<N, H> {
         rt: &R,
         seat: &mut Seat<N, H>,
         claimed: &Claimed<N, A>,
+        changes: &[Change],
         f: F,
     ) -> Result<Claimed<N, B>, CallError<E>>
         requires callable { (state : H) → H.names state claimed.now A.kind → 0 < H.numbers state → FnOnceTakesAtMut F.FnOnce f state }
         requires makes { (state : H) → (made : Result B E) (after : H) → FnOnceReturnsAtMut F.FnOnce f state made after → MakesFree B.number B.kind H.steps H.is_free H.names state made after }
         ensures { MakesCall (H.empty N.limits N.node_id) (Tells H.numbers (λ answer before after. (made : Result B E) × FnOnceReturnsAtMut F.FnOnce f before made after × IsMade B.number made answer) result) seat.old seat.new }
     {
-        self.inside.lock(rt).made(&self.log, seat, claimed, f)
+        let returned = self.inside.lock(rt).made(&self.log, seat, claimed, f);
+        self.waking.wake(changes);
+        returned
     }
 
     /// Receives a handle, if one comes, and claims it.
@@ -112,13 +122,16 @@ impl<N: Naming, H: Ports> SharedPorts<N, H> {
         rt: &R,
         seat: &mut Seat<N, H>,
         claimed: &Claimed<N, A>,
+        changes: &[Change],
         f: F,
     ) -> Result<Option<Claimed<N, B>>, E>
         requires callable { (state : H) → H.names state claimed.now A.kind → FnOnceTakesAtMut F.FnOnce f state }
         requires receives { (state : H) → (received : Result (Option B) E) (after : H) → FnOnceReturnsAtMut F.FnOnce f state received after → ReceivesFree B.number B.kind H.steps H.is_free H.names state received after }
         ensures { MakesCall (H.empty N.limits N.node_id) (λ before after. (received : Result (Option B) E) × FnOnceReturnsAtMut F.FnOnce f before received after × IsReceived B.number received result) seat.old seat.new }
     {
-        self.inside.lock(rt).received(&self.log, seat, claimed, f)
+        let returned = self.inside.lock(rt).received(&self.log, seat, claimed, f);
+        self.waking.wake(changes);
+        returned
     }
 
     /// Makes a handle another one, or ends it, and gives its claim for one on what it is then.
@@ -128,13 +141,16 @@ impl<N: Naming, H: Ports> SharedPorts<N, H> {
         rt: &R,
         seat: &mut Seat<N, H>,
         claimed: Claimed<N, A>,
+        changes: &[Change],
         f: F,
     ) -> Result<Claimed<N, B>, E>
         requires callable { (state : H) → H.names state claimed A.kind → CanTake F.FnOnce A.number f claimed state }
         requires exchanges { (state : H) → (made : Result B E) (after : H) → Takes F.FnOnce A.number f claimed state made after → TurnsFree B.number B.kind H.steps H.names claimed state made after }
         ensures { MakesCall (H.empty N.limits N.node_id) (λ before after. (made : Result B E) × Takes F.FnOnce A.number f claimed before made after × IsMade B.number made result) seat.old seat.new }
     {
-        self.inside.lock(rt).turned(&self.log, seat, claimed, f)
+        let returned = self.inside.lock(rt).turned(&self.log, seat, claimed, f);
+        self.waking.wake(changes);
+        returned
     }
 
     /// Ends a handle, and gives its claim back.
@@ -144,13 +160,16 @@ impl<N: Naming, H: Ports> SharedPorts<N, H> {
         rt: &R,
         seat: &mut Seat<N, H>,
         claimed: Claimed<N, A>,
+        changes: &[Change],
         f: F,
     ) -> U
         requires callable { (state : H) → H.names state claimed A.kind → CanTake F.FnOnce A.number f claimed state }
         requires keeps { (state : H) → (returned : U) (after : H) → Takes F.FnOnce A.number f claimed state returned after → H.steps (claimed ∷ []) state after }
         ensures { MakesCall (H.empty N.limits N.node_id) (λ before after. Takes F.FnOnce A.number f claimed before result after) seat.old seat.new }
     {
-        self.inside.lock(rt).ended(&self.log, seat, claimed, f)
+        let returned = self.inside.lock(rt).ended(&self.log, seat, claimed, f);
+        self.waking.wake(changes);
+        returned
     }
 
     /// Makes a handle another one, and gives its claim for one on what it is then.
@@ -182,13 +201,16 @@ impl<N: Naming, H: Ports> SharedPorts<N, H> {
         rt: &R,
         seat: &mut Seat<N, H>,
         claimed: &Claimed<N, A>,
+        changes: &[Change],
         f: F,
     ) -> Result<Option<Claimed<N, B>>, CallError<E>>
         requires callable { (state : H) → H.names state claimed.now A.kind → 0 < H.numbers state → FnOnceTakesAtMut F.FnOnce f state }
         requires receives { (state : H) → (received : Result (Option B) E) (after : H) → FnOnceReturnsAtMut F.FnOnce f state received after → ReceivesFree B.number B.kind H.steps H.is_free H.names state received after }
         ensures { MakesCall (H.empty N.limits N.node_id) (Tells H.numbers (λ answer before after. (received : Result (Option B) E) × FnOnceReturnsAtMut F.FnOnce f before received after × IsReceived B.number received answer) result) seat.old seat.new }
     {
-        self.inside.lock(rt).heard(&self.log, seat, claimed, f)
+        let returned = self.inside.lock(rt).heard(&self.log, seat, claimed, f);
+        self.waking.wake(changes);
+        returned
     }
 
     /// Changes what a handle names, which is of the same kind after it.
@@ -220,13 +242,18 @@ impl<N: Naming, H: Ports> SharedPorts<N, H> {
         rt: &R,
         seat: &mut Seat<N, H>,
         claimed: Claimed<N, A>,
+        changes: &[Change],
         f: F,
     ) -> Result<Claimed<N, B>, Refused<Claimed<N, A>, E>>
         requires callable { (state : H) → H.names state claimed A.kind → CanTake F.FnOnce A.number f claimed state }
         requires tries { (state : H) → (made : Result B (Refused A E)) (after : H) → Takes F.FnOnce A.number f claimed state made after → TriesFree A.number B.number A.kind B.kind H.steps H.names claimed state made after }
         ensures { MakesCall (H.empty N.limits N.node_id) (λ before after. (made : Result B (Refused A E)) × Takes F.FnOnce A.number f claimed before made after × IsTried A.number B.number made result) seat.old seat.new }
     {
-        self.inside.lock(rt).tried(&self.log, seat, claimed, f)
+        let returned = self.inside.lock(rt).tried(&self.log, seat, claimed, f);
+        if returned.is_ok() {
+            self.waking.wake(changes);
+        }
+        returned
     }
 
     /// Ends a handle, and gives its claim back, or gives both back.
@@ -236,12 +263,17 @@ impl<N: Naming, H: Ports> SharedPorts<N, H> {
         rt: &R,
         seat: &mut Seat<N, H>,
         claimed: Claimed<N, A>,
+        changes: &[Change],
         f: F,
     ) -> Result<U, Refused<Claimed<N, A>, E>>
         requires callable { (state : H) → H.names state claimed A.kind → CanTake F.FnOnce A.number f claimed state }
         requires spends { (state : H) → (spent : Result U (Refused A E)) (after : H) → Takes F.FnOnce A.number f claimed state spent after → SpendsFree A.number A.kind H.steps H.names claimed state spent after }
         ensures { MakesCall (H.empty N.limits N.node_id) (λ before after. (spent : Result U (Refused A E)) × Takes F.FnOnce A.number f claimed before spent after × IsSpent A.number spent result) seat.old seat.new }
     {
-        self.inside.lock(rt).spent(&self.log, seat, claimed, f)
+        let returned = self.inside.lock(rt).spent(&self.log, seat, claimed, f);
+        if returned.is_ok() {
+            self.waking.wake(changes);
+        }
+        returned
     }
 }

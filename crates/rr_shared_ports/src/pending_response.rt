@@ -12,6 +12,7 @@ use crate::claimed::Claimed;
 use crate::naming::Naming;
 use crate::seat::Seat;
 use crate::shared_ports::SharedPorts;
+use crate::waking::Change;
 use rr_ports::{BackpressureFn, Body, Hub, PendingResponse, ReceiveError, Response};
 use std::sync::Wait;
 
@@ -36,6 +37,7 @@ impl<N: Naming, QB: Body> Claimed<N, PendingResponse<QB>> {
             rt,
             seat,
             self,
+            &[],
             |ports| -> ()
                 requires { Names ports.old handle.now kind.PendingResponse }
                 ensures call { ports.new ≡ with_changed ports.old handle.entry.now with_hint }
@@ -139,8 +141,12 @@ impl<N: Naming, QB: Body> Claimed<N, PendingResponse<QB>> {
         ensures { MakesCall (empty_hub N.limits N.node_id) (λ before after. ReceivesResponse before self.now result after) seat.old seat.new }
     {
         let handle = self.handle();
-        let received = hub.received(rt, seat, self, |ports| handle.receive(ports));
-        hub.waking.room.wake();
-        received
+        hub.received(
+            rt,
+            seat,
+            self,
+            &[Change::EntryTaken],
+            |ports| handle.receive(ports),
+        )
     }
 }

@@ -7,6 +7,7 @@ use crate::naming::Naming;
 use crate::ports::Ports;
 use crate::seat::Seat;
 use crate::shared_ports::SharedPorts;
+use crate::waking::Change;
 use rr_ports::{
     ActiveRequest, BackpressureFn, Body, Client, Handle, Hub, PendingResponse, RequestMut,
     RequestMutUninit, Response, ResponseMut, ResponseMutUninit, Server,
@@ -41,7 +42,7 @@ pub trait Release<H: Ports>: Handle {
         ensures released { H.ends hub.old (Self.number self) hub.new }
         ensures steps { H.steps (Self.number self ∷ []) hub.old hub.new };
 
-    /// Returns whether it is a server's, whose end may leave a pending response without anyone who may answer it.
+    /// Returns whether it is a server or a handle of one.
     fn is_of_server() -> bool {
         false
     }
@@ -55,11 +56,12 @@ impl<N: Naming, A: Handle> Claimed<N, A> {
         A: Release<H>,
         ensures { MakesCall (H.empty N.limits N.node_id) (λ before after. H.ends before self after) seat.old seat.new }
     {
-        hub.ended(rt, seat, self, |handle, ports| handle.end(ports));
-        if A::is_of_server() {
-            hub.waking.responses.wake();
-        }
-        hub.waking.room.wake();
+        let changes: &[Change] = if A::is_of_server() {
+            &[Change::ActiveRequestEnded, Change::ServerLeft]
+        } else {
+            &[Change::PendingResponseEnded]
+        };
+        hub.ended(rt, seat, self, changes, |handle, ports| handle.end(ports));
     }
 }
 

@@ -7,6 +7,7 @@ use crate::claimed::Claimed;
 use crate::naming::Naming;
 use crate::seat::Seat;
 use crate::shared_ports::SharedPorts;
+use crate::waking::Change;
 use rr_ports::{BackpressureFn, Body, Hub, PendingResponse, RequestMut, RequestSendError};
 use std::sync::Wait;
 
@@ -24,8 +25,12 @@ impl<N: Naming, QB: Body> Claimed<N, RequestMut<QB>> {
     ) -> Result<Claimed<N, PendingResponse<QB>>, RequestSendError>
         ensures { MakesCall (empty_hub N.limits N.node_id) (λ before after. SendsPending K.action before self result after) seat.old seat.new }
     {
-        let sent = hub.turned(rt, seat, self, |handle, ports| handle.send(ports));
-        hub.waking.requests.wake();
-        sent
+        hub.turned(
+            rt,
+            seat,
+            self,
+            &[Change::RequestQueued],
+            |handle, ports| handle.send(ports),
+        )
     }
 }

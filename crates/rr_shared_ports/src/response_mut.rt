@@ -7,6 +7,7 @@ use crate::claimed::Claimed;
 use crate::naming::Naming;
 use crate::seat::Seat;
 use crate::shared_ports::SharedPorts;
+use crate::waking::Change;
 use rr_ports::{BackpressureFn, Body, Hub, ResponseMut, SendError};
 use std::sync::Wait;
 
@@ -24,8 +25,12 @@ impl<N: Naming, PB: Body> Claimed<N, ResponseMut<PB>> {
     ) -> Result<(), SendError>
         ensures { MakesCall (empty_hub N.limits N.node_id) (λ before after. SendsResponse K.action before self result after) seat.old seat.new }
     {
-        let sent = hub.ended(rt, seat, self, |handle, ports| handle.send(ports));
-        hub.waking.responses.wake();
-        sent
+        hub.ended(
+            rt,
+            seat,
+            self,
+            &[Change::ResponseQueued, Change::ServerLeft],
+            |handle, ports| handle.send(ports),
+        )
     }
 }

@@ -14,6 +14,7 @@ use crate::error::CallError;
 use crate::naming::Naming;
 use crate::seat::Seat;
 use crate::shared_ports::SharedPorts;
+use crate::waking::Change;
 use rr_ports::{
     ActiveRequest, BackpressureFn, Body, ConnectionFailure, Hub, PortFactoryServer, Preallocation,
     ReceiveError, Server, ServerCreateError, UniqueServerId,
@@ -86,10 +87,11 @@ impl<N: Naming, PB: Body> Claimed<N, Server<PB>> {
         ensures { MakesCall (empty_hub N.limits N.node_id) (Answered numbers_left (λ received before after. ReceivesRequest before self.now received after) result) seat.old seat.new }
     {
         let server = self.handle();
-        let received = hub.heard(
+        hub.heard(
             rt,
             seat,
             self,
+            &[Change::EntryTaken],
             |ports| -> Result<Option<ActiveRequest<QB>>, ReceiveError>
                 requires kind { Names ports.old server.now kind.Server }
                 requires number { 0 < numbers_left ports.old }
@@ -98,9 +100,7 @@ impl<N: Naming, PB: Body> Claimed<N, Server<PB>> {
                 ensures free { IfOk result (λ received. IfSome received (λ active. IsFree [] ports.old active)) }
                 ensures kind { IfOk result (λ received. IfSome received (λ active. Names ports.new active kind.ActiveRequest)) }
             { server.receive(ports) },
-        );
-        hub.waking.room.wake();
-        received
+        )
     }
 }
 

@@ -12,6 +12,7 @@ use crate::claimed::Claimed;
 use crate::naming::Naming;
 use crate::seat::Seat;
 use crate::shared_ports::SharedPorts;
+use crate::waking::Change;
 use rr_ports::{
     BackpressureFn, Body, Hub, PendingResponse, Refused, RequestMut, RequestSendError, ResponseMut,
     SendError,
@@ -36,10 +37,11 @@ impl<N: Naming, QB: Body> Claimed<N, RequestMut<QB>> {
     >
         ensures { MakesCall (empty_hub N.limits N.node_id) (λ before after. TriesRequest K.action before self result after) seat.old seat.new }
     {
-        let sent = hub.tried(
+        hub.tried(
             rt,
             seat,
             self,
+            &[Change::RequestQueued],
             |handle, ports| -> Result<
                 PendingResponse<QB>,
                 Refused<RequestMut<QB>, RequestSendError>,
@@ -50,9 +52,7 @@ impl<N: Naming, QB: Body> Claimed<N, RequestMut<QB>> {
                 ensures made { IfOk result (λ made. (made ≡ handle) × Names ports.new made kind.PendingResponse) }
                 ensures kept { IfErr result (λ refused. (refused.message ≡ handle) × Names ports.new handle kind.RequestMut) }
             { handle.try_send(ports) },
-        );
-        hub.waking.requests.wake();
-        sent
+        )
     }
 }
 
@@ -71,18 +71,17 @@ impl<N: Naming, PB: Body> Claimed<N, ResponseMut<PB>> {
     ) -> Result<(), Refused<Claimed<N, ResponseMut<PB>>, SendError>>
         ensures { MakesCall (empty_hub N.limits N.node_id) (λ before after. TriesResponse K.action before self result after) seat.old seat.new }
     {
-        let sent = hub.spent(
+        hub.spent(
             rt,
             seat,
             self,
+            &[Change::ResponseQueued, Change::ServerLeft],
             |handle, ports| -> Result<(), Refused<ResponseMut<PB>, SendError>>
                 requires { Names ports.old handle kind.ResponseMut }
                 ensures call { TriesResponse K.action ports.old handle result ports.new }
                 ensures keeps { Keeps (handle ∷ []) ports.old ports.new }
                 ensures kept { IfErr result (λ refused. (refused.message ≡ handle) × Names ports.new handle kind.ResponseMut) }
             { handle.try_send(ports) },
-        );
-        hub.waking.responses.wake();
-        sent
+        )
     }
 }

@@ -1,4 +1,4 @@
-//! Who sleeps until something is queued, or until there is room.
+//! Waits: which change of a hub may end which wait, and how a thread sleeps and is woken.
 ghost use Rattle.std.specs.Prelude.{IfErr};
 ghost use Rattle.rr_shared_ports.specs.Waits.{IsOver};
 
@@ -10,10 +10,29 @@ use std::sync::atomic::{AtomicBool, AtomicU64, Ordering};
 use std::sync::{Condvar, Wait};
 use std::time::Duration;
 
-/// How often a thread that waits alone looks whether something was queued before it sleeps.
+/// How often a sole waiter polls before it sleeps.
 const LOOKS: u64 = 256;
 
-/// Where those sleep who wait for requests, for responses, and for room in a queue. Of waking no contract tells.
+/// What a call may have changed. Every call of a hub names its changes, and `Waking::wake` says which waits each of them may end.
+#[derive(Clone, Copy)]
+pub(crate) enum Change {
+    /// A request was queued for a server.
+    RequestQueued,
+    /// A response was queued for a pending response.
+    ResponseQueued,
+    /// An entry was taken out of a queue.
+    EntryTaken,
+    /// A pending response ended, and with it the queues of its responses. A client leaves after its pending responses, so that its end
+    /// ends no other wait.
+    PendingResponseEnded,
+    /// An active request ended: its server answers it no more.
+    ActiveRequestEnded,
+    /// A server, or a handle of it, ended. If it was the last one, the server left: its queues are gone, and it answers no more.
+    ServerLeft,
+}
+
+/// The threads that wait: servers for requests, pending responses for responses, and senders for room in a queue. No contract says that
+/// they are woken.
 #[derive(Drop)]
 pub(crate) struct Waking {
     pub(crate) requests: Sleepers,
@@ -33,7 +52,23 @@ impl Waking {
         }
     }
 
-    /// Wakes all, who find the hub closed then.
+    /// Wakes those whose waits these changes may end: a server waits until a request is queued; a pending response until a response is
+    /// queued or no server may answer; a sender until its message finds room or its receiver is gone.
+    pub(crate) fn wake(&self, changes: &[Change]) {
+        for change in changes {
+            match change {
+                Change::RequestQueued => self.requests.wake(),
+                Change::ResponseQueued | Change::ActiveRequestEnded => self.responses.wake(),
+                Change::EntryTaken | Change::PendingResponseEnded => self.room.wake(),
+                Change::ServerLeft => {
+                    self.room.wake();
+                    self.responses.wake();
+                }
+            }
+        }
+    }
+
+    /// Marks the hub as closed, and wakes all waiters.
     pub(crate) fn close(&self) {
         self.is_closed.store(true, Ordering::SeqCst);
         self.requests.wake();
@@ -64,12 +99,12 @@ impl Waking {
     }
 }
 
-/// Those who wait until something of one kind is queued, or until there is room.
+/// The threads that wait for one kind of change.
 ///
-/// Who waits comes in before it looks under the lock whether something is queued, and who queues something looks after that whether
-/// anyone is in: one of the two always sees the other. In the same way who sleeps says so before it looks at the turns once more, and
-/// who wakes counts the turn before it takes that back. Who sleeps has counted the notifications before it says so, and who took that
-/// back notifies after it, which ends the sleep. So no wake-up is lost, and nobody is notified again who was and doesn't run yet.
+/// A waiter registers before it checks the queue under the lock; a notifier checks for waiters after it has changed the queue. So at least
+/// one of them sees the other. A sleeper sets `is_asleep` before it reads `turns` again; a notifier advances `turns` before it clears
+/// `is_asleep`. A sleeper reads the notification count before it sets `is_asleep`, and whoever clears `is_asleep` then notifies. So no
+/// wake-up is lost, and a thread that was notified but has not run yet is not notified twice.
 #[derive(Drop)]
 pub(crate) struct Sleepers {
     inside: AtomicU64,
@@ -88,23 +123,23 @@ impl Sleepers {
         }
     }
 
-    /// Comes in.
+    /// Registers a waiter.
     pub(crate) fn enter(&self) {
         self.inside.fetch_add(1, Ordering::SeqCst);
     }
 
-    /// Goes out.
+    /// Unregisters a waiter.
     pub(crate) fn leave(&self) {
         self.inside.fetch_sub(1, Ordering::SeqCst);
     }
 
-    /// Returns how often those who are in were woken.
+    /// Returns how often the waiters were woken.
     pub(crate) fn turns(&self) -> u64 {
         self.turns.load(Ordering::SeqCst)
     }
 
-    /// Wakes all who are in, since something was queued.
-    pub(crate) fn wake(&self) {
+    /// Wakes all waiters.
+    fn wake(&self) {
         if self.inside.load(Ordering::SeqCst) == 0 {
             return;
         }
@@ -114,8 +149,8 @@ impl Sleepers {
         }
     }
 
-    /// Sleeps until those who are in were woken more often than that, at most so long. Who is in alone looks some times first: if
-    /// several look, they keep those from the processors whom they wait for.
+    /// Sleeps until `turns` changes or `most` has passed. A sole waiter polls a few times first; several of them would keep the threads
+    /// that they wait for from the processors.
     pub(crate) fn wait<R: Wait>(&self, rt: &R, turns: u64, most: Duration) {
         if self.inside.load(Ordering::SeqCst) == 1 && self.were_woken(turns) {
             return;
@@ -127,7 +162,7 @@ impl Sleepers {
         }
     }
 
-    /// Looks some times whether those who are in were woken more often than that.
+    /// Polls a few times whether `turns` has changed.
     fn were_woken(&self, turns: u64) -> bool {
         for _ in 0..LOOKS {
             if self.turns() != turns {

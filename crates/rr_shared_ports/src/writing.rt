@@ -44,6 +44,7 @@ impl<N: Naming, QB: Body> Claimed<N, RequestMutUninit<QB>> {
             rt,
             seat,
             self,
+            &[],
             |handle, ports| -> Result<RequestMut<QB>, Refused<RequestMutUninit<QB>, WriteError>>
                 requires { Names ports.old handle kind.RequestMutUninit }
                 ensures call { Initialises RequestIsComplete ports.old handle result ports.new }
@@ -89,6 +90,7 @@ impl<N: Naming, PB: Body> Claimed<N, ResponseMutUninit<PB>> {
             rt,
             seat,
             self,
+            &[],
             |handle, ports| -> Result<ResponseMut<PB>, Refused<ResponseMutUninit<PB>, WriteError>>
                 requires { Names ports.old handle kind.ResponseMutUninit }
                 ensures call { Initialises ResponseIsComplete ports.old handle result ports.new }

@@ -20,7 +20,7 @@ const FOUR: [Asked; 4] = [
     Command::Receive(1),
 ];
 
-/// A call, after so many of these entries.
+/// A call, after the first `before` of these entries.
 #[derive(Clone, Copy)]
 struct Story {
     name: &'static str,

@@ -55,7 +55,7 @@ const POWER_OF_TWO_SERVER: Asked = Command::CreateServer(ServerSettings {
 });
 
 /// What comes before a call: a client 0 and a server 1, a request 2 that the server received as 3, a response 4 and a request 5
-/// that nobody received yet, and a request 6 of so many elements on loan.
+/// that nobody received yet, and a request 6 of `len` elements on loan.
 fn before(story: &Story) -> [Asked; 7] {
     [
         story.client,

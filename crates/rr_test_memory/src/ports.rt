@@ -64,7 +64,7 @@ fn play<B: Body<Item = u64>, W: Write>(
     stage.show(hub.numbers_left())
 }
 
-/// A creation, after so many others of the kind whose ports left.
+/// A creation, after `before` ports of the same kind were created and left.
 #[derive(Clone, Copy)]
 struct Story {
     name: &'static str,

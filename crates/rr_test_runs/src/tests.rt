@@ -1,6 +1,7 @@
-//! Scripts with their replies, and a runner at work.
+//! Scripts with their replies, a runner at work, and hubs of commands that threads share.
 mod defaults;
 mod faults;
+mod hubs;
 mod kinds;
 mod least;
 mod leaving;

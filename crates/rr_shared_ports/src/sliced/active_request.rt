@@ -16,6 +16,7 @@ use crate::error::CallError;
 use crate::naming::Naming;
 use crate::seat::Seat;
 use crate::shared_ports::SharedPorts;
+use crate::waking::Change;
 use rr_ports::{
     ActiveRequest, BackpressureFn, Body, Hub, LoanError, ResponseMut, ResponseMutUninit, SendError,
     SliceBody,
@@ -78,7 +79,13 @@ impl<N: Naming, QB: Body> Claimed<N, ActiveRequest<QB>> {
         ensures { MakesCall (empty_hub N.limits N.node_id) (Answered numbers_left (λ loaned before after. LoansResponse PH.is_default before self.now len loaned after) result) seat.old seat.new }
     {
         let handle = self.handle();
-        hub.made(rt, seat, self, |ports| handle.loan_slice_uninit(ports, len))
+        hub.made(
+            rt,
+            seat,
+            self,
+            &[],
+            |ports| handle.loan_slice_uninit(ports, len),
+        )
     }
 
     /// Loans a response of `len` elements with the default value. After `ActiveRequest::loan_slice` of `rr_ports`.
@@ -103,7 +110,7 @@ impl<N: Naming, QB: Body> Claimed<N, ActiveRequest<QB>> {
         ensures { MakesCall (empty_hub N.limits N.node_id) (Answered numbers_left (λ loaned before after. LoansResponseComplete PH.is_default (AreDefaults T.is_default len) before self.now len loaned after) result) seat.old seat.new }
     {
         let handle = self.handle();
-        hub.made(rt, seat, self, |ports| handle.loan_slice(ports, len))
+        hub.made(rt, seat, self, &[], |ports| handle.loan_slice(ports, len))
     }
 
     /// Loans a response of as many elements as these, writes copies of them and sends it. After `ActiveRequest::send_slice` of `rr_ports`.
@@ -122,9 +129,13 @@ impl<N: Naming, QB: Body> Claimed<N, ActiveRequest<QB>> {
         ensures { MakesCall (empty_hub N.limits N.node_id) (Answered numbers_left (λ sent before after. SendsResponseSlice PH.is_default K.action before self.now elements.now sent after) result) seat.old seat.new }
     {
         let handle = self.handle();
-        let sent = hub.numbered(rt, seat, self, |ports| handle.send_slice(ports, elements));
-        hub.waking.responses.wake();
-        sent
+        hub.numbered(
+            rt,
+            seat,
+            self,
+            &[Change::ResponseQueued],
+            |ports| handle.send_slice(ports, elements),
+        )
     }
 }
 
@@ -155,10 +166,11 @@ impl<N: Naming, T: Drop> Claimed<N, ActiveRequest<SliceBody<T>>> {
         ensures { MakesCall (empty_hub N.limits N.node_id) (Answered numbers_left (λ sent before after. (asked : List T) × Has before self.now (Asks asked) × RespondsSlice PH.is_default K.action (Makes F.FnMut asked f) before self.now len sent after) result) seat.old seat.new }
     {
         let handle = self.handle();
-        let sent = hub.numbered(
+        hub.numbered(
             rt,
             seat,
             self,
+            &[Change::ResponseQueued],
             |ports| -> Result<(), SendError>
                 requires kind { Names ports.old handle.now kind.ActiveRequest }
                 requires number { 0 < numbers_left ports.old }
@@ -166,8 +178,6 @@ impl<N: Naming, T: Drop> Claimed<N, ActiveRequest<SliceBody<T>>> {
                 ensures call { (asked : List T) × Has ports.old handle.entry.now (Asks asked) × RespondsSlice PH.is_default K.action (Makes F.FnMut asked f) ports.old handle.entry.now len result ports.new }
                 ensures keeps { Keeps [] ports.old ports.new }
             { handle.respond_with(ports, len, f) },
-        );
-        hub.waking.responses.wake();
-        sent
+        )
     }
 }

@@ -10,6 +10,7 @@ use crate::error::CallError;
 use crate::naming::Naming;
 use crate::seat::Seat;
 use crate::shared_ports::SharedPorts;
+use crate::waking::Change;
 use rr_ports::{
     BackpressureFn, Body, Client, Hub, LoanError, PendingResponse, RequestMut, RequestMutUninit,
     RequestSendError, SliceBody,
@@ -39,7 +40,13 @@ impl<N: Naming, T: Drop> Claimed<N, Client<SliceBody<T>>> {
         ensures { MakesCall (empty_hub N.limits N.node_id) (Answered numbers_left (λ loaned before after. LoansRequest QH.is_default before self.now len loaned after) result) seat.old seat.new }
     {
         let handle = self.handle();
-        hub.made(rt, seat, self, |ports| handle.loan_slice_uninit(ports, len))
+        hub.made(
+            rt,
+            seat,
+            self,
+            &[],
+            |ports| handle.loan_slice_uninit(ports, len),
+        )
     }
 
     /// Loans a request of `len` elements with the default value. After `Client::loan_slice` of `rr_ports`.
@@ -60,7 +67,7 @@ impl<N: Naming, T: Drop> Claimed<N, Client<SliceBody<T>>> {
         ensures { MakesCall (empty_hub N.limits N.node_id) (Answered numbers_left (λ loaned before after. LoansComplete QH.is_default (AreDefaults T.is_default len) before self.now len loaned after) result) seat.old seat.new }
     {
         let handle = self.handle();
-        hub.made(rt, seat, self, |ports| handle.loan_slice(ports, len))
+        hub.made(rt, seat, self, &[], |ports| handle.loan_slice(ports, len))
     }
 
     /// Loans a request of as many elements as these, writes copies of them and sends it. After `Client::send_slice` of `rr_ports`.
@@ -81,8 +88,12 @@ impl<N: Naming, T: Drop> Claimed<N, Client<SliceBody<T>>> {
         ensures { MakesCall (empty_hub N.limits N.node_id) (Answered numbers_left (λ sent before after. SendsSlice QH.is_default K.action before self.now elements.now sent after) result) seat.old seat.new }
     {
         let handle = self.handle();
-        let sent = hub.made(rt, seat, self, |ports| handle.send_slice(ports, elements));
-        hub.waking.requests.wake();
-        sent
+        hub.made(
+            rt,
+            seat,
+            self,
+            &[Change::RequestQueued],
+            |ports| handle.send_slice(ports, elements),
+        )
     }
 }

@@ -83,6 +83,7 @@ impl<N: Naming, T: Copy> Claimed<N, RequestMutUninit<SliceBody<T>>> {
             rt,
             seat,
             self,
+            &[],
             |handle, ports| -> Result<
                 RequestMut<SliceBody<T>>,
                 Refused<RequestMutUninit<SliceBody<T>>, WriteError>,

@@ -83,6 +83,7 @@ impl<N: Naming, T: Copy> Claimed<N, ResponseMutUninit<SliceBody<T>>> {
             rt,
             seat,
             self,
+            &[],
             |handle, ports| -> Result<
                 ResponseMut<SliceBody<T>>,
                 Refused<ResponseMutUninit<SliceBody<T>>, WriteError>,

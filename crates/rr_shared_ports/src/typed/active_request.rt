@@ -15,6 +15,7 @@ use crate::error::CallError;
 use crate::naming::Naming;
 use crate::seat::Seat;
 use crate::shared_ports::SharedPorts;
+use crate::waking::Change;
 use rr_ports::{
     ActiveRequest, BackpressureFn, Body, Hub, LoanError, ResponseMut, ResponseMutUninit, SendError,
 };
@@ -90,7 +91,7 @@ impl<N: Naming, QB: Body> Claimed<N, ActiveRequest<QB>> {
         ensures { MakesCall (empty_hub N.limits N.node_id) (Answered numbers_left (λ loaned before after. LoansResponse PH.is_default before self.now 1 loaned after) result) seat.old seat.new }
     {
         let handle = self.handle();
-        hub.made(rt, seat, self, |ports| handle.loan_uninit(ports))
+        hub.made(rt, seat, self, &[], |ports| handle.loan_uninit(ports))
     }
 
     /// Loans a response whose payload has the default value. After `ActiveRequest::loan` of `rr_ports`.
@@ -114,7 +115,7 @@ impl<N: Naming, QB: Body> Claimed<N, ActiveRequest<QB>> {
         ensures { MakesCall (empty_hub N.limits N.node_id) (Answered numbers_left (λ loaned before after. LoansResponseComplete PH.is_default (IsOneDefault T.is_default) before self.now 1 loaned after) result) seat.old seat.new }
     {
         let handle = self.handle();
-        hub.made(rt, seat, self, |ports| handle.loan(ports))
+        hub.made(rt, seat, self, &[], |ports| handle.loan(ports))
     }
 
     /// Loans a response, writes a value and sends it. After `ActiveRequest::send_copy` of `rr_ports`.
@@ -133,9 +134,13 @@ impl<N: Naming, QB: Body> Claimed<N, ActiveRequest<QB>> {
         ensures { MakesCall (empty_hub N.limits N.node_id) (Answered numbers_left (λ sent before after. SendsResponseCopy PH.is_default K.action before self.now value sent after) result) seat.old seat.new }
     {
         let handle = self.handle();
-        let sent = hub.numbered(rt, seat, self, |ports| handle.send_copy(ports, value));
-        hub.waking.responses.wake();
-        sent
+        hub.numbered(
+            rt,
+            seat,
+            self,
+            &[Change::ResponseQueued],
+            |ports| handle.send_copy(ports, value),
+        )
     }
 }
 
@@ -165,10 +170,11 @@ impl<N: Naming, T: Drop> Claimed<N, ActiveRequest<Option<T>>> {
         ensures { MakesCall (empty_hub N.limits N.node_id) (Answered numbers_left (λ sent before after. (asked : T) × (value : U) × Has before self.now (Asks (asked ∷ [])) × FnOnceReturnsAt F.FnOnce f asked value × SendsResponseCopy PH.is_default K.action before self.now value sent after) result) seat.old seat.new }
     {
         let handle = self.handle();
-        let sent = hub.numbered(
+        hub.numbered(
             rt,
             seat,
             self,
+            &[Change::ResponseQueued],
             |ports| -> Result<(), SendError>
                 requires kind { Names ports.old handle.now kind.ActiveRequest }
                 requires number { 0 < numbers_left ports.old }
@@ -176,8 +182,6 @@ impl<N: Naming, T: Drop> Claimed<N, ActiveRequest<Option<T>>> {
                 ensures call { (asked : T) × (value : U) × Has ports.old handle.entry.now (Asks (asked ∷ [])) × FnOnceReturnsAt F.FnOnce f asked value × SendsResponseCopy PH.is_default K.action ports.old handle.entry.now value result ports.new }
                 ensures keeps { Keeps [] ports.old ports.new }
             { handle.respond_with(ports, f) },
-        );
-        hub.waking.responses.wake();
-        sent
+        )
     }
 }

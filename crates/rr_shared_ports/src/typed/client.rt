@@ -11,6 +11,7 @@ use crate::error::CallError;
 use crate::naming::Naming;
 use crate::seat::Seat;
 use crate::shared_ports::SharedPorts;
+use crate::waking::Change;
 use rr_ports::{
     BackpressureFn, Body, Client, Hub, LoanError, PendingResponse, RequestMut, RequestMutUninit,
     RequestSendError,
@@ -39,7 +40,7 @@ impl<N: Naming, T: Drop> Claimed<N, Client<Option<T>>> {
         ensures { MakesCall (empty_hub N.limits N.node_id) (Answered numbers_left (λ loaned before after. LoansRequest QH.is_default before self.now 1 loaned after) result) seat.old seat.new }
     {
         let handle = self.handle();
-        hub.made(rt, seat, self, |ports| handle.loan_uninit(ports))
+        hub.made(rt, seat, self, &[], |ports| handle.loan_uninit(ports))
     }
 
     /// Loans a request whose payload has the default value. After `Client::loan` of `rr_ports`.
@@ -59,7 +60,7 @@ impl<N: Naming, T: Drop> Claimed<N, Client<Option<T>>> {
         ensures { MakesCall (empty_hub N.limits N.node_id) (Answered numbers_left (λ loaned before after. LoansComplete QH.is_default (IsOneDefault T.is_default) before self.now 1 loaned after) result) seat.old seat.new }
     {
         let handle = self.handle();
-        hub.made(rt, seat, self, |ports| handle.loan(ports))
+        hub.made(rt, seat, self, &[], |ports| handle.loan(ports))
     }
 
     /// Loans a request, writes a value and sends it. After `Client::send_copy` of `rr_ports`.
@@ -78,9 +79,13 @@ impl<N: Naming, T: Drop> Claimed<N, Client<Option<T>>> {
         ensures { MakesCall (empty_hub N.limits N.node_id) (Answered numbers_left (λ sent before after. SendsCopy QH.is_default K.action before self.now value sent after) result) seat.old seat.new }
     {
         let handle = self.handle();
-        let sent = hub.made(rt, seat, self, |ports| handle.send_copy(ports, value));
-        hub.waking.requests.wake();
-        sent
+        hub.made(
+            rt,
+            seat,
+            self,
+            &[Change::RequestQueued],
+            |ports| handle.send_copy(ports, value),
+        )
     }
 
     /// Sends a value and waits for no answer. After `Client::tell` of `rr_ports`.
@@ -99,8 +104,12 @@ impl<N: Naming, T: Drop> Claimed<N, Client<Option<T>>> {
         ensures { MakesCall (empty_hub N.limits N.node_id) (Answered numbers_left (λ told before after. TellsCopy QH.is_default K.action before self.now value told after) result) seat.old seat.new }
     {
         let handle = self.handle();
-        let sent = hub.numbered(rt, seat, self, |ports| handle.tell(ports, value));
-        hub.waking.requests.wake();
-        sent
+        hub.numbered(
+            rt,
+            seat,
+            self,
+            &[Change::RequestQueued],
+            |ports| handle.tell(ports, value),
+        )
     }
 }

@@ -11,6 +11,7 @@ use crate::claimed::Claimed;
 use crate::naming::Naming;
 use crate::seat::Seat;
 use crate::shared_ports::SharedPorts;
+use crate::waking::Change;
 use rr_ports::{BackpressureFn, Body, Hub, PendingResponse, ReceiveError, Server};
 use std::sync::Wait;
 
@@ -41,18 +42,17 @@ impl<N: Naming, QB: Body> Claimed<N, PendingResponse<QB>> {
         ensures { MakesCall (empty_hub N.limits N.node_id) (λ before after. Drains (λ s received t. ReceivesCopy s self.now received t) (FoldsOne F.FnMut) (2 ^ 64 - 1) (f, init) before result after) seat.old seat.new }
     {
         let handle = self.handle();
-        let folded = hub.changed(
+        hub.changed(
             rt,
             seat,
             self,
+            &[Change::EntryTaken],
             |ports| -> Result<A, ReceiveError>
                 requires { Names ports.old handle.now kind.PendingResponse × F.IsAlwaysCallable f }
                 ensures call { Drains (λ s received t. ReceivesCopy s handle.entry.now received t) (FoldsOne F.FnMut) (2 ^ 64 - 1) (f, init) ports.old result ports.new }
                 ensures keeps { Keeps [] ports.old ports.new }
             { handle.fold_responses(ports, init, f) },
-        );
-        hub.waking.room.wake();
-        folded
+        )
     }
 }
 
@@ -83,18 +83,16 @@ impl<N: Naming, PB: Body> Claimed<N, Server<PB>> {
         ensures { MakesCall (empty_hub N.limits N.node_id) (λ before after. Drains (λ s received t. HearsCopy s self.now received t) (FoldsOne F.FnMut) (numbers_left before) (f, init) before result after) seat.old seat.new }
     {
         let handle = self.handle();
-        let folded = hub.changed(
+        hub.changed(
             rt,
             seat,
             self,
+            &[Change::EntryTaken, Change::ActiveRequestEnded],
             |ports| -> Result<A, ReceiveError>
                 requires { Names ports.old handle.now kind.Server × F.IsAlwaysCallable f }
                 ensures call { Drains (λ s received t. HearsCopy s handle.entry.now received t) (FoldsOne F.FnMut) (numbers_left ports.old) (f, init) ports.old result ports.new }
                 ensures keeps { Keeps [] ports.old ports.new }
             { handle.fold_requests(ports, init, f) },
-        );
-        hub.waking.responses.wake();
-        hub.waking.room.wake();
-        folded
+        )
     }
 }

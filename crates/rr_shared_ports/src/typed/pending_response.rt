@@ -7,6 +7,7 @@ use crate::claimed::Claimed;
 use crate::naming::Naming;
 use crate::seat::Seat;
 use crate::shared_ports::SharedPorts;
+use crate::waking::Change;
 use rr_ports::{BackpressureFn, Body, Hub, PendingResponse, ReceiveError};
 use std::sync::Wait;
 
@@ -31,8 +32,12 @@ impl<N: Naming, QB: Body> Claimed<N, PendingResponse<QB>> {
         ensures { MakesCall (empty_hub N.limits N.node_id) (λ before after. ReceivesCopy before self.now result after) seat.old seat.new }
     {
         let handle = self.handle();
-        let received = hub.changed(rt, seat, self, |ports| handle.receive_copy(ports));
-        hub.waking.room.wake();
-        received
+        hub.changed(
+            rt,
+            seat,
+            self,
+            &[Change::EntryTaken],
+            |ports| handle.receive_copy(ports),
+        )
     }
 }

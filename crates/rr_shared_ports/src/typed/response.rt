@@ -87,6 +87,7 @@ impl<N: Naming, T: Drop> Claimed<N, Response<Option<T>>> {
             rt,
             seat,
             self,
+            &[],
             |handle, ports| -> T
                 requires { Names ports.old handle kind.Response }
                 ensures call { (ports.new ≡ after_release ports.old handle) × IsSomeAnd (option_and_then response_in (handle_at ports.old handle)) (λ m. m.content.elements ≡ result ∷ []) }

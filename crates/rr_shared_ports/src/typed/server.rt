@@ -9,6 +9,7 @@ use crate::error::CallError;
 use crate::naming::Naming;
 use crate::seat::Seat;
 use crate::shared_ports::SharedPorts;
+use crate::waking::Change;
 use rr_ports::{BackpressureFn, Body, Hub, ReceiveError, Server};
 use std::sync::Wait;
 
@@ -34,9 +35,12 @@ impl<N: Naming, PB: Body> Claimed<N, Server<PB>> {
         ensures { MakesCall (empty_hub N.limits N.node_id) (Answered numbers_left (λ received before after. HearsCopy before self.now received after) result) seat.old seat.new }
     {
         let handle = self.handle();
-        let received = hub.numbered(rt, seat, self, |ports| handle.receive_copy(ports));
-        hub.waking.responses.wake();
-        hub.waking.room.wake();
-        received
+        hub.numbered(
+            rt,
+            seat,
+            self,
+            &[Change::EntryTaken, Change::ActiveRequestEnded],
+            |ports| handle.receive_copy(ports),
+        )
     }
 }

@@ -88,7 +88,7 @@ fn each_setter_sets_its_own_limit(rt: HostRuntime) {
     assert!(rt; set == literal);
 }
 
-/// One of everything, and so many requests on loan.
+/// One of everything, but `max_loaned_requests` loans of requests.
 fn one_of_each(max_loaned_requests: usize) -> Limits
     ensures { 0 < result.max_active_requests_per_client }
 {

@@ -21,6 +21,17 @@ fn send_set(hub: &mut Service, active: &ActiveRequest<u64>, value: u64) -> Resul
     response.send(hub)
 }
 
+/// Loans a response, writes its payload and sends it.
+fn send_written(hub: &mut Service, active: &ActiveRequest<u64>, value: u64) -> Result<(), SendError>
+    requires active { Names hub.old active.now kind.ActiveRequest }
+    requires number { 0 < numbers_left hub.old }
+    ensures { Keeps [] hub.old hub.new }
+{
+    let response = active.loan_uninit(hub)?;
+    let response = response.write_payload(hub, value);
+    response.send(hub)
+}
+
 /// Loans a response and writes its payload through a `&mut`, which does not make it one that can be sent.
 #[tactic(auto, using(rr_ports::proofs::Frames::borrowers), unfolding(rr_ports::specs::Facts::Keeps, rr_ports::specs::Facts::IsFree))]
 fn loan_written(
@@ -61,6 +72,7 @@ fn send_rewritten(
 enum Way {
     Copied(u64),
     Set(u64),
+    Written(u64),
     Rewritten(u64, u64),
 }
 
@@ -73,6 +85,7 @@ fn send(hub: &mut Service, active: &ActiveRequest<u64>, way: Way) -> Result<(), 
     match way {
         Way::Copied(value) => active.send_copy(hub, value),
         Way::Set(value) => send_set(hub, active, value),
+        Way::Written(value) => send_written(hub, active, value),
         Way::Rewritten(first, value) => send_rewritten(hub, active, first, value),
     }
 }
@@ -119,6 +132,7 @@ fn a_response_is_received_as_it_was_written(rt: HostRuntime) {
     for (asked, way, payload, user_header) in [
         (0, Way::Copied(0), 0, 0),
         (123, Way::Set(789), 789, 0),
+        (123, Way::Written(456), 456, 0),
         (123, Way::Rewritten(1234, 456), 456, 10),
     ] {
         let mut ports = connect(&rt, rt.alloc(), SETUP);

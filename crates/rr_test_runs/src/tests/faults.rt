@@ -77,7 +77,7 @@ enum End {
     Other,
 }
 
-/// Runs a case, of which so many reads or writes succeed.
+/// Runs a case in which the first `calls` reads or writes succeed and the next one fails.
 fn end_of(alloc: Global, case: &Case, side: Side, calls: usize) -> io::Result<End> {
     let (reads, writes, text) = match side {
         Side::Reads => (calls, usize::MAX, "read fault\n"),

@@ -139,7 +139,7 @@ fn lines_end_with_a_line_feed_or_the_input(rt: HostRuntime) -> Result<(), AllocE
     Ok(())
 }
 
-/// Returns a script whose second line, which creates a client, has spaces behind it up to so many bytes, and then this ending.
+/// Returns a script whose second line creates a client, is padded with spaces to `len` bytes, and ends with `ending`.
 fn padded(alloc: Global, len: usize, ending: &str) -> Result<String, AllocError> {
     let mut input = String::from_str(alloc, "hub typed 2 1 2 2 2 1 - 1 1\n")?;
     let line = "client discard 1 static -";

@@ -83,7 +83,7 @@ fn ask<N: Naming, R: Wait>(
     Ok(answer)
 }
 
-/// Asks so often, or until no number is left. Returns the sum of the answers.
+/// Sends `trips` requests, or fewer if the numbers run out. Returns the sum of the responses.
 fn ask_all<N: Naming, R: Wait>(
     rt: &R,
     hub: &Shared<N>,

@@ -33,7 +33,7 @@ enum Scene {
 }
 
 /// Two requests, and two responses to each of them, fill their queues. What is told is heard, though nobody awaits an answer.
-const NARROW: Limits = Limits {
+pub const NARROW: Limits = Limits {
     max_active_requests_per_client: 2,
     max_response_buffer_size: 2,
     enable_fire_and_forget_requests: true,
@@ -42,7 +42,7 @@ const NARROW: Limits = Limits {
 
 impl<N: Naming, R: Abort + Wait> Worker<'_, N, R> {
     /// Creates a client that is refused at a full queue.
-    fn client(&mut self) -> Client<N, u64> {
+    pub fn client(&mut self) -> Client<N, u64> {
         let retry = BackpressureStrategy::RetryUntilDelivered;
         let factory = self.hub.client_builder(self.rt);
         let factory = factory.backpressure_strategy(retry);

@@ -8,12 +8,12 @@ use Rattle.rr_shared_ports.proofs.try_send.Claimed+N+RequestMut+QB.try_send.Goal
 -- it is the call of the port
 pub returns : goal.returns
 returns g c =
-    let made = c.tried-sent.ensures in
+    let made = c.tried.ensures in
     let call = made.4 in
-    (made.0, made.1, made.2, made.3, at (λ old n result new. TriesRequest g.K.BackpressureFn.action old n result new) call.1.5 call.1.4 (is_tried call.0 c.tried-sent.result call.2) call.1.6 call.1.3.0)
+    (made.0, made.1, made.2, made.3, at (λ old n result new. TriesRequest g.K.BackpressureFn.action old n result new) call.1.5 call.1.4 (is_tried call.0 c.tried.result call.2) call.1.6 call.1.3.0)
 
 -- and a step
-pub tried-sent-requires-clause-tries : goal.tried-sent-requires-clause-tries
-tried-sent-requires-clause-tries g c κs within state returned after call =
+pub tried-requires-clause-tries : goal.tried-requires-clause-tries
+tried-requires-clause-tries g c κs within state returned after call =
     let by = call.3.0 in
     (stepped_on g.K.BackpressureFn.action g.QH.Default.is_default g.PH.Default.is_default call.5 call.4 call.6 call.3.1.0 (request_tried g.K.BackpressureFn.action g.QH.Default.is_default g.PH.Default.is_default call.1.now call.2.now call.0 returned by), search rules, search rules)

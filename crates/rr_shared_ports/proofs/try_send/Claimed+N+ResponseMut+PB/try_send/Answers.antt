@@ -8,12 +8,12 @@ use Rattle.rr_shared_ports.proofs.try_send.Claimed+N+ResponseMut+PB.try_send.Goa
 -- it is the call of the port
 pub returns : goal.returns
 returns g c =
-    let made = c.spent-sent.ensures in
+    let made = c.spent.ensures in
     let call = made.4 in
-    (made.0, made.1, made.2, made.3, at (λ old n result new. TriesResponse g.K.BackpressureFn.action old n result new) call.1.5 call.1.4 (is_spent call.0 c.spent-sent.result call.2) call.1.6 call.1.3.0)
+    (made.0, made.1, made.2, made.3, at (λ old n result new. TriesResponse g.K.BackpressureFn.action old n result new) call.1.5 call.1.4 (is_spent call.0 c.spent.result call.2) call.1.6 call.1.3.0)
 
 -- and a step
-pub spent-sent-requires-clause-spends : goal.spent-sent-requires-clause-spends
-spent-sent-requires-clause-spends g c κs within state returned after call =
+pub spent-requires-clause-spends : goal.spent-requires-clause-spends
+spent-requires-clause-spends g c κs within state returned after call =
     let by = call.3.0 in
     (stepped_on g.K.BackpressureFn.action g.QH.Default.is_default g.PH.Default.is_default call.5 call.4 call.6 call.3.1.0 (response_tried g.K.BackpressureFn.action g.QH.Default.is_default g.PH.Default.is_default call.1.now call.2.now call.0 returned by), search rules)

@@ -8,7 +8,7 @@ use Rattle.rr_shared_ports.proofs.sliced.client.Claimed+N+Client+SliceBody+T.sen
 -- it is the call of the port
 pub returns : goal.returns
 returns g c =
-    let made = c.made-sent.ensures in (
+    let made = c.made.ensures in (
       made.0,
       made.1,
       made.2,
@@ -17,14 +17,14 @@ returns g c =
           (λ told.
           let call = told.2 in
           let by : SendsSlice g.QH.Default.is_default g.K.BackpressureFn.action call.1.shown.now c.handle-handle.result.now c.args.elements.now call.0 call.1.left.now = search rules in
-          answered numbers_left (λ result old new. SendsSlice g.QH.Default.is_default g.K.BackpressureFn.action old c.args.self.now c.args.elements.now result new) told.0 c.made-sent.result _ _ told.1
+          answered numbers_left (λ result old new. SendsSlice g.QH.Default.is_default g.K.BackpressureFn.action old c.args.self.now c.args.elements.now result new) told.0 c.made.result _ _ told.1
           (at (λ old n result new. SendsSlice g.QH.Default.is_default g.K.BackpressureFn.action old n c.args.elements.now result new) call.1.shows c.handle-handle.ensures (is_made call.0 told.0 call.2) call.1.leaves by))
-          (λ none. exhausted numbers_left (λ result old new. SendsSlice g.QH.Default.is_default g.K.BackpressureFn.action old c.args.self.now c.args.elements.now result new) c.made-sent.result _ _ none) made.4,
+          (λ none. exhausted numbers_left (λ result old new. SendsSlice g.QH.Default.is_default g.K.BackpressureFn.action old c.args.self.now c.args.elements.now result new) c.made.result _ _ none) made.4,
     )
 
 -- and a step
-pub made-sent-requires-clause-makes : goal.made-sent-requires-clause-makes
-made-sent-requires-clause-makes g c κs within state returned after call =
+pub made-requires-clause-makes : goal.made-requires-clause-makes
+made-requires-clause-makes g c κs within state returned after call =
     let by : SendsSlice g.QH.Default.is_default g.K.BackpressureFn.action call.shown.now c.handle-handle.result.now c.args.elements.now returned call.left.now = search rules in
     let keeps : Keeps [] call.shown.now call.left.now = search rules in
     (stepped g.K.BackpressureFn.action g.QH.Default.is_default g.PH.Default.is_default call.shows call.leaves keeps (elements_sent g.K.BackpressureFn.action g.QH.Default.is_default g.PH.Default.is_default call.shown.now call.left.now c.handle-handle.result.now (length c.args.elements.now) c.args.elements.now returned by), search rules, search rules)

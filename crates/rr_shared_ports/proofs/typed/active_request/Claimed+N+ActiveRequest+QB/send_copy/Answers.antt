@@ -8,7 +8,7 @@ use Rattle.rr_shared_ports.proofs.typed.active_request.Claimed+N+ActiveRequest+Q
 -- it is the call of the port
 pub returns : goal.returns
 returns g c =
-    let made = c.numbered-sent.ensures in (
+    let made = c.numbered.ensures in (
       made.0,
       made.1,
       made.2,
@@ -17,14 +17,14 @@ returns g c =
           (λ told.
           let call = told.2 in
           let by : SendsResponseCopy g.PH.Default.is_default g.K.BackpressureFn.action call.shown.now c.handle-handle.result.now c.args.value told.0 call.left.now = search rules in
-          answered numbers_left (λ result old new. SendsResponseCopy g.PH.Default.is_default g.K.BackpressureFn.action old c.args.self.now c.args.value result new) told.0 c.numbered-sent.result _ _ told.1
+          answered numbers_left (λ result old new. SendsResponseCopy g.PH.Default.is_default g.K.BackpressureFn.action old c.args.self.now c.args.value result new) told.0 c.numbered.result _ _ told.1
           (at (λ old n result new. SendsResponseCopy g.PH.Default.is_default g.K.BackpressureFn.action old n c.args.value result new) call.shows c.handle-handle.ensures refl call.leaves by))
-          (λ none. exhausted numbers_left (λ result old new. SendsResponseCopy g.PH.Default.is_default g.K.BackpressureFn.action old c.args.self.now c.args.value result new) c.numbered-sent.result _ _ none) made.4,
+          (λ none. exhausted numbers_left (λ result old new. SendsResponseCopy g.PH.Default.is_default g.K.BackpressureFn.action old c.args.self.now c.args.value result new) c.numbered.result _ _ none) made.4,
     )
 
 -- and a step
-pub numbered-sent-requires-clause-keeps : goal.numbered-sent-requires-clause-keeps
-numbered-sent-requires-clause-keeps g c κs within state returned after call =
+pub numbered-requires-clause-keeps : goal.numbered-requires-clause-keeps
+numbered-requires-clause-keeps g c κs within state returned after call =
     let by : SendsResponseCopy g.PH.Default.is_default g.K.BackpressureFn.action call.shown.now c.handle-handle.result.now c.args.value returned call.left.now = search rules in
     let keeps : Keeps [] call.shown.now call.left.now = search rules in
     stepped g.K.BackpressureFn.action g.QH.Default.is_default g.PH.Default.is_default call.shows call.leaves keeps (response_elements_sent g.K.BackpressureFn.action g.QH.Default.is_default g.PH.Default.is_default call.shown.now call.left.now c.handle-handle.result.now 1 (c.args.value ∷ []) returned by)

@@ -1,4 +1,4 @@
-use Rattle.rr_test_threads.proofs.tests.examples.books_note_calls.Given as goal
+use Rattle.rr_test_runs.proofs.tests.hubs.examples.books_note_calls.Given as goal
 
 -- the blank that was just made
 abbrev pub ghosts-told : goal.ghosts-told

@@ -1,4 +1,4 @@
-use Rattle.rr_test_threads.proofs.tests.payloads.slices_of_words_come_as_they_were_sent_and_a_handler_decides.Given as goal
+use Rattle.rr_test_runs.proofs.tests.hubs.payloads.slices_of_words_come_as_they_were_sent_and_a_handler_decides.Given as goal
 
 -- the hub that was just opened
 abbrev pub ghosts-comes : goal.ghosts-comes

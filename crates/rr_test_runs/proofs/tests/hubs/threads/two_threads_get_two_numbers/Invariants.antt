@@ -1,4 +1,4 @@
-use Rattle.rr_test_threads.proofs.tests.threads.two_threads_get_two_numbers.Given as goal
+use Rattle.rr_test_runs.proofs.tests.hubs.threads.two_threads_get_two_numbers.Given as goal
 
 -- the hub that was just opened
 abbrev pub ghosts-two_create : goal.ghosts-two_create

@@ -5,7 +5,7 @@ use denote.Param.Send.{param_send, arg_send, given_sync, shr_send}
 use Rattle.rr_locked.proofs.bells.Bells.TheSendSync as bells
 use Rattle.rr_locked.proofs.seat.Seat.TheSendSync as seat
 use Rattle.rr_locked.proofs.Shared.{caller_send}
-use Rattle.rr_test_threads.proofs.tests.examples.work.Goals as goal
+use Rattle.rr_test_runs.proofs.tests.hubs.examples.work.Goals as goal
 
 pub join-requires-send-F : goal.join-requires-send-F
 join-requires-send-F g c κs within =

@@ -1,4 +1,4 @@
-use Rattle.rr_test_threads.proofs.tests.threads.what_exceeds_a_limit_is_refused_by_name.Given as goal
+use Rattle.rr_test_runs.proofs.tests.hubs.threads.six_handles_are_released_in_every_order.Given as goal
 
 -- the hub that was just opened
 abbrev pub ghosts-plays : goal.ghosts-plays

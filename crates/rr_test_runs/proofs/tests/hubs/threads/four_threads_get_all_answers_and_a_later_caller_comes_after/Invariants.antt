@@ -1,4 +1,4 @@
-use Rattle.rr_test_threads.proofs.tests.threads.four_threads_get_all_answers_and_a_later_caller_comes_after.Given as goal
+use Rattle.rr_test_runs.proofs.tests.hubs.threads.four_threads_get_all_answers_and_a_later_caller_comes_after.Given as goal
 
 -- the hub that was just opened
 abbrev pub ghosts-four : goal.ghosts-four

@@ -193,7 +193,7 @@ impl<N: Naming, R: Wait> Player<'_, N, R> {
         None
     }
 
-    /// Creates ports, and makes so many exchanges by them. Returns the sum of the answers.
+    /// Creates a client and a server, and makes `exchanges` round trips with them. Returns the sum of the responses.
     fn exchange_all(&mut self, exchanges: u64) -> Option<u64> {
         let client = create(self.rt, self.hub, &mut self.seat)?;
         let Reply::Created(server) = self.call(new_server()) else {
@@ -207,7 +207,7 @@ impl<N: Naming, R: Wait> Player<'_, N, R> {
     }
 }
 
-/// Lets four threads make so many exchanges each. Returns the sums of their answers.
+/// Lets four threads make `exchanges` round trips each. Returns the sums of their responses.
 fn exchange_by_four<N: Naming, R: Threads + Wait + Sync>(
     rt: &R,
     alloc: Global,

@@ -1,4 +1,4 @@
-use Rattle.rr_test_threads.proofs.tests.examples.a_book_makes_so_many_seats.Given as goal
+use Rattle.rr_test_runs.proofs.tests.hubs.examples.a_book_makes_so_many_seats.Given as goal
 
 -- the blank that was just made
 abbrev pub ghosts-seated : goal.ghosts-seated
