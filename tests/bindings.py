@@ -4,8 +4,8 @@
     tests/bindings.py        after `rt ci`, over the libraries and the program `rr` that it left
     tests/bindings.py RR     with another build of the program `rr`
 
-RR_ARCHIVES may name a folder with the archives, as for `bindings/build`. What stands in rr.h is compared with what the archive
-exports, and with how C, C++, Rust, Python and the proved crate lay it out. The last line is 'N passed, M failed'.
+RR_ARCHIVES may name a folder with the archives, as for `bindings/build`. What stands in rr.h is compared with what the libraries
+define, and with how C, C++, Rust, Python and the proved crate lay it out. The last line is 'N passed, M failed'.
 """
 import os
 import pathlib
@@ -20,10 +20,10 @@ ROOT = pathlib.Path(__file__).resolve().parent.parent
 BINDINGS = ROOT / "bindings"
 HEADER = BINDINGS / "c" / "include" / "rr.h"
 
-# What `tests/archive.py` builds.
-CORE = ROOT / "crates" / "rr_c" / "out" / "librr_c.a"
+TOOLS = ["ar", "cargo", "cc", "clang++", "g++", "ld", "nm", "objcopy", "python3", "readelf", "valgrind"]
 
-TOOLS = ["ar", "cargo", "cc", "g++", "nm", "python3", "valgrind"]
+# What the libraries need of the C library.
+NEEDED = ["free", "malloc", "memmove", "memset", "realloc"]
 WARNINGS = ["-Wall", "-Wextra", "-Werror", "-pedantic"]
 C = ["cc", "-std=c11", "-O2", *WARNINGS]
 CPP = ["g++", "-std=c++17", "-O2", *WARNINGS, "-x", "c++"]
@@ -51,6 +51,9 @@ TESTS = {
 
 # How many sequences of commands are compared for each language, and how many of them under valgrind.
 SEQUENCES, VALGRIND_SEQUENCES = 1000, 40
+
+# For how many seconds the C calls are fuzzed.
+FUZZED = 120
 
 
 class Tally:
@@ -130,42 +133,40 @@ def declared_names():
     return names + re.findall(r"^static inline rr_\w+ (rr_\w+_default)\(", text, re.M)
 
 
-def build_archive(room, tally):
-    """Builds the archive that `bindings/build` takes, unless RR_ARCHIVES names one, and looks at what is assumed of C."""
+def build_libraries(room, tally):
+    """Proves rr_c and builds the libraries, here and in a copy of this checkout. Returns whether they are there."""
+    status, output, faults = room.run([BINDINGS / "build", room.lib], seconds=3600)
+    if not tally.note(status == 0, f"bindings/build: {output.strip()}"):
+        print(faults)
+        return False
     if "RR_ARCHIVES" in room.env:
         return True
-    status, output, faults = room.run([sys.executable, ROOT / "tests" / "archive.py"], seconds=3600)
-    proved = re.search(r"^logic=proved functions=\d+ axioms=3 ", output, re.M)
-    axioms = re.search(r"^axioms libc: libc::heap::rattle_alloc, libc::heap::rattle_dealloc, libc::heap::rattle_realloc \(3 of", output, re.M)
-    is_well = status == 0 and proved is not None and axioms is not None
-    if not tally.note(is_well, f"rr_c is proved over three axioms: status {status}, {proved[0] if proved else 'not proved'}"):
-        print(output + faults)
-        return False
-    archives = room.folder / "archives"
-    archives.mkdir()
-    shutil.copy(CORE, archives)
-    page = pathlib.Path(subprocess.run(["rt", "doc"], capture_output=True, text=True, check=True).stdout.strip())
-    support = next(it / "c" for it in page.parents if (it / "c" / "libos_c.a").is_file())
-    for name in ("libos_c.a", "liblibc_c.a"):
-        shutil.copy(support / name, archives)
-    room.env["RR_ARCHIVES"] = str(archives)
+    proved = re.search(r"^logic=proved functions=\d+ axioms=3 ", faults, re.M)
+    axioms = re.search(r"^axioms libc: libc::heap::rattle_alloc, libc::heap::rattle_dealloc, libc::heap::rattle_realloc \(3 of", faults, re.M)
+    if not tally.note(proved is not None and axioms is not None, f"rr_c is proved over three axioms: {proved[0] if proved else 'not proved'}"):
+        print(faults)
+    copy, again = room.folder / "copy", room.folder / "again"
+    shutil.copytree(ROOT, copy, ignore=shutil.ignore_patterns(".git", "incremental", "lib", "target"))
+    status, _, faults = room.run([copy / "bindings" / "build", again], seconds=3600)
+    same = status == 0 and all((again / it).read_bytes() == (room.lib / it).read_bytes() for it in ("librr.a", "librr.so"))
+    if not tally.note(same, "a second build, in another folder, makes the same libraries, byte for byte"):
+        print(faults)
+    shutil.rmtree(copy)
     return True
 
 
 def check_symbols(room, tally):
-    """Compares what the archives export with what rr.h declares, and looks for symbols that nobody defines."""
-    wanted = declared_functions()
-    core = pathlib.Path(room.env["RR_ARCHIVES"]) / "librr_c.a"
-    for name, words in (("librr_c.a", ["--extern-only", core]), ("librr.so", ["--dynamic", room.lib / "librr.so"])):
-        _, output, _ = room.run(["nm", "--defined-only", *words])
-        told = re.findall(r" T (rr_\w+)$", output, re.M)
-        is_well = bool(wanted) and sorted(told) == sorted(wanted)
-        tally.note(is_well, f"{name} exports {len(told)} functions, rr.h declares {len(wanted)}{difference(wanted, told)}")
-    status, output, _ = room.run(["nm", "--dynamic", "--undefined-only", room.lib / "librr.so"])
-    wanting = re.findall(r" U (\S+)$", output, re.M)
-    strange = [it for it in wanting if "@GLIBC_" not in it]
-    is_well = status == 0 and bool(wanting) and not strange
-    tally.note(is_well, f"librr.so needs {len(wanting)} symbols, all of libc{difference(strange, [])}")
+    """Compares what the libraries define with what rr.h declares, and what they need of others with `NEEDED`."""
+    archive, shared = [room.lib / "librr.a"], ["--dynamic", room.lib / "librr.so"]
+    for name, words in (("librr.a", archive), ("librr.so", shared)):
+        for what, flag, wanted in (("defines", "--defined-only", declared_functions()), ("needs", "--undefined-only", NEEDED)):
+            _, output, _ = room.run(["nm", "--extern-only", "--format=posix", flag, *words])
+            told = re.findall(r"^(\w+)(?:@\S+)? [^wv\s]\b", output, re.M)
+            is_well = sorted(told) == sorted(wanted)
+            tally.note(is_well, f"{name} {what} {len(told)} symbols, and should {len(wanted)}{difference(wanted, told)}")
+    _, output, _ = room.run(["readelf", "--dynamic", "--program-headers", "--wide", room.lib / "librr.so"])
+    hardened = [r"FLAGS.*BIND_NOW", r"GNU_RELRO", r"GNU_STACK\s.*\sRW\s"]
+    tally.note(all(re.search(it, output) for it in hardened), "librr.so binds at once, has read-only relocations and no executable stack")
 
 
 def check_layouts(room, tally):
@@ -278,6 +279,14 @@ def check_sequences(room, tally):
             tally.note(False, f"the sequences of {name} did not end")
 
 
+def check_fuzz(room, tally):
+    """Fuzzes the C calls beside the model of the rules."""
+    status, _, faults = room.run([BINDINGS / "fuzz" / "run", FUZZED, room.folder], seconds=FUZZED + 300)
+    runs = re.search(r"^stat::number_of_executed_units: (\d+)", faults, re.M)
+    if not tally.note(status == 0 and runs is not None, f"the fuzzer's model agrees with the calls: {runs[1] if runs else 0} runs"):
+        print(faults[-3000:])
+
+
 def main(words):
     started, tally = time.monotonic(), Tally()
     # `cargo` may be installed for this user alone.
@@ -289,11 +298,8 @@ def main(words):
     reference = words[0] if words else ROOT / "crates" / "rr" / "out" / "rr"
     with tempfile.TemporaryDirectory() as folder:
         room = Room(folder, pathlib.Path(reference).resolve())
-        if not build_archive(room, tally):
-            return tally.end()
-        status, output, faults = room.run([BINDINGS / "build", room.lib])
-        if tally.note(status == 0, f"bindings/build: {(output + faults).strip()}"):
-            for check in (check_symbols, build_scripts, check_layouts, check_c, check_cargo, check_python, check_sequences):
+        if build_libraries(room, tally):
+            for check in (check_symbols, build_scripts, check_layouts, check_c, check_cargo, check_python, check_sequences, check_fuzz):
                 check(room, tally)
     taken = round(time.monotonic() - started)
     print(f"the bindings took {taken // 60} minutes and {taken % 60} seconds")

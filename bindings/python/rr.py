@@ -10,14 +10,16 @@
                 with response:
                     print(response.payload)
 
-Payloads are bytes. A message has a user header of 16 bytes beside its payload. What lives is released by `release`, or at the end of its
-`with`; closing the hub releases all. A refused call raises an `RrError`, of which there is a subclass for each code of rr.h. It leaves
-everything as it was, but for a send: a message whose send is refused is released. One call is made at a time; other threads wait.
+Payloads are bytes-like. A message has a user header of 16 bytes beside its payload. `release` releases a port or a message, and so does
+the end of its `with`, unless it was sent; closing the hub releases all. A refused call raises an `RrError`, of which there is a subclass
+for each code of rr.h. It leaves everything as it was, but for a send: a message whose send is refused is released. A number that is out
+of range raises `ValueError`. One call is made at a time; other threads wait.
 
 The library is the file that the variable RR_SO names, or ../lib/librr.so beside this folder, which `bindings/build` builds."""
 import collections
 import ctypes
 import threading
+import types
 
 import rr_h
 from rr_h import AllocationStrategy, BackpressureStrategy, Kind, Limits, RrError
@@ -35,7 +37,8 @@ class Hub:
         self._hub = rr_h.HubAt()
         self._lock = threading.RLock()
         at = ctypes.c_void_p()
-        rr_h.check(rr_h.LIBRARY.rr_hub_create(ctypes.byref(limits or Limits()), node_id, ctypes.byref(at)))
+        limits, node_id = limits or Limits(), rr_h.whole(node_id, 64, "node_id")
+        rr_h.check(rr_h.LIBRARY.rr_hub_create(ctypes.byref(limits), node_id, ctypes.byref(at)))
         self._hub.at = at.value
 
     def __enter__(self):
@@ -48,11 +51,15 @@ class Hub:
         self.close()
 
     def close(self):
-        """Drops the hub with all that it has. Nothing of it can be used after that; closing it again does nothing."""
+        """Drops the hub with all that it has. Nothing of it can be used after that; closing it again does nothing.
+
+        An interrupt in the middle drops nothing twice; at worst the hub's memory stays with the process.
+        """
         with self._lock:
-            if self._hub.at is not None:
-                rr_h.LIBRARY.rr_hub_drop(self._hub)
-                self._hub.at = None
+            at = self._hub.at
+            self._hub.at = None
+            if at is not None:
+                rr_h.LIBRARY.rr_hub_drop(rr_h.HubAt(at))
 
     @property
     def is_closed(self):
@@ -104,6 +111,11 @@ class Hub:
         return made
 
 
+def _bytes_of(payload):
+    """Returns the bytes of a bytes-like object. Raises `TypeError` for a number, which `bytes` would take for a length."""
+    return bytes(memoryview(payload))
+
+
 # The header of a message, whose fields rr.h explains.
 Header = collections.namedtuple("Header", [name for name, _ in rr_h.Header._fields_])
 
@@ -114,16 +126,17 @@ class _Named:
     Raises `Unknown` if it was sent or released.
     """
 
-    def __init__(self, hub, name):
+    def __init__(self, hub, name, life=None):
         self._hub = hub
         self._id = name
-        self._is_gone = False
+        # A message that is written goes by another object, with the same life.
+        self._life = life or types.SimpleNamespace(is_over=False)
 
     def __enter__(self):
         return self
 
     def __exit__(self, *_):
-        if not self._is_gone and not self._hub.is_closed:
+        if not self._life.is_over and not self._hub.is_closed:
             self.release()
 
     def __repr__(self):
@@ -141,11 +154,20 @@ class _Named:
 
     def release(self):
         """Releases it."""
-        self._call("release")
-        self._is_gone = True
+        with self._hub._lock:
+            self._call("release")
+            self._life.is_over = True
+
+    def _code(self, name, *arguments):
+        """Makes a call on it, and returns its code."""
+        with self._hub._lock:
+            if self._life.is_over and not self._hub.is_closed:
+                return rr_h.UNKNOWN
+            return self._hub._code(name, ctypes.byref(self._id), *arguments)
 
     def _call(self, name, *arguments):
-        self._hub._call(name, ctypes.byref(self._id), *arguments)
+        """Makes a call on it, and raises the error if it is refused."""
+        rr_h.check(self._code(name, *arguments))
 
     def _asked(self, name, answer_type, *arguments):
         """Makes a call that writes an answer, and returns that."""
@@ -156,7 +178,7 @@ class _Named:
     def _received(self, handle_type):
         """Receives a handle of this type, or nothing."""
         received = rr_h.Id()
-        code = self._hub._code("receive", ctypes.byref(self._id), ctypes.byref(received))
+        code = self._code("receive", ctypes.byref(received))
         if code == rr_h.NOTHING:
             return None
         rr_h.check(code)
@@ -209,41 +231,40 @@ class _Unsent(_Message):
 
     @_Message.user_header.setter
     def user_header(self, header):
+        header = _bytes_of(header)
         if len(header) > ctypes.sizeof(rr_h.UserHeader):
             raise ValueError("a user header has 16 bytes")
-        self._call("set_user_header", ctypes.byref(rr_h.UserHeader.from_buffer_copy(bytes(header).ljust(16, b"\0"))))
+        self._call("set_user_header", ctypes.byref(rr_h.UserHeader.from_buffer_copy(header.ljust(16, b"\0"))))
 
     def set(self, index, byte):
         """Replaces a byte that was written. Returns whether there is one."""
-        return self._asked("set", ctypes.c_bool, index, rr_h.byte_of(byte))
+        return self._asked("set", ctypes.c_bool, rr_h.whole(index, 64, "index"), rr_h.whole(byte, 8, "a byte"))
 
 
 class _Uninit(_Unsent):
-    """A message that is being written. It has become another object when it is complete, and goes by that one then."""
+    """A message that is being written. The call that completes it returns the object that can be sent; what releases either releases both."""
 
     def push(self, byte):
         """Appends a byte. Returns whether there was room for it."""
-        return self._asked("push", ctypes.c_bool, rr_h.byte_of(byte))
+        return self._asked("push", ctypes.c_bool, rr_h.whole(byte, 8, "a byte"))
 
     def fill(self, byte):
         """Makes each byte this one. Returns the message, which can be sent."""
-        self._call("fill", rr_h.byte_of(byte))
-        return self._written()
+        return self._completed("fill", rr_h.whole(byte, 8, "a byte"))
 
     def write_from_slice(self, payload):
         """Copies these bytes. Returns the message, which can be sent. Raises `WrongLength`."""
-        payload = bytes(payload)
-        self._call("write_from_slice", payload, len(payload))
-        return self._written()
+        payload = _bytes_of(payload)
+        return self._completed("write_from_slice", payload, len(payload))
 
     def assume_init(self):
         """Returns the message, which can be sent, if all its bytes were pushed. Raises `Incomplete`."""
-        self._call("assume_init")
-        return self._written()
+        return self._completed("assume_init")
 
-    def _written(self):
-        self._is_gone = True
-        return self.written_type(self._hub, self._id)
+    def _completed(self, name, *arguments):
+        """Makes the call that completes it, and returns what it goes by then."""
+        self._call(name, *arguments)
+        return self.written_type(self._hub, self._id, self._life)
 
 
 class _Sendable(_Unsent):
@@ -255,9 +276,12 @@ class _Sendable(_Unsent):
         return self._asked("is_deliverable", ctypes.c_bool)
 
     def _sent(self):
-        """Sends it, or releases it if that is refused."""
-        self._is_gone = True
-        return self._asked("send", ctypes.c_size_t)
+        """Sends it, or releases it if that is refused. Raises `Unknown` if it was sent or released before."""
+        servers = ctypes.c_size_t()
+        with self._hub._lock:
+            was_over, self._life.is_over = self._life.is_over, True
+            code = rr_h.UNKNOWN if was_over else self._hub._code("send", ctypes.byref(self._id), ctypes.byref(servers))
+        rr_h.check(code)
 
 
 class _Sender(_Named):
@@ -268,17 +292,18 @@ class _Sender(_Named):
 
         Raises `LoanOutOfMemory`, `LoanExceedsMaxLoans`, `LoanExceedsMaxLoanSize`, `NumbersExhausted`.
         """
-        return self.message_type(self._hub, self._hub._made("loan_slice_uninit", ctypes.byref(self._id), length))
+        loaned = self._asked("loan_slice_uninit", rr_h.Id, rr_h.whole(length, 64, "length"))
+        return self.message_type(self._hub, loaned)
 
     def loan(self, payload):
         """Loans a message with these bytes, which can be sent. Raises what `loan_uninit` does."""
-        payload = bytes(payload)
+        payload = _bytes_of(payload)
         return self.loan_uninit(len(payload)).write_from_slice(payload)
 
     def send(self, payload, user_header=None):
         """Sends these bytes. Raises what `loan_uninit` and the message's `send` do, and returns what that does."""
         if user_header is None:
-            return self._sent_copy(bytes(payload))
+            return self._sent_copy(_bytes_of(payload))
         with self.loan(payload) as message:
             message.user_header = user_header
             return message.send()

@@ -4,8 +4,34 @@ The library is the file that the variable RR_SO names, or ../lib/librr.so beside
 """
 import ctypes
 import enum
+import operator
 import os
 import pathlib
+
+
+def whole(value, bits, name):
+    """Returns a whole number of so many bits. Raises `ValueError` for one that is out of range, of which ctypes would take the lowest bits,
+    and `TypeError` for what is no whole number."""
+    number = operator.index(value)
+    if not 0 <= number < 1 << bits:
+        raise ValueError(f"{name} is 0 to 2^{bits} - 1, and not {number}")
+    return number
+
+
+class Settings(ctypes.Structure):
+    """A struct that refuses unknown fields, numbers that a field can't hold, and flags that are neither True nor False."""
+
+    __slots__ = ()
+
+    def __setattr__(self, name, value):
+        field_type = dict(self._fields_).get(name)
+        if field_type is None:
+            raise AttributeError(f"{type(self).__name__} has no field {name}")
+        if field_type is not ctypes.c_bool:
+            value = whole(value, 8 * ctypes.sizeof(field_type), name)
+        elif not isinstance(value, bool):
+            raise TypeError(f"{name} is True or False, and not {value!r}")
+        super().__setattr__(name, value)
 
 
 class HubAt(ctypes.Structure):
@@ -30,8 +56,11 @@ class UserHeader(ctypes.Structure):
     _fields_ = [("bytes", ctypes.c_uint8 * 16)]
 
 
-class Limits(ctypes.Structure):
-    """What a hub may hold. `Limits()` has iceoryx2's defaults; each field may be named: `Limits(max_clients=1)`."""
+class Limits(Settings):
+    """What a hub may hold. `Limits()` has iceoryx2's defaults; each field may be named: `Limits(max_clients=1)`.
+
+    Raises `TypeError` for another name and for a flag that is no `bool`, and `ValueError` for a number that no size_t holds.
+    """
 
     _fields_ = [
         ("max_clients", ctypes.c_size_t),
@@ -49,10 +78,12 @@ class Limits(ctypes.Structure):
 
     def __init__(self, **limits):
         names = [name for name, _ in self._fields_]
+        for name in limits.keys() - set(names):
+            raise TypeError(f"there is no limit {name}")
         super().__init__(**{**dict(zip(names, (8, 2, 2, 4, 2, 2, 128, 128, True, True, True))), **limits})
 
 
-class ClientSettings(ctypes.Structure):
+class ClientSettings(Settings):
     _fields_ = [
         ("initial_max_slice_len", ctypes.c_size_t),
         ("preallocated_requests", ctypes.c_size_t),
@@ -61,7 +92,7 @@ class ClientSettings(ctypes.Structure):
     ]
 
 
-class ServerSettings(ctypes.Structure):
+class ServerSettings(Settings):
     _fields_ = [
         ("initial_max_slice_len", ctypes.c_size_t),
         ("preallocated_responses", ctypes.c_size_t),
@@ -145,6 +176,7 @@ def _error_of(name, number, meaning):
 ERRORS = {number: _error_of(name, number, meaning) for name, (number, meaning) in CODES.items() if number}
 
 OK = CODES["RR_OK"][0]
+UNKNOWN = CODES["RR_UNKNOWN"][0]
 NOTHING = CODES["RR_NOTHING"][0]
 BYTES = ctypes.POINTER(ctypes.c_uint8)
 
@@ -202,10 +234,3 @@ def check(code):
     """Raises the error of a code that is not RR_OK."""
     if code != OK:
         raise ERRORS[code](ERRORS[code].__doc__)
-
-
-def byte_of(value):
-    """Returns a number that a byte has. For others ctypes would take the lowest bits."""
-    if not 0 <= value <= 255:
-        raise ValueError("a byte is 0 to 255")
-    return value

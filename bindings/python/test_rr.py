@@ -6,6 +6,7 @@ import tempfile
 import threading
 import time
 import unittest
+import unittest.mock
 
 import layout
 import rr
@@ -84,13 +85,45 @@ class TestExchange(unittest.TestCase):
         self.assertEqual([it.payload for it in pending], [b"\5\5\5"])
         self.assertFalse(pending.has_response or self.server.has_requests)
 
-    def test_numbers_that_no_byte_has_are_refused(self):
+    def test_numbers_out_of_range_are_refused(self):
         request = self.client.loan_uninit(1)
-        for value in (-1, 256):
-            self.assertRaises(ValueError, request.push, value)
+        for number, call in (
+            (256, request.push),
+            (256, request.fill),
+            (256, lambda it: request.set(0, it)),
+            (2**64 + 9, lambda it: request.set(it, 9)),
+            (2**64 + 3, self.client.loan_uninit),
+            (2**64 + 7, lambda it: rr.Hub(node_id=it)),
+            (2**64 + 16, self.hub.client),
+            (2**64 + 1, lambda it: self.hub.client(16, preallocated_requests=it)),
+            (2**32 + 1, lambda it: self.hub.client(16, backpressure_strategy=it)),
+            (2**32 + 1, lambda it: self.hub.server(16, allocation_strategy=it)),
+            (2**64 + 1, lambda it: self.hub.server(16, max_loaned_responses_per_request=it)),
+            (2**64 + 1, lambda it: rr.Limits(max_servers=it)),
+        ):
+            self.assertRaises(ValueError, call, number)
+            self.assertRaises(ValueError, call, -1)
+            self.assertRaises(TypeError, call, 1.0)
+        self.assertEqual(request.payload, b"")
+
+    def test_limits_are_named_and_flags_are_true_or_false(self):
+        self.assertRaises(TypeError, rr.Limits, max_clinets=1)
+        self.assertRaises(TypeError, rr.Limits, enable_fire_and_forget_requests="no")
+        limits = rr.Limits()
+        with self.assertRaises(AttributeError):
+            limits.max_clinets = 1
+        with self.assertRaises(ValueError):
+            limits.max_clients = 2**64
+
+    def test_payloads_are_bytes(self):
+        request = self.client.loan_uninit(5)
+        for call in (self.client.send, self.client.loan, request.write_from_slice):
+            self.assertRaises(TypeError, call, 5)
+        with self.assertRaises(TypeError):
+            request.user_header = 5
         with self.assertRaises(ValueError):
             request.user_header = bytes(17)
-        self.assertEqual(request.payload, b"")
+        self.assertEqual(self.client.send(memoryview(b"abc")).payload, b"abc")
 
     def test_ports_tell_their_settings(self):
         self.client.update_connections()
@@ -154,6 +187,41 @@ class TestRelease(unittest.TestCase):
                 self.assertRaises(rr.Unknown, active.send, b"5")
             self.assertRaises(rr.Unknown, client.loan, b"6")
             self.assertEqual(hub.client(8).number, server.number + 6)
+        self.assertTrue(hub.is_closed)
+
+    def test_a_sent_message_is_released_no_more(self):
+        with rr.Hub(small_limits()) as hub, hub.client(8) as client, hub.server(8) as server:
+            uninit = client.loan_uninit(1)
+            request = uninit.fill(7)
+            with request.send() as pending:
+                for message in (uninit, request):
+                    self.assertRaises(rr.Unknown, message.release)
+                self.assertRaises(rr.Unknown, request.send)
+                self.assertEqual(server.receive().payload, b"\7")
+                self.assertTrue(pending.is_connected)
+
+    def test_the_end_of_a_with_releases_what_became_of_a_message(self):
+        with rr.Hub(small_limits()) as hub, hub.client(8) as client:
+            for _ in range(3):
+                with self.assertRaises(KeyError), client.loan_uninit(3) as message:
+                    message.fill(0)
+                    raise KeyError
+            with client.loan_uninit(1) as message:
+                pending = message.fill(1).send()
+            self.assertEqual(pending.payload, b"\1")
+
+    def test_an_interrupted_close_drops_once(self):
+        hub, drop, drops = rr.Hub(), rr_h.LIBRARY.rr_hub_drop, []
+
+        def interrupted(at):
+            drop(at)
+            drops.append(at)
+            raise KeyboardInterrupt
+
+        with unittest.mock.patch.object(rr_h.LIBRARY, "rr_hub_drop", interrupted):
+            self.assertRaises(KeyboardInterrupt, hub.close)
+            hub.close()
+        self.assertEqual(len(drops), 1)
         self.assertTrue(hub.is_closed)
 
     def test_nothing_is_used_after_its_hub_was_closed(self):

@@ -6,9 +6,14 @@
  * `iox2_request_mut_send` and `iox2_response_mut_send`, `rr_release` is every `iox2_*_drop`.
  *
  * Each function returns one of the codes below. A call that returns another code than RR_OK writes nothing through its pointers and
- * leaves everything as it was, but for these two: a message whose send is refused is released, and a server whose receive is refused has
- * dropped the requests at the heads of its queues that no client waits for. Any numbers may stand in an `rr_id_t`: one that names
- * nothing is refused with RR_UNKNOWN, and one that names what has no such call with RR_WRONG_KIND.
+ * leaves the hub as it was, with two exceptions. A message whose send is refused is released. A server's receive drops the requests at
+ * the heads of its queues that no client waits for, also where it returns RR_NOTHING or is refused: so `rr_has_entries` may write true
+ * before a receive that returns RR_NOTHING, and false after it.
+ *
+ * An id belongs to the hub that wrote it. Each hub counts its numbers from 0, so the id of another hub may name something here, too. Any
+ * numbers may stand in an `rr_id_t`: one that names nothing is refused with RR_UNKNOWN, and one that names what has no such call with
+ * RR_WRONG_KIND. What an id of this hub names is found at once as long as it lives. An id that was released, or whose row and index were
+ * changed, is looked for among all slots of all ports: microseconds in a small hub, milliseconds in one of a hundred ports.
  *
  * What a caller owes, and nothing checks:
  *   - an `rr_hub_t` is written by `rr_hub_create` and passed by its address. It may be moved, but of two copies one is used alone, not
@@ -142,9 +147,10 @@ typedef struct rr_user_header_t {
     uint8_t bytes[16]; /* 0 in a new message */
 } rr_user_header_t;
 
-/* Creates a hub without ports: `rr_hub_t hub; rr_hub_create(&limits, 1, &hub.at)`. RR_HUB_CREATE_*. */
+/* Creates a hub without ports: `rr_hub_t hub; rr_hub_create(&limits, 1, &hub.at)`. If it is refused there is no hub, and nothing to drop.
+ * RR_HUB_CREATE_*. */
 uint32_t rr_hub_create(const rr_limits_t *limits, uint64_t node_id, void **at);
-/* Drops a hub with all that it has, and frees its memory. */
+/* Drops a hub with all that it has, and frees its memory. Does nothing where `at` is null. */
 void rr_hub_drop(rr_hub_t hub);
 /* Writes what the id names, one of RR_KIND_*. RR_UNKNOWN. */
 uint32_t rr_kind(rr_hub_t *hub, const rr_id_t *id, uint32_t *kind);
@@ -189,10 +195,11 @@ uint32_t rr_send(rr_hub_t *hub, const rr_id_t *message, size_t *servers);
  * released, and has taken a number. RR_UNKNOWN, RR_WRONG_KIND, RR_NUMBERS_EXHAUSTED, RR_LOAN_*, RR_SEND_*. */
 uint32_t rr_send_copy(rr_hub_t *hub, const rr_id_t *from, const uint8_t *payload, size_t len, rr_id_t *message, size_t *servers);
 
-/* Receives a request of a server, or a response of a pending response. RR_NOTHING if none is queued; RR_UNKNOWN, RR_WRONG_KIND,
- * RR_NUMBERS_EXHAUSTED, RR_RECEIVE_*. */
+/* Receives a request of a server, or a response of a pending response. RR_NOTHING if none is queued; a server has dropped the requests
+ * then that no client waits for. RR_UNKNOWN, RR_WRONG_KIND, RR_NUMBERS_EXHAUSTED, RR_RECEIVE_*. */
 uint32_t rr_receive(rr_hub_t *hub, const rr_id_t *from, rr_id_t *received);
-/* Writes whether a server, or a pending response, would receive something. RR_UNKNOWN, RR_WRONG_KIND. */
+/* Writes whether anything is queued for a server or a pending response. For a server that may be a request that no client waits for, which
+ * a receive drops. RR_UNKNOWN, RR_WRONG_KIND. */
 uint32_t rr_has_entries(rr_hub_t *hub, const rr_id_t *from, bool *has_entries);
 /* Writes whether a pending response waits for a server, or an active request for its client. RR_UNKNOWN, RR_WRONG_KIND. */
 uint32_t rr_is_connected(rr_hub_t *hub, const rr_id_t *handle, bool *is_connected);

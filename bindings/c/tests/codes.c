@@ -318,6 +318,10 @@ static void hub_creation(void) {
     limits.max_servers = SIZE_MAX;
     GIVES(RR_HUB_CREATE_LIMITS_TOO_LARGE, rr_hub_create(&limits, 7, &at));
     HOLDS(at == &somewhere);
+
+    /* There is no hub then, and nothing to drop. */
+    rr_hub_t none = {NULL};
+    rr_hub_drop(none);
 }
 
 /* Whether a code comes only if 2^62 numbers were given, or if memory is refused. */

@@ -30,8 +30,9 @@
 //!
 //! Payloads are single values or slices of [`ZeroCopySend`] types; each message has a user header of 16 bytes beside. Sends and
 //! receives never wait, and never take memory: what a call needs beyond a longer slice of a growing port was taken when the port was
-//! created. Each limit of a hub refuses by a variant of its own, and a refused call leaves everything as it was, but for two: a refused
-//! send releases its message, and a refused receive of a server drops requests at the heads of its queues that no client waits for.
+//! created. Each limit of a hub refuses by a variant of its own, and a refused call leaves everything as it was, with two exceptions: a
+//! refused send releases its message, and a receive of a server drops requests at the heads of its queues that no client waits for, also
+//! where it returns `None` or is refused.
 //!
 //! Each item says which one of iceoryx2 it is after. One thread at a time uses a hub, which may move from thread to thread between
 //! uses.

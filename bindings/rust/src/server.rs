@@ -105,7 +105,8 @@ impl<'h, Q: Payload + ?Sized, P: Payload + ?Sized> Server<'h, Q, P> {
         Requests { from: Some(self) }
     }
 
-    /// Returns whether a request is queued.
+    /// Returns whether a request is queued. It may be one that no client waits for: a [`receive`](Self::receive) drops it and returns
+    /// `None`.
     ///
     /// # Errors
     ///
