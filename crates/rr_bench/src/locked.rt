@@ -1,20 +1,19 @@
-//! Round trips at a locked hub, calls of a book as its history grows, and a lock alone.
+//! Round trips at a locked hub.
 ghost use Rattle.std.specs.Prelude.{◌≡◌};
 
 use crate::rows::Timed;
 use crate::shared::TURNS;
 use anyhow::{anyhow, bail, ensure};
-use rr_commands::{Command, Reply};
+use rr_commands::Reply;
 use rr_locked::{
-    Bells, Book, CREATE_CLIENT, CREATE_SERVER, HubCommand, LockedHub, PARTS, Plan, Seat, Submit,
-    WorkerError, payload, receive, release, send_copy, take_response,
+    Bells, CREATE_CLIENT, CREATE_SERVER, HubCommand, LockedHub, PARTS, Seat, Submit, WorkerError,
+    payload, receive, release, send_copy, take_response,
 };
 use rr_ports::{Limits, UniqueNodeId};
-use rr_script::exchange;
 use std::alloc::Global;
 use std::marker::Brand;
+use std::sync::Wait;
 use std::sync::ledger::{Blank, Ledger};
-use std::sync::{Mutex, Wait};
 use std::thread;
 use std::thread::Threads;
 use std::time::{Clock, Instant};
@@ -152,65 +151,4 @@ pub fn time_pair<R: Threads + Wait + Sync + Clock>(
     trips: u64,
 ) -> anyhow::Result<Timed> {
     pair::<Brand, R>(rt, alloc, Blank::new(PARTS), threads, trips)
-}
-
-/// Times round trips of two workers.
-pub fn time_workers<R: Threads + Wait + Sync + Clock>(
-    rt: &R,
-    alloc: Global,
-    rounds: u64,
-) -> anyhow::Result<Timed> {
-    let plan = Plan {
-        rounds,
-        turns: TURNS,
-    };
-    let mut output = Vec::new(alloc);
-    let start = Instant::now(rt)?;
-    match exchange::<Brand, _, _>(rt, alloc, Blank::new(PARTS), plan, &mut output) {
-        Ok(sum) => Timed::since(rt, start, sum),
-        Err(stop) => bail!("{rounds} round trips ended with {stop:?}"),
-    }
-}
-
-/// Times turns of a lock, in each of which the number of the turn is added.
-pub fn time_lock<R: Wait + Clock>(rt: &R, turns: u64) -> anyhow::Result<Timed> {
-    let lock = Mutex::new(0u64);
-    let start = Instant::now(rt)?;
-    for turn in 0..turns {
-        let mut taken = lock.lock(rt);
-        *taken = taken.wrapping_add(turn.wrapping_add(1));
-    }
-    let sum = *lock.lock(rt);
-    Timed::since(rt, start, sum)
-}
-
-/// Asks a book `calls` questions about a number that names nothing, and checks that each is in its history.
-fn book<L: Ledger, R: Clock>(
-    rt: &R,
-    alloc: Global,
-    blank: Blank,
-    calls: u64,
-) -> anyhow::Result<Timed>
-    requires name { blank.name ≡ L.name }
-    requires parts { blank.parts ≡ L.parts }
-    requires many { blank.parts ≡ 1048578 }
-{
-    let mut book = Book::<L>::new(alloc, Limits::SMALLEST, UniqueNodeId(7), blank)?;
-    let mut seat = book.seat().ok_or(anyhow!("no seat"))?;
-    let start = Instant::now(rt)?;
-    let mut sum = 0u64;
-    for call in 0..calls {
-        if book.apply(&mut seat, Command::IsConnected(0)) == Reply::Unknown {
-            sum = sum.wrapping_add(call.wrapping_add(1));
-        }
-    }
-    let timed = Timed::since(rt, start, sum)?;
-    let noted = book.history().len() as u64;
-    ensure!(noted == calls, "{noted} calls were noted");
-    Ok(timed)
-}
-
-/// Times `calls` questions to a book.
-pub fn time_book<R: Clock>(rt: &R, alloc: Global, calls: u64) -> anyhow::Result<Timed> {
-    book::<Brand, R>(rt, alloc, Blank::new(PARTS), calls)
 }

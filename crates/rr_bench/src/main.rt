@@ -9,21 +9,23 @@ mod locked;
 mod pages;
 mod rows;
 mod shared;
+mod stress;
 mod threads;
 mod trip;
 
 use crate::crowd::{ALONE, Shape};
 use crate::idle::idle;
 use crate::rows::{FOUR, GROWN, LARGEST, MANY, NAP, Row, SLEEP, TIMED, TRIPS, Work, make, sample};
+use crate::stress::stress;
 use anyhow::bail;
 use std::env;
 
 /// The words of the program. Without any it makes 1,000 round trips of each row. `time` takes samples of all rows, `grow` of those in
 /// larger hubs. `count` makes N round trips after CLIENTS clients came and left, `trips` N by one thread at a hub of `rr_shared`, `four`
 /// by four, `sleep` by two threads that sleep, `nap` by two that also nap at random times, `many` by two such clients with four servers.
-/// `idle` lets a server wait for a second.
+/// `stress` has two threads make random calls, and then eight, of which each client's sends about N requests. `idle` lets a server wait for a second.
 const USAGE: &str =
-    "usage: rr_bench [time | grow | count N [CLIENTS] | (trips | four | sleep | nap | many) N | idle]";
+    "usage: rr_bench [time | grow | count N [CLIENTS] | (trips | four | sleep | nap | many | stress) N | idle]";
 
 /// How often each client asks if no word says it.
 const CHECKED: u64 = 1_000;
@@ -50,7 +52,8 @@ fn main(rt: HostRuntime) -> anyhow::Result<()> {
         (None, ..) => {
             make(&rt, rt.alloc(), &TIMED, CHECKED)?;
             make(&rt, rt.alloc(), &GROWN, CHECKED)?;
-            make(&rt, rt.alloc(), &[FOUR, NAP, MANY], CHECKED)
+            make(&rt, rt.alloc(), &[FOUR, NAP, MANY], CHECKED)?;
+            stress(&rt, rt.alloc(), CHECKED)
         }
         (Some("time"), None, ..) => sample(&rt, rt.alloc(), &TIMED),
         (Some("grow"), None, ..) => {
@@ -63,6 +66,7 @@ fn main(rt: HostRuntime) -> anyhow::Result<()> {
             let row = Row("ports", 1, 8, 0, 1, Work::Crowd(Shape { passed, ..ALONE }));
             make(&rt, rt.alloc(), &[row], trips.parse()?)
         }
+        (Some("stress"), Some(requests), None, _) => stress(&rt, rt.alloc(), requests.parse()?),
         (Some(word), Some(trips), None, _) => {
             make(&rt, rt.alloc(), &[row_of(word)?], trips.parse()?)
         }

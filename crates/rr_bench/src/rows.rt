@@ -1,6 +1,6 @@
 //! The rows: what is timed, under which name, and how often.
 use crate::crowd::{ALONE, CLIENTS, HANDLES, Job, MOST, PASSED, POOLS, SERVERS, Shape, time_crowd};
-use crate::locked::{time_book, time_lock, time_pair, time_workers};
+use crate::locked::time_pair;
 use crate::pages::time_pages;
 use crate::shared::time_shared;
 use crate::threads::Pace::{Alone, Nap, Sleep, Spin};
@@ -47,12 +47,6 @@ pub enum Work {
     Idle(Shape),
     /// Submissions at a hub of `rr_locked`.
     Pair,
-    /// The two workers of `rr_script`. The hub's making and its end are in it.
-    Workers,
-    /// A lock that is taken and given back.
-    Lock,
-    /// Questions about a number that names nothing, as the history of a book grows.
-    Book,
     /// Submissions at a hub of `rr_shared`.
     Shared,
     /// Clients and servers of `rr_shared_ports`, and how many of each.
@@ -74,7 +68,7 @@ pub struct Row(
 );
 
 /// The rows of `time`.
-pub const TIMED: [Row; 19] = [
+pub const TIMED: [Row; 16] = [
     Row("ports", 1, 8, 20_000, 1, Work::Word),
     Row("ports", 1, 4_096, 5_000, 1, Work::Page),
     Row("ports", 1, 65_536, 200, 1, Work::Large),
@@ -83,9 +77,6 @@ pub const TIMED: [Row; 19] = [
     Row("ports-slice", 1, 65_536, 50, 1, Work::Slice),
     Row("pair", 1, 8, 100_000, 1, Work::Pair),
     Row("pair", 2, 8, 100_000, 1, Work::Pair),
-    Row("locked", 2, 8, 100_000, 1, Work::Workers),
-    Row("lock", 1, 0, 100_000, 1, Work::Lock),
-    Row("book", 1, 0, 1_000_000, 1, Work::Book),
     TRIPS,
     Row("shared", 2, 8, 100_000, 1, Work::Shared),
     Row("shared", 8, 8, 6_250, 16, Work::Shared),
@@ -149,9 +140,6 @@ fn made<R: Threads + Wait + Sync + Clock>(
         Work::Crowd(shape) => time_crowd(rt, alloc, &shape, Job::Trips(trips)),
         Work::Idle(shape) => time_crowd(rt, alloc, &shape, Job::Looks(trips)),
         Work::Pair => time_pair(rt, alloc, threads, trips),
-        Work::Workers => time_workers(rt, alloc, trips),
-        Work::Lock => time_lock(rt, trips),
-        Work::Book => time_book(rt, alloc, trips),
         Work::Shared => time_shared(rt, alloc, threads, trips),
         Work::Ports(pace, clients, servers) => {
             time_threads(rt, alloc, pace, clients, servers, trips)

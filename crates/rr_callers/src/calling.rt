@@ -13,7 +13,7 @@ use thiserror::Error;
 /// A service that answers questions of one type with answers of another. A crate that names it need not know its user headers.
 pub type Service<Q, P> = Hub<Q, u64, P, u64>;
 
-/// Why a call returned no answer.
+/// Why no answer came.
 #[derive(Clone, Copy, Debug, PartialEq, Eq, Error)]
 pub enum CallError {
     /// The question was not sent.
@@ -28,6 +28,9 @@ pub enum CallError {
     /// The client didn't receive the answer.
     #[error("not received: {0}")]
     NotReceived(ReceiveError),
+    /// The answers found no memory.
+    #[error("no memory")]
+    OutOfMemory,
 }
 
 /// Answers the one question that is queued for a server, as `answer_by` says. Returns the answer.

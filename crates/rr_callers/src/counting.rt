@@ -8,22 +8,11 @@ ghost use Rattle.rr_ports.specs.Facts.{Buffers, Has, Keeps, Names, Of, numbers_l
 ghost use Rattle.rr_ports.specs.Queues.{Awaits, AwaitsNothing};
 ghost use Rattle.rr_callers.specs.Singles.{singles};
 
+use crate::calling::CallError;
 use crate::frames::Service;
+use rr_ports::SendError;
 use rr_ports::typed::{ActiveRequest, Client, PendingResponse, Server};
-use rr_ports::{ReceiveError, SendError};
 use std::alloc::Global;
-use thiserror::Error;
-
-/// Why a stream was not received.
-#[derive(Clone, Copy, Debug, PartialEq, Eq, Error)]
-pub enum CountError {
-    /// As many responses are held as may be.
-    #[error("not received: {0}")]
-    Refused(ReceiveError),
-    /// The numbers that came found no memory.
-    #[error("no memory")]
-    OutOfMemory,
-}
 
 /// Sends the numbers from 0 on as responses, `count` of them, all of which the client's queue has room for.
 ///
@@ -57,7 +46,7 @@ pub fn count(
 ///
 /// # Errors
 ///
-/// Each variant of `CountError` says when it comes.
+/// `NotReceived` as `PendingResponse::receive`, `OutOfMemory` if the numbers found no memory.
 pub fn received(
     alloc: Global,
     hub: &mut Service,
@@ -65,7 +54,7 @@ pub fn received(
     server: &Server<u64>,
     pending: &PendingResponse<u64>,
     count: u64,
-) -> Result<Vec<u64>, CountError>
+) -> Result<Vec<u64>, CallError>
     requires client { Names hub.old client.now kind.Client }
     requires pending { Names hub.old pending.now kind.PendingResponse }
     requires of { Has hub.old pending.now (Of client.now pending.now) }
@@ -78,11 +67,11 @@ pub fn received(
         match pending.receive_copy(hub) {
             Ok(Some(number)) => {
                 if came.push(number).is_err() {
-                    return Err(CountError::OutOfMemory);
+                    return Err(CallError::OutOfMemory);
                 }
             }
             Ok(None) => unreachable!(),
-            Err(error) => return Err(CountError::Refused(error)),
+            Err(error) => return Err(CallError::NotReceived(error)),
         }
     }
     Ok(came)

@@ -10,24 +10,12 @@ ghost use Rattle.rr_ports.specs.Queues.{HearsNothing};
 use crate::calling::{CallError, Service, call};
 use rr_ports::typed::{Client, Server};
 use std::alloc::Global;
-use thiserror::Error;
-
-/// Why not all answers came.
-#[derive(Clone, Copy, Debug, PartialEq, Eq, Error)]
-pub enum EachError {
-    /// A call returned no answer.
-    #[error("{0}")]
-    Call(#[from] CallError),
-    /// The answers found no memory.
-    #[error("no memory")]
-    OutOfMemory,
-}
 
 /// Asks one question after another, lets the server answer each as `answer_by` says, and returns the answers in the same order.
 ///
 /// # Errors
 ///
-/// Each variant of `EachError` says when it comes.
+/// Each variant of `CallError` says when it comes.
 pub fn call_each<Q: Copy, P: Copy, F: Fn(Q) -> P>(
     alloc: Global,
     hub: &mut Service<Q, P>,
@@ -35,7 +23,7 @@ pub fn call_each<Q: Copy, P: Copy, F: Fn(Q) -> P>(
     server: &Server<P>,
     questions: &[Q],
     answer_by: &F,
-) -> Result<Vec<P>, EachError>
+) -> Result<Vec<P>, CallError>
     requires client { Names hub.old client.now kind.Client }
     requires server { Names hub.old server.now kind.Server }
     requires quiet { HearsNothing hub.old server.now }
@@ -50,7 +38,7 @@ pub fn call_each<Q: Copy, P: Copy, F: Fn(Q) -> P>(
             answer_by(asked)
         })?;
         if answers.push(answer).is_err() {
-            return Err(EachError::OutOfMemory);
+            return Err(CallError::OutOfMemory);
         }
     }
     Ok(answers)

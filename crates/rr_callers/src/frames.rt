@@ -5,8 +5,8 @@ ghost use Rattle.std.specs.Prelude.{◌≡◌, ◌<◌, ◌≤◌, ◌+◌, ◌�
 ghost use Rattle.rr_protocol.specs.declared.kind.Kind.TheVariants as kind;
 ghost use Rattle.rr_ports.specs.Facts.{IsFree, Keeps, Names, numbers_left};
 
-use rr_ports::typed::{ActiveRequest, Client, Hub, PendingResponse, RequestMutUninit, Server};
-use rr_ports::{ClientCreateError, ReceiveError, RequestSendError, SendError};
+use rr_ports::typed::{ActiveRequest, Client, Hub, PendingResponse, Server};
+use rr_ports::{ReceiveError, RequestSendError, SendError};
 
 /// A service that answers numbers with numbers.
 pub type Service = Hub<u64, u64, u64, u64>;
@@ -80,75 +80,6 @@ pub fn serve(hub: &mut Service, server: &Server<u64>) -> Result<bool, ReceiveErr
     };
     let asked = *active.payload(hub);
     Ok(answer(hub, active, asked).is_ok())
-}
-
-/// Asks, serves and takes.
-pub fn exchange(
-    hub: &mut Service,
-    client: &Client<u64>,
-    server: &Server<u64>,
-    value: u64,
-) -> Result<Option<u64>, RequestSendError>
-    requires client { Names hub.old client.now kind.Client }
-    requires server { Names hub.old server.now kind.Server }
-    requires numbers { 2 < numbers_left hub.old }
-    ensures keeps { Keeps [] hub.old hub.new }
-    ensures numbers { numbers_left hub.old ≤ numbers_left hub.new + 3 }
-{
-    let pending = ask(hub, client, value)?;
-    let _ = serve(hub, server);
-    Ok(take(hub, pending))
-}
-
-/// Makes nine exchanges, each of which finds what it asks for.
-pub fn nine(hub: &mut Service, client: &Client<u64>, server: &Server<u64>)
-    requires client { Names hub.old client.now kind.Client }
-    requires server { Names hub.old server.now kind.Server }
-    requires numbers { 26 < numbers_left hub.old }
-    ensures { Keeps [] hub.old hub.new }
-{
-    let _ = exchange(hub, client, server, 1);
-    let _ = exchange(hub, client, server, 2);
-    let _ = exchange(hub, client, server, 3);
-    let _ = exchange(hub, client, server, 4);
-    let _ = exchange(hub, client, server, 5);
-    let _ = exchange(hub, client, server, 6);
-    let _ = exchange(hub, client, server, 7);
-    let _ = exchange(hub, client, server, 8);
-    let _ = exchange(hub, client, server, 9);
-}
-
-/// Takes a loan, and returns the handle that it becomes.
-pub fn send_written(
-    hub: &mut Service,
-    request: RequestMutUninit<u64>,
-    value: u64,
-) -> Result<PendingResponse<u64>, RequestSendError>
-    requires { Names hub.old request kind.RequestMutUninit }
-    ensures free { IfOk result (λ pending. IsFree (request ∷ []) hub.old pending) }
-    ensures kind { IfOk result (λ pending. Names hub.new pending kind.PendingResponse) }
-    ensures keeps { Keeps (request ∷ []) hub.old hub.new }
-{
-    let request = request.write_payload(hub, value);
-    request.send(hub)
-}
-
-/// Creates two clients, and releases both.
-pub fn meet(hub: &mut Service) -> Result<bool, ClientCreateError>
-    ensures { Keeps [] hub.old hub.new }
-{
-    let one = hub.client_builder().create(hub)?;
-    let two = match hub.client_builder().create(hub) {
-        Ok(two) => two,
-        Err(error) => {
-            one.release(hub);
-            return Err(error);
-        }
-    };
-    let differ = one.id() != two.id();
-    one.release(hub);
-    two.release(hub);
-    Ok(differ)
 }
 
 /// Releases a received request, and returns the next one.

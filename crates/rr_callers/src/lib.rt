@@ -9,7 +9,6 @@ pub mod draining;
 pub mod each;
 pub mod frames;
 pub mod keeping;
-pub mod large;
 pub mod parameters;
 pub mod pools;
 pub mod queued;

@@ -8,12 +8,12 @@ ghost use Rattle.rr_ports.specs.Facts.{Asks, Has, Keeps, Names, Of, numbers_left
 ghost use Rattle.rr_ports.specs.Queues.{Awaits, AwaitsNothing, Hears, HearsNothing, KeepsHeard};
 ghost use Rattle.rr_callers.specs.Parameters.{answer_of, answers_of, values_after};
 
+use crate::calling::CallError;
 use rr_ports::sliced::Server;
 use rr_ports::typed::{Client, PendingResponse};
-use rr_ports::{Hub, NoHandler, ReceiveError, RequestSendError, SendError, SliceBody};
+use rr_ports::{Hub, NoHandler, SliceBody};
 use std::alloc::Global;
 use std::slice;
-use thiserror::Error;
 
 /// What a client asks.
 #[derive(Clone, Copy, Debug, PartialEq, Eq)]
@@ -24,26 +24,6 @@ pub enum Asked {
     Set(usize, u64),
     /// All values.
     List,
-}
-
-/// Why a client was told nothing.
-#[derive(Clone, Copy, Debug, PartialEq, Eq, Error)]
-pub enum ParameterError {
-    /// The question was not sent.
-    #[error("not asked: {0}")]
-    NotAsked(RequestSendError),
-    /// The server didn't receive the question.
-    #[error("not heard: {0}")]
-    NotHeard(ReceiveError),
-    /// The answer was not sent.
-    #[error("not answered: {0}")]
-    NotAnswered(SendError),
-    /// The client didn't receive the answer.
-    #[error("not received: {0}")]
-    NotReceived(ReceiveError),
-    /// The values that came found no memory.
-    #[error("no memory")]
-    OutOfMemory,
 }
 
 /// A parameter service: questions are single values, and answers slices.
@@ -84,7 +64,7 @@ pub fn serve(
     pending: &PendingResponse<Asked>,
     values: &mut [u64],
     asked: Asked,
-) -> Result<(), ParameterError>
+) -> Result<(), CallError>
     requires server { Names hub.old server.now kind.Server }
     requires asks { Has hub.old pending.now (Asks (asked ∷ [])) }
     requires hears { Hears hub.old server.now pending.now }
@@ -107,12 +87,12 @@ pub fn serve(
                 }
                 Err(error) => {
                     active.release(hub);
-                    Err(ParameterError::NotAnswered(error))
+                    Err(CallError::NotAnswered(error))
                 }
             }
         }
         Ok(None) => unreachable!(),
-        Err(error) => Err(ParameterError::NotHeard(error)),
+        Err(error) => Err(CallError::NotHeard(error)),
     }
 }
 
@@ -127,7 +107,7 @@ fn received(
     client: &Client<Asked>,
     server: &Server<u64>,
     pending: &PendingResponse<Asked>,
-) -> Result<Vec<u64>, ParameterError>
+) -> Result<Vec<u64>, CallError>
     requires client { Names hub.old client.now kind.Client }
     requires pending { Names hub.old pending.now kind.PendingResponse }
     requires of { Has hub.old pending.now (Of client.now pending.now) }
@@ -140,10 +120,10 @@ fn received(
         Ok(Some(response)) => {
             let copy = Vec::from_slice(alloc, response.payload(hub));
             response.release(hub);
-            copy.map_err(|_| ParameterError::OutOfMemory)
+            copy.map_err(|_| CallError::OutOfMemory)
         }
         Ok(None) => Ok(Vec::new(alloc)),
-        Err(error) => Err(ParameterError::NotReceived(error)),
+        Err(error) => Err(CallError::NotReceived(error)),
     }
 }
 
@@ -151,7 +131,7 @@ fn received(
 ///
 /// # Errors
 ///
-/// Each variant of `ParameterError` says when it comes.
+/// Each variant of `CallError` says when it comes.
 pub fn ask(
     alloc: Global,
     hub: &mut Service,
@@ -159,7 +139,7 @@ pub fn ask(
     server: &Server<u64>,
     values: &mut [u64],
     asked: Asked,
-) -> Result<Vec<u64>, ParameterError>
+) -> Result<Vec<u64>, CallError>
     requires client { Names hub.old client.now kind.Client }
     requires server { Names hub.old server.now kind.Server }
     requires quiet { HearsNothing hub.old server.now }
@@ -170,9 +150,7 @@ pub fn ask(
     ensures keeps { Keeps [] hub.old hub.new }
     ensures numbers { numbers_left hub.old ≤ numbers_left hub.new + 3 }
 {
-    let pending = client
-        .send_copy(hub, asked)
-        .map_err(ParameterError::NotAsked)?;
+    let pending = client.send_copy(hub, asked).map_err(CallError::NotAsked)?;
     let told = match serve(hub, server, &pending, values, asked) {
         Ok(()) => received(alloc, hub, client, server, &pending),
         Err(error) => Err(error),
@@ -194,7 +172,7 @@ pub fn ask_in_turn(
     server: &Server<u64>,
     values: &mut [u64],
     questions: &[Asked],
-) -> Result<Vec<Vec<u64>>, ParameterError>
+) -> Result<Vec<Vec<u64>>, CallError>
     requires first { Names hub.old first.now kind.Client }
     requires second { Names hub.old second.now kind.Client }
     requires server { Names hub.old server.now kind.Server }
@@ -208,7 +186,7 @@ pub fn ask_in_turn(
         let client = if index % 2 == 0 { first } else { second };
         let answer = ask(alloc, hub, client, server, values, questions[index])?;
         if answers.push(answer).is_err() {
-            return Err(ParameterError::OutOfMemory);
+            return Err(CallError::OutOfMemory);
         }
     }
     Ok(answers)

@@ -7,10 +7,10 @@ ghost use Rattle.rr_ports.specs.Facts.{Asks, Has, Keeps, Names, Of, numbers_left
 ghost use Rattle.rr_ports.specs.Queues.{Awaits, AwaitsNothing, HearsNothing};
 ghost use Rattle.rr_callers.specs.Sensing.{extremes_of, extremes_over, frame};
 
+use crate::calling::CallError;
 use rr_ports::sliced::{ActiveRequest, Client, Hub, PendingResponse, Server};
-use rr_ports::{ReceiveError, RequestSendError, SendError};
+use rr_ports::{ReceiveError, SendError};
 use std::alloc::Global;
-use thiserror::Error;
 
 /// A service that answers the numbers of channels with frames, a sample of each channel.
 pub type Service = Hub<u64, u64, u64, u64>;
@@ -22,26 +22,6 @@ pub struct Extremes {
     pub least: u64,
     /// The most, or 0 if there is none.
     pub most: u64,
-}
-
-/// Why frames did not come.
-#[derive(Clone, Copy, Debug, PartialEq, Eq, Error)]
-pub enum SenseError {
-    /// The channels were not asked for.
-    #[error("not asked: {0}")]
-    NotAsked(RequestSendError),
-    /// The sensor didn't receive the request.
-    #[error("not heard: {0}")]
-    NotHeard(ReceiveError),
-    /// A frame was not sent.
-    #[error("not sent: {0}")]
-    NotSent(SendError),
-    /// A frame was not received.
-    #[error("not received: {0}")]
-    NotReceived(ReceiveError),
-    /// What was read of the frames found no memory.
-    #[error("no memory")]
-    OutOfMemory,
 }
 
 /// Returns the extremes of samples.
@@ -127,7 +107,7 @@ fn frames_of(
     active: &ActiveRequest<u64>,
     channels: &[u64],
     frames: u64,
-) -> Result<Vec<Extremes>, SenseError>
+) -> Result<Vec<Extremes>, CallError>
     requires client { Names hub.old client.now kind.Client }
     requires server { Names hub.old server.now kind.Server }
     requires pending { Names hub.old pending.now kind.PendingResponse }
@@ -144,16 +124,16 @@ fn frames_of(
     for time in 0..frames {
         match send_frame(hub, server, pending, active, time) {
             Ok(()) => {}
-            Err(error) => return Err(SenseError::NotSent(error)),
+            Err(error) => return Err(CallError::NotAnswered(error)),
         }
         match read(hub, client, server, pending) {
             Ok(Some(extremes)) => {
                 if came.push(extremes).is_err() {
-                    return Err(SenseError::OutOfMemory);
+                    return Err(CallError::OutOfMemory);
                 }
             }
             Ok(None) => unreachable!(),
-            Err(error) => return Err(SenseError::NotReceived(error)),
+            Err(error) => return Err(CallError::NotReceived(error)),
         }
     }
     Ok(came)
@@ -163,7 +143,7 @@ fn frames_of(
 ///
 /// # Errors
 ///
-/// Each variant of `SenseError` says when it comes.
+/// Each variant of `CallError` says when it comes.
 pub fn sense(
     alloc: Global,
     hub: &mut Service,
@@ -171,7 +151,7 @@ pub fn sense(
     server: &Server<u64>,
     channels: &[u64],
     frames: u64,
-) -> Result<Vec<Extremes>, SenseError>
+) -> Result<Vec<Extremes>, CallError>
     requires client { Names hub.old client.now kind.Client }
     requires server { Names hub.old server.now kind.Server }
     requires quiet { HearsNothing hub.old server.now }
@@ -181,7 +161,7 @@ pub fn sense(
 {
     let pending = client
         .send_slice(hub, channels)
-        .map_err(SenseError::NotAsked)?;
+        .map_err(CallError::NotAsked)?;
     let came = match server.receive(hub) {
         Ok(Some(active)) => {
             let came = frames_of(
@@ -191,7 +171,7 @@ pub fn sense(
             came
         }
         Ok(None) => unreachable!(),
-        Err(error) => Err(SenseError::NotHeard(error)),
+        Err(error) => Err(CallError::NotHeard(error)),
     };
     pending.release(hub);
     came

@@ -88,7 +88,7 @@ pub enum WriteError {
 ///
 /// # Examples
 ///
-/// Waits for a request for a moment (`rr_test_threads::tests::waits`):
+/// Waits for a request for a moment (`rr_test_threads::tests::scenes`):
 ///
 /// ```
 /// use rr_shared_ports::typed::{Seat, Server, SharedPorts};

@@ -15,6 +15,11 @@ fn add_one(value: &mut u64) {
     *value = value.wrapping_add(1);
 }
 
+/// Adds a number to a sum.
+fn add(sum: u64, value: &u64) -> u64 {
+    sum.wrapping_add(*value)
+}
+
 /// Returns ten times a number.
 fn tenfold(value: &u64) -> u64 {
     value.wrapping_mul(10)
@@ -22,14 +27,15 @@ fn tenfold(value: &u64) -> u64 {
 
 /// What the client does.
 impl<N: Naming, R: Abort + Wait + Clock> Worker<'_, N, R> {
-    /// Asks in each way, and tells 9. Returns the sum of the answers.
+    /// Asks in each way, and tells 4 and 5. Returns the sum of the answers.
     pub fn make_each_call(&mut self, ports: &Ports<N>) -> u64 {
         assert_eq!(self.rt; ports.client.id().0, 0);
         self.set_hint(&ports.pending);
         let changed = self.ask_changed(&ports.client);
         let made = self.ask_copy(&ports.client);
         let default = self.ask_default(&ports.client);
-        self.tell(&ports.client, 9);
+        self.tell(&ports.client, 4);
+        self.tell(&ports.client, 5);
         changed.wrapping_add(made).wrapping_add(default)
     }
 
@@ -95,28 +101,34 @@ impl<N: Naming, R: Abort + Wait + Clock> Worker<'_, N, R> {
         said
     }
 
-    /// Asks by a request of the default value. Returns the answer.
-    fn ask_default(&mut self, client: &Client<N, u64>) -> u64 {
-        let loaned = client.loan(self.hub, self.rt, &mut self.seat);
-        let request = loaned.expect(self.rt, "a request is loaned");
-        let sent = request.send(self.hub, self.rt, &mut self.seat);
-        let pending = sent.expect(self.rt, "a request is sent");
-        let said = self.take(&pending);
-        self.forget(pending);
-        said.expect(self.rt, "a response comes")
-    }
-
-    /// Asks for what is made of 7. Returns it, as soon as it is there.
-    fn ask_copy(&mut self, client: &Client<N, u64>) -> u64 {
-        let pending = self.ask(client, 7);
+    /// Waits until a response is queued.
+    fn until_answered(&mut self, pending: &Pending<N>) {
         for _ in self.rt.forever() {
             if pending.has_response(self.hub, self.rt, &mut self.seat) {
                 break;
             }
         }
+    }
+
+    /// Asks by a request of the default value. Returns the answer, as soon as it is there.
+    fn ask_default(&mut self, client: &Client<N, u64>) -> u64 {
+        let loaned = client.loan(self.hub, self.rt, &mut self.seat);
+        let request = loaned.expect(self.rt, "a request is loaned");
+        let sent = request.send(self.hub, self.rt, &mut self.seat);
+        let pending = sent.expect(self.rt, "a request is sent");
+        self.until_answered(&pending);
         let said = pending.receive_copy(self.hub, self.rt, &mut self.seat);
         self.forget(pending);
         said.unwrap_or(None).expect(self.rt, "a response is there")
+    }
+
+    /// Asks for what is made of 7. Returns what the answers come to.
+    fn ask_copy(&mut self, client: &Client<N, u64>) -> u64 {
+        let pending = self.ask(client, 7);
+        self.until_answered(&pending);
+        let folded = pending.fold_responses(self.hub, self.rt, &mut self.seat, 0, add);
+        self.forget(pending);
+        folded.expect(self.rt, "responses are folded")
     }
 }
 
@@ -209,14 +221,22 @@ impl<N: Naming, R: Abort + Wait + Clock> Worker<'_, N, R> {
         asked
     }
 
-    /// Returns what is told, as soon as it is there.
-    fn told(&mut self, server: &Server<N, u64>) -> u64 {
+    /// Waits until a request is queued.
+    fn until_asked(&mut self, server: &Server<N, u64>) {
         for _ in self.rt.forever() {
             if server.has_requests(self.hub, self.rt, &mut self.seat) == Ok(true) {
                 break;
             }
         }
+    }
+
+    /// Returns what two numbers come to that are told.
+    fn told(&mut self, server: &Server<N, u64>) -> u64 {
+        self.until_asked(server);
         let told = server.receive_copy(self.hub, self.rt, &mut self.seat);
-        told.unwrap_or(None).expect(self.rt, "a number is there")
+        let first = told.unwrap_or(None).expect(self.rt, "a number is there");
+        self.until_asked(server);
+        let folded = server.fold_requests(self.hub, self.rt, &mut self.seat, first, add);
+        folded.expect(self.rt, "requests are folded")
     }
 }

@@ -1,11 +1,10 @@
-//! Each change that may end a wait wakes the thread that waits.
+//! Each change that may end a wait wakes the thread that waits, and a refused send gives its message back.
 ghost use Rattle.std.specs.Prelude.{◌≡◌};
 
-use super::scenes::NARROW;
-use super::worker::{Active, Pending, Shared, Worker, made};
-use rr_ports::{Refused, UniqueNodeId};
-use rr_shared_ports::Naming;
-use rr_shared_ports::typed::{Client, Opened, Server};
+use super::worker::{Active, Numbers, Pending, Shared, Worker, given_back, made};
+use rr_ports::{Limits, Refused, RequestSendError, SendError, UniqueNodeId};
+use rr_shared_ports::typed::{Client, Server};
+use rr_shared_ports::{Naming, WaitError};
 use std::marker::Brand;
 use std::process::Abort;
 use std::sync::Wait;
@@ -15,266 +14,301 @@ use std::thread;
 use std::thread::Threads;
 use std::time::{Clock, Duration};
 
-type Numbers = Opened<u64, u64, u64, u64>;
+/// What a thread waits for.
+#[derive(Clone, Copy, Debug)]
+enum Awaited {
+    /// A request, at a server.
+    Request,
+    /// A response to a request that the server has received,
+    Response,
+    /// or not.
+    LaterResponse,
+    /// Room in a server's queue.
+    RoomToAsk,
+    /// Room in the queue of a pending response.
+    RoomToAnswer,
+}
 
-/// A change and the wait that it ends, as the table in `waking.rt` of `rr_shared_ports` has them.
+/// What the other thread changes.
 #[derive(Clone, Copy, Debug, PartialEq)]
-enum Row {
-    /// A request is queued, and a server receives it.
+enum Change {
     RequestQueued,
-    /// A response is queued, and its pending response receives it.
     ResponseQueued,
-    /// A request is taken, and the next one finds room.
     RequestTaken,
-    /// A response is taken, and the next one finds room.
     ResponseTaken,
-    /// A pending response ends, and no response waits for room in its queue.
     PendingResponseEnded,
-    /// An active request ends, and nobody answers its pending response.
     ActiveRequestEnded,
-    /// A server leaves, and nobody answers a request that it has not received.
     ServerLeft,
-    /// A server leaves, and no request waits for room in its queue.
-    ServerLeftFull,
-    /// The same: its value was released before, and it leaves as its last response is sent,
+    /// A server whose value was released before leaves as its last response is sent,
     LastResponseSent,
     /// tried to be sent,
     LastResponseTried,
     /// or released.
     LastResponseReleased,
+    Closed,
 }
 
-/// How far the threads are: the server is created,
-const SERVER_IS_READY: u64 = 1;
+/// Each change and a wait that it ends, as the table in `waking.rt` of `rr_shared_ports` has them.
+const ROWS: [(Awaited, Change); 15] = [
+    (Awaited::Request, Change::RequestQueued),
+    (Awaited::Request, Change::Closed),
+    (Awaited::Response, Change::ResponseQueued),
+    (Awaited::Response, Change::ActiveRequestEnded),
+    (Awaited::Response, Change::Closed),
+    (Awaited::LaterResponse, Change::ServerLeft),
+    (Awaited::RoomToAsk, Change::RequestTaken),
+    (Awaited::RoomToAsk, Change::ServerLeft),
+    (Awaited::RoomToAsk, Change::LastResponseSent),
+    (Awaited::RoomToAsk, Change::LastResponseTried),
+    (Awaited::RoomToAsk, Change::LastResponseReleased),
+    (Awaited::RoomToAsk, Change::Closed),
+    (Awaited::RoomToAnswer, Change::ResponseTaken),
+    (Awaited::RoomToAnswer, Change::PendingResponseEnded),
+    (Awaited::RoomToAnswer, Change::Closed),
+];
 
-/// its last response is on loan,
-const RESPONSE_IS_LOANED: u64 = 2;
+/// Two requests, and two responses to each of them, fill their queues. What is told is heard, though nobody awaits an answer.
+const NARROW: Limits = Limits {
+    max_active_requests_per_client: 2,
+    max_response_buffer_size: 2,
+    enable_fire_and_forget_requests: true,
+    ..Limits::SMALLEST
+};
 
-/// the wait begins,
-const WAIT_BEGINS: u64 = 3;
+/// How far the threads are: the server is created, a request is received, a thread waits, and has been woken.
+const IS_READY: u64 = 1;
 
-/// and has ended.
-const WAIT_IS_OVER: u64 = 4;
+const IS_HEARD: u64 = 2;
 
-/// A thread, and how far both are.
-#[derive(Drop)]
-struct Actor<'a, N: Naming, R> {
-    worker: Worker<'a, N, R>,
-    stage: &'a AtomicU64,
+const WAITS: u64 = 3;
+
+const IS_WOKEN: u64 = 4;
+
+/// The waits. Each returns whether it ended as it should: by a close, or else with what it waits for.
+impl<N: Naming, R: Abort + Wait> Worker<'_, N, R> {
+    fn wait_to_hear(&mut self, server: &Server<N, u64>, change: Change, stage: &AtomicU64) -> bool {
+        stage.store(WAITS, Ordering::SeqCst);
+        match server.receive_wait(self.hub, self.rt, &mut self.seat) {
+            Ok(active) => {
+                self.finish(active);
+                change != Change::Closed
+            }
+            Err(error) => change == Change::Closed && error == WaitError::Closed,
+        }
+    }
+
+    fn wait_to_take(&mut self, pending: &Pending<N>, change: Change, stage: &AtomicU64) -> bool {
+        stage.store(WAITS, Ordering::SeqCst);
+        match pending.receive_wait(self.hub, self.rt, &mut self.seat) {
+            Ok(Some(response)) => {
+                response.release(self.hub, self.rt, &mut self.seat);
+                change != Change::Closed
+            }
+            Ok(None) => change != Change::Closed,
+            Err(error) => change == Change::Closed && error == WaitError::Closed,
+        }
+    }
+
+    fn wait_to_ask(&mut self, client: &Client<N, u64>, change: Change, stage: &AtomicU64) -> bool {
+        self.tell(client, 0);
+        self.tell(client, 1);
+        let request = self.loan_request(client);
+        let request = self.write_request(request, 2);
+        let tried = request.try_send(self.hub, self.rt, &mut self.seat);
+        let full = RequestSendError::SendError(SendError::UnableToDeliver);
+        let request = given_back(self.rt, tried, full);
+        stage.store(WAITS, Ordering::SeqCst);
+        match request.send_wait(self.hub, self.rt, &mut self.seat) {
+            Ok(pending) => {
+                self.forget(pending);
+                change != Change::Closed
+            }
+            Err(Refused { message, error }) => {
+                message.release(self.hub, self.rt, &mut self.seat);
+                change == Change::Closed && error == WaitError::Closed
+            }
+        }
+    }
+
+    fn wait_to_answer(&mut self, active: &Active<N>, change: Change, stage: &AtomicU64) -> bool {
+        self.answer(active, 0);
+        self.answer(active, 1);
+        let response = self.loan_response(active);
+        let response = self.write_response(response, 2);
+        let tried = response.try_send(self.hub, self.rt, &mut self.seat);
+        let response = given_back(self.rt, tried, SendError::UnableToDeliver);
+        stage.store(WAITS, Ordering::SeqCst);
+        match response.send_wait(self.hub, self.rt, &mut self.seat) {
+            Ok(()) => change != Change::Closed,
+            Err(Refused { message, error }) => {
+                message.release(self.hub, self.rt, &mut self.seat);
+                change == Change::Closed && error == WaitError::Closed
+            }
+        }
+    }
 }
 
-impl<N: Naming, R: Abort + Wait + Clock> Actor<'_, N, R> {
+/// The changes. Each returns whether it ends the wait within a second.
+impl<N: Naming, R: Abort + Wait + Clock> Worker<'_, N, R> {
     /// Sleeps until the threads are so far, at most for a second. Returns whether they are.
-    fn until(&self, stage: u64) -> bool {
+    fn until(&self, at: &AtomicU64, stage: u64) -> bool {
         for _ in 0..1_000 {
-            if self.stage.load(Ordering::SeqCst) >= stage {
+            if at.load(Ordering::SeqCst) >= stage {
                 return true;
             }
-            thread::sleep(self.worker.rt, Duration::from_millis(1));
+            thread::sleep(self.rt, Duration::from_millis(1));
         }
         false
     }
 
-    /// Sleeps until the other thread sleeps in its wait.
-    fn before_change(&self) {
-        self.until(WAIT_BEGINS);
-        thread::sleep(self.worker.rt, Duration::from_millis(20));
+    /// Sleeps until the other thread sleeps.
+    fn before_change(&self, stage: &AtomicU64) {
+        self.until(stage, WAITS);
+        thread::sleep(self.rt, Duration::from_millis(20));
     }
 
-    /// Returns whether the change ends the wait within a second, and closes the hub then.
-    fn after_change(&self) -> bool {
-        let is_over = self.until(WAIT_IS_OVER);
-        self.worker.hub.close();
-        is_over
-    }
-}
-
-/// The waits. Each returns whether it ended with what it waits for.
-impl<N: Naming, R: Abort + Wait> Actor<'_, N, R> {
-    fn wait_for_request(&mut self, server: &Server<N, u64>) -> bool {
-        self.stage.store(WAIT_BEGINS, Ordering::SeqCst);
-        let heard = self.worker.hear(server);
-        self.stage.store(WAIT_IS_OVER, Ordering::SeqCst);
-        match heard {
-            Some(active) => {
-                self.worker.finish(active);
-                true
-            }
-            None => false,
-        }
-    }
-
-    fn wait_for_response(&mut self, pending: &Pending<N>) -> bool {
-        let Worker { rt, hub, seat } = &mut self.worker;
-        self.stage.store(WAIT_BEGINS, Ordering::SeqCst);
-        let received = pending.receive_wait(hub, *rt, seat);
-        self.stage.store(WAIT_IS_OVER, Ordering::SeqCst);
-        match received {
-            Ok(Some(response)) => {
-                response.release(hub, *rt, seat);
-                true
-            }
-            Ok(None) => true,
-            Err(_) => false,
-        }
-    }
-
-    /// Fills a server's queue, and waits for room in it.
-    fn wait_to_ask(&mut self, client: &Client<N, u64>) -> bool {
-        self.worker.tell(client, 0);
-        self.worker.tell(client, 1);
-        let request = self.worker.loan_request(client);
-        let request = self.worker.write_request(request, 2);
-        let Worker { rt, hub, seat } = &mut self.worker;
-        self.stage.store(WAIT_BEGINS, Ordering::SeqCst);
-        let sent = request.send_wait(hub, *rt, seat);
-        self.stage.store(WAIT_IS_OVER, Ordering::SeqCst);
-        match sent {
-            Ok(pending) => {
-                pending.release(hub, *rt, seat);
-                true
-            }
-            Err(Refused { message, error: _ }) => {
-                message.release(hub, *rt, seat);
-                false
-            }
-        }
-    }
-
-    /// Fills the queue of a pending response, and waits for room in it.
-    fn wait_to_answer(&mut self, active: &Active<N>) -> bool {
-        self.worker.answer(active, 0);
-        self.worker.answer(active, 1);
-        let response = self.worker.loan_response(active);
-        let response = self.worker.write_response(response, 2);
-        let Worker { rt, hub, seat } = &mut self.worker;
-        self.stage.store(WAIT_BEGINS, Ordering::SeqCst);
-        let sent = response.send_wait(hub, *rt, seat);
-        self.stage.store(WAIT_IS_OVER, Ordering::SeqCst);
-        match sent {
-            Ok(()) => true,
-            Err(Refused { message, error: _ }) => {
-                message.release(hub, *rt, seat);
-                false
-            }
-        }
-    }
-}
-
-/// The two parts. Each returns whether its wait ended with what it waits for, or its change ended the other one's wait.
-impl<N: Naming, R: Abort + Wait + Clock> Actor<'_, N, R> {
-    fn play_client(&mut self, row: Row) -> bool {
-        let client = self.worker.client();
-        self.until(SERVER_IS_READY);
-        let is_woken = match row {
-            Row::RequestQueued => {
-                self.before_change();
-                self.worker.tell(&client, 3);
-                self.after_change()
-            }
-            Row::RequestTaken | Row::ServerLeftFull => self.wait_to_ask(&client),
-            other => self.play_pending(&client, other),
-        };
-        client.release(self.worker.hub, self.worker.rt, &mut self.worker.seat);
+    /// Returns whether the wait is over within a second, and closes the hub then.
+    fn has_woken(&self, stage: &AtomicU64) -> bool {
+        let is_woken = self.until(stage, IS_WOKEN);
+        self.hub.close();
         is_woken
     }
 
-    fn play_pending(&mut self, client: &Client<N, u64>, row: Row) -> bool {
-        let pending = self.worker.ask(client, 1);
-        let is_woken = match row {
-            Row::ResponseQueued | Row::ActiveRequestEnded | Row::ServerLeft => {
-                self.wait_for_response(&pending)
+    fn change_as_client(
+        &mut self,
+        client: &Client<N, u64>,
+        pending: Pending<N>,
+        change: Change,
+        stage: &AtomicU64,
+    ) -> bool {
+        self.before_change(stage);
+        match change {
+            Change::PendingResponseEnded => {
+                self.forget(pending);
+                return self.has_woken(stage);
             }
-            Row::ResponseTaken => {
-                self.before_change();
-                let Worker { rt, hub, seat } = &mut self.worker;
-                let _ = pending.receive_copy(hub, *rt, seat);
-                self.after_change()
+            Change::RequestQueued => self.tell(client, 3),
+            Change::ResponseTaken => {
+                let _ = pending.receive_copy(self.hub, self.rt, &mut self.seat);
             }
-            Row::PendingResponseEnded => {
-                self.before_change();
-                self.worker.forget(pending);
-                return self.after_change();
+            _ => self.hub.close(),
+        }
+        let has_woken = self.has_woken(stage);
+        self.forget(pending);
+        has_woken
+    }
+
+    fn change_as_server(
+        &mut self,
+        server: &Server<N, u64>,
+        active: Active<N>,
+        change: Change,
+        stage: &AtomicU64,
+    ) -> bool {
+        self.before_change(stage);
+        match change {
+            Change::ActiveRequestEnded => {
+                self.finish(active);
+                return self.has_woken(stage);
             }
+            Change::ResponseQueued => self.answer(&active, 3),
+            Change::RequestTaken => {
+                let _ = server.receive_copy(self.hub, self.rt, &mut self.seat);
+            }
+            _ => self.hub.close(),
+        }
+        let has_woken = self.has_woken(stage);
+        self.finish(active);
+        has_woken
+    }
+
+    /// Makes the server leave.
+    fn leave(
+        &mut self,
+        server: Server<N, u64>,
+        active: Active<N>,
+        change: Change,
+        stage: &AtomicU64,
+    ) -> bool {
+        if change == Change::ServerLeft {
+            self.finish(active);
+            self.before_change(stage);
+            server.release(self.hub, self.rt, &mut self.seat);
+            return self.has_woken(stage);
+        }
+        let response = self.loan_response(&active);
+        let response = self.write_response(response, 9);
+        self.finish(active);
+        server.release(self.hub, self.rt, &mut self.seat);
+        self.before_change(stage);
+        match change {
+            Change::LastResponseSent => {
+                let sent = response.send(self.hub, self.rt, &mut self.seat);
+                assert!(self.rt; sent.is_ok());
+            }
+            Change::LastResponseTried => {
+                let tried = response.try_send(self.hub, self.rt, &mut self.seat);
+                made(self.rt, tried);
+            }
+            _ => response.release(self.hub, self.rt, &mut self.seat),
+        }
+        self.has_woken(stage)
+    }
+}
+
+/// The threads. Each returns whether its wait ended as it should, or its change ended the other one's wait.
+impl<N: Naming, R: Abort + Wait + Clock> Worker<'_, N, R> {
+    fn play_client(&mut self, awaited: Awaited, change: Change, stage: &AtomicU64) -> bool {
+        let client = self.client();
+        self.until(stage, IS_READY);
+        let pending = self.ask(&client, 1);
+        self.until(stage, IS_HEARD);
+        let is_right = match awaited {
+            Awaited::Response => self.wait_to_take(&pending, change, stage),
+            Awaited::LaterResponse => {
+                let later = self.ask(&client, 2);
+                let is_right = self.wait_to_take(&later, change, stage);
+                self.forget(later);
+                is_right
+            }
+            Awaited::RoomToAsk => self.wait_to_ask(&client, change, stage),
+            Awaited::Request | Awaited::RoomToAnswer => {
+                let has_woken = self.change_as_client(&client, pending, change, stage);
+                client.release(self.hub, self.rt, &mut self.seat);
+                return has_woken;
+            }
+        };
+        stage.store(IS_WOKEN, Ordering::SeqCst);
+        self.forget(pending);
+        client.release(self.hub, self.rt, &mut self.seat);
+        is_right
+    }
+
+    fn play_server(&mut self, awaited: Awaited, change: Change, stage: &AtomicU64) -> bool {
+        let server = self.server();
+        stage.store(IS_READY, Ordering::SeqCst);
+        let active = self.hear(&server).expect(self.rt, "a request comes");
+        stage.store(IS_HEARD, Ordering::SeqCst);
+        let is_right = match (awaited, change) {
+            (Awaited::Request, _) => self.wait_to_hear(&server, change, stage),
+            (Awaited::RoomToAnswer, _) => self.wait_to_answer(&active, change, stage),
+            (
+                _,
+                Change::ServerLeft
+                | Change::LastResponseSent
+                | Change::LastResponseTried
+                | Change::LastResponseReleased,
+            ) => return self.leave(server, active, change, stage),
             _ => {
-                self.until(RESPONSE_IS_LOANED);
-                self.wait_to_ask(client)
+                let has_woken = self.change_as_server(&server, active, change, stage);
+                server.release(self.hub, self.rt, &mut self.seat);
+                return has_woken;
             }
         };
-        self.worker.forget(pending);
-        is_woken
-    }
-
-    fn play_server(&mut self, row: Row) -> bool {
-        let server = self.worker.server();
-        self.stage.store(SERVER_IS_READY, Ordering::SeqCst);
-        let is_woken = match row {
-            Row::RequestQueued => self.wait_for_request(&server),
-            Row::RequestTaken => {
-                self.before_change();
-                let Worker { rt, hub, seat } = &mut self.worker;
-                let _ = server.receive_copy(hub, *rt, seat);
-                self.after_change()
-            }
-            Row::ServerLeft | Row::ServerLeftFull => {
-                self.before_change();
-                server.release(self.worker.hub, self.worker.rt, &mut self.worker.seat);
-                return self.after_change();
-            }
-            Row::LastResponseSent | Row::LastResponseTried | Row::LastResponseReleased => {
-                return self.end_last_response(server, row);
-            }
-            other => self.play_active(&server, other),
-        };
-        server.release(self.worker.hub, self.worker.rt, &mut self.worker.seat);
-        is_woken
-    }
-
-    /// Receives the request that was sent.
-    fn received(&mut self, server: &Server<N, u64>) -> Active<N> {
-        match self.worker.hear(server) {
-            Some(active) => active,
-            None => panic!(self.worker.rt; "the hub was closed"),
-        }
-    }
-
-    fn play_active(&mut self, server: &Server<N, u64>, row: Row) -> bool {
-        let active = self.received(server);
-        let is_woken = match row {
-            Row::ResponseQueued => {
-                self.before_change();
-                self.worker.answer(&active, 3);
-                self.after_change()
-            }
-            Row::ActiveRequestEnded => {
-                self.before_change();
-                self.worker.finish(active);
-                return self.after_change();
-            }
-            _ => self.wait_to_answer(&active),
-        };
-        self.worker.finish(active);
-        is_woken
-    }
-
-    /// Ends the last response of a server whose value was released before.
-    fn end_last_response(&mut self, server: Server<N, u64>, row: Row) -> bool {
-        let active = self.received(&server);
-        let response = self.worker.loan_response(&active);
-        let response = self.worker.write_response(response, 9);
-        self.worker.finish(active);
-        server.release(self.worker.hub, self.worker.rt, &mut self.worker.seat);
-        self.stage.store(RESPONSE_IS_LOANED, Ordering::SeqCst);
-        self.before_change();
-        let Worker { rt, hub, seat } = &mut self.worker;
-        match row {
-            Row::LastResponseSent => {
-                let _ = response.send(hub, *rt, seat);
-            }
-            Row::LastResponseTried => made(*rt, response.try_send(hub, *rt, seat)),
-            _ => response.release(hub, *rt, seat),
-        }
-        self.after_change()
+        stage.store(IS_WOKEN, Ordering::SeqCst);
+        self.finish(active);
+        server.release(self.hub, self.rt, &mut self.seat);
+        is_right
     }
 }
 
@@ -282,7 +316,8 @@ impl<N: Naming, R: Abort + Wait + Clock> Actor<'_, N, R> {
 fn is_woken<N: Naming, R: Abort + Threads + Wait + Clock + Sync>(
     rt: &R,
     opened: Numbers,
-    row: Row,
+    awaited: Awaited,
+    change: Change,
 ) -> bool
     requires keeper { opened.keeper_id ≡ N.keeper_id }
     requires log { opened.log_id ≡ N.log_id }
@@ -292,40 +327,20 @@ fn is_woken<N: Naming, R: Abort + Threads + Wait + Clock + Sync>(
     let hub: Shared<N> = opened.named::<N>();
     let stage = AtomicU64::new(0);
     let (hub, stage) = (&hub, &stage);
-    let (client, server) = thread::join(
+    let (asked, answered) = thread::join(
         rt,
-        || Actor {
-            worker: Worker::at(rt, hub),
-            stage,
-        }
-        .play_client(row),
-        || Actor {
-            worker: Worker::at(rt, hub),
-            stage,
-        }
-        .play_server(row),
+        || Worker::at(rt, hub).play_client(awaited, change, stage),
+        || Worker::at(rt, hub).play_server(awaited, change, stage),
     );
-    client && server
+    asked && answered
 }
 
 #[test]
 fn each_change_wakes_who_waits_for_it(rt: HostRuntime) -> Result<(), Fail> {
-    let rows = [
-        Row::RequestQueued,
-        Row::ResponseQueued,
-        Row::RequestTaken,
-        Row::ResponseTaken,
-        Row::PendingResponseEnded,
-        Row::ActiveRequestEnded,
-        Row::ServerLeft,
-        Row::ServerLeftFull,
-        Row::LastResponseSent,
-        Row::LastResponseTried,
-        Row::LastResponseReleased,
-    ];
-    for row in rows {
+    for (awaited, change) in ROWS {
         let opened = Numbers::new(rt.alloc(), NARROW, UniqueNodeId(3))?;
-        assert!(rt; is_woken::<Brand, _>(&rt, opened, row), "{row:?}");
+        let is_woken = is_woken::<Brand, _>(&rt, opened, awaited, change);
+        assert!(rt; is_woken, "{awaited:?}, {change:?}");
     }
     Ok(())
 }

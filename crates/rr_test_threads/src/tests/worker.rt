@@ -1,14 +1,17 @@
 //! A thread at a hub of the typed family, with a function for each call that several scenes make. What a call refuses ends the test.
-use rr_ports::Refused;
+use rr_ports::{BackpressureStrategy, Refused};
 use rr_shared_ports::Naming;
 use rr_shared_ports::typed::{
-    ActiveRequest, Client, PendingResponse, RequestMut, RequestMutUninit, ResponseMut,
+    ActiveRequest, Client, Opened, PendingResponse, RequestMut, RequestMutUninit, ResponseMut,
     ResponseMutUninit, Seat, Server, SharedPorts,
 };
 use std::process::Abort;
 use std::sync::Wait;
 
-/// A hub whose payloads and user headers are numbers.
+/// A hub whose payloads and user headers are numbers, and which has no name yet.
+pub type Numbers = Opened<u64, u64, u64, u64>;
+
+/// Such a hub.
 pub type Shared<N> = SharedPorts<N, u64, u64, u64, u64>;
 
 /// A caller of it.
@@ -71,6 +74,46 @@ impl<'a, N: Naming, R> Worker<'a, N, R> {
 }
 
 impl<N: Naming, R: Abort + Wait> Worker<'_, N, R> {
+    /// Creates a client that is refused at a full queue.
+    pub fn client(&mut self) -> Client<N, u64> {
+        let retry = BackpressureStrategy::RetryUntilDelivered;
+        let factory = self.hub.client_builder(self.rt);
+        let factory = factory.backpressure_strategy(retry);
+        let created = self.hub.create_client(self.rt, &mut self.seat, factory);
+        created.expect(self.rt, "a client is created")
+    }
+
+    /// Creates a server that is refused at a full queue.
+    pub fn server(&mut self) -> Server<N, u64> {
+        let retry = BackpressureStrategy::RetryUntilDelivered;
+        let factory = self.hub.server_builder(self.rt);
+        let factory = factory.backpressure_strategy(retry);
+        let created = self.hub.create_server(self.rt, &mut self.seat, factory);
+        created.expect(self.rt, "a server is created")
+    }
+
+    /// Creates a client and a server, sends a request and receives it.
+    pub fn ports(&mut self) -> Ports<N> {
+        let client = self.client();
+        let server = self.server();
+        let pending = self.ask(&client, 1);
+        match server.receive(self.hub, self.rt, &mut self.seat) {
+            Ok(Some(active)) => Ports {
+                client,
+                server,
+                pending,
+                active,
+            },
+            Ok(None) | Err(_) => panic!(self.rt; "no request came"),
+        }
+    }
+
+    /// Sends a number, without waiting for an answer.
+    pub fn tell(&mut self, client: &Client<N, u64>, value: u64) {
+        let told = client.tell(self.hub, self.rt, &mut self.seat, value);
+        told.expect(self.rt, "a number is told");
+    }
+
     /// Sends a number.
     pub fn ask(&mut self, client: &Client<N, u64>, value: u64) -> Pending<N> {
         let sent = client.send_copy(self.hub, self.rt, &mut self.seat, value);

@@ -1,19 +1,14 @@
 //! Commands to hubs of numbers, with the replies that they have to get.
 use rr_commands::{Command, Elements, Reply};
 use rr_protocol::{
-    ClientCreateError, ClientSettings, Limits, LoanError, NoHandler, ReceiveError, RequestHeader,
-    RequestSendError, SendError, ServerCreateError, ServerSettings, UniqueClientId, UniqueNodeId,
+    ClientSettings, Limits, NoHandler, RequestHeader, ServerSettings, UniqueClientId, UniqueNodeId,
 };
-use std::alloc::{AllocError, Global};
 
 /// A command to a hub of numbers.
 pub type HubCommand = Command<u64, u64, NoHandler>;
 
 /// A reply of it.
 pub type HubReply = Reply<u64, u64>;
-
-/// A command, and the reply that it has to get.
-pub type Row = (HubCommand, HubReply);
 
 /// Who submits a command.
 #[derive(Clone, Copy, PartialEq, Eq)]
@@ -83,98 +78,4 @@ pub fn in_its_place() -> [(Who, HubCommand, HubReply); 15] {
         (Who::One, Command::HasEntries(5), Reply::Flag(false)),
         (Who::Other, Command::Release(9), Reply::Unknown),
     ]
-}
-
-/// What a hub of the smallest limits is asked: for more than each limit, and for what is not there.
-pub fn asked_too_much() -> [Row; 19] {
-    let no_loan = LoanError::ExceedsMaxLoans;
-    let no_client = ClientCreateError::ExceedsMaxSupportedClients;
-    let no_server = ServerCreateError::ExceedsMaxSupportedServers;
-    let no_request = RequestSendError::ExceedsMaxActiveRequests;
-    let not_loaned = RequestSendError::SendError(SendError::LoanError(no_loan));
-    let no_borrow = ReceiveError::ExceedsMaxBorrows;
-    [
-        (Command::Receive(0), Reply::Unknown),
-        (new_client(), Reply::Created(0)),
-        (new_client(), Reply::ClientError(no_client)),
-        (new_server(), Reply::Created(1)),
-        (new_server(), Reply::ServerError(no_server)),
-        (Command::Loan(0, 1), Reply::Loaned(2)),
-        (Command::AssumeInit(2), Reply::Incomplete),
-        (Command::Loan(0, 1), Reply::LoanError(no_loan)),
-        (Command::SendCopy(0, 5), Reply::RequestError(not_loaned)),
-        (Command::Release(2), Reply::Done),
-        (Command::Release(2), Reply::Unknown),
-        (Command::SendCopy(0, 5), Reply::Pending(3, 1)),
-        (Command::SendCopy(0, 6), Reply::RequestError(no_request)),
-        (Command::HasHint(3), Reply::WrongKind),
-        (Command::Receive(1), Reply::Active(5, 3)),
-        (Command::SendCopy(5, 6), Reply::Sent(6)),
-        (Command::Receive(3), Reply::Response(6)),
-        (Command::SendCopy(5, 7), Reply::Sent(7)),
-        (Command::Receive(3), Reply::ReceiveError(no_borrow)),
-    ]
-}
-
-/// A client 0, a server 1, a pending response 2, an active request 3, a response 4 that was received, and a response 5 on loan.
-fn handles() -> [Row; 7] {
-    [
-        (new_client(), Reply::Created(0)),
-        (new_server(), Reply::Created(1)),
-        (Command::SendCopy(0, 1), Reply::Pending(2, 1)),
-        (Command::Receive(1), Reply::Active(3, 2)),
-        (Command::SendCopy(3, 10), Reply::Sent(4)),
-        (Command::Receive(2), Reply::Response(4)),
-        (Command::Loan(3, 1), Reply::Loaned(5)),
-    ]
-}
-
-/// Asks whether one of the handles 2 and 3 is connected. It is while the other lives.
-fn connected(living: &[u64], number: u64, other: u64) -> Row {
-    let wanted = if living.contains(&number) {
-        Reply::Flag(living.contains(&other))
-    } else {
-        Reply::Unknown
-    };
-    (Command::IsConnected(number), wanted)
-}
-
-/// Releases the first of these handles, and asks which of 2 and 3 is connected then.
-fn released(order: &[u64], number: u64) -> [Row; 3] {
-    let living = order.get(1..).unwrap_or(&[]);
-    [
-        (Command::Release(number), Reply::Done),
-        connected(living, 2, 3),
-        connected(living, 3, 2),
-    ]
-}
-
-/// What follows the last release: every place is free.
-fn afterwards() -> [Row; 4] {
-    let no_client = ClientCreateError::ExceedsMaxSupportedClients;
-    [
-        (new_client(), Reply::Created(6)),
-        (new_client(), Reply::Created(7)),
-        (new_server(), Reply::Created(8)),
-        (new_client(), Reply::ClientError(no_client)),
-    ]
-}
-
-/// Returns what a hub of `TWO_CLIENTS` is asked, and how it has to answer: six handles come to be, are released in this order of their
-/// numbers 0 to 5, and leave nothing.
-///
-/// # Errors
-///
-/// - `AllocError` if no memory was found for the rows.
-pub fn releases_in(alloc: Global, order: &[u64]) -> Result<Vec<Row>, AllocError> {
-    let mut rows = Vec::new(alloc);
-    rows.extend(handles())?;
-    for (place, number) in order.iter().enumerate() {
-        rows.extend(released(order.get(place..).unwrap_or(&[]), *number))?;
-    }
-    for number in 0..6 {
-        rows.push((Command::Release(number), Reply::Unknown))?;
-    }
-    rows.extend(afterwards())?;
-    Ok(rows)
 }

@@ -1,4 +1,4 @@
-use Rattle.rr_test_threads.proofs.tests.scenes.threads_play_each_scene.Given as goal
+use Rattle.rr_test_threads.proofs.tests.scenes.threads_make_each_call_and_exchange_numbers.Given as goal
 
 -- the hub that was just opened
 abbrev pub ghosts-played : goal.ghosts-played

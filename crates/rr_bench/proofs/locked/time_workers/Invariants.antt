@@ -1,5 +1,0 @@
-use Rattle.rr_bench.proofs.locked.time_workers.Given as goal
-
--- the blank that was just made
-abbrev pub ghosts-exchange : goal.ghosts-exchange
-ghosts-exchange g a = record { name = a.blank.name; parts = a.blank.parts }
