@@ -1,11 +1,11 @@
 -- What a call of a wait leaves.
-use Rattle.std.proofs.Common.{◌≡◌, ℕ, List, Result, Ok, Err, subst}
+use Rattle.std.proofs.Common.{◌≡◌, ℕ, List, [], ◌∷◌, ◌++◌, Result, Ok, Err, ◌∙◌, ap, append_assoc, subst, sym}
 use mathlib.Core.List.{IsPrefix}
 use Rattle.rr_ports.specs.declared.try_send.Refused.{Refused}
 use Rattle.rr_shared_ports.specs.declared.error.WaitError.{WaitError}
 use Rattle.rr_shared_ports.specs.declared.error.WaitError.TheVariants as wait
 use Rattle.rr_shared_ports.specs.Turns.{EndsInCall, MakesCall, Seated}
-use Rattle.rr_shared_ports.specs.Waits.{IsOver, Refuses, SendRefuses}
+use Rattle.rr_shared_ports.specs.Waits.{EndsLater, IsOver, Refuses, SendRefuses}
 use Rattle.rr_shared_ports.proofs.Turns.{ends_in_call, goes_on}
 
 module _ {S : Type 0} (start : S) where
@@ -18,6 +18,14 @@ module _ {S : Type 0} (start : S) where
   pub ends_as : {R : Type 0} (Call : R → S → S → Type 0) (result returned : R) (old new : Seated S) → result ≡ returned → MakesCall start (Call result) old new
       → EndsInCall start (Call returned) new
   ends_as Call result returned old new is made = subst (λ r. EndsInCall start (Call r) new) is (ends_in_call start (Call result) old new made.0 made.1 made.2 made.4)
+
+  -- a call that was the last one is an earlier one after the next
+  pub ends_later : (Look Call : S → S → Type 0) (old new : Seated S) → EndsInCall start Look old → MakesCall start Call old new → EndsLater start Look new
+  ends_later Look Call old new looked made =
+      let last = (old.0, made.1) ∷ [] in
+      let joined = ap (λ calls. (calls ++ made.0) ++ last) looked.2 ∙ ap (λ calls. calls ++ last) (append_assoc looked.0 ((old.0, looked.1) ∷ []) made.0) in
+      let by = ap (λ caller. (looked.0 ++ (caller, looked.1) ∷ made.0) ++ (caller, made.1) ∷ []) (sym (ap (λ seat. seat.0) made.2)) in
+      (looked.0, looked.1, made.0, made.1, ap (λ seat. seat.1) made.2 ∙ joined ∙ by, looked.3)
 
   module _ {U E : Type 0} where
     -- a wait that was over ends in a call that received nothing

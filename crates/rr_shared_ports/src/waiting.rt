@@ -1,11 +1,11 @@
 //! Receives that wait until something comes. They look some times, and then sleep.
-ghost use Rattle.std.specs.Prelude.{◌≡◌, IfSome, None, Some};
+ghost use Rattle.std.specs.Prelude.{◌≡◌, IfSome, None, Ok, Some};
 ghost use mathlib.Core.List.{IsPrefix};
 ghost use Rattle.rr_ports.specs.Facts.{numbers_left};
 ghost use Rattle.rr_protocol.specs.Receives.{ReceivesRequest, ReceivesResponse};
 ghost use Rattle.rr_protocol.specs.State.{empty_hub};
-ghost use Rattle.rr_shared_ports.specs.Turns.{Answered};
-ghost use Rattle.rr_shared_ports.specs.Waits.{IsOver, Waits};
+ghost use Rattle.rr_shared_ports.specs.Turns.{Answered, EndsInCall};
+ghost use Rattle.rr_shared_ports.specs.Waits.{EndsLater, FindsNoServer, IsOver, Waits};
 
 use crate::claimed::Claimed;
 use crate::deadline::{Deadline, Never, Timeout};
@@ -170,6 +170,7 @@ impl<N: Naming, QB: Body> Claimed<N, PendingResponse<QB>> {
         ensures same { seat.new.0 ≡ seat.old.0 }
         ensures seen { IsPrefix seat.old.1 seat.new.1 }
         ensures call { Waits (empty_hub N.limits N.node_id) (λ received before after. ReceivesResponse before self.now received after) None (λ received. received) result seat.new }
+        ensures ended { result ≡ Ok None → EndsLater (empty_hub N.limits N.node_id) (FindsNoServer self.now) seat.new }
     {
         self.await_response(hub, rt, seat, &Never)
     }
@@ -198,6 +199,7 @@ impl<N: Naming, QB: Body> Claimed<N, PendingResponse<QB>> {
         ensures same { seat.new.0 ≡ seat.old.0 }
         ensures seen { IsPrefix seat.old.1 seat.new.1 }
         ensures call { Waits (empty_hub N.limits N.node_id) (λ received before after. ReceivesResponse before self.now received after) None (λ received. received) result seat.new }
+        ensures ended { result ≡ Ok None → EndsLater (empty_hub N.limits N.node_id) (FindsNoServer self.now) seat.new }
     {
         self.await_response(hub, rt, seat, &Timeout::after(rt, most))
     }
@@ -220,6 +222,7 @@ impl<N: Naming, QB: Body> Claimed<N, PendingResponse<QB>> {
         ensures same { seat.new.0 ≡ seat.old.0 }
         ensures seen { IsPrefix seat.old.1 seat.new.1 }
         ensures call { Waits (empty_hub N.limits N.node_id) (λ received before after. ReceivesResponse before self.now received after) None (λ received. received) result seat.new }
+        ensures ended { result ≡ Ok None → EndsLater (empty_hub N.limits N.node_id) (FindsNoServer self.now) seat.new }
     {
         hub.waking.responses.enter();
         let received = self.await_again(hub, rt, seat, deadline);
@@ -245,6 +248,7 @@ impl<N: Naming, QB: Body> Claimed<N, PendingResponse<QB>> {
         ensures same { seat.new.0 ≡ seat.old.0 }
         ensures seen { IsPrefix seat.old.1 seat.new.1 }
         ensures call { Waits (empty_hub N.limits N.node_id) (λ received before after. ReceivesResponse before self.now received after) None (λ received. received) result seat.new }
+        ensures ended { result ≡ Ok None → EndsLater (empty_hub N.limits N.node_id) (FindsNoServer self.now) seat.new }
     {
         let sleepers = &hub.waking.responses;
         for _ in rt.forever() {
@@ -255,21 +259,18 @@ impl<N: Naming, QB: Body> Claimed<N, PendingResponse<QB>> {
                 Ok(None) => {}
                 Err(error) => return Err(WaitError::Call(error)),
             }
-            let over = match (self.is_connected(hub, rt, seat), pause) {
-                (true, Ok(pause)) => {
-                    sleepers.wait(rt, turns, pause);
-                    continue;
-                }
-                (true, Err(error)) => Some(error),
-                (false, _) => None,
-            };
-            return self.receive_last(hub, rt, seat, over);
+            if !self.is_connected(hub, rt, seat) {
+                return self.receive_last(hub, rt, seat, None);
+            }
+            match pause {
+                Ok(pause) => sleepers.wait(rt, turns, pause),
+                Err(error) => return self.receive_last(hub, rt, seat, Some(error)),
+            }
         }
         unreachable!()
     }
 
-    /// Receives a response that was queued since the last receive. Returns why the wait is over if none was, or `None` if no connected
-    /// server may answer any more.
+    /// Receives what was queued since the last receive. Returns why the wait is over if nothing was, or `None` if no server may answer.
     fn receive_last<R: Wait, QH: Default + Drop, PB: Body, PH: Default + Drop, K: BackpressureFn>(
         &self,
         hub: &SharedPorts<N, Hub<QB, QH, PB, PH, K>>,
@@ -277,10 +278,12 @@ impl<N: Naming, QB: Body> Claimed<N, PendingResponse<QB>> {
         seat: &mut Seat<N, Hub<QB, QH, PB, PH, K>>,
         over: Option<WaitError<ReceiveError>>,
     ) -> Answer<N, PB>
-        requires { IfSome over IsOver }
+        requires over { IfSome over IsOver }
+        requires looked { over ≡ None → EndsInCall (empty_hub N.limits N.node_id) (FindsNoServer self.now) seat.old }
         ensures same { seat.new.0 ≡ seat.old.0 }
         ensures seen { IsPrefix seat.old.1 seat.new.1 }
         ensures call { Waits (empty_hub N.limits N.node_id) (λ received before after. ReceivesResponse before self.now received after) None (λ received. received) result seat.new }
+        ensures ended { result ≡ Ok None → EndsLater (empty_hub N.limits N.node_id) (FindsNoServer self.now) seat.new }
     {
         match self.receive(hub, rt, seat) {
             Ok(Some(response)) => Ok(Some(response)),
