@@ -230,7 +230,7 @@ impl<N: Naming, R: Abort + Wait + Clock> Worker<'_, N, R> {
         }
     }
 
-    /// Returns what two numbers come to that are told.
+    /// Receives two numbers that are told. Returns their sum.
     fn told(&mut self, server: &Server<N, u64>) -> u64 {
         self.until_asked(server);
         let told = server.receive_copy(self.hub, self.rt, &mut self.seat);

@@ -67,7 +67,7 @@ const ROWS: [(Awaited, Change); 15] = [
     (Awaited::RoomToAnswer, Change::Closed),
 ];
 
-/// Two requests, and two responses to each of them, fill their queues. What is told is heard, though nobody awaits an answer.
+/// Queues of two. A server receives requests whose client awaits no answer, too.
 const NARROW: Limits = Limits {
     max_active_requests_per_client: 2,
     max_response_buffer_size: 2,
