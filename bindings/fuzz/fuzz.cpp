@@ -75,6 +75,9 @@ class Run {
         HOLDS(code == RR_OK);
         loans = std::max<size_t>(loans, 1);
         size_t worst = is_client ? model.worst_case_requests() : model.worst_case_responses(loans);
+        size_t told = 99;
+        code = is_client ? rr_worst_case_requests(&model.limits, &told) : rr_worst_case_responses(&model.limits, loans, &told);
+        HOLDS(code == RR_OK && told == worst);
         Port port = {id.number, is_client, strategy == RR_BACKPRESSURE_RETRY_UNTIL_DELIVERED, grows != RR_ALLOCATION_STATIC, len,
                      slots == 0 ? worst : std::min(slots, worst), loans, is_client ? model.limits.max_loaned_requests : model.most_loans(loans)};
         model.ports.push_back(std::make_unique<Port>(port));
@@ -144,6 +147,9 @@ class Run {
             HOLDS(code == RR_OK && answer == !model.is_blocked(it));
         else
             HOLDS(code == RR_WRONG_KIND);
+        uint32_t why = 99;
+        code = rr_send_refusal(&hub, &id, &why);
+        HOLDS(is_sendable(kind) ? code == RR_OK && why == model.send_code(it) : code == RR_WRONG_KIND && why == 99);
     }
 
     void look_at_message(Handle &it, const rr_id_t &id) {

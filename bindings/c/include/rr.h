@@ -22,8 +22,9 @@
  *   - any other pointer is not null and is aligned, and leads to a live value, or to as many bytes as the length beside it says (any
  *     pointer that isn't null, if that is 0). What a call writes through overlaps with nothing else that the call is passed;
  *   - a `bool` is 0 or 1;
- *   - what `rr_payload_mut` leads to is not touched after its message is sent or released, and what `rr_payload` leads to is read alone,
- *     and not after the handle that was asked is sent or released. Nothing is touched after the hub is dropped;
+ *   - what `rr_payload_mut` and `rr_loan_in_place` lead to is not touched after the message is sent or released. What `rr_payload` and
+ *     `rr_receive_in_place` lead to is read alone, and not after the handle is sent or released. Nothing is touched after the hub is
+ *     dropped;
  *   - `malloc`, `realloc` and `free` are one allocator's, which aligns a block to 16 bytes: so are payloads. No call is made from a
  *     signal handler, nor in the child of a `fork` of a process with more than one thread.
  *
@@ -152,6 +153,12 @@ typedef struct rr_user_header_t {
 uint32_t rr_hub_create(const rr_limits_t *limits, uint64_t node_id, void **at);
 /* Drops a hub with all that it has, and frees its memory. Does nothing where `at` is null. */
 void rr_hub_drop(rr_hub_t hub);
+/* Writes how many slots a client's pool has that is not reduced: as many as requests of it can live at one time.
+ * RR_HUB_CREATE_ZERO_LIMIT, and RR_HUB_CREATE_LIMITS_TOO_LARGE if they are more than a size_t counts. */
+uint32_t rr_worst_case_requests(const rr_limits_t *limits, size_t *slots);
+/* Writes the same of the pool of a server that may have so many responses on loan for a request, of which 0 counts as 1.
+ * RR_HUB_CREATE_ZERO_LIMIT, RR_HUB_CREATE_LIMITS_TOO_LARGE. */
+uint32_t rr_worst_case_responses(const rr_limits_t *limits, size_t max_loaned_responses_per_request, size_t *slots);
 /* Writes what the id names, one of RR_KIND_*. RR_UNKNOWN. */
 uint32_t rr_kind(rr_hub_t *hub, const rr_id_t *id, uint32_t *kind);
 
@@ -183,10 +190,15 @@ uint32_t rr_set(rr_hub_t *hub, const rr_id_t *message, size_t index, uint8_t byt
  * being written can be sent from then on; its bytes are 0, or what an earlier message of its port left there, until they are written.
  * RR_UNKNOWN, RR_WRONG_KIND. */
 uint32_t rr_payload_mut(rr_hub_t *hub, const rr_id_t *message, uint8_t **at, size_t *len);
+/* Loans a message of so many bytes that can be sent, and writes where they lie: `rr_loan_slice_uninit` and `rr_payload_mut` in one call,
+ * with the codes of the first. RR_UNKNOWN, RR_WRONG_KIND, RR_NUMBERS_EXHAUSTED, RR_LOAN_*. */
+uint32_t rr_loan_in_place(rr_hub_t *hub, const rr_id_t *from, size_t len, rr_id_t *message, uint8_t **at);
 /* Replaces the user header of a message that was not sent. RR_UNKNOWN, RR_WRONG_KIND. */
 uint32_t rr_set_user_header(rr_hub_t *hub, const rr_id_t *message, const rr_user_header_t *header);
 /* Writes whether a send of the message would be refused by no full queue. RR_UNKNOWN, RR_WRONG_KIND. */
 uint32_t rr_is_deliverable(rr_hub_t *hub, const rr_id_t *message, bool *is_deliverable);
+/* Writes RR_OK, or the RR_SEND_* with which `rr_send` of the message would be refused now. Changes nothing. RR_UNKNOWN, RR_WRONG_KIND. */
+uint32_t rr_send_refusal(rr_hub_t *hub, const rr_id_t *message, uint32_t *why);
 /* Sends a message. A request is a pending response under its id then, and the servers that it was sent to are written; a response is gone,
  * and 0 is written. Refused with RR_SEND_*, the message is released. RR_UNKNOWN, RR_WRONG_KIND, RR_SEND_*. */
 uint32_t rr_send(rr_hub_t *hub, const rr_id_t *message, size_t *servers);
@@ -198,6 +210,9 @@ uint32_t rr_send_copy(rr_hub_t *hub, const rr_id_t *from, const uint8_t *payload
 /* Receives a request of a server, or a response of a pending response. RR_NOTHING if none is queued; a server has dropped the requests
  * then that no client waits for. RR_UNKNOWN, RR_WRONG_KIND, RR_NUMBERS_EXHAUSTED, RR_RECEIVE_*. */
 uint32_t rr_receive(rr_hub_t *hub, const rr_id_t *from, rr_id_t *received);
+/* Receives a request or a response, and writes where its payload lies: `rr_receive` and `rr_payload` in one call, with the codes of the
+ * first. RR_NOTHING, RR_UNKNOWN, RR_WRONG_KIND, RR_NUMBERS_EXHAUSTED, RR_RECEIVE_*. */
+uint32_t rr_receive_in_place(rr_hub_t *hub, const rr_id_t *from, rr_id_t *received, const uint8_t **at, size_t *len);
 /* Writes whether anything is queued for a server or a pending response. For a server that may be a request that no client waits for, which
  * a receive drops. RR_UNKNOWN, RR_WRONG_KIND. */
 uint32_t rr_has_entries(rr_hub_t *hub, const rr_id_t *from, bool *has_entries);

@@ -38,21 +38,25 @@ static bool still_works(service_t *service) {
 
 static void unknown(service_t *it) {
     rr_id_t pending = send_bytes(&it->hub, &it->client, "ask", 3), made_up = {999, 3, 4}, id = UNTOUCHED;
+    uint32_t why = 77;
     TRY(rr_release(&it->hub, &pending));
     GIVES(RR_UNKNOWN, rr_release(&it->hub, &pending));
     GIVES(RR_UNKNOWN, rr_receive(&it->hub, &pending, &id));
     GIVES(RR_UNKNOWN, rr_loan_slice_uninit(&it->hub, &made_up, 3, &id));
-    HOLDS(is_untouched(&id) && is_gone(&it->hub, &made_up) && still_works(it));
+    GIVES(RR_UNKNOWN, rr_send_refusal(&it->hub, &pending, &why));
+    HOLDS(is_untouched(&id) && why == 77 && is_gone(&it->hub, &made_up) && still_works(it));
 }
 
 static void wrong_kind(service_t *it) {
     rr_id_t request, id = UNTOUCHED;
     size_t servers = 77;
+    uint32_t why = 77;
     TRY(rr_loan_slice_uninit(&it->hub, &it->client, 3, &request));
     GIVES(RR_WRONG_KIND, rr_send(&it->hub, &request, &servers));
+    GIVES(RR_WRONG_KIND, rr_send_refusal(&it->hub, &request, &why));
     GIVES(RR_WRONG_KIND, rr_receive(&it->hub, &it->client, &id));
     GIVES(RR_WRONG_KIND, rr_loan_slice_uninit(&it->hub, &it->server, 3, &id));
-    HOLDS(servers == 77 && is_untouched(&id) && is_kind(&it->hub, &request, RR_KIND_REQUEST_MUT_UNINIT));
+    HOLDS(servers == 77 && why == 77 && is_untouched(&id) && is_kind(&it->hub, &request, RR_KIND_REQUEST_MUT_UNINIT));
     TRY(rr_release(&it->hub, &request));
     HOLDS(still_works(it));
 }
@@ -119,8 +123,10 @@ static void too_many_active(service_t *it) {
     rr_id_t first = send_bytes(&it->hub, &it->client, "1", 1), second = send_bytes(&it->hub, &it->client, "2", 1);
     rr_id_t third = loan_bytes(&it->hub, &it->client, "3", 1);
     size_t servers = 77;
+    uint32_t why;
+    TRY(rr_send_refusal(&it->hub, &third, &why));
     GIVES(RR_SEND_EXCEEDS_MAX_ACTIVE_REQUESTS, rr_send(&it->hub, &third, &servers));
-    HOLDS(servers == 77 && is_gone(&it->hub, &third));
+    HOLDS(why == RR_SEND_EXCEEDS_MAX_ACTIVE_REQUESTS && servers == 77 && is_gone(&it->hub, &third));
     rr_id_t active = receive(&it->hub, &it->server);
     HOLDS(has_bytes(&it->hub, &active, "1", 1) && is_kind(&it->hub, &second, RR_KIND_PENDING_RESPONSE));
     TRY(rr_release(&it->hub, &active));
@@ -178,6 +184,36 @@ static void in_place(service_t *it) {
     HOLDS(still_works(it));
 }
 
+/* A message is loaned to be written in place by one call, and so is one received to be read. A refused call writes nothing. */
+static void in_place_at_once(service_t *it) {
+    rr_hub_t *hub = &it->hub;
+    rr_id_t request, second, active, made_up = {999, 3, 4}, id = UNTOUCHED;
+    uint8_t untouched, *at = &untouched;
+    const uint8_t *read_at = &untouched;
+    size_t len = 77, servers;
+    uint32_t why = 77;
+    GIVES(RR_UNKNOWN, rr_loan_in_place(hub, &made_up, 3, &id, &at));
+    GIVES(RR_WRONG_KIND, rr_loan_in_place(hub, &it->server, 3, &id, &at));
+    GIVES(RR_LOAN_EXCEEDS_MAX_LOAN_SIZE, rr_loan_in_place(hub, &it->client, 9, &id, &at));
+    GIVES(RR_UNKNOWN, rr_receive_in_place(hub, &made_up, &id, &read_at, &len));
+    GIVES(RR_WRONG_KIND, rr_receive_in_place(hub, &it->client, &id, &read_at, &len));
+    GIVES(RR_NOTHING, rr_receive_in_place(hub, &it->server, &id, &read_at, &len));
+    HOLDS(is_untouched(&id) && at == &untouched && read_at == &untouched && len == 77);
+    TRY(rr_loan_in_place(hub, &it->client, 3, &request, &at));
+    memcpy(at, "ask", 3);
+    TRY(rr_loan_in_place(hub, &it->client, 8, &second, &at));
+    GIVES(RR_LOAN_EXCEEDS_MAX_LOANS, rr_loan_in_place(hub, &it->client, 3, &id, &at));
+    HOLDS(is_untouched(&id) && second.number == request.number + 1 && is_kind(hub, &request, RR_KIND_REQUEST_MUT));
+    TRY(rr_send_refusal(hub, &request, &why));
+    TRY(rr_send(hub, &request, &servers));
+    TRY(rr_receive_in_place(hub, &it->server, &active, &read_at, &len));
+    HOLDS(why == RR_OK && len == 3 && memcmp(read_at, "ask", 3) == 0 && has_bytes(hub, &active, "ask", 3));
+    const rr_id_t *held[] = {&active, &request, &second};
+    for (size_t index = 0; index < sizeof held / sizeof *held; index++)
+        TRY(rr_release(hub, held[index]));
+    HOLDS(still_works(it));
+}
+
 /* Each of the nine kinds is told by its number. */
 static void kinds(service_t *it) {
     rr_hub_t *hub = &it->hub;
@@ -204,18 +240,20 @@ static void kinds(service_t *it) {
 
 /* A hub with the small limits and both ports is passed to each of these. */
 static void (*const WITH_SMALL_LIMITS[])(service_t *) = {unknown, wrong_kind, incomplete, wrong_length, nothing, loan_refusals,
-                                                         too_many_active, copies, in_place, kinds};
+                                                         too_many_active, copies, in_place, in_place_at_once, kinds};
 
 static void out_of_memory(void) {
     rr_limits_t limits = small_limits();
     rr_hub_t hub = new_hub(&limits);
     rr_client_settings_t settings = rr_client_settings_default(8);
     rr_id_t client, pending, again = UNTOUCHED;
+    uint8_t *at = NULL;
     settings.preallocated_requests = 1;
     TRY(rr_client_create(&hub, &settings, &client));
     pending = send_bytes(&hub, &client, "ask", 3);
     GIVES(RR_LOAN_OUT_OF_MEMORY, rr_loan_slice_uninit(&hub, &client, 1, &again));
-    HOLDS(is_untouched(&again) && has_bytes(&hub, &pending, "ask", 3));
+    GIVES(RR_LOAN_OUT_OF_MEMORY, rr_loan_in_place(&hub, &client, 1, &again, &at));
+    HOLDS(is_untouched(&again) && at == NULL && has_bytes(&hub, &pending, "ask", 3));
     TRY(rr_release(&hub, &pending));
     TRY(rr_loan_slice_uninit(&hub, &client, 1, &again));
     rr_hub_drop(hub);
@@ -227,6 +265,7 @@ static void unable_to_deliver(void) {
     rr_client_settings_t settings = rr_client_settings_default(8);
     rr_id_t client, server, ids[2], refused;
     size_t servers = 77;
+    uint32_t why;
     bool is_deliverable;
     settings.backpressure_strategy = RR_BACKPRESSURE_RETRY_UNTIL_DELIVERED;
     TRY(rr_client_create(&hub, &settings, &client));
@@ -237,8 +276,9 @@ static void unable_to_deliver(void) {
     }
     refused = loan_bytes(&hub, &client, "2", 1);
     TRY(rr_is_deliverable(&hub, &refused, &is_deliverable));
+    TRY(rr_send_refusal(&hub, &refused, &why));
     GIVES(RR_SEND_UNABLE_TO_DELIVER, rr_send(&hub, &refused, &servers));
-    HOLDS(!is_deliverable && servers == 77 && is_gone(&hub, &refused));
+    HOLDS(!is_deliverable && why == RR_SEND_UNABLE_TO_DELIVER && servers == 77 && is_gone(&hub, &refused));
 
     // The queue is as it was: two requests that nobody waits for, which a receive drops.
     GIVES(RR_NOTHING, rr_receive(&hub, &server, &refused));
@@ -255,10 +295,13 @@ static void too_many_borrows(void) {
     send_bytes(&it.hub, &active, "1", 1);
     send_bytes(&it.hub, &active, "2", 1);
     rr_id_t first = receive(&it.hub, &pending);
+    const uint8_t *at = NULL;
+    size_t len = 77;
     bool has_entries;
     GIVES(RR_RECEIVE_EXCEEDS_MAX_BORROWS, rr_receive(&it.hub, &pending, &second));
+    GIVES(RR_RECEIVE_EXCEEDS_MAX_BORROWS, rr_receive_in_place(&it.hub, &pending, &second, &at, &len));
     TRY(rr_has_entries(&it.hub, &pending, &has_entries));
-    HOLDS(has_entries && is_untouched(&second) && has_bytes(&it.hub, &first, "1", 1));
+    HOLDS(has_entries && at == NULL && len == 77 && is_untouched(&second) && has_bytes(&it.hub, &first, "1", 1));
     TRY(rr_release(&it.hub, &first));
     second = receive(&it.hub, &pending);
     HOLDS(has_bytes(&it.hub, &second, "2", 1));
@@ -324,6 +367,27 @@ static void hub_creation(void) {
     rr_hub_drop(none);
 }
 
+/* The slots of pools that aren't reduced, with iceoryx2's default limits: of a client its loans, its pending requests, and those that its
+ * servers hold or have queued; of a server its loans, and what its clients hold or have queued. */
+static void worst_cases(void) {
+    rr_limits_t limits = rr_limits_default();
+    size_t slots;
+    TRY(rr_worst_case_requests(&limits, &slots));
+    HOLDS(slots == 2 + 4 + 2 * 2 * 4);
+    TRY(rr_worst_case_responses(&limits, 3, &slots));
+    HOLDS(slots == 3 * 4 * 8 + 8 * (4 * 2 + 22 * 2));
+    TRY(rr_worst_case_responses(&limits, 0, &slots));
+    HOLDS(slots == 1 * 4 * 8 + 8 * (4 * 2 + 22 * 2));
+    slots = 77;
+    GIVES(RR_HUB_CREATE_LIMITS_TOO_LARGE, rr_worst_case_responses(&limits, SIZE_MAX, &slots));
+    limits.max_servers = SIZE_MAX;
+    GIVES(RR_HUB_CREATE_LIMITS_TOO_LARGE, rr_worst_case_requests(&limits, &slots));
+    limits.max_clients = 0;
+    GIVES(RR_HUB_CREATE_ZERO_LIMIT, rr_worst_case_requests(&limits, &slots));
+    GIVES(RR_HUB_CREATE_ZERO_LIMIT, rr_worst_case_responses(&limits, 1, &slots));
+    HOLDS(slots == 77);
+}
+
 /* Whether a code comes only if 2^62 numbers were given, or if memory is refused. */
 static bool is_out_of_reach(uint32_t code) {
     return code == RR_NUMBERS_EXHAUSTED || code == RR_CLIENT_CREATE_UNABLE_TO_CREATE_PORT_TAG ||
@@ -344,6 +408,7 @@ int main(void) {
     client_creation();
     server_creation();
     hub_creation();
+    worst_cases();
     for (uint32_t code = 0; code < 100; code++) {
         bool has_name = strcmp(rr_code_name(code), "no code of rr") != 0;
         HOLDS(has_come[code] == (has_name && !is_out_of_reach(code)));

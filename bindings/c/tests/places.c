@@ -6,13 +6,22 @@ enum { LEN = 100, OTHERS = 6, ALIGNMENT = 16 };
 /* Loans a message, writes it in place and sends it. Returns where its payload lies. */
 static const uint8_t *send_in_place(rr_hub_t *hub, const rr_id_t *from, uint8_t byte, rr_id_t *message) {
     uint8_t *at;
-    size_t len, servers;
-    TRY(rr_loan_slice_uninit(hub, from, LEN, message));
-    TRY(rr_payload_mut(hub, message, &at, &len));
-    HOLDS(len == LEN && (uintptr_t)at % ALIGNMENT == 0);
+    size_t servers;
+    TRY(rr_loan_in_place(hub, from, LEN, message, &at));
+    HOLDS((uintptr_t)at % ALIGNMENT == 0);
     memset(at, byte, LEN);
     TRY(rr_send(hub, message, &servers));
     return at;
+}
+
+/* Receives a message, whose payload lies there. */
+static rr_id_t receive_in_place(rr_hub_t *hub, const rr_id_t *from, const uint8_t *wanted) {
+    rr_id_t received;
+    const uint8_t *at;
+    size_t len;
+    TRY(rr_receive_in_place(hub, from, &received, &at, &len));
+    HOLDS(at == wanted && len == LEN);
+    return received;
 }
 
 /* Whether a message's payload lies there, and is what was written. */
@@ -42,9 +51,9 @@ int main(void) {
     settings.allocation_strategy = RR_ALLOCATION_BEST_FIT;
     TRY(rr_server_create(&hub, &settings, &server));
     const uint8_t *asked = send_in_place(&hub, &client, 3, &pending);
-    rr_id_t active = receive(&hub, &server);
+    rr_id_t active = receive_in_place(&hub, &server, asked);
     const uint8_t *answered = send_in_place(&hub, &active, 4, &response);
-    response = receive(&hub, &pending);
+    response = receive_in_place(&hub, &pending, answered);
     HOLDS(asked != answered);
     let_others_call(&hub);
     HOLDS(lies_at(&hub, &pending, asked, 3) && lies_at(&hub, &active, asked, 3) && lies_at(&hub, &response, answered, 4));

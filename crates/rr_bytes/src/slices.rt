@@ -11,6 +11,7 @@ use std::marker::Model;
 
 mod copies;
 mod creation;
+mod in_place;
 mod messages;
 mod questions;
 mod writes;

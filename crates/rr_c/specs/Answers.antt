@@ -1,6 +1,7 @@
 -- What an export does, returns and writes.
-use Rattle.std.specs.Prelude.{◌≡◌, ◌⊎◌, ℕ, true, false, List, length, Option, Some, None, Result, Ok, Err}
+use Rattle.std.specs.Prelude.{◌≡◌, ◌⊎◌, ℕ, true, false, if◌then◌else◌, List, length, Option, Some, None, MatchOption, Result, Ok, Err}
 use Rattle.std.specs.Array.{AllOfLen}
+use Rattle.std.specs.Option.{option_map_or}
 use Rattle.rr_slots.specs.declared.family.Family.TheVariants.{Sliced}
 use Rattle.rr_protocol.specs.declared.error.HubCreateError.{HubCreateError}
 use Rattle.rr_protocol.specs.declared.error.HubCreateError.TheVariants as create
@@ -10,6 +11,7 @@ use Rattle.rr_protocol.specs.declared.settings.BackpressureAction.{BackpressureA
 use Rattle.rr_protocol.specs.declared.settings.BackpressureAction.TheVariants.{FollowBackpressureStrategy}
 use Rattle.rr_protocol.specs.declared.settings.BackpressureStrategy.{BackpressureStrategy}
 use Rattle.rr_protocol.specs.Creation.{CreatesHub}
+use Rattle.rr_protocol.specs.Limits.{has_zero_limit, is_too_large}
 use Rattle.rr_protocol.specs.State.{State}
 use Rattle.rr_commands.specs.declared.command.Command.{Command}
 use Rattle.rr_commands.specs.declared.reply.Reply.{Reply}
@@ -24,7 +26,9 @@ use Rattle.rr_bytes.specs.declared.id.Id.{Id}
 use Rattle.rr_bytes.specs.declared.slices.copies.SentCopy.{SentCopy}
 use Rattle.rr_bytes.specs.declared.slices.copies.SentCopy.TheVariants as copy
 use Rattle.rr_bytes.specs.Copies.{SendsCopyOf}
+use Rattle.rr_bytes.specs.InPlace.{LoansInPlace}
 use Rattle.rr_bytes.specs.Receives.{Receives}
+use Rattle.rr_bytes.specs.SendRefusals.{TellsSendRefusal}
 use Rattle.rr_c.specs.declared.held.Hub.{Hub}
 use Rattle.rr_c.specs.declared.messages.Header.{Header}
 use Rattle.rr_c.specs.declared.messages.UserHeader.{UserHeader}
@@ -49,6 +53,14 @@ HubStep old command reply new = Step follows_strategy IsZero IsZeroHeader Sliced
 -- a receive of a hub of bytes
 abbrev pub HubReceives : Hub → ℕ → Result (Option Id) Refusal → Hub → Type 0
 HubReceives old n answer new = Receives follows_strategy IsZero IsZeroHeader old.bytes n answer new.bytes
+
+-- a loan of a hub of bytes whose message is complete
+abbrev pub HubLoansInPlace : Hub → ℕ → ℕ → Result Id Refusal → Hub → Type 0
+HubLoansInPlace old n len answer new = LoansInPlace follows_strategy IsZero IsZeroHeader old.bytes n len answer new.bytes
+
+-- what a hub of bytes tells of a send before it is made
+abbrev pub HubTellsSendRefusal : Hub → ℕ → Result (Option Refusal) Refusal → Type 0
+HubTellsSendRefusal hub n answer = TellsSendRefusal follows_strategy hub.bytes n answer
 
 -- the code of a call's result
 abbrev pub answer_code : {Value Error : Type 0} → (Error → ℕ) → Result Value Error → ℕ
@@ -95,6 +107,16 @@ IsCreateCode (Err error) n = n ≡ create_code error
 abbrev pub CreatesHeld : Limits → ℕ → ℕ → Type 0
 CreatesHeld limits node n = (made : Result (State ℕ (List ℕ) ℕ (List ℕ) NoHandler) HubCreateError) × CreatesHub limits node made × IsCreateCode made n
 
+-- why a pool's size isn't told, if it isn't: the limits make no hub, or it is past the largest `size_t`
+abbrev pub pool_refusal : Limits → ℕ → Option HubCreateError
+pool_refusal limits size =
+    if has_zero_limit limits then Some create.ZeroLimit else (if is_too_large size then Some create.LimitsTooLarge else None)
+
+-- the size is written, or the code says why it isn't
+abbrev pub WritesPool : Limits → ℕ → ℕ → ℕ → ℕ → Type 0
+WritesPool limits size n before after =
+    MatchOption (pool_refusal limits size) ((n ≡ 0) × (after ≡ size)) (λ error. (n ≡ create_code error) × (after ≡ before))
+
 module _ {S : Type 0} (Creates : S → ℕ → Id → Id → Type 0) where
   -- a port is created, unless a strategy is none, and then nothing changes
   abbrev pub CreatesPort : Option S → Hub → ℕ → Id → Id → Hub → Type 0
@@ -111,6 +133,11 @@ abbrev pub taken : ℕ → Result Sent Refusal → ℕ
 taken old (Ok (sent_as.Request servers)) = servers
 taken old (Ok sent_as.Response) = 0
 taken old (Err refusal) = old
+
+-- the code of why a send would be refused, or 0
+abbrev pub why_written : ℕ → Result (Option Refusal) Refusal → ℕ
+why_written old (Ok why) = option_map_or code why 0
+why_written old (Err refusal) = old
 
 -- a send of a copy by a hub of bytes
 abbrev pub HubSendsCopy : Hub → ℕ → List ℕ → Result SentCopy Refusal → Hub → Type 0

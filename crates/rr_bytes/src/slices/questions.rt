@@ -4,11 +4,12 @@ ghost use Rattle.rr_commands.specs.declared.command.Command.{Command};
 ghost use Rattle.rr_commands.specs.declared.reply.Reply.{Reply};
 ghost use Rattle.rr_commands.specs.Step.{Step};
 ghost use Rattle.rr_checked.specs.Answers.{replied, shown};
+ghost use Rattle.rr_bytes.specs.SendRefusals.{TellsSendRefusal};
 
 use crate::id::Id;
 use crate::slices::Slices;
 use rr_checked::{MessageHeader, Refusal};
-use rr_hub::{BackpressureFn, BackpressureStrategy};
+use rr_hub::{BackpressureFn, BackpressureStrategy, Kind, SendError};
 
 impl<T: Copy + Default, H: Copy + Default, K: BackpressureFn> Slices<T, H, K> {
     /// Returns whether a server, or a pending response, would receive something. After iceoryx2's `has_requests` and `has_response`.
@@ -31,6 +32,29 @@ impl<T: Copy + Default, H: Copy + Default, K: BackpressureFn> Slices<T, H, K> {
         ensures { Step K.action T.is_default H.is_default Sliced self.now (Command.IsDeliverable id.now.number) (replied Reply.Flag result) self.now }
     {
         rr_checked::is_deliverable(&self.core, &id.handle())
+    }
+
+    /// Returns why a send of a message would be refused now, as `send` would say it, or `None` if it would not be. Not in iceoryx2.
+    ///
+    /// # Errors
+    ///
+    /// `Unknown` and `WrongKind`.
+    pub fn send_refusal(&self, id: &Id) -> Result<Option<Refusal>, Refusal>
+        ensures { TellsSendRefusal K.action self.now id.now.number result }
+    {
+        let handle = id.handle();
+        match self.core.kind(&handle) {
+            Some(Kind::RequestMut) => match self.core.request_send_refusal(&handle) {
+                Some(error) => Ok(Some(Refusal::Request(error))),
+                None => Ok(None),
+            },
+            Some(Kind::ResponseMut) => {
+                let is_refused = self.core.is_response_refused(&handle);
+                Ok(is_refused.then_some(Refusal::Send(SendError::UnableToDeliver)))
+            }
+            Some(_) => Err(Refusal::WrongKind),
+            None => Err(Refusal::Unknown),
+        }
     }
 
     /// Returns whether a pending response waits for a server, or an active request for its client. After iceoryx2's `is_connected` of

@@ -1,9 +1,10 @@
 //! The hub.
-ghost use Rattle.std.specs.Prelude.{◌≡◌};
+ghost use Rattle.std.specs.Prelude.{◌≡◌, max};
 ghost use Rattle.std.specs.Option.{option_map_or};
+ghost use Rattle.rr_protocol.specs.Limits.{worst_case_requests, worst_case_responses};
 ghost use Rattle.rr_protocol.specs.Queries.{kind_at};
 ghost use Rattle.rr_commands.specs.Refusals.{kind_index};
-ghost use Rattle.rr_c.specs.Answers.{CreatesHeld};
+ghost use Rattle.rr_c.specs.Answers.{CreatesHeld, WritesPool};
 ghost use Rattle.rr_c.specs.Settings.{limits_in};
 
 use crate::answers::{OK, UNKNOWN, code_of_create};
@@ -40,6 +41,46 @@ pub extern "C" fn rr_hub_create(
 #[unsafe(no_mangle)]
 pub extern "C" fn rr_hub_drop(alloc: Global, held: Held) {
     drop(box_of(held, alloc));
+}
+
+/// Writes the slots of a client's unreduced pool.
+#[unsafe(no_mangle)]
+pub extern "C" fn rr_worst_case_requests(limits: &HubLimits, slots: &mut usize) -> u32
+    ensures { WritesPool (limits_in limits.now) (worst_case_requests (limits_in limits.now)) result slots.old slots.new }
+{
+    let limits = settings::limits(limits);
+    if limits.has_zero_limit() {
+        return code_of_create(HubCreateError::ZeroLimit);
+    }
+    match limits.worst_case_requests() {
+        Some(worst_case) => {
+            *slots = worst_case;
+            OK
+        }
+        None => code_of_create(HubCreateError::LimitsTooLarge),
+    }
+}
+
+/// Writes the slots of a server's unreduced pool. No loaned response counts as one.
+#[unsafe(no_mangle)]
+pub extern "C" fn rr_worst_case_responses(
+    limits: &HubLimits,
+    max_loaned_responses_per_request: usize,
+    slots: &mut usize,
+) -> u32
+    ensures { WritesPool (limits_in limits.now) (worst_case_responses (limits_in limits.now) (max 1 max_loaned_responses_per_request)) result slots.old slots.new }
+{
+    let limits = settings::limits(limits);
+    if limits.has_zero_limit() {
+        return code_of_create(HubCreateError::ZeroLimit);
+    }
+    match limits.worst_case_responses(max_loaned_responses_per_request.max(1)) {
+        Some(worst_case) => {
+            *slots = worst_case;
+            OK
+        }
+        None => code_of_create(HubCreateError::LimitsTooLarge),
+    }
 }
 
 /// Writes what an id names.

@@ -6,7 +6,7 @@ ghost use Rattle.std.specs.Prelude.{◌≡◌, Result};
 ghost use Rattle.rr_checked.specs.Codes.{code};
 ghost use Rattle.rr_checked.specs.declared.refusal.Refusal.{Refusal};
 ghost use Rattle.rr_bytes.specs.declared.slices.copies.SentCopy.{SentCopy as SentCopied};
-ghost use Rattle.rr_c.specs.Answers.{Answers, HubSendsCopy, HubStep, Writes, answer_code, copy_named, copy_taken, taken};
+ghost use Rattle.rr_c.specs.Answers.{Answers, HubSendsCopy, HubStep, HubTellsSendRefusal, Writes, answer_code, copy_named, copy_taken, taken, why_written};
 
 use crate::answers::{OK, done, write};
 use crate::held::Held;
@@ -32,6 +32,25 @@ pub extern "C" fn rr_is_deliverable(hub: &mut Held, message: &Id, is_deliverable
     ensures { Writes (λ answer. HubStep hub.old.hub (Command.IsDeliverable message.now.number) (replied (Reply.Flag) answer) hub.new.hub) result is_deliverable.old is_deliverable.new }
 {
     write(hub_in(hub).bytes.is_deliverable(message), is_deliverable)
+}
+
+/// Writes the code with which a send of a message would be refused now, or 0.
+#[unsafe(no_mangle)]
+pub extern "C" fn rr_send_refusal(hub: &mut Held, message: &Id, why: &mut u32) -> u32
+    ensures tells { Answers (λ answer. HubTellsSendRefusal hub.old.hub message.now.number answer × (why.new ≡ why_written why.old answer)) result }
+    ensures hub { hub.new.hub ≡ hub.old.hub }
+{
+    match hub_in(hub).bytes.send_refusal(message) {
+        Ok(Some(refusal)) => {
+            *why = refusal.code();
+            OK
+        }
+        Ok(None) => {
+            *why = OK;
+            OK
+        }
+        Err(refusal) => refusal.code(),
+    }
 }
 
 /// Releases a port or a handle.
