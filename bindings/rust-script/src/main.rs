@@ -1,57 +1,63 @@
-//! Carries out a script of `rr script` by the crate `rr`, and prints the replies as it does (docs/RULES.md, "Lines of an example").
+//! Carries out a script of `rr script` by the crate `rr` (docs/RULES.md, "Lines of an example").
 //!
-//! The hub is of the sliced family, elements are bytes, and a user header is a number in the first eight bytes, the lowest first.
-//! Handles are values here, so that a number that names none, or one that has no such call, is refused by this program. All other
-//! replies are what the crate returns. Which request an active request belongs to can't be had, so that `active A` is printed without
-//! it. The statuses are those of `rr script`.
+//! ```text
+//! rr-script              prints the replies as `rr script` does, by a service of one thread
+//! rr-script --threads N  spreads the commands over N threads, by a service that threads share, and prints the
+//!                        log: each command with its reply, in the order in which they were made
+//! ```
+//!
+//! The service is of the sliced family, elements are bytes, and a user header is a number in the first eight bytes, the
+//! lowest first. Handles are values here, so that a number that names none, or one that has no such call, is refused by
+//! this program; so is a limit of 0, which the crate counts as 1, as iceoryx2 does. All other replies are what the
+//! crate returns. Which request an active request belongs to can't be had, so that `active A` is printed without it.
+//! The statuses are those of `rr script`.
 
 mod handles;
 mod script;
+mod spread;
 
-use rr::Hub;
-use script::{Script, error};
+use rr::prelude::*;
+use script::Script;
+use std::env;
 use std::io::{BufRead, stdin};
 use std::process::ExitCode;
 
-/// Makes the hub of the first line.
-fn hub_of(words: &[&str]) -> Result<Hub<[u8], [u8]>, rr::HubCreateError> {
-    let ["hub", "sliced", clients, servers, loaned, active, buffer, borrowed, flags, client_expired, server_expired] =
-        words
-    else {
-        panic!("the first line makes a hub of the sliced family");
-    };
-    let count = |word: &str| word.parse().expect("a count");
-    Hub::builder()
-        .request_response::<[u8], [u8]>()
-        .max_clients(count(clients))
-        .max_servers(count(servers))
-        .max_loaned_requests(count(loaned))
-        .max_active_requests_per_client(count(active))
-        .max_response_buffer_size(count(buffer))
-        .max_borrowed_responses_per_pending_response(count(borrowed))
-        .enable_safe_overflow_for_requests(flags.contains('q'))
-        .enable_safe_overflow_for_responses(flags.contains('p'))
-        .enable_fire_and_forget_requests(flags.contains('f'))
-        .client_expired_connection_buffer(count(client_expired))
-        .server_expired_connection_buffer(count(server_expired))
-        .node_id(0)
-        .create()
+/// Begins the script of the first line, or prints why its service is refused.
+fn begin<S: Service>(first: &str) -> Result<Script<S>, ExitCode> {
+    Script::begin(&first.split_whitespace().collect::<Vec<_>>()).map_err(|refusal| {
+        println!("{refusal}");
+        ExitCode::from(4)
+    })
+}
+
+/// Carries out the lines in this thread, and prints each reply at once.
+fn in_one_thread(first: &str, lines: impl Iterator<Item = String>) -> Result<(), ExitCode> {
+    let mut script = begin::<local::Service>(first)?;
+    println!("done");
+    for line in lines {
+        println!("{}", script.reply(&line.split_whitespace().collect::<Vec<_>>()));
+    }
+    Ok(())
+}
+
+/// Carries out the lines in several threads, and prints the log.
+fn in_threads(first: &str, lines: impl Iterator<Item = String>, threads: usize) -> Result<(), ExitCode> {
+    let script = begin::<local_threadsafe::Service>(first)?;
+    println!("{first} -> done");
+    for (line, reply) in spread::run(script, lines.collect(), threads) {
+        println!("{line} -> {reply}");
+    }
+    Ok(())
 }
 
 fn main() -> ExitCode {
     let mut lines = stdin().lock().lines().map(|line| line.expect("a line"));
     let first = lines.next().expect("a line");
-    let hub = match hub_of(&first.split_whitespace().collect::<Vec<_>>()) {
-        Ok(hub) => hub,
-        Err(refusal) => {
-            println!("{}", error(refusal));
-            return ExitCode::from(4);
-        }
+    let words: Vec<_> = env::args().skip(1).collect();
+    let done = match &words[..] {
+        [] => in_one_thread(&first, lines),
+        [name, threads] if name == "--threads" => in_threads(&first, lines, threads.parse().expect("a number")),
+        _ => panic!("the words are `--threads N`"),
     };
-    println!("done");
-    let mut script = Script::new(&hub);
-    for line in lines {
-        println!("{}", script.reply(&line.split_whitespace().collect::<Vec<_>>()));
-    }
-    ExitCode::SUCCESS
+    done.map_or_else(|status| status, |()| ExitCode::SUCCESS)
 }

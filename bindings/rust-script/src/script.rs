@@ -1,7 +1,12 @@
 //! The commands of a script, each by the crate's call, and their replies.
 
-use crate::handles::Handle;
-use rr::{ActiveRequest, AllocationStrategy, BackpressureStrategy, Client, Hub};
+use crate::handles::{Answer, Asked, Handle, Header, Request, Sender, number_in};
+use rr::port::SendError;
+use rr::port::client::RequestSendError;
+use rr::port::update_connections::ConnectionFailure;
+use rr::prelude::*;
+use rr::service::port_factory::request_response::PortFactory;
+use std::any::TypeId;
 use std::collections::HashMap;
 use std::fmt::Debug;
 
@@ -12,10 +17,13 @@ const UNKNOWN: &str = "refused Unknown";
 const WRONG_KIND: &str = "refused WrongKind";
 const INCOMPLETE: &str = "refused Incomplete";
 
-/// A hub, and what lives of it.
-pub struct Script<'h> {
-    hub: &'h Hub<[u8], [u8]>,
-    handles: HashMap<u64, Handle<'h>>,
+/// A service, and what lives of it.
+pub struct Script<S: Service> {
+    node: Node<S>,
+    service: PortFactory<S, [u8], Header, [u8], Header>,
+    handles: HashMap<u64, Handle<S>>,
+    /// Whether sends with `RetryUntilDelivered` would wait: then `try_send` stands in for `send`.
+    would_wait: bool,
 }
 
 /// The reply that tells an error: the names of its variants, the outermost first.
@@ -62,60 +70,105 @@ fn allocation(word: &str) -> AllocationStrategy {
     }
 }
 
-/// How many slots a pool has: 0, which means as many as the limits can ask for, if no word says it.
-fn pool(word: &str) -> usize {
-    if word == "-" { 0 } else { count(word) }
+/// What was sent of a request: its pending response, or why it was refused. A refused request is gone.
+fn send_request<S: Service>(request: Request<S>, would_wait: bool) -> Result<Handle<S>, RequestSendError> {
+    let number = number_in(&request);
+    let sent = if would_wait { request.try_send().map_err(|it| it.error) } else { request.send() };
+    sent.map(|pending| Handle::PendingResponse(pending, number))
+}
+
+/// Sends a response, and gives its number. A refused response is gone.
+fn send_response<S: Service>(response: Answer<S>, would_wait: bool) -> Result<u64, SendError> {
+    let number = number_in(&response);
+    let sent = if would_wait { response.try_send().map_err(|it| it.error) } else { response.send() };
+    sent.map(|()| number)
 }
 
 /// Sends one byte as a request.
-fn copy_request<'h>(client: &Client<'h, [u8], [u8]>, byte: u8) -> Result<Handle<'h>, rr::RequestSendError> {
-    let pending = client.loan_slice_uninit(1)?.write_from_slice(&[byte]).send()?;
-    Ok(Handle::PendingResponse(pending))
+fn copy_request<S: Service>(client: &Sender<S>, byte: u8, would_wait: bool) -> Result<Handle<S>, RequestSendError> {
+    send_request(client.loan_slice_uninit(1)?.write_from_slice(&[byte]), would_wait)
 }
 
 /// Sends one byte as a response, and gives its number.
-fn copy_response(active: &ActiveRequest<'_, [u8], [u8]>, byte: u8) -> Result<u64, rr::SendError> {
-    let response = active.loan_slice_uninit(1)?.write_from_fn(|_| byte);
-    let handle = Handle::ResponseMut(response);
-    let number = handle.number();
-    if let Handle::ResponseMut(response) = handle {
-        response.send()?;
-    }
-    Ok(number)
+fn copy_response<S: Service>(active: &Asked<S>, byte: u8, would_wait: bool) -> Result<u64, SendError> {
+    send_response(active.loan_slice_uninit(1)?.write_from_fn(|_| byte), would_wait)
 }
 
-impl<'h> Script<'h> {
-    pub fn new(hub: &'h Hub<[u8], [u8]>) -> Self {
-        Script { hub, handles: HashMap::new() }
+impl<S: Service> Script<S> {
+    /// Makes the service of the first line, or tells why it is refused.
+    pub fn begin(words: &[&str]) -> Result<Self, String> {
+        let ["hub", "sliced", limits @ .., flags, client_expired, server_expired] = words else {
+            panic!("the first line makes a hub of the sliced family");
+        };
+        let limits: Vec<_> = limits.iter().map(|word| count(word)).collect();
+        let [clients, servers, loaned, active, buffer, borrowed] = limits[..] else { panic!("six limits") };
+        if limits.contains(&0) {
+            return Err("error ZeroLimit".into());
+        }
+        let mut config = Config::default();
+        config.defaults.request_response.client_expired_connection_buffer = count(client_expired);
+        config.defaults.request_response.server_expired_connection_buffer = count(server_expired);
+        let node = NodeBuilder::new()
+            .config(&config)
+            .create::<S>()
+            .expect("a node is always created");
+        let created = node
+            .service_builder(&"script".try_into().expect("a name"))
+            .request_response::<[u8], [u8]>()
+            .request_user_header::<Header>()
+            .response_user_header::<Header>()
+            .max_clients(clients)
+            .max_servers(servers)
+            .max_loaned_requests(loaned)
+            .max_active_requests_per_client(active)
+            .max_response_buffer_size(buffer)
+            .max_borrowed_responses_per_pending_response(borrowed)
+            .enable_safe_overflow_for_requests(flags.contains('q'))
+            .enable_safe_overflow_for_responses(flags.contains('p'))
+            .enable_fire_and_forget_requests(flags.contains('f'))
+            .create();
+        // The crate has one error for limits that are too large and for want of memory, of which a hub takes none.
+        let service = created.map_err(|_| "error LimitsTooLarge")?;
+        let would_wait = TypeId::of::<S>() == TypeId::of::<local_threadsafe::Service>();
+        Ok(Script { node, service, handles: HashMap::new(), would_wait })
+    }
+
+    fn create_client(&mut self, how: &str, len: &str, growth: &str, slots: &str) -> Reply {
+        let builder = self.service.client_builder().backpressure_strategy(strategy(how));
+        let builder = builder
+            .initial_max_slice_len(count(len))
+            .allocation_strategy(allocation(growth));
+        let created = match slots {
+            "-" => builder.create(),
+            slots => {
+                let slots = count(slots);
+                builder.override_request_preallocation(move |_| slots).create()
+            }
+        };
+        self.kept("created", created.map(Handle::Client))
+    }
+
+    fn create_server(&mut self, how: &str, len: &str, growth: &str, slots: &str, loans: &str) -> Reply {
+        let builder = self.service.server_builder().backpressure_strategy(strategy(how));
+        let builder = builder
+            .initial_max_slice_len(count(len))
+            .allocation_strategy(allocation(growth));
+        let builder = builder.max_loaned_responses_per_request(count(loans));
+        let created = match slots {
+            "-" => builder.create(),
+            slots => {
+                let slots = count(slots);
+                builder.override_response_preallocation(move |_| slots).create()
+            }
+        };
+        self.kept("created", created.map(Handle::Server))
     }
 
     /// Carries out a line, and returns its reply.
     pub fn reply(&mut self, words: &[&str]) -> String {
         let reply = match *words {
-            ["client", how, len, growth, slots] => {
-                let builder = self
-                    .hub
-                    .client_builder()
-                    .backpressure_strategy(strategy(how))
-                    .initial_max_slice_len(count(len));
-                let created = builder
-                    .allocation_strategy(allocation(growth))
-                    .preallocated_requests(pool(slots))
-                    .create();
-                self.kept("created", created.map(Handle::Client))
-            }
-            ["server", how, len, growth, slots, loans] => {
-                let builder = self
-                    .hub
-                    .server_builder()
-                    .backpressure_strategy(strategy(how))
-                    .initial_max_slice_len(count(len));
-                let builder = builder
-                    .allocation_strategy(allocation(growth))
-                    .preallocated_responses(pool(slots));
-                let created = builder.max_loaned_responses_per_request(count(loans)).create();
-                self.kept("created", created.map(Handle::Server))
-            }
+            ["client", how, len, growth, slots] => self.create_client(how, len, growth, slots),
+            ["server", how, len, growth, slots, loans] => self.create_server(how, len, growth, slots, loans),
             [name, named, ref rest @ ..] => self.call(name, number(named), rest),
             _ => panic!("a line is a command"),
         };
@@ -123,7 +176,7 @@ impl<'h> Script<'h> {
     }
 
     /// Keeps what a call made, and tells its number after a name; or the call's error.
-    fn kept(&mut self, name: &str, made: Result<Handle<'h>, impl Debug>) -> Reply {
+    fn kept(&mut self, name: &str, made: Result<Handle<S>, impl Debug>) -> Reply {
         Ok(match made {
             Ok(handle) => {
                 let number = handle.number();
@@ -151,13 +204,14 @@ impl<'h> Script<'h> {
                 done()
             }
             ("push" | "set" | "uset", _) => write(self.handle(number), name, rest),
+            ("head", []) => self.handles[&number].header(*self.node.id()).ok_or(WRONG_KIND),
             (_, []) => ask(self.handle(number), name),
             _ => panic!("{name} has other words"),
         }
     }
 
     /// What lives under a number.
-    fn handle(&mut self, number: u64) -> &mut Handle<'h> {
+    fn handle(&mut self, number: u64) -> &mut Handle<S> {
         self.handles.get_mut(&number).expect("it was looked for")
     }
 
@@ -182,10 +236,12 @@ impl<'h> Script<'h> {
     }
 
     fn copy(&mut self, number: u64, byte: u8) -> Reply {
+        let would_wait = self.would_wait;
         let sent = match self.handle(number) {
-            Handle::Client(client) => copy_request(client, byte),
+            Handle::Client(client) => copy_request(client, byte, would_wait),
             Handle::ActiveRequest(active) => {
-                return Ok(copy_response(active, byte).map_or_else(error, |sent| format!("sent {sent}")));
+                let sent = copy_response(active, byte, would_wait);
+                return Ok(sent.map_or_else(error, |sent| format!("sent {sent}")));
             }
             _ => return Err(WRONG_KIND),
         };
@@ -193,9 +249,9 @@ impl<'h> Script<'h> {
     }
 
     /// Keeps a request that was sent, and tells its number and how many servers got it; or why it was not sent.
-    fn pending(&mut self, sent: Result<Handle<'h>, rr::RequestSendError>) -> Reply {
+    fn pending(&mut self, sent: Result<Handle<S>, RequestSendError>) -> Reply {
         let servers = match &sent {
-            Ok(Handle::PendingResponse(pending)) => pending.number_of_server_connections().to_string(),
+            Ok(Handle::PendingResponse(pending, _)) => pending.number_of_server_connections().to_string(),
             _ => return self.kept("pending", sent),
         };
         Ok(format!("{} {servers}", self.kept("pending", sent)?))
@@ -204,7 +260,7 @@ impl<'h> Script<'h> {
     fn receive(&mut self, number: u64) -> Reply {
         let (name, received) = match self.handle(number) {
             Handle::Server(server) => ("active", server.receive().map(|it| it.map(Handle::ActiveRequest))),
-            Handle::PendingResponse(pending) => ("response", pending.receive().map(|it| it.map(Handle::Response))),
+            Handle::PendingResponse(pending, _) => ("response", pending.receive().map(|it| it.map(Handle::Response))),
             _ => return Err(WRONG_KIND),
         };
         match received.transpose() {
@@ -232,9 +288,10 @@ impl<'h> Script<'h> {
 
     fn send(&mut self, number: u64) -> Reply {
         match self.handles.remove(&number) {
-            Some(Handle::RequestMut(request)) => self.pending(request.send().map(Handle::PendingResponse)),
+            Some(Handle::RequestMut(request)) => self.pending(send_request(request, self.would_wait)),
             Some(Handle::ResponseMut(response)) => {
-                Ok(response.send().map_or_else(error, |()| format!("sent {number}")))
+                let sent = send_response(response, self.would_wait);
+                Ok(sent.map_or_else(error, |sent| format!("sent {sent}")))
             }
             Some(other) => {
                 self.handles.insert(number, other);
@@ -246,7 +303,7 @@ impl<'h> Script<'h> {
 }
 
 /// Changes a message that was not sent.
-fn write(handle: &mut Handle<'_>, name: &str, rest: &[&str]) -> Reply {
+fn write<S: Service>(handle: &mut Handle<S>, name: &str, rest: &[&str]) -> Reply {
     match (name, rest) {
         ("push", [byte]) => {
             let (len, written) = handle.body().ok_or(WRONG_KIND)?;
@@ -271,38 +328,43 @@ fn write(handle: &mut Handle<'_>, name: &str, rest: &[&str]) -> Reply {
     }
 }
 
+fn updated(result: Result<(), ConnectionFailure>) -> Reply {
+    result.map_or_else(|it| Ok(error(it)), |()| done())
+}
+
 /// Answers a question about a port or a message.
-fn ask(handle: &mut Handle<'_>, name: &str) -> Reply {
+fn ask<S: Service>(handle: &mut Handle<S>, name: &str) -> Reply {
     match (name, handle) {
         ("ready", Handle::RequestMut(request)) => flag(request.is_deliverable()),
         ("ready", Handle::ResponseMut(response)) => flag(response.is_deliverable()),
         ("has", Handle::Server(server)) => server.has_requests().map_or_else(|it| Ok(error(it)), flag),
-        ("has", Handle::PendingResponse(pending)) => flag(pending.has_response()),
-        ("conn", Handle::PendingResponse(pending)) => flag(pending.is_connected()),
+        ("has", Handle::PendingResponse(pending, _)) => flag(pending.has_response()),
+        ("conn", Handle::PendingResponse(pending, _)) => flag(pending.is_connected()),
         ("conn", Handle::ActiveRequest(active)) => flag(active.is_connected()),
-        ("hint", Handle::PendingResponse(pending)) => {
+        ("hint", Handle::PendingResponse(pending, _)) => {
             pending.set_disconnect_hint();
             done()
         }
         ("hinted", Handle::ActiveRequest(active)) => flag(active.has_disconnect_hint()),
-        ("count", Handle::PendingResponse(pending)) => Ok(format!("count {}", pending.number_of_server_connections())),
-        ("head", handle) => handle.header().ok_or(WRONG_KIND),
+        ("count", Handle::PendingResponse(pending, _)) => {
+            Ok(format!("count {}", pending.number_of_server_connections()))
+        }
         ("user", handle) => {
-            let header = u128::from_le_bytes(handle.user_header().ok_or(WRONG_KIND)?);
+            let header = u128::from_le_bytes(*handle.user_header().ok_or(WRONG_KIND)?);
             Ok(format!("user {header}"))
         }
         ("data", handle) => {
             let bytes = handle.payload().ok_or(WRONG_KIND)?.iter().map(|byte| format!(" {byte}"));
             Ok(format!("data{}", bytes.collect::<String>()))
         }
-        ("origin", Handle::ActiveRequest(active)) => Ok(format!("id {}", active.origin())),
-        ("origin", Handle::Response(response)) => Ok(format!("id {}", response.origin())),
+        ("origin", Handle::ActiveRequest(active)) => Ok(format!("id {}", active.origin().value() as u64)),
+        ("origin", Handle::Response(response)) => Ok(format!("id {}", response.origin().value() as u64)),
         ("strategy", Handle::Client(client)) => strategy_name(client.backpressure_strategy()),
         ("strategy", Handle::Server(server)) => strategy_name(server.backpressure_strategy()),
         ("maxlen", Handle::Client(client)) => Ok(format!("count {}", client.initial_max_slice_len())),
         ("maxlen", Handle::Server(server)) => Ok(format!("count {}", server.initial_max_slice_len())),
-        ("update", Handle::Client(client)) => client.update_connections().map_or_else(|it| Ok(error(it)), |()| done()),
-        ("update", Handle::Server(server)) => server.update_connections().map_or_else(|it| Ok(error(it)), |()| done()),
+        ("update", Handle::Client(client)) => updated(client.update_connections()),
+        ("update", Handle::Server(server)) => updated(server.update_connections()),
         _ => Err(WRONG_KIND),
     }
 }

@@ -1,22 +1,27 @@
-//! A client asks for readings, and a server answers each request by as many as it asks for.
+//! A client asks for readings, and a server answers each request by as many readings as it asks for.
+//!
+//! But for the line below, this is a program of iceoryx2.
+extern crate rr as iceoryx2;
 
-use rr::{Hub, ZeroCopySend};
+use core::time::Duration;
+use iceoryx2::prelude::*;
 
-#[derive(Debug, Clone, Copy)]
+const CYCLE_TIME: Duration = Duration::from_millis(10);
+
+#[derive(Debug, Clone, Copy, ZeroCopySend)]
 #[repr(C)]
 struct Reading {
     sensor: u64,
     value: f64,
 }
 
-// SAFETY: numbers alone.
-unsafe impl ZeroCopySend for Reading {}
-
 fn main() -> Result<(), Box<dyn core::error::Error>> {
-    let service = Hub::builder()
+    let node = NodeBuilder::new().create::<ipc::Service>()?;
+    let service = node
+        .service_builder(&"Readings".try_into()?)
         .request_response::<u64, Reading>()
         .max_response_buffer_size(8)
-        .create()?;
+        .open_or_create()?;
     let client = service.client_builder().create()?;
     let server = service.server_builder().create()?;
 
@@ -25,8 +30,9 @@ fn main() -> Result<(), Box<dyn core::error::Error>> {
     println!("client sends {sensors}");
     let mut pending_response = client.send_copy(sensors)?;
 
-    loop {
-        // The server answers each request by as many readings as it asks for, and writes them where the client reads them.
+    while node.wait(CYCLE_TIME).is_ok() {
+        // The server answers each request by as many readings as it asks for, and writes them where the client reads
+        // them.
         while let Some(active_request) = server.receive()? {
             println!("  server received {} from {:?}", *active_request, active_request.origin());
             for sensor in 0..*active_request {

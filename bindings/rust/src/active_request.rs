@@ -1,208 +1,229 @@
-//! Requests that a server received.
-
-use crate::error::{LoanError, SendError, sent_copy, sent_response};
-use crate::handle::Handle;
-use crate::header::{RequestHeader, UniqueClientId};
-use crate::message::{Loan, Of, Received};
-use crate::payload::{Payload, ZeroCopySend};
+//! Requests that a server received, which loan their responses.
+//!
+//! ```
+//! # extern crate rr as iceoryx2;
+//! use iceoryx2::prelude::*;
+//!
+//! fn main() -> Result<(), Box<dyn core::error::Error>> {
+//!     let node = NodeBuilder::new().create::<ipc::Service>()?;
+//!     let service = node.service_builder(&"countdown".try_into()?).request_response::<u32, u32>().open_or_create()?;
+//!     let (client, server) = (service.client_builder().create()?, service.server_builder().create()?);
+//!     let pending_response = client.send_copy(2)?;
+//!
+//!     let active_request = server.receive()?.unwrap();
+//!     // A request is answered as often as the server likes, as long as the client waits.
+//!     for number in (0..*active_request).rev() {
+//!         assert!(active_request.is_connected());
+//!         active_request.loan_uninit()?.write_payload(number).send()?;
+//!     }
+//!     drop(active_request);
+//!
+//!     let numbers: Result<Vec<_>, _> = pending_response.responses().map(|it| it.map(|it| *it)).collect();
+//!     assert_eq!(numbers?, [1, 0]);
+//!     assert!(!pending_response.is_connected());
+//!     Ok(())
+//! }
+//! ```
+use crate::core::PolicyOf;
+use crate::head::ResponseHead;
+use crate::hub::Slot;
+use crate::identifiers::UniqueClientId;
+use crate::message::{Active, Answer, Copied, Layout, Message};
+use crate::port::allocation_strategy::AllocationStrategy;
+use crate::port::server::ServerSettings;
+use crate::port::{LoanError, ResponseTypes, SendError};
 use crate::response_mut::ResponseMut;
 use crate::response_mut_uninit::ResponseMutUninit;
+use crate::service::Service;
+use crate::service::header::request_response::{RequestHeader, ResponseHeader};
+use crate::zero_copy_send::{Payload, Sendable};
+use std::any::type_name;
+use std::fmt;
 use std::marker::PhantomData;
+use std::mem::MaybeUninit;
 use std::ops::Deref;
 
-/// A request that a server received, and answers as often as it likes. Dropped, it tells the client that no more answers come.
+/// A request that a server received. It loans responses, each of which goes to the client that sent the request.
+/// Dropping it tells the client that this server sends no further ones.
 ///
-/// Its responses on loan may outlive it.
-///
-/// After iceoryx2's `ActiveRequest`.
-pub struct ActiveRequest<'h, Q: ?Sized, P: ?Sized> {
-    request: Received<'h, Q>,
-    responses: Of<P>,
+/// iceoryx2's `active_request::ActiveRequest`.
+pub struct ActiveRequest<S: Service, Q: Sendable + ?Sized, QH: Sendable, P: Sendable + ?Sized, PH: Sendable> {
+    message: Message<PolicyOf<S>, Active, QH, Q>,
+    settings: ServerSettings,
+    types: ResponseTypes<P, PH>,
 }
 
-crate::debug_by_number! { ActiveRequest<Q, P>: request.handle() }
-
-impl<'h, Q: Payload + ?Sized, P: Payload + ?Sized> ActiveRequest<'h, Q, P> {
+impl<S: Service, Q: Sendable + ?Sized, QH: Sendable, P: Sendable + ?Sized, PH: Sendable>
+    ActiveRequest<S, Q, QH, P, PH>
+{
     #[inline]
-    pub(crate) fn new(handle: Handle<'h>) -> Self {
-        ActiveRequest { request: Received::new(handle), responses: PhantomData }
+    pub(crate) fn new(message: Message<PolicyOf<S>, Active, QH, Q>, settings: ServerSettings) -> Self {
+        ActiveRequest { message, settings, types: PhantomData }
     }
 
-    /// Returns the request's payload.
-    ///
-    /// After iceoryx2's `ActiveRequest::payload`.
+    /// Returns whether the client has asked for no further responses.
+    pub fn has_disconnect_hint(&self) -> bool {
+        self.message
+            .core()
+            .call(|state| state.hub.has_disconnect_hint(&self.message.id()))
+    }
+
+    /// Returns whether the client still waits for responses: its pending response lives.
+    pub fn is_connected(&self) -> bool {
+        self.message.core().call(|state| state.hub.is_connected(&self.message.id()))
+    }
+
+    /// Returns the payload of the request.
     #[inline]
     pub fn payload(&self) -> &Q {
-        self.request.payload()
+        self.message.payload()
     }
 
-    /// Returns whether the request's pending response lives, so that an answer may be received.
-    ///
-    /// After iceoryx2's `ActiveRequest::is_connected`.
-    #[inline]
-    pub fn is_connected(&self) -> bool {
-        self.request.handle().is_connected()
+    /// Returns the user header of the request.
+    pub fn user_header(&self) -> &QH {
+        self.message.user_header()
     }
 
-    /// Returns whether the client wants no more responses.
-    ///
-    /// After iceoryx2's `ActiveRequest::has_disconnect_hint`.
-    #[inline]
-    pub fn has_disconnect_hint(&self) -> bool {
-        self.request.handle().has_disconnect_hint()
+    /// Returns the header of the request.
+    pub fn header(&self) -> &RequestHeader {
+        &self.message.head().header
     }
 
-    /// Returns the client that sent the request.
-    ///
-    /// After iceoryx2's `ActiveRequest::origin`.
+    /// Returns the id of the client that sent the request.
     pub fn origin(&self) -> UniqueClientId {
-        UniqueClientId(self.request.handle().origin())
+        self.header().client_id()
     }
 
-    /// Returns the request's header.
-    ///
-    /// After iceoryx2's `ActiveRequest::header`.
-    pub fn header(&self) -> RequestHeader {
-        RequestHeader::new(self.request.handle().header(), Q::ELEMENT_SIZE)
-    }
-
-    /// Returns the request's user header.
-    ///
-    /// After iceoryx2's `ActiveRequest::user_header`.
-    pub fn user_header(&self) -> [u8; 16] {
-        self.request.handle().user_header()
-    }
-}
-
-impl<'h, Q: Payload + ?Sized, T: ZeroCopySend> ActiveRequest<'h, Q, T> {
-    /// Loans a response, whose payload has to be written before it can be sent.
-    ///
-    /// ```
-    /// # fn main() -> Result<(), Box<dyn std::error::Error>> {
-    /// # let hub = rr::Hub::builder().request_response::<u64, u64>().create()?;
-    /// # let client = hub.client_builder().create()?;
-    /// # let server = hub.server_builder().create()?;
-    /// # let pending_response = client.send_copy(123)?;
-    /// let active_request = server.receive()?.unwrap();
-    /// let response = active_request.loan_uninit()?;
-    /// response.write_payload(456).send()?;
-    /// # assert_eq!(*pending_response.receive()?.unwrap(), 456);
-    /// # Ok(())
-    /// # }
-    /// ```
-    ///
-    /// # Errors
-    ///
-    /// - [`LoanError::ExceedsMaxLoans`] if `max_loaned_responses_per_request` responses of this request are on loan, or as many of its
-    ///   server as it may have on loan for all requests.
-    /// - [`LoanError::OutOfMemory`] if the server's responses fill a pool that `preallocated_responses` made smaller.
-    /// - [`LoanError::NumbersExhausted`] if the hub has given all its numbers.
-    ///
-    /// After iceoryx2's `ActiveRequest::loan_uninit`.
     #[inline]
-    pub fn loan_uninit(&self) -> Result<ResponseMutUninit<'h, T>, LoanError> {
-        Ok(ResponseMutUninit::new(Loan::new(self.request.handle(), 1)?))
+    fn response_head(&self, elements: usize) -> ResponseHead {
+        let request = self.message.head();
+        let header = ResponseHeader {
+            node_id: self.settings.node,
+            server_id: self.settings.server,
+            request_id: request.header.request_id,
+            number_of_elements: elements as u64,
+        };
+        ResponseHead { header, sequence: request.sequence, client: request.header.client_id.value() as u64 }
     }
 
-    /// Loans a response with the default value.
-    ///
-    /// ```
-    /// # fn main() -> Result<(), Box<dyn std::error::Error>> {
-    /// # let hub = rr::Hub::builder().request_response::<u64, u64>().create()?;
-    /// # let client = hub.client_builder().create()?;
-    /// # let server = hub.server_builder().create()?;
-    /// # let pending_response = client.send_copy(123)?;
-    /// let active_request = server.receive()?.unwrap();
-    /// let mut response = active_request.loan()?;
-    /// *response = 789;
-    /// response.send()?;
-    /// # assert_eq!(*pending_response.receive()?.unwrap(), 789);
-    /// # Ok(())
-    /// # }
-    /// ```
-    ///
-    /// # Errors
-    ///
-    /// As [`ActiveRequest::loan_uninit`].
-    ///
-    /// After iceoryx2's `ActiveRequest::loan`.
-    pub fn loan(&self) -> Result<ResponseMut<'h, T>, LoanError>
+    /// Loans a response with this number of elements.
+    #[inline]
+    fn loan_of<U: Payload + Sendable + ?Sized>(&self, elements: usize) -> Result<ResponseMutUninit<S, U, PH>, LoanError>
     where
-        T: Default,
+        PH: Default,
     {
-        Ok(self.loan_uninit()?.write_payload(T::default()))
-    }
-
-    /// Loans a response, writes this value and sends it.
-    ///
-    /// # Errors
-    ///
-    /// As [`ActiveRequest::loan_uninit`], as a [`SendError::LoanError`], and as [`ResponseMut::send`].
-    ///
-    /// After iceoryx2's `ActiveRequest::send_copy`.
-    #[inline]
-    pub fn send_copy(&self, value: T) -> Result<(), SendError> {
-        // SAFETY: a value has as many bytes as its type.
-        let (code, handle) = unsafe { self.request.handle().send_copy((&raw const value).cast(), size_of::<T>()) };
-        // A response that was sent is gone, and one whose send was refused was released.
-        handle.forget();
-        sent_copy(code, sent_response)
+        let bytes = Layout::<PH, U::Element>::bytes(elements).ok_or(LoanError::ExceedsMaxLoanSize)?;
+        let user_header = PH::default();
+        let (core, seat) = (self.message.core(), self.message.seat());
+        let slot = core.call(|state| state.loan_response(&self.message.id(), seat, bytes))?;
+        // SAFETY: the response was just loaned with these bytes.
+        let message = unsafe { Message::loaned(core.clone(), slot, seat, self.response_head(elements), user_header) };
+        Ok(ResponseMutUninit { response: ResponseMut::new(message, self.settings.delivery) })
     }
 }
 
-impl<'h, Q: Payload + ?Sized, T: ZeroCopySend> ActiveRequest<'h, Q, [T]> {
-    /// Loans a response of so many elements, which have to be written before it can be sent.
-    ///
-    /// ```
-    /// # fn main() -> Result<(), Box<dyn std::error::Error>> {
-    /// # let hub = rr::Hub::builder().request_response::<u64, [usize]>().create()?;
-    /// # let client = hub.client_builder().create()?;
-    /// let server = hub.server_builder().initial_max_slice_len(32).create()?;
-    /// # let pending_response = client.send_copy(123)?;
-    /// let active_request = server.receive()?.unwrap();
-    /// let response = active_request.loan_slice_uninit(13)?;
-    /// response.write_from_fn(|index| index * 2 + 3).send()?;
-    /// # assert_eq!(pending_response.receive()?.unwrap()[12], 27);
-    /// # Ok(())
-    /// # }
-    /// ```
+impl<S: Service, Q: Sendable + ?Sized, QH: Sendable, P: Sendable, PH: Default + Sendable>
+    ActiveRequest<S, Q, QH, P, PH>
+{
+    /// Loans a response whose payload has to be written. Its user header has its default.
     ///
     /// # Errors
     ///
-    /// - [`LoanError::ExceedsMaxLoanSize`] if the slice is longer than the server's initial length and its strategy is
-    ///   [`AllocationStrategy::Static`](crate::AllocationStrategy::Static), or if it has more bytes than a `usize` counts.
-    /// - [`LoanError::ExceedsMaxLoans`] if `max_loaned_responses_per_request` responses of this request are on loan, or as many of its
-    ///   server as it may have on loan for all requests.
-    /// - [`LoanError::OutOfMemory`] if the server's responses fill a pool that `preallocated_responses` made smaller, or no memory is
-    ///   found for a slice longer than the initial length.
-    /// - [`LoanError::NumbersExhausted`] if the hub has given all its numbers.
-    ///
-    /// After iceoryx2's `ActiveRequest::loan_slice_uninit`.
+    /// [`LoanError`], whose variants say when they come and what helps.
     #[inline]
-    pub fn loan_slice_uninit(&self, slice_len: usize) -> Result<ResponseMutUninit<'h, [T]>, LoanError> {
-        Ok(ResponseMutUninit::new(Loan::new(self.request.handle(), slice_len)?))
+    pub fn loan_uninit(&self) -> Result<ResponseMutUninit<S, MaybeUninit<P>, PH>, LoanError> {
+        self.loan_of(1)
     }
 
-    /// Loans a response of so many elements, each with the default value.
+    /// Sends a value as a response: loans, writes and sends it.
     ///
     /// # Errors
     ///
-    /// As [`ActiveRequest::loan_slice_uninit`].
-    ///
-    /// After iceoryx2's `ActiveRequest::loan_slice`.
-    pub fn loan_slice(&self, slice_len: usize) -> Result<ResponseMut<'h, [T]>, LoanError>
-    where
-        T: Default,
-    {
-        Ok(self.loan_slice_uninit(slice_len)?.write_from_fn(|_| T::default()))
+    /// [`SendError`], also with the [`LoanError`] of the loan.
+    #[inline]
+    pub fn send_copy(&self, value: P) -> Result<(), SendError> {
+        let Some(bytes) = Layout::<PH, P>::bytes(1).filter(|_| Copied::<PH, P>::FITS) else {
+            return self.loan_uninit()?.write_payload(value).send();
+        };
+        let copied = Copied::new(PH::default(), value);
+        let (core, seat, head) = (self.message.core(), self.message.seat(), self.response_head(1));
+        let sequence = head.sequence;
+        let blocked = core.call(|state| -> Result<Option<Slot>, SendError> {
+            let slot = state.loan_response(&self.message.id(), seat, bytes)?;
+            // SAFETY: the response was just loaned with these bytes.
+            unsafe { copied.write(slot.at, head) };
+            let is_sent = state.send_response(&slot.id, seat, sequence, self.settings.delivery.asks);
+            Ok((!is_sent).then_some(slot))
+        })?;
+        let Some(slot) = blocked else { return Ok(()) };
+        // SAFETY: all parts were written.
+        let message = unsafe { Message::<_, Answer, PH, P>::written(core.clone(), slot, seat) };
+        ResponseMut::<S, P, PH>::new(message, self.settings.delivery).send_blocked()
     }
 }
 
-impl<Q: Payload + ?Sized, P: Payload + ?Sized> Deref for ActiveRequest<'_, Q, P> {
+impl<S: Service, Q: Sendable + ?Sized, QH: Sendable, P: Default + Sendable, PH: Default + Sendable>
+    ActiveRequest<S, Q, QH, P, PH>
+{
+    /// Loans a response whose payload has its default.
+    ///
+    /// # Errors
+    ///
+    /// As of [`ActiveRequest::loan_uninit`].
+    pub fn loan(&self) -> Result<ResponseMut<S, P, PH>, LoanError> {
+        Ok(self.loan_uninit()?.write_payload(P::default()))
+    }
+}
+
+impl<S: Service, Q: Sendable + ?Sized, QH: Sendable, P: Sendable + 'static, PH: Default + Sendable>
+    ActiveRequest<S, Q, QH, [P], PH>
+{
+    /// Loans a response of `slice_len` elements, which have to be written. Its user header has its default.
+    ///
+    /// # Errors
+    ///
+    /// [`LoanError`], whose variants say when they come and what helps.
+    #[inline]
+    pub fn loan_slice_uninit(&self, slice_len: usize) -> Result<ResponseMutUninit<S, [MaybeUninit<P>], PH>, LoanError> {
+        let is_static = self.settings.allocation == AllocationStrategy::Static;
+        if is_static && self.settings.initial_max_slice_len < slice_len {
+            return Err(LoanError::ExceedsMaxLoanSize);
+        }
+        self.loan_of(slice_len)
+    }
+}
+
+impl<S: Service, Q: Sendable + ?Sized, QH: Sendable, P: Default + Sendable + 'static, PH: Default + Sendable>
+    ActiveRequest<S, Q, QH, [P], PH>
+{
+    /// Loans a response of `slice_len` elements, each with its default.
+    ///
+    /// # Errors
+    ///
+    /// As of [`ActiveRequest::loan_slice_uninit`].
+    pub fn loan_slice(&self, slice_len: usize) -> Result<ResponseMut<S, [P], PH>, LoanError> {
+        Ok(self.loan_slice_uninit(slice_len)?.write_from_fn(|_| P::default()))
+    }
+}
+
+impl<S: Service, Q: Sendable + ?Sized, QH: Sendable, P: Sendable + ?Sized, PH: Sendable> Deref
+    for ActiveRequest<S, Q, QH, P, PH>
+{
     type Target = Q;
 
     #[inline]
     fn deref(&self) -> &Q {
         self.payload()
+    }
+}
+
+impl<S: Service, Q: Sendable + ?Sized, QH: Sendable, P: Sendable + ?Sized, PH: Sendable> fmt::Debug
+    for ActiveRequest<S, Q, QH, P, PH>
+{
+    fn fmt(&self, f: &mut fmt::Formatter<'_>) -> fmt::Result {
+        let types = (type_name::<S>(), type_name::<Q>(), type_name::<QH>(), type_name::<P>(), type_name::<PH>());
+        write!(f, "ActiveRequest<{}, {}, {}, {}, {}> ", types.0, types.1, types.2, types.3, types.4)?;
+        let number = self.message.id().number;
+        write!(f, "{{ number: {number}, origin: {:?}, request_id: {} }}", self.origin(), self.header().request_id)
     }
 }

@@ -1,220 +1,206 @@
-//! A hub and its builder.
+//! The library's hub: each call that the crate makes, with its refusals by name.
+use crate::port::client::{ClientCreateError, RequestSendError};
+use crate::port::server::ServerCreateError;
+use crate::port::{LoanError, ReceiveError, SendError};
+use crate::raw::{self, Id};
+use std::ptr::{self, NonNull};
 
-use crate::error::HubCreateError;
-use crate::handle::Core;
-use crate::message::Of;
-use crate::payload::Payload;
-use crate::port_factory::{PortFactoryClient, PortFactoryServer};
-use crate::raw;
-use std::fmt;
-use std::marker::PhantomData;
-
-/// All ports of a service: clients that send requests of `Q`, and servers that send responses of `P`. `Q` and `P` are each a `T`, or a
-/// slice `[T]`, of a [`ZeroCopySend`](crate::ZeroCopySend) type.
-///
-/// Ports and messages borrow the hub, so that none outlives it:
-///
-/// ```compile_fail,E0505
-/// let hub = rr::Hub::builder().request_response::<u64, u64>().create().unwrap();
-/// let client = hub.client_builder().create().unwrap();
-/// drop(hub);
-/// client.send_copy(1).unwrap();
-/// ```
-///
-/// A hub may go to another thread once its ports and messages are dropped, or serve several threads behind a lock:
-///
-/// ```
-/// # fn main() -> Result<(), Box<dyn std::error::Error>> {
-/// let hub = std::sync::Mutex::new(rr::Hub::builder().request_response::<u64, u64>().create()?);
-/// std::thread::scope(|scope| {
-///     for asked in 0..2 {
-///         let hub = &hub;
-///         scope.spawn(move || {
-///             let hub = hub.lock().unwrap();
-///             let client = hub.client_builder().create().unwrap();
-///             let server = hub.server_builder().create().unwrap();
-///             let pending_response = client.send_copy(asked).unwrap();
-///             server.receive().unwrap().unwrap().send_copy(asked + 1).unwrap();
-///             assert_eq!(*pending_response.receive().unwrap().unwrap(), asked + 1);
-///         });
-///     }
-/// });
-/// # Ok(())
-/// # }
-/// ```
-///
-/// Without one it isn't shared, and neither ports nor messages leave their thread:
-///
-/// ```compile_fail,E0277
-/// let hub = rr::Hub::builder().request_response::<u64, u64>().create().unwrap();
-/// let client = hub.client_builder().create().unwrap();
-/// let pending_response = client.send_copy(1).unwrap();
-/// std::thread::scope(|scope| {
-///     scope.spawn(move || pending_response.receive());
-/// });
-/// ```
-///
-/// After iceoryx2's `PortFactory` of a request-response service.
-pub struct Hub<Q: ?Sized, P: ?Sized> {
-    core: Core,
-    requests: Of<Q>,
-    responses: Of<P>,
-}
-
-// SAFETY: the library's hub may be used by another thread if the calls are ordered, and a move to that thread orders them. Messages of
-// these types may be queued in it, and are read by the other thread then.
-unsafe impl<Q: Payload + Send + ?Sized, P: Payload + Send + ?Sized> Send for Hub<Q, P> {}
-
-impl<Q: ?Sized, P: ?Sized> fmt::Debug for Hub<Q, P> {
-    fn fmt(&self, f: &mut fmt::Formatter<'_>) -> fmt::Result {
-        f.debug_struct("Hub").finish_non_exhaustive()
-    }
-}
-
-impl Hub<(), ()> {
-    /// Begins to build a hub. What its requests and responses are is said by [`Builder::request_response`].
-    ///
-    /// ```
-    /// # fn main() -> Result<(), Box<dyn std::error::Error>> {
-    /// let hub = rr::Hub::builder()
-    ///     .request_response::<u64, [f32]>()
-    ///     .max_clients(4)
-    ///     .enable_fire_and_forget_requests(false)
-    ///     .node_id(7)
-    ///     .create()?;
-    /// # Ok(())
-    /// # }
-    /// ```
-    ///
-    /// After iceoryx2's `Node::service_builder`.
-    pub fn builder() -> Builder {
-        Builder { private: () }
-    }
-}
-
-impl<Q: Payload + ?Sized, P: Payload + ?Sized> Hub<Q, P> {
-    /// Begins to build a client.
-    ///
-    /// After iceoryx2's `PortFactory::client_builder`.
-    pub fn client_builder(&self) -> PortFactoryClient<'_, Q, P> {
-        PortFactoryClient::new(&self.core)
-    }
-
-    /// Begins to build a server.
-    ///
-    /// After iceoryx2's `PortFactory::server_builder`.
-    pub fn server_builder(&self) -> PortFactoryServer<'_, Q, P> {
-        PortFactoryServer::new(&self.core)
-    }
-}
-
-/// A hub that is being built.
-///
-/// After iceoryx2's `service::builder::Builder`.
+/// A hub of the library. Dropping it frees all that it holds.
 #[derive(Debug)]
-pub struct Builder {
-    private: (),
+pub(crate) struct Hub(raw::Hub);
+
+// SAFETY: `rr.h` lets any thread call if a lock makes one thread's calls happen before the other's. All calls but the
+// drop take `&mut`.
+unsafe impl Send for Hub {}
+
+/// A message that the library just gave: its id, and the address of its bytes.
+#[derive(Debug, Clone, Copy)]
+pub(crate) struct Slot {
+    pub id: Id,
+    pub at: NonNull<u8>,
 }
 
-impl Builder {
-    /// Says what requests and responses are: `T`, or `[T]`, of a [`ZeroCopySend`](crate::ZeroCopySend) type.
-    ///
-    /// After iceoryx2's `Builder::request_response`.
-    pub fn request_response<Q: Payload + ?Sized, P: Payload + ?Sized>(self) -> RequestResponseBuilder<Q, P> {
-        const { assert!(Q::CHECKED && P::CHECKED) };
-        let () = self.private;
-        RequestResponseBuilder {
-            limits: raw::limits_default(),
-            node_id: 0,
-            requests: PhantomData,
-            responses: PhantomData,
+/// Panics with the name of a code that a call cannot return, since an id names a living port or message that has this
+/// call.
+#[cold]
+#[inline(never)]
+fn impossible(code: u32) -> ! {
+    panic!("a call of the library returned {}, which it cannot", raw::code_name(code))
+}
+
+#[inline]
+fn done(code: u32) {
+    if code != raw::RR_OK {
+        impossible(code)
+    }
+}
+
+/// Returns why a loan was refused.
+#[cold]
+fn loan_error(code: u32) -> LoanError {
+    match code {
+        raw::RR_LOAN_OUT_OF_MEMORY => LoanError::OutOfMemory,
+        raw::RR_LOAN_EXCEEDS_MAX_LOANS => LoanError::ExceedsMaxLoans,
+        raw::RR_LOAN_EXCEEDS_MAX_LOAN_SIZE => LoanError::ExceedsMaxLoanSize,
+        raw::RR_NUMBERS_EXHAUSTED => LoanError::InternalFailure,
+        code => impossible(code),
+    }
+}
+
+/// Returns why the send of a request was refused.
+#[cold]
+fn request_send_error(code: u32) -> RequestSendError {
+    match code {
+        raw::RR_SEND_EXCEEDS_MAX_ACTIVE_REQUESTS => RequestSendError::ExceedsMaxActiveRequests,
+        raw::RR_SEND_UNABLE_TO_DELIVER => RequestSendError::SendError(SendError::UnableToDeliver),
+        code => impossible(code),
+    }
+}
+
+type Query<T> = unsafe extern "C" fn(*mut raw::Hub, *const Id, *mut T) -> u32;
+
+// SAFETY, of each call below: the hub lives, the pointers lead to live values, and `&mut self` keeps other calls away.
+impl Hub {
+    /// Creates a hub, unless its limits are refused or there is no memory.
+    pub fn create(limits: &raw::Limits) -> Option<Hub> {
+        let mut hub = raw::Hub { at: ptr::null_mut() };
+        let code = unsafe { raw::rr_hub_create(limits, 0, &mut hub.at) };
+        (code == raw::RR_OK).then_some(Hub(hub))
+    }
+
+    pub fn create_client(&mut self, settings: &raw::ClientSettings) -> Result<Id, ClientCreateError> {
+        let mut id = Id::NONE;
+        match unsafe { raw::rr_client_create(&mut self.0, settings, &mut id) } {
+            raw::RR_OK => Ok(id),
+            raw::RR_CLIENT_CREATE_UNABLE_TO_CREATE_DATA_SEGMENT => Err(ClientCreateError::UnableToCreateDataSegment),
+            raw::RR_CLIENT_CREATE_EXCEEDS_MAX_SUPPORTED_CLIENTS => Err(ClientCreateError::ExceedsMaxSupportedClients),
+            raw::RR_CLIENT_CREATE_UNABLE_TO_CREATE_PORT_TAG => Err(ClientCreateError::UnableToCreatePortTag),
+            code => impossible(code),
         }
     }
-}
 
-/// A hub of requests of `Q` and responses of `P` that is being built, with iceoryx2's default limits unless others are set.
-///
-/// After iceoryx2's `service::builder::request_response::Builder`.
-#[derive(Debug)]
-pub struct RequestResponseBuilder<Q: ?Sized, P: ?Sized> {
-    limits: raw::Limits,
-    node_id: u64,
-    requests: Of<Q>,
-    responses: Of<P>,
-}
+    pub fn create_server(&mut self, settings: &raw::ServerSettings) -> Result<Id, ServerCreateError> {
+        let mut id = Id::NONE;
+        match unsafe { raw::rr_server_create(&mut self.0, settings, &mut id) } {
+            raw::RR_OK => Ok(id),
+            raw::RR_SERVER_CREATE_UNABLE_TO_CREATE_DATA_SEGMENT => Err(ServerCreateError::UnableToCreateDataSegment),
+            raw::RR_SERVER_CREATE_EXCEEDS_MAX_SUPPORTED_SERVERS => Err(ServerCreateError::ExceedsMaxSupportedServers),
+            raw::RR_SERVER_CREATE_UNABLE_TO_CREATE_PORT_TAG => Err(ServerCreateError::UnableToCreatePortTag),
+            code => impossible(code),
+        }
+    }
 
-macro_rules! limits {
-    ($($(#[$attribute:meta])* $name:ident: $type:ty,)*) => {
-        $(
-            $(#[$attribute])*
-            ///
-            /// After the setting of this name in iceoryx2's builder.
-            pub fn $name(mut self, value: $type) -> Self {
-                self.limits.$name = value;
-                self
+    /// Loans a message from a client or an active request.
+    #[inline]
+    pub fn loan(&mut self, from: &Id, bytes: usize) -> Result<Slot, LoanError> {
+        let (mut id, mut at) = (Id::NONE, ptr::null_mut());
+        match unsafe { raw::rr_loan_in_place(&mut self.0, from, bytes, &mut id, &mut at) } {
+            raw::RR_OK => Ok(Slot { id, at: NonNull::new(at).expect("a message lies somewhere") }),
+            code => Err(loan_error(code)),
+        }
+    }
+
+    /// Receives a message from a server or a pending response.
+    #[inline]
+    pub fn receive(&mut self, from: &Id) -> Result<Option<Slot>, ReceiveError> {
+        let (mut id, mut at) = (Id::NONE, ptr::null());
+        match unsafe { raw::rr_receive_in_place(&mut self.0, from, &mut id, &mut at, &mut 0) } {
+            raw::RR_OK => Ok(Some(Slot { id, at: NonNull::new(at.cast_mut()).expect("a message lies somewhere") })),
+            raw::RR_NOTHING => Ok(None),
+            raw::RR_RECEIVE_EXCEEDS_MAX_BORROWS => Err(ReceiveError::ExceedsMaxBorrows),
+            code => impossible(code),
+        }
+    }
+
+    /// Sends a request, and returns how many queues took it. Refused, it is released.
+    #[inline]
+    pub fn send_request(&mut self, request: &Id) -> Result<usize, RequestSendError> {
+        let mut servers = 0;
+        match unsafe { raw::rr_send(&mut self.0, request, &mut servers) } {
+            raw::RR_OK => Ok(servers),
+            code => Err(request_send_error(code)),
+        }
+    }
+
+    /// Sends a response, which no port of the crate refuses: all are created to pass full queues over.
+    #[inline]
+    pub fn send_response(&mut self, response: &Id) {
+        done(unsafe { raw::rr_send(&mut self.0, response, &mut 0) });
+    }
+
+    /// Returns why a send of the request would be refused now.
+    pub fn send_refusal(&mut self, request: &Id) -> Option<RequestSendError> {
+        match self.ask(raw::rr_send_refusal, request, raw::RR_OK) {
+            raw::RR_OK => None,
+            why => Some(request_send_error(why)),
+        }
+    }
+
+    #[inline]
+    pub fn release(&mut self, id: &Id) {
+        done(unsafe { raw::rr_release(&mut self.0, id) });
+    }
+
+    pub fn set_disconnect_hint(&mut self, pending: &Id) {
+        done(unsafe { raw::rr_set_disconnect_hint(&mut self.0, pending) });
+    }
+
+    #[inline]
+    fn ask<T>(&mut self, query: Query<T>, id: &Id, mut answer: T) -> T {
+        done(unsafe { query(&mut self.0, id, &mut answer) });
+        answer
+    }
+
+    /// Returns whether no queue that the message reaches is full without overflow.
+    pub fn is_deliverable(&mut self, message: &Id) -> bool {
+        self.ask(raw::rr_is_deliverable, message, false)
+    }
+
+    /// Returns whether something is queued for a server or a pending response.
+    pub fn has_entries(&mut self, of: &Id) -> bool {
+        self.ask(raw::rr_has_entries, of, false)
+    }
+
+    /// Returns whether something is queued, or `None` if the id does not name anything any more.
+    pub fn find_entries(&mut self, of: &Id) -> Option<bool> {
+        let mut has_entries = false;
+        match unsafe { raw::rr_has_entries(&mut self.0, of, &mut has_entries) } {
+            raw::RR_UNKNOWN => None,
+            code => {
+                done(code);
+                Some(has_entries)
             }
-        )*
-    };
+        }
+    }
+
+    pub fn is_connected(&mut self, handle: &Id) -> bool {
+        self.ask(raw::rr_is_connected, handle, false)
+    }
+
+    pub fn has_disconnect_hint(&mut self, active: &Id) -> bool {
+        self.ask(raw::rr_has_disconnect_hint, active, false)
+    }
 }
 
-impl<Q: Payload + ?Sized, P: Payload + ?Sized> RequestResponseBuilder<Q, P> {
-    limits! {
-        /// Sets how many clients are connected at one time. It is 8 unless set, and at least 1.
-        max_clients: usize,
-        /// Sets how many servers are connected at one time. It is 2 unless set, and at least 1.
-        max_servers: usize,
-        /// Sets how many requests a client has on loan at one time. It is 2 unless set, and at least 1.
-        max_loaned_requests: usize,
-        /// Sets how many pending responses of a client live at one time, how many of its requests wait for a server, and how many of
-        /// them a server holds. It is 4 unless set, and at least 1.
-        max_active_requests_per_client: usize,
-        /// Sets how many responses of a server wait for a pending response. It is 2 unless set, and at least 1.
-        max_response_buffer_size: usize,
-        /// Sets how many received responses of a server a client holds of a pending response. It is 2 unless set, and at least 1.
-        max_borrowed_responses_per_pending_response: usize,
-        /// Sets whether a request that finds its queue full takes the place of the oldest one. It does unless set.
-        enable_safe_overflow_for_requests: bool,
-        /// Sets whether a response that finds its queue full takes the place of the oldest one. It does unless set.
-        enable_safe_overflow_for_responses: bool,
-        /// Sets whether servers receive requests whose pending response was dropped. They do unless set.
-        enable_fire_and_forget_requests: bool,
-    }
+/// Returns the slots of a client's whole pool, unless no hub has these limits or a `usize` does not count them.
+pub(crate) fn worst_case_requests(limits: &raw::Limits) -> Option<usize> {
+    let mut slots = 0;
+    // SAFETY: both pointers lead to live values.
+    let code = unsafe { raw::rr_worst_case_requests(limits, &mut slots) };
+    (code == raw::RR_OK).then_some(slots)
+}
 
-    /// Sets for how many servers that left a client keeps what they had sent. It is 128 unless set, and may be 0.
-    ///
-    /// After the setting of this name in iceoryx2's configuration.
-    pub fn client_expired_connection_buffer(mut self, value: usize) -> Self {
-        self.limits.client_expired_connection_buffer = value;
-        self
-    }
+/// Returns the slots of a server's whole pool, unless no hub has these limits or a `usize` does not count them.
+pub(crate) fn worst_case_responses(limits: &raw::Limits, loans: usize) -> Option<usize> {
+    let mut slots = 0;
+    // SAFETY: both pointers lead to live values.
+    let code = unsafe { raw::rr_worst_case_responses(limits, loans, &mut slots) };
+    (code == raw::RR_OK).then_some(slots)
+}
 
-    /// Sets for how many clients that left a server keeps what they had sent. It is 128 unless set, and may be 0.
-    ///
-    /// After the setting of this name in iceoryx2's configuration.
-    pub fn server_expired_connection_buffer(mut self, value: usize) -> Self {
-        self.limits.server_expired_connection_buffer = value;
-        self
-    }
-
-    /// Sets the number that headers call the node. It is 0 unless set.
-    ///
-    /// Not in iceoryx2, whose nodes number themselves.
-    pub fn node_id(mut self, value: u64) -> Self {
-        self.node_id = value;
-        self
-    }
-
-    /// Creates the hub, without ports.
-    ///
-    /// # Errors
-    ///
-    /// - [`HubCreateError::ZeroLimit`] if a limit is 0 that must be at least 1.
-    /// - [`HubCreateError::LimitsTooLarge`] if a client or a server could have more messages than a `usize` counts.
-    /// - [`HubCreateError::OutOfMemory`] if no memory is found.
-    ///
-    /// After iceoryx2's `Builder::create`.
-    pub fn create(self) -> Result<Hub<Q, P>, HubCreateError> {
-        let core = Core::create(&self.limits, self.node_id)?;
-        Ok(Hub { core, requests: PhantomData, responses: PhantomData })
+impl Drop for Hub {
+    fn drop(&mut self) {
+        // SAFETY: the hub is not used after this.
+        unsafe { raw::rr_hub_drop(raw::Hub { at: self.0.at }) }
     }
 }

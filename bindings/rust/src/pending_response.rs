@@ -1,166 +1,267 @@
-//! Requests that were sent.
-
-use crate::error::{ReceiveError, RequestSendError};
-use crate::handle::Handle;
-use crate::header::RequestHeader;
-use crate::message::{Of, Received};
-use crate::payload::Payload;
+//! Requests that were sent, which receive their responses.
+//!
+//! ```
+//! # extern crate rr as iceoryx2;
+//! use iceoryx2::prelude::*;
+//!
+//! fn main() -> Result<(), Box<dyn core::error::Error>> {
+//!     let node = NodeBuilder::new().create::<ipc_threadsafe::Service>()?;
+//!     let service = node.service_builder(&"squares".try_into()?).request_response::<u64, u64>().open_or_create()?;
+//!     let (client, server) = (service.client_builder().create()?, service.server_builder().create()?);
+//!
+//!     let pending_response = client.send_copy(12)?;
+//!     let answering = std::thread::spawn(move || {
+//!         let active_request = server.blocking_receive().unwrap();
+//!         active_request.send_copy(*active_request * *active_request).unwrap();
+//!     });
+//!     // The stream of responses ends when the server has dropped the request.
+//!     let mut squares = Vec::new();
+//!     while let Some(response) = pending_response.blocking_receive()? {
+//!         squares.push(*response);
+//!     }
+//!     assert_eq!(squares, [144]);
+//!     answering.join().unwrap();
+//!     Ok(())
+//! }
+//! ```
+use crate::core::{CoreRef, PolicyOf};
+use crate::hub::Slot;
+use crate::message::{Message, Pending};
+use crate::port::{ReceiveError, ResponseTypes};
+use crate::raw::Id;
 use crate::response::Response;
+use crate::service::Service;
+use crate::service::header::request_response::RequestHeader;
+use crate::service::threadsafety::SharedByThreads;
+use crate::state::State;
+use crate::wait::{Patience, Turn, Wait, Watched, block};
+use crate::zero_copy_send::{Payload, Sendable};
+use std::any::type_name;
+use std::fmt;
+use std::iter;
 use std::marker::PhantomData;
 use std::ops::Deref;
+use std::pin::Pin;
+use std::task::{Context, Poll};
+use std::time::Duration;
 
-/// A request that was sent, and waits for responses. Dropped, it drops those that are queued, and its servers see that nobody waits.
+/// A request that was sent. It receives the responses of all servers. Dropping it tells them that nobody waits for
+/// their responses any more.
 ///
-/// After iceoryx2's `PendingResponse`.
-pub struct PendingResponse<'h, Q: ?Sized, P: ?Sized> {
-    request: Received<'h, Q>,
-    responses: Of<P>,
+/// iceoryx2's `pending_response::PendingResponse`.
+pub struct PendingResponse<S: Service, Q: Sendable + ?Sized, QH: Sendable, P: Sendable + ?Sized, PH: Sendable> {
+    message: Message<PolicyOf<S>, Pending, QH, Q>,
+    number_of_server_connections: usize,
+    types: ResponseTypes<P, PH>,
 }
 
-crate::debug_by_number! { PendingResponse<Q, P>: request.handle() }
+/// The result of an attempt: a response, or that none can come any more.
+type Found = Option<Slot>;
 
-impl<'h, Q: Payload + ?Sized, P: Payload + ?Sized> PendingResponse<'h, Q, P> {
-    /// Takes the handle of a request that was sent, or forgets that of one whose send was refused: it was released then.
+impl<S: Service, Q: Sendable + ?Sized, QH: Sendable, P: Sendable + ?Sized, PH: Sendable>
+    PendingResponse<S, Q, QH, P, PH>
+{
     #[inline]
-    pub(crate) fn sent(outcome: Result<(), RequestSendError>, handle: Handle<'h>) -> Result<Self, RequestSendError> {
-        if let Err(error) = outcome {
-            handle.forget();
-            return Err(error);
-        }
-        Ok(PendingResponse { request: Received::new(handle), responses: PhantomData })
+    pub(crate) fn new(message: Message<PolicyOf<S>, Pending, QH, Q>, servers: usize) -> Self {
+        PendingResponse { message, number_of_server_connections: servers, types: PhantomData }
     }
 
-    /// Receives a response. Returns `None` if none is queued.
-    ///
-    /// Of several servers that have answered, the one after the one that was heard last comes first.
-    ///
-    /// ```
-    /// # fn main() -> Result<(), Box<dyn std::error::Error>> {
-    /// # let hub = rr::Hub::builder().request_response::<u64, u64>().create()?;
-    /// # let client = hub.client_builder().create()?;
-    /// # let server = hub.server_builder().create()?;
-    /// let pending_response = client.send_copy(20)?;
-    /// # server.receive()?.unwrap().send_copy(21)?;
-    /// if let Some(response) = pending_response.receive()? {
-    ///     println!("received {} from server {}", *response, response.origin());
-    /// }
-    /// # assert!(pending_response.receive()?.is_none());
-    /// # Ok(())
-    /// # }
-    /// ```
-    ///
-    /// # Errors
-    ///
-    /// Nothing has changed then.
-    ///
-    /// - [`ReceiveError::ExceedsMaxBorrows`] if a response is queued, and of each server that has one queued
-    ///   `max_borrowed_responses_per_pending_response` responses are held.
-    /// - [`ReceiveError::NumbersExhausted`] never comes: a response has a number from its loan on.
-    ///
-    /// After iceoryx2's `PendingResponse::receive`.
-    #[inline]
-    pub fn receive(&self) -> Result<Option<Response<'h, P>>, ReceiveError> {
-        Ok(self.request.handle().receive()?.map(Response::new))
+    /// Tells the servers that the client wants no further responses. A server may then send its last one and drop its
+    /// active request.
+    pub fn set_disconnect_hint(&self) {
+        self.message
+            .core()
+            .call(|state| state.hub.set_disconnect_hint(&self.message.id()));
     }
 
-    /// Iterates over the responses that are queued, and receives each: until none is, or after the first error.
-    ///
-    /// ```
-    /// # fn main() -> Result<(), Box<dyn std::error::Error>> {
-    /// # let hub = rr::Hub::builder().request_response::<u64, u64>().create()?;
-    /// # let client = hub.client_builder().create()?;
-    /// # let server = hub.server_builder().create()?;
-    /// # let pending_response = client.send_copy(20)?;
-    /// # let active_request = server.receive()?.unwrap();
-    /// # active_request.send_copy(21)?;
-    /// # active_request.send_copy(22)?;
-    /// let mut sum = 0;
-    /// for response in pending_response.responses() {
-    ///     sum += *response?;
-    /// }
-    /// # assert_eq!(sum, 43);
-    /// # Ok(())
-    /// # }
-    /// ```
-    ///
-    /// Not in iceoryx2.
-    pub fn responses(&self) -> Responses<'_, 'h, Q, P> {
-        Responses { from: Some(self) }
+    /// Returns whether a server may still answer, as far as the library knows. It also returns `true` as long as a
+    /// server is connected whose full queue dropped the request or did not take it.
+    pub fn is_connected(&self) -> bool {
+        self.message.core().call(|state| state.hub.is_connected(&self.message.id()))
+    }
+
+    /// Returns the header of the request.
+    pub fn header(&self) -> &RequestHeader {
+        &self.message.head().header
+    }
+
+    /// Returns the user header of the request.
+    pub fn user_header(&self) -> &QH {
+        self.message.user_header()
+    }
+
+    /// Returns the payload of the request.
+    #[inline]
+    pub fn payload(&self) -> &Q {
+        self.message.payload()
+    }
+
+    /// Returns how many servers' queues took the request when it was sent.
+    pub fn number_of_server_connections(&self) -> usize {
+        self.number_of_server_connections
     }
 
     /// Returns whether a response is queued.
-    ///
-    /// After iceoryx2's `PendingResponse::has_response`.
-    #[inline]
     pub fn has_response(&self) -> bool {
-        self.request.handle().has_entries()
+        self.message.core().call(|state| state.hub.has_entries(&self.message.id()))
     }
 
-    /// Returns whether a server may still answer: it is connected, and did not drop its active request of this request.
-    ///
-    /// After iceoryx2's `PendingResponse::is_connected`.
     #[inline]
-    pub fn is_connected(&self) -> bool {
-        self.request.handle().is_connected()
+    fn receive_slot(&self, state: &mut State) -> Result<Option<Slot>, ReceiveError> {
+        state.receive_response(&self.message.id(), self.message.seat(), self.message.head().sequence)
     }
 
-    /// Tells the servers that no more responses are wanted. They see it by
-    /// [`ActiveRequest::has_disconnect_hint`](crate::ActiveRequest::has_disconnect_hint), and may still answer.
-    ///
-    /// ```
-    /// # fn main() -> Result<(), Box<dyn std::error::Error>> {
-    /// # let hub = rr::Hub::builder().request_response::<u64, u64>().create()?;
-    /// # let client = hub.client_builder().create()?;
-    /// # let server = hub.server_builder().create()?;
-    /// let pending_response = client.send_copy(20)?;
-    /// let active_request = server.receive()?.unwrap();
-    /// pending_response.set_disconnect_hint();
-    /// if active_request.has_disconnect_hint() {
-    ///     active_request.send_copy(0)?;
-    ///     drop(active_request);
-    /// }
-    /// assert_eq!(*pending_response.receive()?.unwrap(), 0);
-    /// assert!(!pending_response.is_connected());
-    /// # Ok(())
-    /// # }
-    /// ```
-    ///
-    /// After iceoryx2's `PendingResponse::set_disconnect_hint`.
-    pub fn set_disconnect_hint(&self) {
-        self.request.handle().set_disconnect_hint();
+    /// Attempts to receive, and finds that a response is queued, that none can come any more, or neither.
+    fn attempt(&self, state: &mut State) -> Result<Option<Found>, ReceiveError> {
+        match self.receive_slot(state)? {
+            Some(slot) => Ok(Some(Some(slot))),
+            None if state.may_be_answered(self.message.head()) => {
+                debug_assert!(state.hub.is_connected(&self.message.id()));
+                Ok(None)
+            }
+            None => Ok(Some(None)),
+        }
     }
 
-    /// Returns how many servers' queues took the request as it was sent.
-    ///
-    /// After iceoryx2's `PendingResponse::number_of_server_connections`.
-    pub fn number_of_server_connections(&self) -> usize {
-        self.request.handle().number_of_server_connections()
+    pub(crate) fn wait(&self) -> Wait {
+        Wait::Responses(Watched::new(self.message.head()))
     }
 
-    /// Returns the request's payload.
-    ///
-    /// After iceoryx2's `PendingResponse::payload`.
-    #[inline]
-    pub fn payload(&self) -> &Q {
-        self.request.payload()
-    }
-
-    /// Returns the request's header.
-    ///
-    /// After iceoryx2's `PendingResponse::header`.
-    pub fn header(&self) -> RequestHeader {
-        RequestHeader::new(self.request.handle().header(), Q::ELEMENT_SIZE)
-    }
-
-    /// Returns the request's user header.
-    ///
-    /// After iceoryx2's `PendingResponse::user_header`.
-    pub fn user_header(&self) -> [u8; 16] {
-        self.request.handle().user_header()
+    /// Returns what a wait set needs of it.
+    pub(crate) fn attachment(&self) -> (CoreRef<S>, Id, Wait) {
+        (self.message.core().clone(), self.message.id(), self.wait())
     }
 }
 
-impl<Q: Payload + ?Sized, P: Payload + ?Sized> Deref for PendingResponse<'_, Q, P> {
+impl<S: Service, Q: Sendable + ?Sized, QH: Sendable, P: Payload + Sendable + ?Sized, PH: Sendable>
+    PendingResponse<S, Q, QH, P, PH>
+{
+    #[inline]
+    fn response(&self, slot: Slot) -> Response<S, P, PH> {
+        // SAFETY: point 7 of `message.rs`: all servers of the service write responses of these types, and the library
+        // just gave this one.
+        Response::new(unsafe { Message::written(self.message.core().clone(), slot, self.message.seat()) })
+    }
+
+    /// Receives the next response, if one is queued.
+    ///
+    /// # Errors
+    ///
+    /// [`ReceiveError::ExceedsMaxBorrows`] if the pending response holds as many responses from each server with a
+    /// queued one as it may.
+    #[inline]
+    pub fn receive(&self) -> Result<Option<Response<S, P, PH>>, ReceiveError> {
+        let received = self.message.core().call(|state| self.receive_slot(state))?;
+        Ok(received.map(|slot| self.response(slot)))
+    }
+
+    /// Returns an iterator over the queued responses, which ends at the first error.
+    ///
+    /// Not in iceoryx2.
+    pub fn responses(&self) -> impl Iterator<Item = Result<Response<S, P, PH>, ReceiveError>> + '_ {
+        let mut has_failed = false;
+        iter::from_fn(move || {
+            let received = if has_failed { None } else { self.receive().transpose() };
+            has_failed = matches!(received, Some(Err(_)));
+            received
+        })
+    }
+
+    /// Waits for the next response. Returns `None` when no response is queued and none can come any more.
+    ///
+    /// A response can come as long as an active request of this request lives, and as long as a server may still
+    /// receive the request. A wait ends also where a server's full queue dropped the request or did not take it: at the
+    /// next receive of this server that finds a later request of the client, or nothing. Responses on loan whose active
+    /// request was dropped are not waited for.
+    ///
+    /// After iceoryx2's `Listener::blocking_wait_one`. Not in iceoryx2.
+    ///
+    /// # Errors
+    ///
+    /// As of [`PendingResponse::receive`].
+    pub fn blocking_receive(&self) -> Result<Option<Response<S, P, PH>>, ReceiveError>
+    where
+        S::ThreadsafetyPolicy: SharedByThreads,
+    {
+        self.receive_within(Patience::Endless)
+    }
+
+    /// Waits for the next response, but no longer than this. Returns `None` also as
+    /// [`PendingResponse::blocking_receive`].
+    ///
+    /// After iceoryx2's `Listener::timed_wait_one`. Not in iceoryx2.
+    ///
+    /// # Errors
+    ///
+    /// As of [`PendingResponse::receive`].
+    pub fn timed_receive(&self, timeout: Duration) -> Result<Option<Response<S, P, PH>>, ReceiveError>
+    where
+        S::ThreadsafetyPolicy: SharedByThreads,
+    {
+        self.receive_within(Patience::of(timeout))
+    }
+
+    fn receive_within(&self, patience: Patience) -> Result<Option<Response<S, P, PH>>, ReceiveError> {
+        let received = block(self.message.core(), self.wait(), patience, |state| self.attempt(state))?;
+        Ok(received.flatten().map(|slot| self.response(slot)))
+    }
+
+    /// Returns a future of the next response, or of `None` as [`PendingResponse::blocking_receive`]. A future that is
+    /// dropped has received nothing.
+    ///
+    /// Not in iceoryx2.
+    ///
+    /// # Errors
+    ///
+    /// As of [`PendingResponse::receive`].
+    pub fn async_receive(&self) -> ReceiveResponse<'_, S, Q, QH, P, PH> {
+        ReceiveResponse { pending: self, turn: Turn::default() }
+    }
+}
+
+/// The future of a response, which [`PendingResponse::async_receive`] returns.
+///
+/// Not in iceoryx2.
+#[must_use = "a future does nothing unless it is awaited"]
+pub struct ReceiveResponse<'a, S: Service, Q: Sendable + ?Sized, QH: Sendable, P: Sendable + ?Sized, PH: Sendable> {
+    pending: &'a PendingResponse<S, Q, QH, P, PH>,
+    turn: Turn,
+}
+
+impl<S: Service, Q: Sendable + ?Sized, QH: Sendable, P: Payload + Sendable + ?Sized, PH: Sendable> Future
+    for ReceiveResponse<'_, S, Q, QH, P, PH>
+{
+    type Output = Result<Option<Response<S, P, PH>>, ReceiveError>;
+
+    fn poll(self: Pin<&mut Self>, context: &mut Context<'_>) -> Poll<Self::Output> {
+        let this = self.get_mut();
+        let pending = this.pending;
+        let found = this
+            .turn
+            .poll(pending.message.core(), pending.wait(), context, |state| pending.attempt(state));
+        found.map_ok(|received| received.map(|slot| pending.response(slot)))
+    }
+}
+
+impl<S: Service, Q: Sendable + ?Sized, QH: Sendable, P: Sendable + ?Sized, PH: Sendable> fmt::Debug
+    for ReceiveResponse<'_, S, Q, QH, P, PH>
+{
+    fn fmt(&self, f: &mut fmt::Formatter<'_>) -> fmt::Result {
+        write!(f, "ReceiveResponse {{ pending: {:?} }}", self.pending)
+    }
+}
+
+impl<S: Service, Q: Sendable + ?Sized, QH: Sendable, P: Sendable + ?Sized, PH: Sendable> Drop
+    for ReceiveResponse<'_, S, Q, QH, P, PH>
+{
+    fn drop(&mut self) {
+        self.turn.end(self.pending.message.core());
+    }
+}
+
+impl<S: Service, Q: Sendable + ?Sized, QH: Sendable, P: Sendable + ?Sized, PH: Sendable> Deref
+    for PendingResponse<S, Q, QH, P, PH>
+{
     type Target = Q;
 
     #[inline]
@@ -169,23 +270,12 @@ impl<Q: Payload + ?Sized, P: Payload + ?Sized> Deref for PendingResponse<'_, Q, 
     }
 }
 
-/// Receives the responses that are queued. [`PendingResponse::responses`] returns it.
-///
-/// Not in iceoryx2.
-#[derive(Debug)]
-pub struct Responses<'a, 'h, Q: Payload + ?Sized, P: Payload + ?Sized> {
-    from: Option<&'a PendingResponse<'h, Q, P>>,
-}
-
-impl<'h, Q: Payload + ?Sized, P: Payload + ?Sized> Iterator for Responses<'_, 'h, Q, P> {
-    type Item = Result<Response<'h, P>, ReceiveError>;
-
-    #[inline]
-    fn next(&mut self) -> Option<Self::Item> {
-        let received = self.from?.receive();
-        if received.is_err() {
-            self.from = None;
-        }
-        received.transpose()
+impl<S: Service, Q: Sendable + ?Sized, QH: Sendable, P: Sendable + ?Sized, PH: Sendable> fmt::Debug
+    for PendingResponse<S, Q, QH, P, PH>
+{
+    fn fmt(&self, f: &mut fmt::Formatter<'_>) -> fmt::Result {
+        let types = (type_name::<S>(), type_name::<Q>(), type_name::<QH>(), type_name::<P>(), type_name::<PH>());
+        write!(f, "PendingResponse<{}, {}, {}, {}, {}> ", types.0, types.1, types.2, types.3, types.4)?;
+        write!(f, "{{ number_of_server_connections: {} }}", self.number_of_server_connections)
     }
 }

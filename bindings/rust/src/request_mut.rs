@@ -1,123 +1,228 @@
 //! Requests on loan that can be sent.
-
-use crate::error::{RequestSendError, sent_request};
-use crate::header::RequestHeader;
-use crate::message::{Loan, Of};
-use crate::payload::Payload;
+//!
+//! ```
+//! # extern crate rr as iceoryx2;
+//! use iceoryx2::prelude::*;
+//!
+//! fn main() -> Result<(), Box<dyn core::error::Error>> {
+//!     let node = NodeBuilder::new().create::<ipc::Service>()?;
+//!     let service = node
+//!         .service_builder(&"levels".try_into()?)
+//!         .request_response::<u64, u64>()
+//!         .request_user_header::<u32>()
+//!         .open_or_create()?;
+//!     let client = service.client_builder().create()?;
+//!
+//!     let mut request = client.loan()?;
+//!     *request = 40;
+//!     *request.payload_mut() += 2;
+//!     *request.user_header_mut() = 7;
+//!     let pending_response = request.send()?;
+//!     assert_eq!((*pending_response, *pending_response.user_header()), (42, 7));
+//!     Ok(())
+//! }
+//! ```
+use crate::core::PolicyOf;
+use crate::head::RequestHead;
+use crate::message::{Loaned, Message, Pending};
 use crate::pending_response::PendingResponse;
+use crate::port::client::RequestSendError;
+use crate::port::delivery::{Blocked, Delivery};
+use crate::port::{Refused, ResponseTypes, SendError};
+use crate::raw::Id;
+use crate::service::Service;
+use crate::service::header::request_response::RequestHeader;
+use crate::wait::Wait;
+use crate::zero_copy_send::Sendable;
+use std::any::type_name;
+use std::fmt;
 use std::marker::PhantomData;
 use std::ops::{Deref, DerefMut};
+use std::ptr::NonNull;
 
-/// A request on loan that can be sent. Dropped, it is released.
+/// A request on loan that can be sent. Dropping it releases it.
 ///
-/// After iceoryx2's `RequestMut`.
+/// iceoryx2's `request_mut::RequestMut`.
 #[must_use = "a request that is dropped is released, not sent"]
-pub struct RequestMut<'h, Q: ?Sized, P: ?Sized> {
-    loan: Loan<'h, Q>,
-    responses: Of<P>,
+pub struct RequestMut<S: Service, Q: Sendable + ?Sized, QH: Sendable, P: Sendable + ?Sized, PH: Sendable> {
+    message: Message<PolicyOf<S>, Loaned, QH, Q>,
+    delivery: Delivery,
+    types: ResponseTypes<P, PH>,
 }
 
-crate::debug_by_number! { RequestMut<Q, P>: loan.handle() }
+impl<S: Service, Q: Sendable + ?Sized, QH: Sendable, P: Sendable + ?Sized, PH: Sendable> RequestMut<S, Q, QH, P, PH> {
+    #[inline]
+    pub(crate) fn new(message: Message<PolicyOf<S>, Loaned, QH, Q>, delivery: Delivery) -> Self {
+        RequestMut { message, delivery, types: PhantomData }
+    }
 
-impl<'h, Q: Payload + ?Sized, P: Payload + ?Sized> RequestMut<'h, Q, P> {
+    /// Gives the payload another type.
+    ///
     /// # Safety
     ///
-    /// The payload is initialised.
+    /// The payload is initialised as that type asks.
     #[inline]
-    pub(crate) unsafe fn new(loan: Loan<'h, Q>) -> Self {
-        RequestMut { loan, responses: PhantomData }
+    pub(crate) unsafe fn with_payload<R: Sendable + ?Sized>(
+        self,
+        retype: impl FnOnce(NonNull<Q>) -> NonNull<R>,
+    ) -> RequestMut<S, R, QH, P, PH> {
+        // SAFETY: as the caller says.
+        RequestMut::new(unsafe { self.message.with_payload(retype) }, self.delivery)
     }
 
-    /// Returns the header.
-    ///
-    /// After iceoryx2's `RequestMut::header`.
-    pub fn header(&self) -> RequestHeader {
-        RequestHeader::new(self.loan.handle().header(), Q::ELEMENT_SIZE)
+    /// Returns the header of the request.
+    #[inline]
+    pub fn header(&self) -> &RequestHeader {
+        &self.message.head().header
     }
 
-    /// Returns the user header, which is 0 in each byte unless it was changed.
-    ///
-    /// After iceoryx2's `RequestMut::user_header`.
-    pub fn user_header(&self) -> [u8; 16] {
-        self.loan.user_header()
+    /// Returns the user header of the request.
+    #[inline]
+    pub fn user_header(&self) -> &QH {
+        self.message.user_header()
     }
 
-    /// Returns the user header, to be changed.
-    ///
-    /// ```
-    /// # fn main() -> Result<(), Box<dyn std::error::Error>> {
-    /// # let hub = rr::Hub::builder().request_response::<u64, u64>().create()?;
-    /// # let client = hub.client_builder().create()?;
-    /// # let server = hub.server_builder().create()?;
-    /// let mut request = client.loan_uninit()?.write_payload(1);
-    /// request.user_header_mut()[0] = 42;
-    /// let pending_response = request.send()?;
-    /// assert_eq!(server.receive()?.unwrap().user_header()[0], 42);
-    /// # Ok(())
-    /// # }
-    /// ```
-    ///
-    /// After iceoryx2's `RequestMut::user_header_mut`.
-    pub fn user_header_mut(&mut self) -> &mut [u8; 16] {
-        self.loan.user_header_mut()
+    /// Returns the user header of the request, to be changed.
+    #[inline]
+    pub fn user_header_mut(&mut self) -> &mut QH {
+        self.message.user_header_mut()
     }
 
-    /// Returns the payload.
-    ///
-    /// After iceoryx2's `RequestMut::payload`.
+    /// Returns the payload of the request.
     #[inline]
     pub fn payload(&self) -> &Q {
-        // SAFETY: it is initialised, as `new` was told.
-        unsafe { self.loan.payload() }
+        self.message.payload()
     }
 
-    /// Returns the payload, to be changed.
-    ///
-    /// After iceoryx2's `RequestMut::payload_mut`.
+    /// Returns the payload of the request, to be changed.
     #[inline]
     pub fn payload_mut(&mut self) -> &mut Q {
-        // SAFETY: it is initialised, as `new` was told.
-        unsafe { self.loan.payload_mut() }
+        self.message.payload_mut()
     }
 
-    /// Returns whether no full queue would refuse a send now.
+    /// Returns whether each queue that the request would enter has room, or overflows.
     ///
     /// Not in iceoryx2.
     pub fn is_deliverable(&self) -> bool {
-        self.loan.handle().is_deliverable()
+        self.message.core().call(|state| state.hub.is_deliverable(&self.message.id()))
     }
 
-    /// Sends the request to all connected servers.
+    /// Sends the request to all servers that are connected, and returns the handle of its responses.
     ///
-    /// ```
-    /// # fn main() -> Result<(), Box<dyn std::error::Error>> {
-    /// # let hub = rr::Hub::builder().request_response::<u64, u64>().create()?;
-    /// # let client = hub.client_builder().create()?;
-    /// # let server = hub.server_builder().create()?;
-    /// let pending_response = client.loan_uninit()?.write_payload(1).send()?;
-    /// assert_eq!(pending_response.number_of_server_connections(), 1);
-    /// # Ok(())
-    /// # }
-    /// ```
+    /// Where a queue is full and does not overflow, the client's handler and its
+    /// [`BackpressureStrategy`](crate::port::backpressure_strategy::BackpressureStrategy) decide. With
+    /// `RetryUntilDelivered`, the default, the call waits for room in a service that threads share.
     ///
     /// # Errors
     ///
-    /// The request is released if it isn't sent, and is delivered to no server.
-    ///
-    /// - [`RequestSendError::ExceedsMaxActiveRequests`] if `max_active_requests_per_client` pending responses of the client live.
-    /// - [`SendError::UnableToDeliver`](crate::SendError::UnableToDeliver), as a [`RequestSendError::SendError`], if a server's queue is
-    ///   full, the hub's requests don't overflow, and the client's strategy is
-    ///   [`RetryUntilDelivered`](crate::BackpressureStrategy::RetryUntilDelivered).
-    ///
-    /// After iceoryx2's `RequestMut::send`.
+    /// [`RequestSendError`]: the request is dropped then. [`RequestMut::try_send`] gives it back.
     #[inline]
-    pub fn send(self) -> Result<PendingResponse<'h, Q, P>, RequestSendError> {
-        let (code, handle) = self.loan.send();
-        PendingResponse::sent(sent_request(code), handle)
+    pub fn send(self) -> Result<PendingResponse<S, Q, QH, P, PH>, RequestSendError> {
+        let (id, head) = (self.message.id(), self.message.head_at());
+        // SAFETY: the request is on loan.
+        let sent = self
+            .message
+            .core()
+            .call(|state| unsafe { state.send_request(&id, head, self.delivery.asks) });
+        match sent {
+            Ok(Some(servers)) => Ok(self.into_pending(servers)),
+            Ok(None) => self.send_blocked(),
+            Err(error) => self.into_error(error),
+        }
+    }
+
+    /// Sends the request without waiting for room, or gives it back with the error.
+    ///
+    /// A handler is asked once; to try again is left to the caller.
+    ///
+    /// Not in iceoryx2.
+    ///
+    /// # Errors
+    ///
+    /// [`Refused`] with `ExceedsMaxActiveRequests` or `UnableToDeliver`, and the request.
+    ///
+    /// # Examples
+    ///
+    /// ```
+    /// # extern crate rr as iceoryx2;
+    /// # use iceoryx2::{port::client::RequestSendError, prelude::*};
+    /// # fn main() -> Result<(), Box<dyn core::error::Error>> {
+    /// # let node = NodeBuilder::new().create::<ipc::Service>()?;
+    /// # let service = node.service_builder(&"try_send".try_into()?).request_response::<u64, u64>()
+    /// #     .max_active_requests_per_client(1).open_or_create()?;
+    /// # let client = service.client_builder().create()?;
+    /// let first = client.send_copy(1)?;
+    /// let refused = client.loan_uninit()?.write_payload(2).try_send().unwrap_err();
+    /// assert_eq!(refused.error, RequestSendError::ExceedsMaxActiveRequests);
+    /// drop(first);
+    /// assert_eq!(*refused.message.send()?, 2);
+    /// # Ok(())
+    /// # }
+    /// ```
+    #[allow(clippy::type_complexity)]
+    pub fn try_send(self) -> Result<PendingResponse<S, Q, QH, P, PH>, Refused<Self, RequestSendError>> {
+        let (id, head) = (self.message.id(), self.message.head_at());
+        let attempt = |asks| {
+            // SAFETY: the request is on loan.
+            self.message
+                .core()
+                .call(|state| unsafe { state.try_send_request(&id, head, asks) })
+        };
+        let mut sent = attempt(self.delivery.asks);
+        if matches!(sent, Ok(None)) && self.blocked().passes_over() {
+            sent = attempt(false);
+        }
+        match sent {
+            Ok(Some(servers)) => Ok(self.into_pending(servers)),
+            Ok(None) => Err(Refused { message: self, error: SendError::UnableToDeliver.into() }),
+            Err(error) => Err(Refused { message: self, error }),
+        }
+    }
+
+    /// Makes it the pending response that the library made of it.
+    #[inline]
+    pub(crate) fn into_pending(self, servers: usize) -> PendingResponse<S, Q, QH, P, PH> {
+        PendingResponse::new(self.message.turned::<Pending>(), servers)
+    }
+
+    /// Drops a request that the library has released.
+    #[cold]
+    fn into_error<T>(self, error: RequestSendError) -> Result<T, RequestSendError> {
+        self.message.forget();
+        Err(error)
+    }
+
+    fn blocked(&self) -> Blocked {
+        let core = self.message.core();
+        let (handler, receiver) = core.call(|state| {
+            let mut servers = state.servers.taken().map(|it| it.details.server_id.value());
+            let receiver = servers.next().filter(|_| servers.next().is_none());
+            (state.clients[self.message.seat()].handler.clone(), receiver.unwrap_or(0))
+        });
+        Blocked::new(Wait::RequestRoom, self.delivery.strategy, handler, self.header().client_id.value(), receiver)
+    }
+
+    /// Sends a request that found no room.
+    #[cold]
+    pub(crate) fn send_blocked(self) -> Result<PendingResponse<S, Q, QH, P, PH>, RequestSendError> {
+        let (id, head, seat): (Id, NonNull<RequestHead>, usize) =
+            (self.message.id(), self.message.head_at(), self.message.seat());
+        let sent = self.blocked().deliver(
+            self.message.core(),
+            // SAFETY: the request is on loan.
+            |state, asks| unsafe { state.send_request(&id, head, asks) },
+            |state| state.release_request(&id, seat),
+        );
+        match sent {
+            Ok(servers) => Ok(self.into_pending(servers)),
+            Err(error) => self.into_error(error),
+        }
     }
 }
 
-impl<Q: Payload + ?Sized, P: Payload + ?Sized> Deref for RequestMut<'_, Q, P> {
+impl<S: Service, Q: Sendable + ?Sized, QH: Sendable, P: Sendable + ?Sized, PH: Sendable> Deref
+    for RequestMut<S, Q, QH, P, PH>
+{
     type Target = Q;
 
     #[inline]
@@ -126,9 +231,23 @@ impl<Q: Payload + ?Sized, P: Payload + ?Sized> Deref for RequestMut<'_, Q, P> {
     }
 }
 
-impl<Q: Payload + ?Sized, P: Payload + ?Sized> DerefMut for RequestMut<'_, Q, P> {
+impl<S: Service, Q: Sendable + ?Sized, QH: Sendable, P: Sendable + ?Sized, PH: Sendable> DerefMut
+    for RequestMut<S, Q, QH, P, PH>
+{
     #[inline]
     fn deref_mut(&mut self) -> &mut Q {
         self.payload_mut()
+    }
+}
+
+impl<S: Service, Q: Sendable + ?Sized, QH: Sendable, P: Sendable + ?Sized, PH: Sendable> fmt::Debug
+    for RequestMut<S, Q, QH, P, PH>
+{
+    fn fmt(&self, f: &mut fmt::Formatter<'_>) -> fmt::Result {
+        let types = (type_name::<S>(), type_name::<Q>(), type_name::<QH>(), type_name::<P>(), type_name::<PH>());
+        write!(f, "RequestMut<{}, {}, {}, {}, {}> ", types.0, types.1, types.2, types.3, types.4)?;
+        let (number, header) = (self.message.id().number, self.header());
+        write!(f, "{{ number: {number}, request_id: {}, ", header.request_id)?;
+        write!(f, "number_of_elements: {} }}", header.number_of_elements)
     }
 }

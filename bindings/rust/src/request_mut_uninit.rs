@@ -1,166 +1,152 @@
 //! Requests on loan whose payload has to be written.
-
-use crate::header::RequestHeader;
-use crate::message::{Loan, Of};
-use crate::payload::{Payload, ZeroCopySend};
+//!
+//! ```
+//! # extern crate rr as iceoryx2;
+//! use iceoryx2::prelude::*;
+//!
+//! fn main() -> Result<(), Box<dyn core::error::Error>> {
+//!     let node = NodeBuilder::new().create::<ipc::Service>()?;
+//!     let service = node.service_builder(&"words".try_into()?).request_response::<[char], u64>().open_or_create()?;
+//!     let client = service.client_builder().initial_max_slice_len(8).create()?;
+//!
+//!     let request = client.loan_slice_uninit(2)?.write_from_slice(&['o', 'k']);
+//!     assert_eq!(*request, ['o', 'k']);
+//!     Ok(())
+//! }
+//! ```
 use crate::request_mut::RequestMut;
-use std::marker::PhantomData;
+use crate::service::Service;
+use crate::service::header::request_response::RequestHeader;
+use crate::zero_copy_send::Sendable;
+use std::fmt;
 use std::mem::MaybeUninit;
+use std::ptr::NonNull;
 
-/// A request on loan whose payload has to be written before it can be sent. Dropped, it is released.
+/// A request on loan whose payload has to be written before it can be sent. Dropping it releases it.
 ///
-/// After iceoryx2's `RequestMutUninit`.
+/// The bytes of a payload that was not written are 0, or what an earlier request of the client left there.
+///
+/// iceoryx2's `request_mut_uninit::RequestMutUninit`.
 #[must_use = "a request that is dropped is released, not sent"]
-pub struct RequestMutUninit<'h, Q: ?Sized, P: ?Sized> {
-    loan: Loan<'h, Q>,
-    responses: Of<P>,
+#[repr(transparent)]
+pub struct RequestMutUninit<S: Service, Q: Sendable + ?Sized, QH: Sendable, P: Sendable + ?Sized, PH: Sendable> {
+    pub(crate) request: RequestMut<S, Q, QH, P, PH>,
 }
 
-crate::debug_by_number! { RequestMutUninit<Q, P>: loan.handle() }
+impl<S: Service, Q: Sendable + ?Sized, QH: Sendable, P: Sendable + ?Sized, PH: Sendable>
+    RequestMutUninit<S, Q, QH, P, PH>
+{
+    /// Returns the header of the request.
+    pub fn header(&self) -> &RequestHeader {
+        self.request.header()
+    }
 
-impl<'h, Q: Payload + ?Sized, P: Payload + ?Sized> RequestMutUninit<'h, Q, P> {
+    /// Returns the user header of the request.
+    pub fn user_header(&self) -> &QH {
+        self.request.user_header()
+    }
+
+    /// Returns the user header of the request, to be changed.
+    pub fn user_header_mut(&mut self) -> &mut QH {
+        self.request.user_header_mut()
+    }
+
+    /// Returns the payload of the request.
+    pub fn payload(&self) -> &Q {
+        self.request.payload()
+    }
+
+    /// Returns the payload of the request, to be written.
     #[inline]
-    pub(crate) fn new(loan: Loan<'h, Q>) -> Self {
-        RequestMutUninit { loan, responses: PhantomData }
+    pub fn payload_mut(&mut self) -> &mut Q {
+        self.request.payload_mut()
+    }
+}
+
+impl<S: Service, Q: Sendable, QH: Sendable, P: Sendable + ?Sized, PH: Sendable>
+    RequestMutUninit<S, MaybeUninit<Q>, QH, P, PH>
+{
+    /// Writes the payload.
+    #[inline]
+    pub fn write_payload(mut self, value: Q) -> RequestMut<S, Q, QH, P, PH> {
+        self.payload_mut().write(value);
+        // SAFETY: the payload was written.
+        unsafe { self.assume_init() }
     }
 
-    /// Returns the header.
-    ///
-    /// After iceoryx2's `RequestMutUninit::header`.
-    pub fn header(&self) -> RequestHeader {
-        RequestHeader::new(self.loan.handle().header(), Q::ELEMENT_SIZE)
-    }
-
-    /// Returns the user header, which is 0 in each byte unless it was changed.
-    ///
-    /// After iceoryx2's `RequestMutUninit::user_header`.
-    pub fn user_header(&self) -> [u8; 16] {
-        self.loan.user_header()
-    }
-
-    /// Returns the user header, to be changed.
-    ///
-    /// After iceoryx2's `RequestMutUninit::user_header_mut`.
-    pub fn user_header_mut(&mut self) -> &mut [u8; 16] {
-        self.loan.user_header_mut()
-    }
-
-    /// Makes the request one that can be sent.
-    ///
-    /// ```
-    /// # fn main() -> Result<(), Box<dyn std::error::Error>> {
-    /// # let hub = rr::Hub::builder().request_response::<u64, u64>().create()?;
-    /// # let client = hub.client_builder().create()?;
-    /// let mut request = client.loan_uninit()?;
-    /// request.payload_mut().write(8283);
-    /// // SAFETY: it was written.
-    /// let request = unsafe { request.assume_init() };
-    /// assert_eq!(*request, 8283);
-    /// # Ok(())
-    /// # }
-    /// ```
+    /// Takes the payload for written.
     ///
     /// # Safety
     ///
-    /// The whole payload was written, or is a type of which any bytes are a value: those that weren't written are 0, or what an earlier
-    /// message of the port left there.
-    ///
-    /// After iceoryx2's `RequestMutUninit::assume_init`.
+    /// The payload was written, or its bytes are a value of its type.
     #[inline]
-    pub unsafe fn assume_init(self) -> RequestMut<'h, Q, P> {
-        self.loan.complete();
-        // SAFETY: the caller says that the payload is initialised.
-        unsafe { RequestMut::new(self.loan) }
+    pub unsafe fn assume_init(self) -> RequestMut<S, Q, QH, P, PH> {
+        // SAFETY: as the caller says.
+        unsafe { self.request.with_payload(NonNull::cast) }
     }
 }
 
-impl<'h, T: ZeroCopySend, P: Payload + ?Sized> RequestMutUninit<'h, T, P> {
-    /// Returns the payload. What wasn't written of it is 0, or what an earlier message of the port left there.
+impl<S: Service, Q: Sendable, QH: Sendable, P: Sendable + ?Sized, PH: Sendable>
+    RequestMutUninit<S, [MaybeUninit<Q>], QH, P, PH>
+{
+    /// Takes all elements for written.
     ///
-    /// After iceoryx2's `RequestMutUninit::payload`.
-    #[inline]
-    pub fn payload(&self) -> &MaybeUninit<T> {
-        // SAFETY: it lies there as long as the message is on loan, aligned to 16 bytes, and only this value leads to it.
-        unsafe { &*self.loan.place().cast() }
-    }
-
-    /// Returns the payload, to be written.
+    /// # Safety
     ///
-    /// After iceoryx2's `RequestMutUninit::payload_mut`.
+    /// Each element was written, or its bytes are a value of its type.
     #[inline]
-    pub fn payload_mut(&mut self) -> &mut MaybeUninit<T> {
-        // SAFETY: it lies there as long as the message is on loan, aligned to 16 bytes, and this value is borrowed for as long.
-        unsafe { &mut *self.loan.place().cast() }
-    }
-
-    /// Writes the payload.
-    ///
-    /// After iceoryx2's `RequestMutUninit::write_payload`.
-    #[inline]
-    pub fn write_payload(mut self, value: T) -> RequestMut<'h, T, P> {
-        // SAFETY: a `T` has as many bytes as its message. Then the payload is initialised.
+    pub unsafe fn assume_init(self) -> RequestMut<S, [Q], QH, P, PH> {
+        // SAFETY: as the caller says.
         unsafe {
-            self.loan.write((&raw const value).cast());
-            RequestMut::new(self.loan)
+            self.request
+                .with_payload(|it| NonNull::slice_from_raw_parts(it.cast(), it.len()))
         }
     }
-}
 
-impl<'h, T: ZeroCopySend, P: Payload + ?Sized> RequestMutUninit<'h, [T], P> {
-    /// Returns the elements. What wasn't written of them is 0, or what an earlier message of the port left there.
-    ///
-    /// After iceoryx2's `RequestMutUninit::payload`.
+    /// Writes each element, which the function makes of its index. If the function panics, the request is released.
     #[inline]
-    pub fn payload(&self) -> &[MaybeUninit<T>] {
-        // SAFETY: they lie there as long as the message is on loan, aligned to 16 bytes, and only this value leads to them.
-        unsafe { &*(self.loan.place() as *const [MaybeUninit<T>]) }
-    }
-
-    /// Returns the elements, to be written.
-    ///
-    /// After iceoryx2's `RequestMutUninit::payload_mut`.
-    #[inline]
-    pub fn payload_mut(&mut self) -> &mut [MaybeUninit<T>] {
-        // SAFETY: they lie there as long as the message is on loan, aligned to 16 bytes, and this value is borrowed for as long.
-        unsafe { &mut *(self.loan.place() as *mut [MaybeUninit<T>]) }
-    }
-
-    /// Writes each element: what the function makes of its index.
-    ///
-    /// After iceoryx2's `RequestMutUninit::write_from_fn`.
-    #[inline]
-    pub fn write_from_fn<F: FnMut(usize) -> T>(mut self, mut initializer: F) -> RequestMut<'h, [T], P> {
+    pub fn write_from_fn<F: FnMut(usize) -> Q>(mut self, mut initializer: F) -> RequestMut<S, [Q], QH, P, PH> {
         for (index, element) in self.payload_mut().iter_mut().enumerate() {
             element.write(initializer(index));
         }
         // SAFETY: each element was written.
         unsafe { self.assume_init() }
     }
+}
 
-    /// Copies the elements of a slice.
-    ///
-    /// ```
-    /// # fn main() -> Result<(), Box<dyn std::error::Error>> {
-    /// # let hub = rr::Hub::builder().request_response::<[u64], u64>().create()?;
-    /// let client = hub.client_builder().initial_max_slice_len(32).create()?;
-    /// let request = client.loan_slice_uninit(3)?.write_from_slice(&[1, 2, 3]);
-    /// assert_eq!(*request, [1, 2, 3]);
-    /// # Ok(())
-    /// # }
-    /// ```
+impl<S: Service, Q: Copy + Sendable, QH: Sendable, P: Sendable + ?Sized, PH: Sendable>
+    RequestMutUninit<S, [MaybeUninit<Q>], QH, P, PH>
+{
+    /// Copies the elements.
     ///
     /// # Panics
     ///
-    /// If the slice has another length.
-    ///
-    /// After iceoryx2's `RequestMutUninit::write_from_slice`.
+    /// If the slice has another length than the request.
     #[inline]
-    pub fn write_from_slice(mut self, value: &[T]) -> RequestMut<'h, [T], P> {
-        assert_eq!(value.len(), self.loan.elements(), "a slice is written whose length was loaned");
-        // SAFETY: the slice has as many bytes as the message. Then the payload is initialised.
-        unsafe {
-            self.loan.write(value.as_ptr().cast());
-            RequestMut::new(self.loan)
-        }
+    pub fn write_from_slice(mut self, value: &[Q]) -> RequestMut<S, [Q], QH, P, PH> {
+        write_elements(self.payload_mut(), value);
+        // SAFETY: each element was written.
+        unsafe { self.assume_init() }
+    }
+}
+
+/// Copies elements to a payload of the same length.
+#[inline]
+pub(crate) fn write_elements<T: Copy>(payload: &mut [MaybeUninit<T>], value: &[T]) {
+    assert_eq!(payload.len(), value.len(), "a slice is written whose length was loaned");
+    // SAFETY: `MaybeUninit<T>` has the layout of `T`, and both slices have one length.
+    unsafe {
+        payload
+            .as_mut_ptr()
+            .cast::<T>()
+            .copy_from_nonoverlapping(value.as_ptr(), value.len())
+    }
+}
+
+impl<S: Service, Q: Sendable + ?Sized, QH: Sendable, P: Sendable + ?Sized, PH: Sendable> fmt::Debug
+    for RequestMutUninit<S, Q, QH, P, PH>
+{
+    fn fmt(&self, f: &mut fmt::Formatter<'_>) -> fmt::Result {
+        write!(f, "RequestMutUninit {{  request: {:?} }}", self.request)
     }
 }

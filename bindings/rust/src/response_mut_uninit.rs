@@ -1,171 +1,134 @@
 //! Responses on loan whose payload has to be written.
-
-use crate::header::ResponseHeader;
-use crate::message::Loan;
-use crate::payload::{Payload, ZeroCopySend};
+//!
+//! ```
+//! # extern crate rr as iceoryx2;
+//! use iceoryx2::prelude::*;
+//!
+//! fn main() -> Result<(), Box<dyn core::error::Error>> {
+//!     let node = NodeBuilder::new().create::<ipc::Service>()?;
+//!     let service = node.service_builder(&"table".try_into()?).request_response::<u64, [u64]>().open_or_create()?;
+//!     let client = service.client_builder().create()?;
+//!     let server = service.server_builder().initial_max_slice_len(16).create()?;
+//!     let pending_response = client.send_copy(7)?;
+//!     let active_request = server.receive()?.unwrap();
+//!
+//!     let response = active_request.loan_slice_uninit(3)?;
+//!     response.write_from_fn(|index| *active_request * index as u64).send()?;
+//!     assert_eq!(*pending_response.receive()?.unwrap(), [0, 7, 14]);
+//!     Ok(())
+//! }
+//! ```
+use crate::request_mut_uninit::write_elements;
 use crate::response_mut::ResponseMut;
+use crate::service::Service;
+use crate::service::header::request_response::ResponseHeader;
+use crate::zero_copy_send::Sendable;
+use std::fmt;
 use std::mem::MaybeUninit;
+use std::ptr::NonNull;
 
-/// A response on loan whose payload has to be written before it can be sent. Dropped, it is released.
+/// A response on loan whose payload has to be written before it can be sent. Dropping it releases it.
 ///
-/// After iceoryx2's `ResponseMutUninit`.
+/// The bytes of a payload that was not written are 0, or what an earlier response of the server left there.
+///
+/// iceoryx2's `response_mut_uninit::ResponseMutUninit`.
 #[must_use = "a response that is dropped is released, not sent"]
-pub struct ResponseMutUninit<'h, P: ?Sized> {
-    loan: Loan<'h, P>,
+pub struct ResponseMutUninit<S: Service, P: Sendable + ?Sized, PH: Sendable> {
+    pub(crate) response: ResponseMut<S, P, PH>,
 }
 
-crate::debug_by_number! { ResponseMutUninit<P>: loan.handle() }
+impl<S: Service, P: Sendable + ?Sized, PH: Sendable> ResponseMutUninit<S, P, PH> {
+    /// Returns the header of the response.
+    pub fn header(&self) -> &ResponseHeader {
+        self.response.header()
+    }
 
-impl<'h, P: Payload + ?Sized> ResponseMutUninit<'h, P> {
+    /// Returns the user header of the response.
+    pub fn user_header(&self) -> &PH {
+        self.response.user_header()
+    }
+
+    /// Returns the user header of the response, to be changed.
+    pub fn user_header_mut(&mut self) -> &mut PH {
+        self.response.user_header_mut()
+    }
+
+    /// Returns the payload of the response.
+    pub fn payload(&self) -> &P {
+        self.response.payload()
+    }
+
+    /// Returns the payload of the response, to be written.
     #[inline]
-    pub(crate) fn new(loan: Loan<'h, P>) -> Self {
-        ResponseMutUninit { loan }
+    pub fn payload_mut(&mut self) -> &mut P {
+        self.response.payload_mut()
+    }
+}
+
+impl<S: Service, P: Sendable, PH: Sendable> ResponseMutUninit<S, MaybeUninit<P>, PH> {
+    /// Writes the payload.
+    #[inline]
+    pub fn write_payload(mut self, value: P) -> ResponseMut<S, P, PH> {
+        self.payload_mut().write(value);
+        // SAFETY: the payload was written.
+        unsafe { self.assume_init() }
     }
 
-    /// Returns the header.
-    ///
-    /// After iceoryx2's `ResponseMutUninit::header`.
-    pub fn header(&self) -> ResponseHeader {
-        ResponseHeader::new(self.loan.handle().header(), P::ELEMENT_SIZE)
-    }
-
-    /// Returns the user header, which is 0 in each byte unless it was changed.
-    ///
-    /// After iceoryx2's `ResponseMutUninit::user_header`.
-    pub fn user_header(&self) -> [u8; 16] {
-        self.loan.user_header()
-    }
-
-    /// Returns the user header, to be changed.
-    ///
-    /// After iceoryx2's `ResponseMutUninit::user_header_mut`.
-    pub fn user_header_mut(&mut self) -> &mut [u8; 16] {
-        self.loan.user_header_mut()
-    }
-
-    /// Makes the response one that can be sent.
-    ///
-    /// ```
-    /// # fn main() -> Result<(), Box<dyn std::error::Error>> {
-    /// # let hub = rr::Hub::builder().request_response::<u64, u64>().create()?;
-    /// # let client = hub.client_builder().create()?;
-    /// # let server = hub.server_builder().create()?;
-    /// # let pending_response = client.send_copy(1)?;
-    /// # let active_request = server.receive()?.unwrap();
-    /// let mut response = active_request.loan_uninit()?;
-    /// response.payload_mut().write(1234);
-    /// // SAFETY: it was written.
-    /// let response = unsafe { response.assume_init() };
-    /// response.send()?;
-    /// # assert_eq!(*pending_response.receive()?.unwrap(), 1234);
-    /// # Ok(())
-    /// # }
-    /// ```
+    /// Takes the payload for written.
     ///
     /// # Safety
     ///
-    /// The whole payload was written, or is a type of which any bytes are a value: those that weren't written are 0, or what an earlier
-    /// message of the port left there.
-    ///
-    /// After iceoryx2's `ResponseMutUninit::assume_init`.
+    /// The payload was written, or its bytes are a value of its type.
     #[inline]
-    pub unsafe fn assume_init(self) -> ResponseMut<'h, P> {
-        self.loan.complete();
-        // SAFETY: the caller says that the payload is initialised.
-        unsafe { ResponseMut::new(self.loan) }
+    pub unsafe fn assume_init(self) -> ResponseMut<S, P, PH> {
+        // SAFETY: as the caller says.
+        unsafe { self.response.with_payload(NonNull::cast) }
     }
 }
 
-impl<'h, T: ZeroCopySend> ResponseMutUninit<'h, T> {
-    /// Returns the payload. What wasn't written of it is 0, or what an earlier message of the port left there.
+impl<S: Service, P: Sendable, PH: Sendable> ResponseMutUninit<S, [MaybeUninit<P>], PH> {
+    /// Takes all elements for written.
     ///
-    /// After iceoryx2's `ResponseMutUninit::payload`.
-    #[inline]
-    pub fn payload(&self) -> &MaybeUninit<T> {
-        // SAFETY: it lies there as long as the message is on loan, aligned to 16 bytes, and only this value leads to it.
-        unsafe { &*self.loan.place().cast() }
-    }
-
-    /// Returns the payload, to be written.
+    /// # Safety
     ///
-    /// After iceoryx2's `ResponseMutUninit::payload_mut`.
+    /// Each element was written, or its bytes are a value of its type.
     #[inline]
-    pub fn payload_mut(&mut self) -> &mut MaybeUninit<T> {
-        // SAFETY: it lies there as long as the message is on loan, aligned to 16 bytes, and this value is borrowed for as long.
-        unsafe { &mut *self.loan.place().cast() }
-    }
-
-    /// Writes the payload.
-    ///
-    /// After iceoryx2's `ResponseMutUninit::write_payload`.
-    #[inline]
-    pub fn write_payload(mut self, value: T) -> ResponseMut<'h, T> {
-        // SAFETY: a `T` has as many bytes as its message. Then the payload is initialised.
+    pub unsafe fn assume_init(self) -> ResponseMut<S, [P], PH> {
+        // SAFETY: as the caller says.
         unsafe {
-            self.loan.write((&raw const value).cast());
-            ResponseMut::new(self.loan)
+            self.response
+                .with_payload(|it| NonNull::slice_from_raw_parts(it.cast(), it.len()))
         }
     }
-}
 
-impl<'h, T: ZeroCopySend> ResponseMutUninit<'h, [T]> {
-    /// Returns the elements. What wasn't written of them is 0, or what an earlier message of the port left there.
-    ///
-    /// After iceoryx2's `ResponseMutUninit::payload`.
+    /// Writes each element, which the function makes of its index. If the function panics, the response is released.
     #[inline]
-    pub fn payload(&self) -> &[MaybeUninit<T>] {
-        // SAFETY: they lie there as long as the message is on loan, aligned to 16 bytes, and only this value leads to them.
-        unsafe { &*(self.loan.place() as *const [MaybeUninit<T>]) }
-    }
-
-    /// Returns the elements, to be written.
-    ///
-    /// After iceoryx2's `ResponseMutUninit::payload_mut`.
-    #[inline]
-    pub fn payload_mut(&mut self) -> &mut [MaybeUninit<T>] {
-        // SAFETY: they lie there as long as the message is on loan, aligned to 16 bytes, and this value is borrowed for as long.
-        unsafe { &mut *(self.loan.place() as *mut [MaybeUninit<T>]) }
-    }
-
-    /// Writes each element: what the function makes of its index.
-    ///
-    /// After iceoryx2's `ResponseMutUninit::write_from_fn`.
-    #[inline]
-    pub fn write_from_fn<F: FnMut(usize) -> T>(mut self, mut initializer: F) -> ResponseMut<'h, [T]> {
+    pub fn write_from_fn<F: FnMut(usize) -> P>(mut self, mut initializer: F) -> ResponseMut<S, [P], PH> {
         for (index, element) in self.payload_mut().iter_mut().enumerate() {
             element.write(initializer(index));
         }
         // SAFETY: each element was written.
         unsafe { self.assume_init() }
     }
+}
 
-    /// Copies the elements of a slice.
-    ///
-    /// ```
-    /// # fn main() -> Result<(), Box<dyn std::error::Error>> {
-    /// # let hub = rr::Hub::builder().request_response::<u64, [u64]>().create()?;
-    /// # let client = hub.client_builder().create()?;
-    /// let server = hub.server_builder().initial_max_slice_len(32).create()?;
-    /// # let pending_response = client.send_copy(1)?;
-    /// let active_request = server.receive()?.unwrap();
-    /// active_request.loan_slice_uninit(3)?.write_from_slice(&[1, 2, 3]).send()?;
-    /// # assert_eq!(*pending_response.receive()?.unwrap(), [1, 2, 3]);
-    /// # Ok(())
-    /// # }
-    /// ```
+impl<S: Service, P: Copy + Sendable, PH: Sendable> ResponseMutUninit<S, [MaybeUninit<P>], PH> {
+    /// Copies the elements.
     ///
     /// # Panics
     ///
-    /// If the slice has another length.
-    ///
-    /// After iceoryx2's `ResponseMutUninit::write_from_slice`.
+    /// If the slice has another length than the response.
     #[inline]
-    pub fn write_from_slice(mut self, value: &[T]) -> ResponseMut<'h, [T]> {
-        assert_eq!(value.len(), self.loan.elements(), "a slice is written whose length was loaned");
-        // SAFETY: the slice has as many bytes as the message. Then the payload is initialised.
-        unsafe {
-            self.loan.write(value.as_ptr().cast());
-            ResponseMut::new(self.loan)
-        }
+    pub fn write_from_slice(mut self, value: &[P]) -> ResponseMut<S, [P], PH> {
+        write_elements(self.payload_mut(), value);
+        // SAFETY: each element was written.
+        unsafe { self.assume_init() }
+    }
+}
+
+impl<S: Service, P: Sendable + ?Sized, PH: Sendable> fmt::Debug for ResponseMutUninit<S, P, PH> {
+    fn fmt(&self, f: &mut fmt::Formatter<'_>) -> fmt::Result {
+        // The name is iceoryx2's.
+        write!(f, "ResponseMut {{ response: {:?} }}", self.response)
     }
 }

@@ -51,7 +51,8 @@ fn constants() -> Vec<(&'static str, u32)> {
     }
 }
 
-/// A C program that returns the number of the first line that does not hold, of those that compare `rr.h` with `rr::raw`.
+/// A C program that returns the number of the first line that does not hold, of those that compare `rr.h` with
+/// `rr::raw`.
 fn program(checks: &[String]) -> String {
     let lines: String = checks
         .iter()
@@ -159,6 +160,16 @@ fn defaults_are_those_of_the_header() {
     holds("defaults", &default_checks());
 }
 
+/// Returns the functions that lines of a text declare, each with the number of its commas, in alphabetical order.
+fn declared(text: &str, begins: &[&str]) -> Vec<(String, usize)> {
+    let lines = text.lines().map(str::trim_start);
+    let declarations = lines.filter(|line| begins.iter().any(|begin| line.starts_with(begin)) && line.ends_with(';'));
+    let name_of = |line: &str| line[line.find("rr_").unwrap()..line.find('(').unwrap()].to_string();
+    let mut declared: Vec<_> = declarations.map(|line| (name_of(line), line.matches(',').count())).collect();
+    declared.sort();
+    declared
+}
+
 /// Each function that `rr.h` declares has a name here, and takes as many parameters.
 #[test]
 fn functions_are_those_of_the_header() {
@@ -169,14 +180,8 @@ fn functions_are_those_of_the_header() {
         .replace("(\n        ", "(")
         .replace(",\n        ", ", ")
         .replace(",\n    )", ")");
-    let declared = |text: &str, begins: &[&str]| -> Vec<(String, usize)> {
-        let lines = text.lines().map(str::trim_start);
-        let declarations =
-            lines.filter(|line| begins.iter().any(|begin| line.starts_with(begin)) && line.ends_with(';'));
-        let name_of = |line: &str| line[line.find("rr_").unwrap()..line.find('(').unwrap()].to_string();
-        declarations.map(|line| (name_of(line), line.matches(',').count())).collect()
-    };
     let in_header = declared(&header, &["uint32_t rr_", "void rr_"]);
-    assert_eq!(in_header, declared(&raw, &["pub fn rr_"]));
-    assert_eq!(in_header.len(), 30);
+    let in_raw = declared(&raw, &["pub fn rr_"]);
+    assert_eq!(in_header, in_raw);
+    assert!(in_header.len() >= 35);
 }

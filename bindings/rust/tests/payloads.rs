@@ -1,9 +1,13 @@
 //! Where payloads lie, and what they and their headers hold.
 
-use rr::{Hub, ZeroCopySend};
-use std::error::Error;
+mod common;
 
-type Done = Result<(), Box<dyn Error>>;
+use common::{Done, address, builder, service};
+use rr::port::LoanError;
+use rr::prelude::*;
+use std::fmt::Debug;
+
+type S = ipc::Service;
 
 /// A struct with padding between its fields.
 #[derive(Debug, Clone, Copy, PartialEq, Default)]
@@ -26,18 +30,13 @@ struct Aligned([u8; 48]);
 // SAFETY: bytes.
 unsafe impl ZeroCopySend for Aligned {}
 
-fn address<T: ?Sized>(payload: &T) -> usize {
-    (payload as *const T).cast::<u8>() as usize
-}
-
 #[test]
 fn each_loan_is_aligned_to_16_bytes() -> Done {
-    let hub = Hub::builder()
-        .request_response::<[u8], [u8]>()
+    let service = builder::<S, [u8], [u8]>("each_loan_is_aligned_to_16_bytes")
         .max_loaned_requests(8)
         .create()?;
-    let client = hub.client_builder().initial_max_slice_len(37).create()?;
-    let server = hub
+    let client = service.client_builder().initial_max_slice_len(37).create()?;
+    let server = service
         .server_builder()
         .initial_max_slice_len(37)
         .max_loaned_responses_per_request(8)
@@ -59,10 +58,10 @@ fn each_loan_is_aligned_to_16_bytes() -> Done {
 
 #[test]
 fn a_slice_that_grows_is_aligned_to_16_bytes() -> Done {
-    let hub = Hub::builder().request_response::<[u8], u64>().create()?;
-    let client = hub
+    let service = service::<S, [u8], u64>("a_slice_that_grows_is_aligned_to_16_bytes");
+    let client = service
         .client_builder()
-        .allocation_strategy(rr::AllocationStrategy::BestFit)
+        .allocation_strategy(AllocationStrategy::BestFit)
         .create()?;
     for len in [1, 3, 17, 100, 1000, 99_999, 5] {
         let request = client.loan_slice_uninit(len)?.write_from_fn(|index| index as u8);
@@ -74,9 +73,9 @@ fn a_slice_that_grows_is_aligned_to_16_bytes() -> Done {
 
 #[test]
 fn a_message_is_read_where_it_was_written() -> Done {
-    let hub = Hub::builder().request_response::<[u32], Sample>().create()?;
-    let client = hub.client_builder().initial_max_slice_len(100).create()?;
-    let (server, other) = (hub.server_builder().create()?, hub.server_builder().create()?);
+    let service = service::<S, [u32], Sample>("a_message_is_read_where_it_was_written");
+    let client = service.client_builder().initial_max_slice_len(100).create()?;
+    let (server, other) = (service.server_builder().create()?, service.server_builder().create()?);
     let mut request = client.loan_slice_uninit(100)?;
     let at = address(request.payload());
     assert_eq!(address(request.payload_mut()), at);
@@ -103,9 +102,9 @@ fn a_message_is_read_where_it_was_written() -> Done {
 
 #[test]
 fn structs_come_as_they_were_sent() -> Done {
-    let hub = Hub::builder().request_response::<Sample, Aligned>().create()?;
-    let client = hub.client_builder().create()?;
-    let server = hub.server_builder().create()?;
+    let service = service::<S, Sample, Aligned>("structs_come_as_they_were_sent");
+    let client = service.client_builder().create()?;
+    let server = service.server_builder().create()?;
     let sample = Sample { flag: true, value: -0.5, letter: 'ß', counts: [1, 2, 3, 4, 65535], large: u128::MAX - 1 };
     let pending_response = client.send_copy(sample)?;
     let active_request = server.receive()?.unwrap();
@@ -121,9 +120,9 @@ fn structs_come_as_they_were_sent() -> Done {
 
 #[test]
 fn slices_of_structs_come_as_they_were_sent() -> Done {
-    let hub = Hub::builder().request_response::<[Sample], [Aligned]>().create()?;
-    let client = hub.client_builder().initial_max_slice_len(7).create()?;
-    let server = hub.server_builder().initial_max_slice_len(7).create()?;
+    let service = service::<S, [Sample], [Aligned]>("slices_of_structs_come_as_they_were_sent");
+    let client = service.client_builder().initial_max_slice_len(7).create()?;
+    let server = service.server_builder().initial_max_slice_len(7).create()?;
     assert_eq!((client.initial_max_slice_len(), server.initial_max_slice_len()), (7, 7));
     let samples = [Sample { counts: [9; 5], ..Sample::default() }; 7];
     let pending_response = client.loan_slice_uninit(7)?.write_from_slice(&samples).send()?;
@@ -148,9 +147,9 @@ fn slices_of_structs_come_as_they_were_sent() -> Done {
 
 #[test]
 fn arrays_come_as_they_were_sent() -> Done {
-    let hub = Hub::builder().request_response::<[u64; 1000], [[f32; 3]; 4]>().create()?;
-    let client = hub.client_builder().create()?;
-    let server = hub.server_builder().create()?;
+    let service = service::<S, [u64; 1000], [[f32; 3]; 4]>("arrays_come_as_they_were_sent");
+    let client = service.client_builder().create()?;
+    let server = service.server_builder().create()?;
     let asked = std::array::from_fn(|index| index as u64);
     let pending_response = client.send_copy(asked)?;
     let active_request = server.receive()?.unwrap();
@@ -163,9 +162,9 @@ fn arrays_come_as_they_were_sent() -> Done {
 
 #[test]
 fn a_slice_may_be_empty() -> Done {
-    let hub = Hub::builder().request_response::<[Aligned], [u64]>().create()?;
-    let client = hub.client_builder().initial_max_slice_len(0).create()?;
-    let server = hub.server_builder().create()?;
+    let service = service::<S, [Aligned], [u64]>("a_slice_may_be_empty");
+    let client = service.client_builder().initial_max_slice_len(0).create()?;
+    let server = service.server_builder().create()?;
     assert_eq!(client.initial_max_slice_len(), 0);
     // SAFETY: nothing has to be initialised.
     let request = unsafe { client.loan_slice_uninit(0)?.assume_init() };
@@ -182,14 +181,13 @@ fn a_slice_may_be_empty() -> Done {
 
 #[test]
 fn memory_on_loan_is_zero_or_what_an_earlier_message_left() -> Done {
-    let hub = Hub::builder()
-        .request_response::<[u64], u64>()
+    let service = builder::<S, [u64], u64>("memory_on_loan_is_zero_or_what_an_earlier_message_left")
         .max_loaned_requests(1)
         .create()?;
-    let client = hub
+    let client = service
         .client_builder()
         .initial_max_slice_len(16)
-        .preallocated_requests(1)
+        .override_request_preallocation(|_| 1)
         .create()?;
     // SAFETY: any bytes are a value of these elements.
     let request = unsafe { client.loan_slice_uninit(9)?.assume_init() };
@@ -208,9 +206,9 @@ fn memory_on_loan_is_zero_or_what_an_earlier_message_left() -> Done {
 
 #[test]
 fn a_payload_is_changed_until_it_is_sent() -> Done {
-    let hub = Hub::builder().request_response::<[u64], u64>().create()?;
-    let client = hub.client_builder().initial_max_slice_len(4).create()?;
-    let server = hub.server_builder().create()?;
+    let service = service::<S, [u64], u64>("a_payload_is_changed_until_it_is_sent");
+    let client = service.client_builder().initial_max_slice_len(4).create()?;
+    let server = service.server_builder().create()?;
     let mut request = client.loan_slice_uninit(4)?.write_from_slice(&[1, 2, 3, 4]);
     request[0] = 10;
     request.payload_mut()[3] = 40;
@@ -226,9 +224,11 @@ fn a_payload_is_changed_until_it_is_sent() -> Done {
 
 #[test]
 fn headers_tell_who_and_what() -> Done {
-    let hub = Hub::builder().request_response::<u64, u64>().node_id(77).create()?;
-    let client = hub.client_builder().create()?;
-    let server = hub.server_builder().create()?;
+    let node = NodeBuilder::new().create::<S>()?;
+    let builder = node.service_builder(&"headers_tell_who_and_what".try_into()?);
+    let service = builder.request_response::<u64, [u64]>().create()?;
+    let client = service.client_builder().create()?;
+    let server = service.server_builder().initial_max_slice_len(3).create()?;
     drop(client.loan()?);
     let request = client.loan_uninit()?;
     assert_eq!(request.header().request_id(), 1);
@@ -236,38 +236,153 @@ fn headers_tell_who_and_what() -> Done {
     let active_request = server.receive()?.unwrap();
     for header in [pending_response.header(), active_request.header()] {
         assert_eq!((header.client_id(), header.request_id()), (client.id(), 1));
-        assert_eq!((header.number_of_elements(), header.node_id().value()), (1, 77));
+        assert_eq!((header.number_of_elements(), header.node_id()), (1, *node.id()));
     }
     assert_eq!(active_request.origin(), client.id());
-    active_request.send_copy(6)?;
+    active_request.loan_slice(3)?.send()?;
     let response = pending_response.receive()?.unwrap();
     let header = response.header();
     assert_eq!((header.server_id(), header.request_id()), (server.id(), 1));
-    assert_eq!((header.number_of_elements(), header.node_id().value()), (1, 77));
-    assert_eq!(format!("{client:?} {:?}", header.server_id()), "Client(0) UniqueServerId(1)");
+    assert_eq!((header.number_of_elements(), header.node_id()), (3, *node.id()));
+    assert_ne!(client.id().value(), server.id().value());
     Ok(())
 }
 
 #[test]
-fn user_headers_go_along() -> Done {
-    let hub = Hub::builder().request_response::<u64, u64>().create()?;
-    let client = hub.client_builder().create()?;
-    let server = hub.server_builder().create()?;
-    let mut request = client.loan_uninit()?;
-    assert_eq!(request.user_header(), [0; 16]);
-    *request.user_header_mut() = *b"what is written ";
-    let mut request = request.write_payload(1);
-    request.user_header_mut()[15] = b'!';
-    assert_eq!(request.user_header(), *b"what is written!");
-    let pending_response = request.send()?;
-    assert_eq!(pending_response.user_header(), *b"what is written!");
-    let active_request = server.receive()?.unwrap();
-    assert_eq!(active_request.user_header(), *b"what is written!");
-    active_request.send_copy(1)?;
-    assert_eq!(pending_response.receive()?.unwrap().user_header(), [0; 16]);
-    let mut response = active_request.loan()?;
-    response.user_header_mut()[0] = 7;
-    response.send()?;
-    assert_eq!(pending_response.receive()?.unwrap().user_header()[..2], [7, 0]);
+fn ports_of_several_services_have_ids_of_their_own() -> Done {
+    let services = ["ids_one", "ids_two"].map(service::<S, u64, u64>);
+    let clients = [services[0].client_builder().create()?, services[1].client_builder().create()?];
+    assert_ne!(clients[0].id(), clients[1].id());
     Ok(())
+}
+
+#[derive(Debug, Clone, Copy, PartialEq, Default, ZeroCopySend)]
+#[repr(C)]
+struct Stamp {
+    time: u64,
+    tag: [u8; 3],
+}
+
+#[test]
+fn user_headers_go_along() -> Done {
+    let service = builder::<S, u64, u64>("user_headers_go_along")
+        .request_user_header::<Stamp>()
+        .response_user_header::<[u64; 32]>()
+        .create()?;
+    let client = service.client_builder().create()?;
+    let server = service.server_builder().create()?;
+    let mut request = client.loan_uninit()?;
+    assert_eq!(*request.user_header(), Stamp::default());
+    request.user_header_mut().time = 77;
+    let mut request = request.write_payload(1);
+    request.user_header_mut().tag = *b"tag";
+    let pending_response = request.send()?;
+    let active_request = server.receive()?.unwrap();
+    for header in [pending_response.user_header(), active_request.user_header()] {
+        assert_eq!(*header, Stamp { time: 77, tag: *b"tag" });
+    }
+    active_request.send_copy(1)?;
+    assert_eq!(*pending_response.receive()?.unwrap().user_header(), [0; 32]);
+    let mut response = active_request.loan()?;
+    response.user_header_mut()[31] = 7;
+    response.send()?;
+    assert_eq!(pending_response.receive()?.unwrap().user_header()[30..], [0, 7]);
+    Ok(())
+}
+
+/// Sends slices and values of a type with user headers of another, and looks where they lie.
+fn aligned<T, H>(name: &str, value: T) -> Done
+where
+    T: Debug + Copy + PartialEq + ZeroCopySend + 'static,
+    H: Debug + Copy + Default + PartialEq + ZeroCopySend,
+{
+    let service = builder::<S, [T], T>(name)
+        .request_user_header::<H>()
+        .response_user_header::<H>()
+        .create()?;
+    let strategy = AllocationStrategy::PowerOfTwo;
+    let client = service
+        .client_builder()
+        .initial_max_slice_len(2)
+        .allocation_strategy(strategy)
+        .create()?;
+    let server = service.server_builder().create()?;
+    for len in [0, 1, 2, 3, 40] {
+        let request = client.loan_slice_uninit(len)?.write_from_fn(|_| value);
+        assert_eq!(address(&request[..]) % align_of::<T>(), 0);
+        assert_eq!(address(request.user_header()) % align_of::<H>(), 0);
+        let pending_response = request.send()?;
+        let active_request = server.receive()?.unwrap();
+        assert!(active_request.len() == len && active_request.iter().all(|it| *it == value));
+        assert_eq!(*active_request.user_header(), H::default());
+        active_request.send_copy(value)?;
+        let response = pending_response.receive()?.unwrap();
+        assert_eq!((*response, address(&*response) % align_of::<T>()), (value, 0));
+        assert_eq!(*response.user_header(), H::default());
+    }
+    Ok(())
+}
+
+#[derive(Debug, Clone, Copy, PartialEq, Default, ZeroCopySend)]
+#[repr(C, align(64))]
+struct Line(u8);
+
+#[derive(Debug, Clone, Copy, PartialEq, Default, ZeroCopySend)]
+#[repr(C, align(4096))]
+struct Page(u64);
+
+#[derive(Debug, Clone, Copy, PartialEq, Default, ZeroCopySend)]
+#[repr(C, align(256))]
+struct Nothing;
+
+#[test]
+fn payloads_and_headers_of_any_alignment() -> Done {
+    aligned::<u8, u128>("aligned_1", 7)?;
+    aligned::<u128, u8>("aligned_2", u128::MAX)?;
+    aligned::<Line, u8>("aligned_3", Line(9))?;
+    aligned::<u16, Line>("aligned_4", 500)?;
+    aligned::<Page, Line>("aligned_5", Page(1))?;
+    aligned::<[u64; 100], Page>("aligned_6", [3; 100])
+}
+
+#[test]
+fn payloads_and_headers_without_bytes() -> Done {
+    aligned::<(), ()>("empty_1", ())?;
+    aligned::<Nothing, Page>("empty_2", Nothing)?;
+    aligned::<u64, Nothing>("empty_3", 5)
+}
+
+#[test]
+fn slices_without_bytes_have_a_length() -> Done {
+    let service = service::<S, u64, [Nothing]>("slices_without_bytes_have_a_length");
+    let (client, server) = (service.client_builder().create()?, service.server_builder().create()?);
+    let _pending_response = client.send_copy(1)?;
+    let active_request = server.receive()?.unwrap();
+    assert_eq!(active_request.loan_slice(2).unwrap_err(), LoanError::ExceedsMaxLoanSize);
+    assert_eq!(active_request.loan_slice(1)?.len(), 1);
+    let strategy = AllocationStrategy::BestFit;
+    let growing = service.server_builder().allocation_strategy(strategy).create()?;
+    let _pending_response = client.send_copy(1)?;
+    assert_eq!(growing.receive()?.unwrap().loan_slice_uninit(usize::MAX)?.payload().len(), usize::MAX);
+    Ok(())
+}
+
+/// A value of 256 bytes is copied in one critical section, and a longer one in place.
+#[test]
+fn copies_of_any_size() -> Done {
+    fn copies<const N: usize>(name: &str) -> Done {
+        let service = builder::<S, [u8; N], [u8; N]>(name).response_user_header::<Line>().create()?;
+        let (client, server) = (service.client_builder().create()?, service.server_builder().create()?);
+        let value = std::array::from_fn(|at| at as u8);
+        let pending_response = client.send_copy(value)?;
+        assert_eq!(*pending_response, value);
+        let active_request = server.receive()?.unwrap();
+        active_request.send_copy(*active_request)?;
+        assert_eq!(*pending_response.receive()?.unwrap(), value);
+        Ok(())
+    }
+    copies::<0>("copies_0")?;
+    copies::<256>("copies_256")?;
+    copies::<257>("copies_257")?;
+    copies::<100_000>("copies_100000")
 }

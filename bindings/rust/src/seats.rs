@@ -1,0 +1,103 @@
+//! Seats: indices of ports in a list. A port keeps its index as long as it or a message of it lives; then the index is
+//! reused.
+use crate::head::RequestHead;
+use crate::port::backpressure::Handler;
+use crate::service::dynamic_config::request_response::{ClientDetails, ServerDetails};
+use std::ops::{Index, IndexMut};
+
+#[derive(Debug)]
+pub(crate) struct Seats<T>(Vec<Option<T>>);
+
+impl<T> Seats<T> {
+    pub fn new() -> Self {
+        Seats(Vec::new())
+    }
+
+    /// Assigns the first free seat.
+    pub fn take(&mut self, holder: T) -> usize {
+        let seat = self.0.iter().position(Option::is_none).unwrap_or(self.0.len());
+        if seat == self.0.len() {
+            self.0.push(None);
+        }
+        self.0[seat] = Some(holder);
+        seat
+    }
+
+    pub fn free(&mut self, seat: usize) -> Option<T> {
+        self.0[seat].take()
+    }
+
+    /// Returns how many seats there are, taken or free.
+    pub fn len(&self) -> usize {
+        self.0.len()
+    }
+
+    pub fn taken(&self) -> impl Iterator<Item = &T> {
+        self.0.iter().flatten()
+    }
+
+    pub fn taken_mut(&mut self) -> impl Iterator<Item = &mut T> {
+        self.0.iter_mut().flatten()
+    }
+}
+
+impl<T> Index<usize> for Seats<T> {
+    type Output = T;
+
+    #[inline]
+    fn index(&self, seat: usize) -> &T {
+        self.0[seat].as_ref().expect("a port or a message of it keeps its seat")
+    }
+}
+
+impl<T> IndexMut<usize> for Seats<T> {
+    #[inline]
+    fn index_mut(&mut self, seat: usize) -> &mut T {
+        self.0[seat].as_mut().expect("a port or a message of it keeps its seat")
+    }
+}
+
+/// A client that is connected.
+pub(crate) struct ClientSeat {
+    pub details: ClientDetails,
+    pub handler: Option<Handler>,
+    /// How many handles it has: the port, requests on loan, pending responses and received responses.
+    pub handles: usize,
+    /// How many requests it has loaned.
+    pub loans: u64,
+}
+
+/// A server that is connected.
+pub(crate) struct ServerSeat {
+    pub details: ServerDetails,
+    pub handler: Option<Handler>,
+    /// How many handles it has: the port, active requests and responses on loan.
+    pub handles: usize,
+    /// Whether the port lives, so that it can receive.
+    pub is_open: bool,
+    /// The last sequence number that the port received from the client at each seat.
+    pub last: Vec<u64>,
+    /// The hub's sequence number when the port's queues were last seen empty: at its creation, or at a receive that
+    /// found nothing.
+    pub empty_at: u64,
+}
+
+impl Seats<ServerSeat> {
+    /// Returns whether a request may still be answered.
+    ///
+    /// An answer comes from an active request of it, or after a receive of it. A server that is open can still receive
+    /// it only if its queue of this client holds it. Such a queue is first in, first out, and a request enters it at
+    /// its send alone. So a receive of a request of this client with the same or a higher sequence number took it, or
+    /// came after its place: `last`. And where the server's queues were empty after the send, it is in none of them:
+    /// `empty_at`. This also covers a request that a full queue dropped by overflow, or did not take, of which the
+    /// library still says that it is connected with the server.
+    ///
+    /// A client that reuses the seat of another one inherits its `last`. The other client had sent its last request by
+    /// then, so that all of its sequence numbers are lower.
+    pub fn may_answer(&self, head: &RequestHead) -> bool {
+        let may_receive = |server: &ServerSeat| {
+            server.is_open && server.last[head.seat as usize] < head.sequence && server.empty_at < head.sequence
+        };
+        head.is_active() || self.taken().any(may_receive)
+    }
+}

@@ -1,0 +1,2 @@
+//! What changes of a service.
+pub mod request_response;

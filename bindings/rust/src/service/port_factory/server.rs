@@ -1,0 +1,173 @@
+//! Builders of servers.
+use super::request_response::PortFactory;
+use crate::error::errors;
+use crate::hub;
+use crate::identifiers::UniqueServerId;
+use crate::port::allocation_strategy::AllocationStrategy;
+use crate::port::backpressure::{BackpressureFn, Handler};
+use crate::port::backpressure_strategy::BackpressureStrategy;
+use crate::port::degradation::DegradationFn;
+use crate::port::delivery::Delivery;
+use crate::port::server::{Server, ServerSettings};
+use crate::raw;
+use crate::service::Service;
+use crate::service::dynamic_config::request_response::ServerDetails;
+use crate::zero_copy_send::Sendable;
+use std::fmt;
+use std::sync::Arc;
+
+errors! { ServerCreateError }
+
+/// Why a server is not created.
+///
+/// iceoryx2's `service::port_factory::server::ServerCreateError`.
+#[derive(Debug, Clone, Copy, PartialEq, Eq)]
+pub enum ServerCreateError {
+    /// As many servers are connected as the service supports. It helps to drop one with its messages.
+    ExceedsMaxSupportedServers,
+    /// There was no memory for the server's responses, or they take more bytes than a `usize` counts. It helps to
+    /// preallocate less.
+    UnableToCreateDataSegment,
+    /// Never returned here.
+    FailedToDeployThreadsafetyPolicy,
+    /// The service has given all its numbers, 2 to the 62 of them.
+    UnableToCreatePortTag,
+}
+
+/// Builds a server.
+///
+/// iceoryx2's `service::port_factory::server::PortFactoryServer`. It is not `Send`, since a callback need not be.
+pub struct PortFactoryServer<
+    'factory,
+    S: Service,
+    Q: Sendable + ?Sized,
+    QH: Sendable,
+    P: Sendable + ?Sized,
+    PH: Sendable,
+> {
+    factory: &'factory PortFactory<S, Q, QH, P, PH>,
+    initial_max_slice_len: usize,
+    max_loaned_responses_per_request: usize,
+    strategy: BackpressureStrategy,
+    allocation: AllocationStrategy,
+    preallocation: Option<Box<dyn Fn(usize) -> usize>>,
+    handler: Option<Handler>,
+}
+
+impl<'factory, S: Service, Q: Sendable + ?Sized, QH: Sendable, P: Sendable + ?Sized, PH: Sendable>
+    PortFactoryServer<'factory, S, Q, QH, P, PH>
+{
+    pub(crate) fn new(factory: &'factory PortFactory<S, Q, QH, P, PH>) -> Self {
+        let defaults = &factory.node.config().defaults.request_response;
+        PortFactoryServer {
+            factory,
+            initial_max_slice_len: 1,
+            max_loaned_responses_per_request: defaults.server_max_loaned_responses_per_request.max(1),
+            strategy: defaults.server_backpressure_strategy,
+            allocation: defaults.server_allocation_strategy,
+            preallocation: None,
+            handler: None,
+        }
+    }
+
+    /// Sets the function that answers for how many responses the server has memory. It is given the most that can live
+    /// at one time, with which no loan up to the initial length is refused for lack of memory. Its answer is clamped
+    /// between 1 and that number.
+    pub fn override_response_preallocation<F: Fn(usize) -> usize + 'static>(mut self, callback: F) -> Self {
+        self.preallocation = Some(Box::new(callback));
+        self
+    }
+
+    /// Sets what sends do where a queue of responses is full and does not overflow.
+    pub fn backpressure_strategy(mut self, value: BackpressureStrategy) -> Self {
+        self.strategy = value;
+        self
+    }
+
+    /// Sets how many responses to one request may be on loan. 0 counts as 1.
+    pub fn max_loaned_responses_per_request(mut self, value: usize) -> Self {
+        self.max_loaned_responses_per_request = value.max(1);
+        self
+    }
+
+    /// Takes a handler of degraded connections, which is never called: no connection within a process degrades.
+    pub fn set_request_degradation_handler<F: DegradationFn + 'static>(self, _handler: F) -> Self {
+        self
+    }
+
+    /// Takes a handler of degraded connections, which is never called: no connection within a process degrades.
+    pub fn set_response_degradation_handler<F: DegradationFn + 'static>(self, _handler: F) -> Self {
+        self
+    }
+
+    /// Sets the handler that sends ask where a queue of responses is full and does not overflow.
+    pub fn set_backpressure_handler<F: BackpressureFn + 'static>(mut self, handler: F) -> Self {
+        self.handler = Some(Arc::new(handler));
+        self
+    }
+
+    /// Creates the server.
+    ///
+    /// # Errors
+    ///
+    /// [`ServerCreateError`], whose variants say when they come and what helps.
+    pub fn create(mut self) -> Result<Server<S, Q, QH, P, PH>, ServerCreateError> {
+        let opened = &self.factory.opened;
+        let (core, node) = (&opened.core, opened.node);
+        let bytes = core.config.response_message_type_details.bytes(self.initial_max_slice_len);
+        // The library refuses what is too large, in the order of its refusals.
+        let number_of_responses = hub::worst_case_responses(&core.limits, self.max_loaned_responses_per_request)
+            .map_or(0, |worst| self.preallocation.map_or(worst, |it| it(worst).clamp(1, worst)));
+        let settings = raw::ServerSettings {
+            initial_max_slice_len: bytes.unwrap_or(usize::MAX),
+            preallocated_responses: number_of_responses,
+            max_loaned_responses_per_request: self.max_loaned_responses_per_request,
+            backpressure_strategy: raw::RR_BACKPRESSURE_DISCARD_DATA,
+            allocation_strategy: self.allocation.number(),
+        };
+        let details = |port: &raw::Id| ServerDetails {
+            server_id: UniqueServerId(core.unique_id(port)),
+            node_id: node,
+            request_buffer_size: core.config.max_active_requests_per_client,
+            number_of_responses,
+            max_slice_len: self.initial_max_slice_len,
+        };
+        let overflows = core.config.enable_safe_overflow_for_responses;
+        let delivery = Delivery::new(self.strategy, overflows, self.handler.is_some());
+        let port = core.call(|state| state.create_server(&settings, details, &mut self.handler))?;
+        let (initial_max_slice_len, allocation) = (self.initial_max_slice_len, self.allocation);
+        let server = UniqueServerId(core.unique_id(&port.0));
+        let settings = ServerSettings { server, node, initial_max_slice_len, allocation, delivery };
+        Ok(Server::new(opened.clone(), port, settings))
+    }
+}
+
+impl<S: Service, Q: Sendable + ?Sized, QH: Sendable, P: Sendable, PH: Sendable>
+    PortFactoryServer<'_, S, Q, QH, [P], PH>
+{
+    /// Sets how many elements a response may have before its slot has to grow.
+    pub fn initial_max_slice_len(mut self, value: usize) -> Self {
+        self.initial_max_slice_len = value;
+        self
+    }
+
+    /// Sets whether slots grow for longer responses.
+    pub fn allocation_strategy(mut self, value: AllocationStrategy) -> Self {
+        self.allocation = value;
+        self
+    }
+}
+
+impl<S: Service, Q: Sendable + ?Sized, QH: Sendable, P: Sendable + ?Sized, PH: Sendable> fmt::Debug
+    for PortFactoryServer<'_, S, Q, QH, P, PH>
+{
+    fn fmt(&self, f: &mut fmt::Formatter<'_>) -> fmt::Result {
+        let mut it = f.debug_struct("PortFactoryServer");
+        it.field("factory", &self.factory)
+            .field("initial_max_slice_len", &self.initial_max_slice_len);
+        it.field("max_loaned_responses_per_request", &self.max_loaned_responses_per_request);
+        it.field("backpressure_strategy", &self.strategy)
+            .field("allocation_strategy", &self.allocation)
+            .finish()
+    }
+}
