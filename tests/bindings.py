@@ -20,6 +20,9 @@ ROOT = pathlib.Path(__file__).resolve().parent.parent
 BINDINGS = ROOT / "bindings"
 HEADER = BINDINGS / "c" / "include" / "rr.h"
 
+sys.path.insert(0, str(BINDINGS / "tests"))
+import sequences  # noqa: E402 (its folder stands in the line above)
+
 TOOLS = ["ar", "cargo", "cc", "clang++", "g++", "ld", "nm", "objcopy", "python3", "readelf", "valgrind"]
 
 # What the libraries need of the C library.
@@ -51,6 +54,9 @@ TESTS = {
 
 # How many sequences of commands are compared for each language, and how many of them under valgrind.
 SEQUENCES, VALGRIND_SEQUENCES = 1000, 40
+
+# How many scripts threads carry out, and how many threads.
+LOGS, THREADS = 200, 4
 
 # For how many seconds the C calls are fuzzed.
 FUZZED = 120
@@ -279,6 +285,31 @@ def check_sequences(room, tally):
             tally.note(False, f"the sequences of {name} did not end")
 
 
+def replies_of(words, lines):
+    """Returns the lines that a program prints to these lines, and whether it ended well and without a word of complaint."""
+    text = "".join(f"{it}\n" for it in lines)
+    ran = subprocess.run([str(it) for it in words], input=text, capture_output=True, text=True, timeout=60, check=False)
+    return ran.stdout.splitlines(), ran.returncode == 0 and ran.stderr == ""
+
+
+def check_threads(room, tally):
+    """Compares what threads reply that share a service with what the proved program replies to the commands in the order of their log."""
+    driver = [room.target / "debug" / "rr-script", "--threads", THREADS]
+    commands = differ = moved = 0
+    for seed in range(LOGS if room.reference.is_file() else 0):
+        lines, replies, _ = sequences.grown(room.reference, f"threads-{seed}")
+        if replies[0] != "done":
+            continue
+        log, ended = replies_of(driver, lines)
+        made = [it.split(" -> ") for it in log]
+        wanted, _ = replies_of([room.reference, "script"], [it[0] for it in made])
+        commands, moved = commands + len(made), moved + ([it[0] for it in made] != lines)
+        is_same = ended and len(made) == len(lines) and [it[-1] for it in made] == [sequences.told_as(it) for it in wanted]
+        differ += not is_same
+    said = f"{commands} commands of {THREADS} threads, {moved} scripts in another order, {differ} with other replies"
+    tally.note(commands > 0 and moved > 0 and differ == 0, said)
+
+
 def check_fuzz(room, tally):
     """Fuzzes the C calls beside the model of the rules."""
     status, _, faults = room.run([BINDINGS / "fuzz" / "run", FUZZED, room.folder], seconds=FUZZED + 300)
@@ -299,7 +330,7 @@ def main(words):
     with tempfile.TemporaryDirectory() as folder:
         room = Room(folder, pathlib.Path(reference).resolve())
         if build_libraries(room, tally):
-            for check in (check_symbols, build_scripts, check_layouts, check_c, check_cargo, check_python, check_sequences, check_fuzz):
+            for check in (check_symbols, build_scripts, check_layouts, check_c, check_cargo, check_python, check_sequences, check_threads, check_fuzz):
                 check(room, tally)
     taken = round(time.monotonic() - started)
     print(f"the bindings took {taken // 60} minutes and {taken % 60} seconds")

@@ -10,12 +10,14 @@ import resource
 import subprocess
 import sys
 import tempfile
+import time
 
 ROOT = pathlib.Path(__file__).resolve().parent.parent
 HELLO = pathlib.Path("crates") / "rr_hello"
 
-# How many seconds of processors the first proof takes at most: on a machine with nothing beside it, a user waits less.
-MOST = 180
+# How many seconds of processors the first proof takes at most, on a slow machine with work beside it too. The crates below take more
+# than 1,500 there, so a bundle that isn't taken fails. On a quiet machine of four processors a user waits less than three minutes.
+MOST = 300
 
 
 def spent():
@@ -40,10 +42,11 @@ def main():
         run(ROOT, "git", "clone", "-q", ROOT, clone)
         status, said = run(clone, "./bundle", "take", file)
         checks.append((status == 0, f"a fresh clone takes it: {said.strip()}"))
-        before = spent()
+        before, begun = spent(), time.monotonic()
         status, _ = run(clone / HELLO, "rt", "check")
-        seconds = round(spent() - before)
-        checks.append((status == 0 and seconds <= MOST, f"the quick start is proved, status {status}, in {seconds} seconds of processors"))
+        seconds, waited = round(spent() - before), round(time.monotonic() - begun)
+        checks.append((status == 0 and seconds <= MOST,
+                       f"the quick start is proved, status {status}, in {waited} seconds, {seconds} of processors"))
         status, said = run(clone / HELLO, "rt", "run")
         checks.append((status == 0 and said.endswith((ROOT / HELLO / "stdout").read_text()), f"it prints what it should, status {status}"))
     for is_well, said in checks:
