@@ -70,7 +70,7 @@ fn allocation(word: &str) -> AllocationStrategy {
     }
 }
 
-/// What was sent of a request: its pending response, or why it was refused. A refused request is gone.
+/// The result of a send: the pending response, or the refusal, after which the request is dropped.
 fn send_request<S: Service>(request: Request<S>, would_wait: bool) -> Result<Handle<S>, RequestSendError> {
     let number = number_in(&request);
     let sent = if would_wait { request.try_send().map_err(|it| it.error) } else { request.send() };
@@ -210,7 +210,7 @@ impl<S: Service> Script<S> {
         }
     }
 
-    /// What lives under a number.
+    /// Returns the handle that has this number.
     fn handle(&mut self, number: u64) -> &mut Handle<S> {
         self.handles.get_mut(&number).expect("it was looked for")
     }

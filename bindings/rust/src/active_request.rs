@@ -29,13 +29,12 @@ use crate::head::ResponseHead;
 use crate::hub::Slot;
 use crate::identifiers::UniqueClientId;
 use crate::message::{Active, Answer, Copied, Layout, Message};
-use crate::port::allocation_strategy::AllocationStrategy;
-use crate::port::server::ServerSettings;
 use crate::port::{LoanError, ResponseTypes, SendError};
 use crate::response_mut::ResponseMut;
 use crate::response_mut_uninit::ResponseMutUninit;
 use crate::service::Service;
 use crate::service::header::request_response::{RequestHeader, ResponseHeader};
+use crate::state::State;
 use crate::zero_copy_send::{Payload, Sendable};
 use std::any::type_name;
 use std::fmt;
@@ -49,7 +48,6 @@ use std::ops::Deref;
 /// iceoryx2's `active_request::ActiveRequest`.
 pub struct ActiveRequest<S: Service, Q: Sendable + ?Sized, QH: Sendable, P: Sendable + ?Sized, PH: Sendable> {
     message: Message<PolicyOf<S>, Active, QH, Q>,
-    settings: ServerSettings,
     types: ResponseTypes<P, PH>,
 }
 
@@ -57,8 +55,8 @@ impl<S: Service, Q: Sendable + ?Sized, QH: Sendable, P: Sendable + ?Sized, PH: S
     ActiveRequest<S, Q, QH, P, PH>
 {
     #[inline]
-    pub(crate) fn new(message: Message<PolicyOf<S>, Active, QH, Q>, settings: ServerSettings) -> Self {
-        ActiveRequest { message, settings, types: PhantomData }
+    pub(crate) fn new(message: Message<PolicyOf<S>, Active, QH, Q>) -> Self {
+        ActiveRequest { message, types: PhantomData }
     }
 
     /// Returns whether the client has asked for no further responses.
@@ -94,19 +92,20 @@ impl<S: Service, Q: Sendable + ?Sized, QH: Sendable, P: Sendable + ?Sized, PH: S
         self.header().client_id()
     }
 
+    /// Loans a response with these elements, which take these bytes, and writes its head.
     #[inline]
-    fn response_head(&self, elements: usize) -> ResponseHead {
+    fn loan_slot(&self, state: &mut State, (elements, bytes): (usize, usize)) -> Result<Slot, LoanError> {
         let request = self.message.head();
-        let header = ResponseHeader {
-            node_id: self.settings.node,
-            server_id: self.settings.server,
-            request_id: request.header.request_id,
-            number_of_elements: elements as u64,
-        };
-        ResponseHead { header, sequence: request.sequence, client: request.header.client_id.value() as u64 }
+        let (id, seat) = (self.message.id(), self.message.seat());
+        let (slot, node_id, server_id) = state.loan_response(&id, seat, (elements, bytes))?;
+        let (request_id, number_of_elements) = (request.header.request_id, elements as u64);
+        let header = ResponseHeader { node_id, server_id, request_id, number_of_elements };
+        let head = ResponseHead { header, sequence: request.sequence, client: request.client() };
+        // SAFETY: nobody else has the slot (point 2 of `message.rs`), which begins with its head.
+        unsafe { slot.at.cast().write(head) };
+        Ok(slot)
     }
 
-    /// Loans a response with this number of elements.
     #[inline]
     fn loan_of<U: Payload + Sendable + ?Sized>(&self, elements: usize) -> Result<ResponseMutUninit<S, U, PH>, LoanError>
     where
@@ -115,10 +114,10 @@ impl<S: Service, Q: Sendable + ?Sized, QH: Sendable, P: Sendable + ?Sized, PH: S
         let bytes = Layout::<PH, U::Element>::bytes(elements).ok_or(LoanError::ExceedsMaxLoanSize)?;
         let user_header = PH::default();
         let (core, seat) = (self.message.core(), self.message.seat());
-        let slot = core.call(|state| state.loan_response(&self.message.id(), seat, bytes))?;
-        // SAFETY: the response was just loaned with these bytes.
-        let message = unsafe { Message::loaned(core.clone(), slot, seat, self.response_head(elements), user_header) };
-        Ok(ResponseMutUninit { response: ResponseMut::new(message, self.settings.delivery) })
+        let slot = core.call(|state| self.loan_slot(state, (elements, bytes)))?;
+        // SAFETY: the response was just loaned with these bytes, and its head was written.
+        let message = unsafe { Message::loaned(core.clone(), slot, seat, user_header) };
+        Ok(ResponseMutUninit { response: ResponseMut::new(message) })
     }
 }
 
@@ -146,19 +145,19 @@ impl<S: Service, Q: Sendable + ?Sized, QH: Sendable, P: Sendable, PH: Default + 
             return self.loan_uninit()?.write_payload(value).send();
         };
         let copied = Copied::new(PH::default(), value);
-        let (core, seat, head) = (self.message.core(), self.message.seat(), self.response_head(1));
-        let sequence = head.sequence;
+        let (core, seat) = (self.message.core(), self.message.seat());
         let blocked = core.call(|state| -> Result<Option<Slot>, SendError> {
-            let slot = state.loan_response(&self.message.id(), seat, bytes)?;
+            let slot = self.loan_slot(state, (1, bytes))?;
             // SAFETY: the response was just loaned with these bytes.
-            unsafe { copied.write(slot.at, head) };
-            let is_sent = state.send_response(&slot.id, seat, sequence, self.settings.delivery.asks);
+            unsafe { copied.write(slot.at) };
+            let request = self.message.head();
+            let is_sent = state.send_response(&slot.id, seat, (request.sequence, request.client()), true);
             Ok((!is_sent).then_some(slot))
         })?;
         let Some(slot) = blocked else { return Ok(()) };
         // SAFETY: all parts were written.
         let message = unsafe { Message::<_, Answer, PH, P>::written(core.clone(), slot, seat) };
-        ResponseMut::<S, P, PH>::new(message, self.settings.delivery).send_blocked()
+        ResponseMut::<S, P, PH>::new(message).send_blocked()
     }
 }
 
@@ -185,10 +184,6 @@ impl<S: Service, Q: Sendable + ?Sized, QH: Sendable, P: Sendable + 'static, PH: 
     /// [`LoanError`], whose variants say when they come and what helps.
     #[inline]
     pub fn loan_slice_uninit(&self, slice_len: usize) -> Result<ResponseMutUninit<S, [MaybeUninit<P>], PH>, LoanError> {
-        let is_static = self.settings.allocation == AllocationStrategy::Static;
-        if is_static && self.settings.initial_max_slice_len < slice_len {
-            return Err(LoanError::ExceedsMaxLoanSize);
-        }
         self.loan_of(slice_len)
     }
 }

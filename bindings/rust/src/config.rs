@@ -8,7 +8,7 @@ use std::sync::OnceLock;
 /// iceoryx2's `config::Config`, as far as request-response services of one process use it.
 #[derive(Debug, Clone, Default, PartialEq)]
 pub struct Config {
-    /// What a service or a port has unless its builder says otherwise.
+    /// The defaults of services and ports, which their builders may override.
     pub defaults: Defaults,
 }
 
@@ -48,9 +48,9 @@ pub struct RequestResponse {
     pub max_loaned_requests: usize,
     /// Responses to one request that are on loan.
     pub server_max_loaned_responses_per_request: usize,
-    /// What a client does where a queue of requests is full.
+    /// The policy of clients at a full queue of requests.
     pub client_backpressure_strategy: BackpressureStrategy,
-    /// What a server does where a queue of responses is full.
+    /// The policy of servers at a full queue of responses.
     pub server_backpressure_strategy: BackpressureStrategy,
     /// Whether a client's slots grow.
     pub client_allocation_strategy: AllocationStrategy,

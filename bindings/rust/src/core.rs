@@ -6,12 +6,14 @@ use crate::service::registry::{self, World};
 use crate::service::service_name::ServiceName;
 use crate::service::static_config::request_response::StaticConfig;
 use crate::state::State;
-use crate::wait::Dues;
+use crate::wait::{Dues, News};
+use std::sync::Arc;
 use std::sync::atomic::{AtomicU64, Ordering};
 
 /// A service of this process. It lives as long as a port factory, a port or a message of it.
 pub struct Core<Safety: Policy> {
     state: Safety::Cell<State>,
+    pub(crate) news: Arc<News>,
     /// The service's number in this process, which no other one has.
     pub(crate) serial: u64,
     world: World,
@@ -34,8 +36,10 @@ impl<Safety: Policy> Core<Safety> {
     ) -> Option<Safety::Ref<Self>> {
         static SERIALS: AtomicU64 = AtomicU64::new(1);
         let hub = Hub::create(&limits)?;
+        let news = Arc::new(News::default());
         Some(Safety::share(Core {
-            state: Safety::cell(State::new(hub)),
+            state: Safety::cell(State::new(hub, news.clone())),
+            news,
             serial: SERIALS.fetch_add(1, Ordering::Relaxed),
             world,
             name: name.clone(),

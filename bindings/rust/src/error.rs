@@ -1,4 +1,4 @@
-//! How errors are printed.
+//! The texts of errors.
 
 /// Gives error enums a `Display` of their path, as iceoryx2's have.
 macro_rules! errors {

@@ -20,6 +20,12 @@ pub struct RequestHead {
 }
 
 impl RequestHead {
+    /// Returns the number of its client.
+    #[inline]
+    pub(crate) fn client(&self) -> u64 {
+        self.header.client_id.value() as u64
+    }
+
     /// Changes how many active requests live. The caller has the service's lock, so that no other change comes between
     /// the load and the store.
     #[inline]
@@ -43,6 +49,14 @@ pub struct ResponseHead {
     pub(crate) sequence: u64,
     /// The number of the client that sent this request.
     pub(crate) client: u64,
+}
+
+impl ResponseHead {
+    /// Returns the sequence number of the request that it answers, and the number of its client.
+    #[inline]
+    pub(crate) fn recipient(&self) -> (u64, u64) {
+        (self.sequence, self.client)
+    }
 }
 
 const _: () = assert!(size_of::<RequestHead>() == HEAD && align_of::<RequestHead>() <= 16);

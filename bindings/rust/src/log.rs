@@ -7,11 +7,11 @@
 pub enum LogLevel {
     /// Each step.
     Trace,
-    /// What helps to find errors.
+    /// Details that help to find errors.
     Debug,
-    /// What may be of interest.
+    /// Events of interest.
     Info,
-    /// What may be an error.
+    /// Possible errors.
     Warn,
     /// Errors.
     Error,

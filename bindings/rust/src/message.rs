@@ -1,8 +1,8 @@
 //! Messages: a head, a user header and a payload in one slot of the library, read and written in place, outside the
 //! service's lock.
 //!
-//! A slot is one block of bytes, aligned to 16. The sender's loan writes the head and the user header, and the sender
-//! the payload:
+//! A slot is one block of bytes, aligned to 16. The sender's loan writes the head, under the lock, and the user header,
+//! and the sender the payload:
 //!
 //! ```text
 //! | RequestHead or ResponseHead, 64 bytes | user header | payload: a value, or elements |
@@ -192,22 +192,16 @@ unsafe impl<Safety: Policy, K: Kind, H, T: ?Sized> Sync for Message<Safety, K, H
 }
 
 impl<Safety: Policy, K: Kind, H, T: Elements + ?Sized> Message<Safety, K, H, T> {
-    /// Takes a message that was just loaned, and writes its head and its user header.
+    /// Takes a message that was just loaned, and writes its user header.
     ///
     /// # Safety
     ///
-    /// The library loaned it with `Layout::bytes(head.elements())` bytes, and the port has this seat.
+    /// The library loaned it with `Layout::bytes(head.elements())` bytes, its head was written, and the port has this
+    /// seat.
     #[inline]
-    pub unsafe fn loaned(
-        core: Safety::Ref<Core<Safety>>,
-        slot: Slot,
-        seat: usize,
-        head: K::Head,
-        user_header: H,
-    ) -> Self {
+    pub unsafe fn loaned(core: Safety::Ref<Core<Safety>>, slot: Slot, seat: usize, user_header: H) -> Self {
         // SAFETY: nobody else has the slot (point 2), and the parts lie in it, aligned and apart.
         unsafe {
-            slot.at.cast().write(head);
             Layout::<H, T::Element>::places(slot.at).0.write(user_header);
             Self::written(core, slot, seat)
         }
@@ -353,18 +347,17 @@ impl<H, T> Copied<H, T> {
         Copied { user_header: ManuallyDrop::new(user_header), value: ManuallyDrop::new(value) }
     }
 
-    /// Writes all parts of a message.
+    /// Writes the user header and the payload of a message.
     ///
     /// # Safety
     ///
     /// It was just loaned, with `Layout::bytes(1)` bytes.
     #[inline]
-    pub unsafe fn write<M>(&self, slot: NonNull<u8>, head: M) {
+    pub unsafe fn write(&self, slot: NonNull<u8>) {
         // SAFETY: nobody else has the slot (point 2), and the parts lie in it, aligned and apart. Each is moved at most
         // once: `self` drops none.
         unsafe {
             let (user_header, payload) = Layout::<H, T>::places(slot);
-            slot.cast().write(head);
             user_header.copy_from_nonoverlapping(NonNull::from(&*self.user_header), 1);
             payload.copy_from_nonoverlapping(NonNull::from(&*self.value), 1);
         }

@@ -33,7 +33,7 @@ use crate::response::Response;
 use crate::service::Service;
 use crate::service::header::request_response::RequestHeader;
 use crate::service::threadsafety::SharedByThreads;
-use crate::state::State;
+use crate::state::{Sent, State};
 use crate::wait::{Patience, Turn, Wait, Watched, block};
 use crate::zero_copy_send::{Payload, Sendable};
 use std::any::type_name;
@@ -42,6 +42,7 @@ use std::iter;
 use std::marker::PhantomData;
 use std::ops::Deref;
 use std::pin::Pin;
+use std::sync::atomic::{AtomicU64, Ordering};
 use std::task::{Context, Poll};
 use std::time::Duration;
 
@@ -52,6 +53,8 @@ use std::time::Duration;
 pub struct PendingResponse<S: Service, Q: Sendable + ?Sized, QH: Sendable, P: Sendable + ?Sized, PH: Sendable> {
     message: Message<PolicyOf<S>, Pending, QH, Q>,
     number_of_server_connections: usize,
+    /// The number of the client's answers when the queue was last known to be empty.
+    empty_at: AtomicU64,
     types: ResponseTypes<P, PH>,
 }
 
@@ -62,8 +65,9 @@ impl<S: Service, Q: Sendable + ?Sized, QH: Sendable, P: Sendable + ?Sized, PH: S
     PendingResponse<S, Q, QH, P, PH>
 {
     #[inline]
-    pub(crate) fn new(message: Message<PolicyOf<S>, Pending, QH, Q>, servers: usize) -> Self {
-        PendingResponse { message, number_of_server_connections: servers, types: PhantomData }
+    pub(crate) fn new(message: Message<PolicyOf<S>, Pending, QH, Q>, sent: Sent) -> Self {
+        let empty_at = AtomicU64::new(sent.answered);
+        PendingResponse { message, number_of_server_connections: sent.servers, empty_at, types: PhantomData }
     }
 
     /// Tells the servers that the client wants no further responses. A server may then send its last one and drop its
@@ -103,12 +107,29 @@ impl<S: Service, Q: Sendable + ?Sized, QH: Sendable, P: Sendable + ?Sized, PH: S
 
     /// Returns whether a response is queued.
     pub fn has_response(&self) -> bool {
-        self.message.core().call(|state| state.hub.has_entries(&self.message.id()))
+        self.has_news() && self.message.core().call(|state| state.hub.has_entries(&self.message.id()))
+    }
+
+    /// Returns the number of the client's answers.
+    #[inline]
+    fn answered(&self) -> u64 {
+        self.message.core().news.answered(self.message.head().client())
+    }
+
+    /// Returns whether something may have been queued since the queue was empty.
+    #[inline]
+    fn has_news(&self) -> bool {
+        self.answered() != self.empty_at.load(Ordering::Relaxed)
     }
 
     #[inline]
     fn receive_slot(&self, state: &mut State) -> Result<Option<Slot>, ReceiveError> {
-        state.receive_response(&self.message.id(), self.message.seat(), self.message.head().sequence)
+        let head = self.message.head();
+        let received = state.receive_response(&self.message.id(), self.message.seat(), head.sequence)?;
+        if received.is_none() {
+            self.empty_at.store(self.answered(), Ordering::Relaxed);
+        }
+        Ok(received)
     }
 
     /// Attempts to receive, and finds that a response is queued, that none can come any more, or neither.
@@ -151,6 +172,9 @@ impl<S: Service, Q: Sendable + ?Sized, QH: Sendable, P: Payload + Sendable + ?Si
     /// queued one as it may.
     #[inline]
     pub fn receive(&self) -> Result<Option<Response<S, P, PH>>, ReceiveError> {
+        if !self.has_news() {
+            return Ok(None);
+        }
         let received = self.message.core().call(|state| self.receive_slot(state))?;
         Ok(received.map(|slot| self.response(slot)))
     }
@@ -202,7 +226,8 @@ impl<S: Service, Q: Sendable + ?Sized, QH: Sendable, P: Payload + Sendable + ?Si
     }
 
     fn receive_within(&self, patience: Patience) -> Result<Option<Response<S, P, PH>>, ReceiveError> {
-        let received = block(self.message.core(), self.wait(), patience, |state| self.attempt(state))?;
+        let (core, has_news) = (self.message.core(), || self.has_news());
+        let received = block(core, self.wait(), patience, has_news, |state| self.attempt(state))?;
         Ok(received.flatten().map(|slot| self.response(slot)))
     }
 

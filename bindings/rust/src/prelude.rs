@@ -1,4 +1,4 @@
-//! What programs import: `use iceoryx2::prelude::*`.
+//! The names that most programs need: `use iceoryx2::prelude::*`.
 //!
 //! iceoryx2's `prelude`, as far as request-response services of one process need it.
 pub use crate::callback_progression::CallbackProgression;

@@ -27,11 +27,12 @@ use crate::head::RequestHead;
 use crate::message::{Loaned, Message, Pending};
 use crate::pending_response::PendingResponse;
 use crate::port::client::RequestSendError;
-use crate::port::delivery::{Blocked, Delivery};
+use crate::port::delivery::Blocked;
 use crate::port::{Refused, ResponseTypes, SendError};
 use crate::raw::Id;
 use crate::service::Service;
 use crate::service::header::request_response::RequestHeader;
+use crate::state::Sent;
 use crate::wait::Wait;
 use crate::zero_copy_send::Sendable;
 use std::any::type_name;
@@ -46,14 +47,13 @@ use std::ptr::NonNull;
 #[must_use = "a request that is dropped is released, not sent"]
 pub struct RequestMut<S: Service, Q: Sendable + ?Sized, QH: Sendable, P: Sendable + ?Sized, PH: Sendable> {
     message: Message<PolicyOf<S>, Loaned, QH, Q>,
-    delivery: Delivery,
     types: ResponseTypes<P, PH>,
 }
 
 impl<S: Service, Q: Sendable + ?Sized, QH: Sendable, P: Sendable + ?Sized, PH: Sendable> RequestMut<S, Q, QH, P, PH> {
     #[inline]
-    pub(crate) fn new(message: Message<PolicyOf<S>, Loaned, QH, Q>, delivery: Delivery) -> Self {
-        RequestMut { message, delivery, types: PhantomData }
+    pub(crate) fn new(message: Message<PolicyOf<S>, Loaned, QH, Q>) -> Self {
+        RequestMut { message, types: PhantomData }
     }
 
     /// Gives the payload another type.
@@ -67,7 +67,7 @@ impl<S: Service, Q: Sendable + ?Sized, QH: Sendable, P: Sendable + ?Sized, PH: S
         retype: impl FnOnce(NonNull<Q>) -> NonNull<R>,
     ) -> RequestMut<S, R, QH, P, PH> {
         // SAFETY: as the caller says.
-        RequestMut::new(unsafe { self.message.with_payload(retype) }, self.delivery)
+        RequestMut::new(unsafe { self.message.with_payload(retype) })
     }
 
     /// Returns the header of the request.
@@ -120,12 +120,9 @@ impl<S: Service, Q: Sendable + ?Sized, QH: Sendable, P: Sendable + ?Sized, PH: S
     pub fn send(self) -> Result<PendingResponse<S, Q, QH, P, PH>, RequestSendError> {
         let (id, head) = (self.message.id(), self.message.head_at());
         // SAFETY: the request is on loan.
-        let sent = self
-            .message
-            .core()
-            .call(|state| unsafe { state.send_request(&id, head, self.delivery.asks) });
+        let sent = self.message.core().call(|state| unsafe { state.send_request(&id, head, true) });
         match sent {
-            Ok(Some(servers)) => Ok(self.into_pending(servers)),
+            Ok(Some(sent)) => Ok(self.into_pending(sent)),
             Ok(None) => self.send_blocked(),
             Err(error) => self.into_error(error),
         }
@@ -168,12 +165,12 @@ impl<S: Service, Q: Sendable + ?Sized, QH: Sendable, P: Sendable + ?Sized, PH: S
                 .core()
                 .call(|state| unsafe { state.try_send_request(&id, head, asks) })
         };
-        let mut sent = attempt(self.delivery.asks);
+        let mut sent = attempt(true);
         if matches!(sent, Ok(None)) && self.blocked().passes_over() {
             sent = attempt(false);
         }
         match sent {
-            Ok(Some(servers)) => Ok(self.into_pending(servers)),
+            Ok(Some(sent)) => Ok(self.into_pending(sent)),
             Ok(None) => Err(Refused { message: self, error: SendError::UnableToDeliver.into() }),
             Err(error) => Err(Refused { message: self, error }),
         }
@@ -181,8 +178,8 @@ impl<S: Service, Q: Sendable + ?Sized, QH: Sendable, P: Sendable + ?Sized, PH: S
 
     /// Makes it the pending response that the library made of it.
     #[inline]
-    pub(crate) fn into_pending(self, servers: usize) -> PendingResponse<S, Q, QH, P, PH> {
-        PendingResponse::new(self.message.turned::<Pending>(), servers)
+    pub(crate) fn into_pending(self, sent: Sent) -> PendingResponse<S, Q, QH, P, PH> {
+        PendingResponse::new(self.message.turned::<Pending>(), sent)
     }
 
     /// Drops a request that the library has released.
@@ -194,12 +191,12 @@ impl<S: Service, Q: Sendable + ?Sized, QH: Sendable, P: Sendable + ?Sized, PH: S
 
     fn blocked(&self) -> Blocked {
         let core = self.message.core();
-        let (handler, receiver) = core.call(|state| {
+        let (settings, receiver) = core.call(|state| {
             let mut servers = state.servers.taken().map(|it| it.details.server_id.value());
             let receiver = servers.next().filter(|_| servers.next().is_none());
-            (state.clients[self.message.seat()].handler.clone(), receiver.unwrap_or(0))
+            (state.clients[self.message.seat()].settings.clone(), receiver.unwrap_or(0))
         });
-        Blocked::new(Wait::RequestRoom, self.delivery.strategy, handler, self.header().client_id.value(), receiver)
+        Blocked::new(Wait::RequestRoom, settings, self.header().client_id.value(), receiver)
     }
 
     /// Sends a request that found no room.
@@ -214,7 +211,7 @@ impl<S: Service, Q: Sendable + ?Sized, QH: Sendable, P: Sendable + ?Sized, PH: S
             |state| state.release_request(&id, seat),
         );
         match sent {
-            Ok(servers) => Ok(self.into_pending(servers)),
+            Ok(sent) => Ok(self.into_pending(sent)),
             Err(error) => self.into_error(error),
         }
     }

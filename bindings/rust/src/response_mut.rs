@@ -25,7 +25,7 @@
 //! ```
 use crate::core::PolicyOf;
 use crate::message::{Answer, Message};
-use crate::port::delivery::{Blocked, Delivery};
+use crate::port::delivery::Blocked;
 use crate::port::{Refused, SendError};
 use crate::service::Service;
 use crate::service::header::request_response::ResponseHeader;
@@ -42,13 +42,12 @@ use std::ptr::NonNull;
 #[must_use = "a response that is dropped is released, not sent"]
 pub struct ResponseMut<S: Service, P: Sendable + ?Sized, PH: Sendable> {
     message: Message<PolicyOf<S>, Answer, PH, P>,
-    delivery: Delivery,
 }
 
 impl<S: Service, P: Sendable + ?Sized, PH: Sendable> ResponseMut<S, P, PH> {
     #[inline]
-    pub(crate) fn new(message: Message<PolicyOf<S>, Answer, PH, P>, delivery: Delivery) -> Self {
-        ResponseMut { message, delivery }
+    pub(crate) fn new(message: Message<PolicyOf<S>, Answer, PH, P>) -> Self {
+        ResponseMut { message }
     }
 
     /// Gives the payload another type.
@@ -62,7 +61,7 @@ impl<S: Service, P: Sendable + ?Sized, PH: Sendable> ResponseMut<S, P, PH> {
         retype: impl FnOnce(NonNull<P>) -> NonNull<R>,
     ) -> ResponseMut<S, R, PH> {
         // SAFETY: as the caller says.
-        ResponseMut::new(unsafe { self.message.with_payload(retype) }, self.delivery)
+        ResponseMut::new(unsafe { self.message.with_payload(retype) })
     }
 
     /// Returns the header of the response.
@@ -114,7 +113,7 @@ impl<S: Service, P: Sendable + ?Sized, PH: Sendable> ResponseMut<S, P, PH> {
     /// [`SendError::UnableToDeliver`]: the response is dropped then. [`ResponseMut::try_send`] gives it back.
     #[inline]
     pub fn send(self) -> Result<(), SendError> {
-        if self.attempt(self.delivery.asks) {
+        if self.attempt(true) {
             self.message.forget();
             return Ok(());
         }
@@ -130,7 +129,7 @@ impl<S: Service, P: Sendable + ?Sized, PH: Sendable> ResponseMut<S, P, PH> {
     ///
     /// [`Refused`] with `UnableToDeliver`, and the response.
     pub fn try_send(self) -> Result<(), Refused<Self, SendError>> {
-        if self.attempt(self.delivery.asks) || self.blocked().passes_over() && self.attempt(false) {
+        if self.attempt(true) || self.blocked().passes_over() && self.attempt(false) {
             self.message.forget();
             return Ok(());
         }
@@ -140,25 +139,25 @@ impl<S: Service, P: Sendable + ?Sized, PH: Sendable> ResponseMut<S, P, PH> {
     /// Sends the response, unless it `asks` and there is no room. Returns whether it did.
     #[inline]
     fn attempt(&self, asks: bool) -> bool {
-        let (id, seat, sequence) = (self.message.id(), self.message.seat(), self.message.head().sequence);
-        self.message.core().call(|state| state.send_response(&id, seat, sequence, asks))
+        let (id, seat, to) = (self.message.id(), self.message.seat(), self.message.head().recipient());
+        self.message.core().call(|state| state.send_response(&id, seat, to, asks))
     }
 
     fn blocked(&self) -> Blocked {
         let (core, head) = (self.message.core(), self.message.head());
-        let handler = core.call(|state| state.servers[self.message.seat()].handler.clone());
+        let settings = core.call(|state| state.servers[self.message.seat()].settings.clone());
         let wait = Wait::ResponseRoom { sequence: head.sequence };
         let (sender, receiver) = (head.header.server_id.value(), core.unique(head.client));
-        Blocked::new(wait, self.delivery.strategy, handler, sender, receiver)
+        Blocked::new(wait, settings, sender, receiver)
     }
 
     /// Sends a response that found no room.
     #[cold]
     pub(crate) fn send_blocked(self) -> Result<(), SendError> {
-        let (id, seat, sequence) = (self.message.id(), self.message.seat(), self.message.head().sequence);
+        let (id, seat, to) = (self.message.id(), self.message.seat(), self.message.head().recipient());
         let sent = self.blocked().deliver(
             self.message.core(),
-            |state, asks| Ok(state.send_response(&id, seat, sequence, asks).then_some(())),
+            |state, asks| Ok(state.send_response(&id, seat, to, asks).then_some(())),
             |state| state.release_answer(&id, seat),
         );
         self.message.forget();

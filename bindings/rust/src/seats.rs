@@ -1,7 +1,9 @@
 //! Seats: indices of ports in a list. A port keeps its index as long as it or a message of it lives; then the index is
 //! reused.
 use crate::head::RequestHead;
+use crate::port::LoanError;
 use crate::port::backpressure::Handler;
+use crate::port::delivery::Delivery;
 use crate::service::dynamic_config::request_response::{ClientDetails, ServerDetails};
 use std::ops::{Index, IndexMut};
 
@@ -57,29 +59,77 @@ impl<T> IndexMut<usize> for Seats<T> {
     }
 }
 
+/// The settings of a port that its messages follow.
+#[derive(Clone)]
+pub(crate) struct PortSettings {
+    pub delivery: Delivery,
+    pub handler: Option<Handler>,
+    /// How many elements a message may have: where slots do not grow, the initial length.
+    pub most_elements: usize,
+}
+
+impl PortSettings {
+    /// Checks the number of elements of a message.
+    #[inline]
+    pub fn check(&self, elements: usize) -> Result<(), LoanError> {
+        if elements > self.most_elements { Err(LoanError::ExceedsMaxLoanSize) } else { Ok(()) }
+    }
+}
+
 /// A client that is connected.
 pub(crate) struct ClientSeat {
     pub details: ClientDetails,
-    pub handler: Option<Handler>,
+    pub settings: PortSettings,
     /// How many handles it has: the port, requests on loan, pending responses and received responses.
     pub handles: usize,
     /// How many requests it has loaned.
     pub loans: u64,
 }
 
+impl ClientSeat {
+    pub fn new(details: ClientDetails, settings: PortSettings) -> Self {
+        ClientSeat { details, settings, handles: 1, loans: 0 }
+    }
+}
+
 /// A server that is connected.
 pub(crate) struct ServerSeat {
     pub details: ServerDetails,
-    pub handler: Option<Handler>,
+    pub settings: PortSettings,
     /// How many handles it has: the port, active requests and responses on loan.
     pub handles: usize,
     /// Whether the port lives, so that it can receive.
     pub is_open: bool,
     /// The last sequence number that the port received from the client at each seat.
     pub last: Vec<u64>,
-    /// The hub's sequence number when the port's queues were last seen empty: at its creation, or at a receive that
-    /// found nothing.
+    /// The hub's sequence number when the port's queues were last known to be empty: at its creation, at a receive that
+    /// found nothing, or at one that took the last of as many requests as were sent since.
     pub empty_at: u64,
+    /// How many requests the port has received since then.
+    pub taken: u64,
+}
+
+impl ServerSeat {
+    pub fn new(details: ServerDetails, settings: PortSettings) -> Self {
+        ServerSeat { details, settings, handles: 1, is_open: true, last: Vec::new(), empty_at: 0, taken: 0 }
+    }
+
+    /// Notes that the queues are empty at this sequence number.
+    #[inline]
+    pub fn is_empty(&mut self, sequence: u64) {
+        self.empty_at = sequence;
+        self.taken = 0;
+    }
+
+    /// Notes that a request was received at this sequence number. No more requests have entered the queues since they
+    /// were empty than were sent, so that none is left if as many were received.
+    #[inline]
+    pub fn take(&mut self, sequence: u64) {
+        self.taken += 1;
+        if self.empty_at + self.taken == sequence {
+            self.is_empty(sequence);
+        }
+    }
 }
 
 impl Seats<ServerSeat> {

@@ -1,16 +1,15 @@
 //! The state of a service: its hub, its ports and nodes, and the waits.
 use crate::head::RequestHead;
 use crate::hub::{Hub, Slot};
-use crate::identifiers::UniqueNodeId;
-use crate::port::backpressure::Handler;
+use crate::identifiers::{UniqueNodeId, UniqueServerId};
 use crate::port::client::{ClientCreateError, RequestSendError};
 use crate::port::server::ServerCreateError;
 use crate::port::{LoanError, ReceiveError};
 use crate::raw::{self, Id};
 use crate::seats::{ClientSeat, Seats, ServerSeat};
-use crate::service::dynamic_config::request_response::{ClientDetails, ServerDetails};
-use crate::wait::{Change, Dues, Token, Wait, Waiters};
+use crate::wait::{Change, Dues, News, Token, Wait, Waiters};
 use std::ptr::NonNull;
+use std::sync::Arc;
 use std::task::Waker;
 
 /// The state of a service. Each change that may end a wait goes through `State::wake`.
@@ -22,17 +21,28 @@ pub struct State {
     nodes: Vec<(UniqueNodeId, usize)>,
     /// The number of the last send of a request.
     sequence: u64,
+    news: Arc<News>,
     waiters: Waiters,
 }
 
+/// A request that was sent.
+#[derive(Debug, Clone, Copy)]
+pub(crate) struct Sent {
+    /// How many queues took it.
+    pub servers: usize,
+    /// The number of the client's answers (`News::answered`) at the send.
+    pub answered: u64,
+}
+
 impl State {
-    pub(crate) fn new(hub: Hub) -> Self {
+    pub(crate) fn new(hub: Hub, news: Arc<News>) -> Self {
         State {
             hub,
             clients: Seats::new(),
             servers: Seats::new(),
             nodes: Vec::new(),
             sequence: 0,
+            news,
             waiters: Waiters::new(),
         }
     }
@@ -40,39 +50,29 @@ impl State {
 
 /// Ports and nodes.
 impl State {
-    /// Creates a client. It takes the handler if it succeeds.
+    /// Creates a client, which gets the seat that the function makes for its port.
     pub(crate) fn create_client(
         &mut self,
         settings: &raw::ClientSettings,
-        details: impl FnOnce(&Id) -> ClientDetails,
-        handler: &mut Option<Handler>,
+        client: impl FnOnce(&Id) -> ClientSeat,
     ) -> Result<(Id, usize), ClientCreateError> {
         let port = self.hub.create_client(settings)?;
-        let details = details(&port);
-        let client = ClientSeat { details, handler: handler.take(), handles: 1, loans: 0 };
-        let seat = self.clients.take(client);
+        let seat = self.clients.take(client(&port));
         for server in self.servers.taken_mut() {
             server.last.resize(self.clients.len(), 0);
         }
         Ok((port, seat))
     }
 
-    /// Creates a server. It takes the handler if it succeeds.
+    /// Creates a server, which gets the seat that the function makes for its port.
     pub(crate) fn create_server(
         &mut self,
         settings: &raw::ServerSettings,
-        details: impl FnOnce(&Id) -> ServerDetails,
-        handler: &mut Option<Handler>,
+        server: impl FnOnce(&Id) -> ServerSeat,
     ) -> Result<(Id, usize), ServerCreateError> {
         let port = self.hub.create_server(settings)?;
-        let server = ServerSeat {
-            details: details(&port),
-            handler: handler.take(),
-            handles: 1,
-            is_open: true,
-            last: vec![0; self.clients.len()],
-            empty_at: self.sequence,
-        };
+        let last = vec![0; self.clients.len()];
+        let server = ServerSeat { last, empty_at: self.sequence, ..server(&port) };
         Ok((port, self.servers.take(server)))
     }
 
@@ -102,7 +102,7 @@ impl State {
 
     #[cold]
     fn disconnect_client(&mut self, seat: usize) {
-        let handler = self.clients.free(seat).and_then(|it| it.handler);
+        let handler = self.clients.free(seat).and_then(|it| it.settings.handler);
         self.waiters.drop_later(handler);
     }
 
@@ -118,7 +118,7 @@ impl State {
 
     #[cold]
     fn disconnect_server(&mut self, seat: usize) {
-        let handler = self.servers.free(seat).and_then(|it| it.handler);
+        let handler = self.servers.free(seat).and_then(|it| it.settings.handler);
         self.waiters.drop_later(handler);
         self.wake(Change::Left);
     }
@@ -146,25 +146,39 @@ impl State {
 
 /// Loans and sends.
 impl State {
-    /// Loans a request, and returns how many the client had loaned before.
+    /// Loans a request with these elements, which take these bytes, and returns how many the client had loaned before.
     #[inline]
-    pub(crate) fn loan_request(&mut self, port: &Id, seat: usize, bytes: usize) -> Result<(Slot, u64), LoanError> {
-        let slot = self.hub.loan(port, bytes)?;
+    pub(crate) fn loan_request(
+        &mut self,
+        port: &Id,
+        seat: usize,
+        (elements, bytes): (usize, usize),
+    ) -> Result<(Slot, u64), LoanError> {
         let client = &mut self.clients[seat];
+        client.settings.check(elements)?;
+        let slot = self.hub.loan(port, bytes)?;
         client.handles += 1;
         client.loans += 1;
         Ok((slot, client.loans - 1))
     }
 
+    /// Loans a response with these elements, which take these bytes, and returns the ids of its node and its server.
     #[inline]
-    pub(crate) fn loan_response(&mut self, active: &Id, seat: usize, bytes: usize) -> Result<Slot, LoanError> {
+    pub(crate) fn loan_response(
+        &mut self,
+        active: &Id,
+        seat: usize,
+        (elements, bytes): (usize, usize),
+    ) -> Result<(Slot, UniqueNodeId, UniqueServerId), LoanError> {
+        let server = &mut self.servers[seat];
+        server.settings.check(elements)?;
         let slot = self.hub.loan(active, bytes)?;
-        self.servers[seat].handles += 1;
-        Ok(slot)
+        server.handles += 1;
+        Ok((slot, server.details.node_id, server.details.server_id))
     }
 
-    /// Sends a request, and returns how many queues took it. If it `asks`, it sends nothing and returns `None` where a
-    /// queue has no room. On an error the request is released.
+    /// Sends a request. If it `asks`, as its port does too, it sends nothing and returns `None` where a queue has no room.
+    /// On an error the request is released.
     ///
     /// # Safety
     ///
@@ -175,10 +189,10 @@ impl State {
         request: &Id,
         head: NonNull<RequestHead>,
         asks: bool,
-    ) -> Result<Option<usize>, RequestSendError> {
+    ) -> Result<Option<Sent>, RequestSendError> {
         // SAFETY: point 8 of `message.rs`.
         let seat = unsafe { (*head.as_ptr()).seat } as usize;
-        if asks {
+        if asks && self.clients[seat].settings.delivery.asks {
             let is_ready = self.is_request_ready(request);
             if !is_ready.inspect_err(|_| self.release_request(request, seat))? {
                 return Ok(None);
@@ -199,9 +213,11 @@ impl State {
         request: &Id,
         head: NonNull<RequestHead>,
         asks: bool,
-    ) -> Result<Option<usize>, RequestSendError> {
+    ) -> Result<Option<Sent>, RequestSendError> {
+        // SAFETY: point 8 of `message.rs`.
+        let seat = unsafe { (*head.as_ptr()).seat } as usize;
         let has_room = self.is_request_ready(request)?;
-        if asks && !has_room {
+        if asks && self.clients[seat].settings.delivery.asks && !has_room {
             return Ok(None);
         }
         // SAFETY: as the caller says.
@@ -223,23 +239,30 @@ impl State {
     ///
     /// As of `send_request`.
     #[inline]
-    unsafe fn put_request(&mut self, request: &Id, head: NonNull<RequestHead>) -> Result<usize, RequestSendError> {
+    unsafe fn put_request(&mut self, request: &Id, head: NonNull<RequestHead>) -> Result<Sent, RequestSendError> {
         self.sequence += 1;
         // SAFETY: point 8 of `message.rs`; the send may free the slot, so that no reference is made.
-        unsafe { (*head.as_ptr()).sequence = self.sequence };
+        let client = unsafe {
+            (*head.as_ptr()).sequence = self.sequence;
+            (*head.as_ptr()).client()
+        };
         let servers = self.hub.send_request(request)?;
+        self.news.ask(self.sequence);
         self.wake(Change::Asked);
-        Ok(servers)
+        Ok(Sent { servers, answered: self.news.answered(client) })
     }
 
-    /// Sends a response to the request with this sequence number. If it `asks` and the queue has no room, it sends
-    /// nothing and returns `false`.
+    /// Sends a response to the request of this sequence number and client. If it `asks`, as its port does too, and the
+    /// queue has no room, it sends nothing and returns `false`.
     #[inline]
-    pub(crate) fn send_response(&mut self, response: &Id, seat: usize, sequence: u64, asks: bool) -> bool {
+    pub(crate) fn send_response(&mut self, response: &Id, seat: usize, to: (u64, u64), asks: bool) -> bool {
+        let (sequence, client) = to;
+        let asks = asks && self.servers[seat].settings.delivery.asks;
         if asks && !self.hub.is_deliverable(response) {
             return false;
         }
         self.hub.send_response(response);
+        self.news.answer(client);
         self.wake(Change::Answered { sequence });
         self.leave_server(seat);
         true
@@ -262,8 +285,9 @@ impl State {
                 let last = &mut server.last[head.seat as usize];
                 *last = head.sequence.max(*last);
                 server.handles += 1;
+                server.take(self.sequence);
             }
-            Ok(None) => server.empty_at = self.sequence,
+            Ok(None) => server.is_empty(self.sequence),
             Err(_) => {}
         }
         self.wake(Change::Received);
@@ -306,11 +330,12 @@ impl State {
     #[inline]
     pub(crate) unsafe fn release_active(&mut self, active: &Id, seat: usize, head: NonNull<RequestHead>) {
         // SAFETY: points 6 and 8 of `message.rs`.
-        let sequence = unsafe {
+        let (sequence, client) = unsafe {
             RequestHead::set_active(&(*head.as_ptr()).active, |it| it - 1);
-            (*head.as_ptr()).sequence
+            ((*head.as_ptr()).sequence, (*head.as_ptr()).client())
         };
         self.hub.release(active);
+        self.news.answer(client);
         self.wake(Change::Finished { sequence });
         self.leave_server(seat);
     }

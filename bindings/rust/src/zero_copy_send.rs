@@ -104,7 +104,7 @@ pub trait Payload: Elements {}
 impl<T> Payload for T {}
 impl<T> Payload for [T] {}
 
-/// What a payload consists of.
+/// A payload: a value, or a slice of elements.
 pub trait Elements {
     /// The type of the elements: of a value, its own.
     type Element;

@@ -219,7 +219,7 @@ fn a_send_that_does_not_wait_asks_the_handler_once() -> Done {
     Ok(())
 }
 
-/// Where queues overflow, and where no server is, nothing is asked and nothing waits.
+/// No handler is asked, and no send waits, if the queues overflow or there is no server.
 #[test]
 fn no_handler_is_asked_where_there_is_room() -> Done {
     let service = builder::<L, u64, u64>("room").max_active_requests_per_client(1).create()?;

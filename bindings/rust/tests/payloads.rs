@@ -1,4 +1,4 @@
-//! Where payloads lie, and what they and their headers hold.
+//! The places of payloads and headers in a slot, and their contents.
 
 mod common;
 

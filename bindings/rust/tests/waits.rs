@@ -1,4 +1,4 @@
-//! What ends a wait.
+//! The ends of waits.
 
 mod common;
 
@@ -42,6 +42,29 @@ fn goes_on(pending: &Pending) {
 fn counting() -> (Arc<Count>, Waker) {
     let count = Arc::new(Count::default());
     (count.clone(), count.into())
+}
+
+/// More clients than there are counters of answers.
+#[test]
+fn each_of_forty_clients_hears_its_own_answer_alone() -> Done {
+    let service = builder::<L, u64, u64>("forty clients").max_clients(40).create()?;
+    let server = service.server_builder().create()?;
+    let clients: Vec<_> = (0..40).map(|_| service.client_builder().create().unwrap()).collect();
+    let pending: Vec<_> = clients
+        .iter()
+        .zip(0..)
+        .map(|(it, number)| it.send_copy(number).unwrap())
+        .collect();
+    let received = || -> Vec<u64> { pending.iter().filter_map(|it| it.receive().unwrap()).map(|it| *it).collect() };
+    assert_eq!(received(), []);
+    for _ in 0..40 {
+        let active = server.receive()?.unwrap();
+        assert_eq!(received(), []);
+        active.send_copy(*active)?;
+        assert_eq!(received(), [*active]);
+    }
+    assert!(server.receive()?.is_none() && !server.has_requests()?);
+    Ok(())
 }
 
 #[test]

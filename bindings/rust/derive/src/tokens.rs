@@ -16,7 +16,7 @@ pub fn text_of(tokens: &[TokenTree]) -> String {
     tokens.iter().cloned().collect::<TokenStream>().to_string()
 }
 
-/// How deep a token lies in angle brackets. The `>` of an arrow closes none.
+/// The depth of a token in angle brackets. The `>` of an arrow closes none.
 #[derive(Default)]
 pub struct Depth {
     angles: usize,

@@ -16,6 +16,11 @@ pub enum AllocationStrategy {
 }
 
 impl AllocationStrategy {
+    /// Returns how many elements a message of a port may have, whose initial length this is.
+    pub(crate) fn most_elements(self, initial: usize) -> usize {
+        if self == AllocationStrategy::Static { initial } else { usize::MAX }
+    }
+
     /// Returns the library's number of it.
     pub(crate) fn number(self) -> u32 {
         match self {

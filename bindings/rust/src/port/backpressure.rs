@@ -2,7 +2,7 @@
 use std::sync::Arc;
 use std::time::Duration;
 
-/// What a send does after a handler was asked.
+/// The answer of a backpressure handler: how the send goes on.
 ///
 /// iceoryx2's `port::BackpressureAction`.
 #[derive(Debug, Clone, Copy, PartialEq, Eq)]

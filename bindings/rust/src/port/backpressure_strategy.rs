@@ -1,6 +1,6 @@
 //! Strategies of sends for queues without room.
 
-/// What a send does where a queue is full and does not overflow.
+/// The policy of a send at a full queue that does not overflow.
 ///
 /// iceoryx2's `BackpressureStrategy`.
 #[derive(Debug, Clone, Copy, PartialEq, Eq)]

@@ -17,16 +17,14 @@
 //!     Ok(())
 //! }
 //! ```
-use super::allocation_strategy::AllocationStrategy;
 use super::backpressure_strategy::BackpressureStrategy;
-use super::delivery::Delivery;
 use super::update_connections::{ConnectionFailure, UpdateConnections};
 use super::{LoanError, SendError, Types};
 use crate::core::{CoreRef, PolicyOf};
 use crate::error::errors;
 use crate::head::RequestHead;
 use crate::hub::Slot;
-use crate::identifiers::{UniqueClientId, UniqueNodeId};
+use crate::identifiers::UniqueClientId;
 use crate::message::{Copied, Layout, Loaned, Message};
 use crate::pending_response::PendingResponse;
 use crate::policy::Policy;
@@ -36,6 +34,7 @@ use crate::request_mut_uninit::RequestMutUninit;
 use crate::service::Service;
 use crate::service::header::request_response::RequestHeader;
 use crate::service::registry::Opened;
+use crate::state::{Sent, State};
 use crate::zero_copy_send::{Payload, Sendable};
 use std::fmt;
 use std::marker::PhantomData;
@@ -49,6 +48,7 @@ errors! { RequestSendError }
 /// Why a request is not sent. It is dropped then, and used a request id up.
 ///
 /// iceoryx2's `port::client::RequestSendError`.
+#[repr(u64)]
 #[derive(Debug, Clone, Copy, PartialEq, Eq)]
 pub enum RequestSendError {
     /// The client has `max_active_requests_per_client` pending responses. It helps to drop one.
@@ -85,27 +85,13 @@ pub struct Client<S: Service, Q: Sendable + ?Sized, QH: Sendable, P: Sendable + 
     port: Id,
     seat: usize,
     client_id: UniqueClientId,
-    settings: ClientSettings,
     types: Types<S, Q, QH, P, PH>,
 }
 
-/// The settings of a client.
-#[derive(Debug, Clone, Copy)]
-pub(crate) struct ClientSettings {
-    pub node: UniqueNodeId,
-    pub initial_max_slice_len: usize,
-    pub allocation: AllocationStrategy,
-    pub delivery: Delivery,
-}
-
 impl<S: Service, Q: Sendable + ?Sized, QH: Sendable, P: Sendable + ?Sized, PH: Sendable> Client<S, Q, QH, P, PH> {
-    pub(crate) fn new(
-        opened: <PolicyOf<S> as Policy>::Ref<Opened<PolicyOf<S>>>,
-        port: (Id, usize),
-        settings: ClientSettings,
-    ) -> Self {
+    pub(crate) fn new(opened: <PolicyOf<S> as Policy>::Ref<Opened<PolicyOf<S>>>, port: (Id, usize)) -> Self {
         let client_id = UniqueClientId(opened.core.unique_id(&port.0));
-        Client { opened, port: port.0, seat: port.1, client_id, settings, types: PhantomData }
+        Client { opened, port: port.0, seat: port.1, client_id, types: PhantomData }
     }
 
     #[inline]
@@ -120,18 +106,19 @@ impl<S: Service, Q: Sendable + ?Sized, QH: Sendable, P: Sendable + ?Sized, PH: S
 
     /// Returns what the client's sends do where a queue is full and does not overflow.
     pub fn backpressure_strategy(&self) -> BackpressureStrategy {
-        self.settings.delivery.strategy
+        self.core().call(|state| state.clients[self.seat].settings.delivery.strategy)
     }
 
+    /// Loans a request with these elements, which take these bytes, and writes its head.
     #[inline]
-    fn head(&self, request_id: u64, elements: usize) -> RequestHead {
-        let header = RequestHeader {
-            node_id: self.settings.node,
-            client_id: self.client_id,
-            request_id,
-            number_of_elements: elements as u64,
-        };
-        RequestHead { header, sequence: 0, seat: self.seat as u32, active: AtomicU32::new(0) }
+    fn loan_slot(&self, state: &mut State, (elements, bytes): (usize, usize)) -> Result<Slot, LoanError> {
+        let (slot, request_id) = state.loan_request(&self.port, self.seat, (elements, bytes))?;
+        let (node_id, client_id, number_of_elements) = (self.opened.node, self.client_id, elements as u64);
+        let header = RequestHeader { node_id, client_id, request_id, number_of_elements };
+        let head = RequestHead { header, sequence: 0, seat: self.seat as u32, active: AtomicU32::new(0) };
+        // SAFETY: nobody else has the slot (point 2 of `message.rs`), which begins with its head.
+        unsafe { slot.at.cast().write(head) };
+        Ok(slot)
     }
 
     /// Loans a request with this number of elements.
@@ -145,11 +132,10 @@ impl<S: Service, Q: Sendable + ?Sized, QH: Sendable, P: Sendable + ?Sized, PH: S
     {
         let bytes = Layout::<QH, U::Element>::bytes(elements).ok_or(LoanError::ExceedsMaxLoanSize)?;
         let user_header = QH::default();
-        let (slot, request_id) = self.core().call(|state| state.loan_request(&self.port, self.seat, bytes))?;
-        let (core, head) = (self.core().clone(), self.head(request_id, elements));
-        // SAFETY: the request was just loaned with these bytes.
-        let message = unsafe { Message::loaned(core, slot, self.seat, head, user_header) };
-        Ok(RequestMutUninit { request: RequestMut::new(message, self.settings.delivery) })
+        let slot = self.core().call(|state| self.loan_slot(state, (elements, bytes)))?;
+        // SAFETY: the request was just loaned with these bytes, and its head was written.
+        let message = unsafe { Message::loaned(self.core().clone(), slot, self.seat, user_header) };
+        Ok(RequestMutUninit { request: RequestMut::new(message) })
     }
 }
 
@@ -195,20 +181,20 @@ impl<S: Service, Q: Sendable, QH: Default + Sendable, P: Sendable + ?Sized, PH: 
             return self.loan_uninit()?.write_payload(value).send();
         };
         let copied = Copied::new(QH::default(), value);
-        let (slot, sent) = self.core().call(|state| -> Result<(Slot, Option<usize>), RequestSendError> {
-            let (slot, request_id) = state.loan_request(&self.port, self.seat, bytes)?;
-            // SAFETY: the request was just loaned with these bytes, and its head is written here.
+        let (slot, sent) = self.core().call(|state| -> Result<(Slot, Option<Sent>), RequestSendError> {
+            let slot = self.loan_slot(state, (1, bytes))?;
+            // SAFETY: the request was just loaned with these bytes, and its head was written.
             let sent = unsafe {
-                copied.write(slot.at, self.head(request_id, 1));
-                state.send_request(&slot.id, slot.at.cast(), self.settings.delivery.asks)?
+                copied.write(slot.at);
+                state.send_request(&slot.id, slot.at.cast(), true)?
             };
             Ok((slot, sent))
         })?;
         // SAFETY: all parts were written.
         let message = unsafe { Message::<_, Loaned, QH, Q>::written(self.core().clone(), slot, self.seat) };
-        let request = RequestMut::new(message, self.settings.delivery);
+        let request = RequestMut::new(message);
         match sent {
-            Some(servers) => Ok(request.into_pending(servers)),
+            Some(sent) => Ok(request.into_pending(sent)),
             None => request.send_blocked(),
         }
     }
@@ -230,7 +216,7 @@ impl<S: Service, Q: Default + Sendable, QH: Default + Sendable, P: Sendable + ?S
 impl<S: Service, Q: Sendable + 'static, QH: Sendable, P: Sendable + ?Sized, PH: Sendable> Client<S, [Q], QH, P, PH> {
     /// Returns how many elements a request may have before its slot has to grow.
     pub fn initial_max_slice_len(&self) -> usize {
-        self.settings.initial_max_slice_len
+        self.core().call(|state| state.clients[self.seat].details.max_slice_len)
     }
 }
 
@@ -248,10 +234,6 @@ impl<S: Service, Q: Sendable + 'static, QH: Default + Sendable, P: Sendable + ?S
         &self,
         slice_len: usize,
     ) -> Result<RequestMutUninit<S, [MaybeUninit<Q>], QH, P, PH>, LoanError> {
-        let is_static = self.settings.allocation == AllocationStrategy::Static;
-        if is_static && self.settings.initial_max_slice_len < slice_len {
-            return Err(LoanError::ExceedsMaxLoanSize);
-        }
         self.loan_of(slice_len)
     }
 }

@@ -1,6 +1,6 @@
 //! Handlers of degraded connections, which are never called: no connection within a process degrades.
 
-/// What happens to a degraded connection.
+/// The answer of a degradation handler: what happens to the connection.
 ///
 /// iceoryx2's `port::DegradationAction`.
 #[derive(Debug, Clone, Copy, PartialEq, Eq)]

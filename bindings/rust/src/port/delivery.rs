@@ -1,14 +1,15 @@
 //! Sends that find a queue without room.
 use super::SendError;
-use super::backpressure::{BackpressureAction, BackpressureInfo, Handler};
+use super::backpressure::{BackpressureAction, BackpressureInfo};
 use super::backpressure_strategy::BackpressureStrategy;
 use crate::core::Core;
 use crate::policy::Policy;
+use crate::seats::PortSettings;
 use crate::state::State;
 use crate::wait::{Patience, Wait, block};
 use std::time::{Duration, Instant};
 
-/// How a port's messages are sent.
+/// A port's policy at full queues.
 #[derive(Debug, Clone, Copy)]
 pub(crate) struct Delivery {
     pub strategy: BackpressureStrategy,
@@ -36,32 +37,25 @@ enum Next {
 /// A send that found a queue without room.
 pub(crate) struct Blocked {
     wait: Wait,
-    strategy: BackpressureStrategy,
-    handler: Option<Handler>,
+    settings: PortSettings,
     info: BackpressureInfo,
     start: Instant,
 }
 
 impl Blocked {
-    pub fn new(
-        wait: Wait,
-        strategy: BackpressureStrategy,
-        handler: Option<Handler>,
-        sender: u128,
-        receiver: u128,
-    ) -> Self {
+    pub fn new(wait: Wait, settings: PortSettings, sender: u128, receiver: u128) -> Self {
         let info = BackpressureInfo {
             sender_port_id: sender,
             receiver_port_id: receiver,
             retries: 0,
             elapsed_time: Duration::ZERO,
         };
-        Blocked { wait, strategy, handler, info, start: Instant::now() }
+        Blocked { wait, settings, info, start: Instant::now() }
     }
 
     /// Asks the handler, if there is one, whose answer may be the strategy.
     fn ask(&mut self) -> BackpressureAction {
-        let Some(handler) = &self.handler else { return BackpressureAction::FollowBackpressureStrategy };
+        let Some(handler) = &self.settings.handler else { return BackpressureAction::FollowBackpressureStrategy };
         self.info.elapsed_time = self.start.elapsed();
         let action = handler(&self.info);
         self.info.retries += 1;
@@ -70,12 +64,12 @@ impl Blocked {
 
     fn next(&mut self, is_shared: bool) -> Next {
         use BackpressureAction::{DiscardData, DiscardDataAndFail, FollowBackpressureStrategy, Retry};
-        let pause = match (is_shared, &self.handler) {
+        let pause = match (is_shared, &self.settings.handler) {
             (false, _) => Patience::None,
             (true, Some(_)) => Patience::of(PAUSE),
             (true, None) => Patience::Endless,
         };
-        match (self.ask(), self.strategy) {
+        match (self.ask(), self.settings.delivery.strategy) {
             (DiscardData, _) | (FollowBackpressureStrategy, BackpressureStrategy::DiscardData) => Next::PassOver,
             (DiscardDataAndFail, _) => Next::Refuse,
             (FollowBackpressureStrategy, BackpressureStrategy::RetryUntilDelivered) if !is_shared => Next::Refuse,
@@ -99,7 +93,7 @@ impl Blocked {
         loop {
             let sent = match self.next(Safety::IS_SHARED) {
                 Next::PassOver => core.call(|state| attempt(state, false))?,
-                Next::Wait(patience) => block(core, self.wait, patience, |state| attempt(state, true))?,
+                Next::Wait(patience) => block(core, self.wait, patience, || true, |state| attempt(state, true))?,
                 Next::Refuse => {
                     core.call(release);
                     return Err(SendError::UnableToDeliver.into());

@@ -27,6 +27,7 @@ pub(crate) type ResponseTypes<P, PH> = PhantomData<fn() -> (*const P, PH)>;
 /// Why a message is not loaned. The service is as it was then.
 ///
 /// iceoryx2's `port::LoanError`.
+#[repr(u64)]
 #[derive(Debug, Clone, Copy, PartialEq, Eq)]
 pub enum LoanError {
     /// The port's messages fill its memory, which only an overridden preallocation makes possible; or there was no
@@ -45,6 +46,7 @@ pub enum LoanError {
 /// Why a message is not sent.
 ///
 /// iceoryx2's `port::SendError`.
+#[repr(u64)]
 #[derive(Debug, Clone, Copy, PartialEq, Eq)]
 pub enum SendError {
     /// Never returned here: a message keeps its sender.
@@ -63,6 +65,7 @@ pub enum SendError {
 /// Why nothing is received.
 ///
 /// iceoryx2's `port::ReceiveError`.
+#[repr(u64)]
 #[derive(Debug, Clone, Copy, PartialEq, Eq)]
 pub enum ReceiveError {
     /// Every queue with entries is at its borrow limit. It helps to drop active requests or responses.

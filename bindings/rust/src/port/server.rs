@@ -17,15 +17,13 @@
 //!     Ok(())
 //! }
 //! ```
-use super::allocation_strategy::AllocationStrategy;
 use super::backpressure_strategy::BackpressureStrategy;
-use super::delivery::Delivery;
 use super::update_connections::{ConnectionFailure, UpdateConnections};
 use super::{ReceiveError, Types};
 use crate::active_request::ActiveRequest;
 use crate::core::{CoreRef, PolicyOf};
 use crate::hub::Slot;
-use crate::identifiers::{UniqueNodeId, UniqueServerId};
+use crate::identifiers::UniqueServerId;
 use crate::message::Message;
 use crate::policy::Policy;
 use crate::raw::Id;
@@ -39,10 +37,14 @@ use std::fmt;
 use std::iter;
 use std::marker::PhantomData;
 use std::pin::Pin;
+use std::sync::atomic::{AtomicU64, Ordering};
 use std::task::{Context, Poll};
 use std::time::Duration;
 
 pub use crate::service::port_factory::server::ServerCreateError;
+
+/// A number that no send of a request has.
+const UNKNOWN: u64 = u64::MAX;
 
 /// A server: it receives the requests of all clients of its service.
 ///
@@ -53,27 +55,17 @@ pub struct Server<S: Service, Q: Sendable + ?Sized, QH: Sendable, P: Sendable + 
     opened: <PolicyOf<S> as Policy>::Ref<Opened<PolicyOf<S>>>,
     port: Id,
     seat: usize,
-    settings: ServerSettings,
+    server_id: UniqueServerId,
+    /// The number of the last send of a request when the queues were last known to be empty.
+    empty_at: AtomicU64,
     types: Types<S, Q, QH, P, PH>,
 }
 
-/// The settings of a server, and its id.
-#[derive(Debug, Clone, Copy)]
-pub(crate) struct ServerSettings {
-    pub server: UniqueServerId,
-    pub node: UniqueNodeId,
-    pub initial_max_slice_len: usize,
-    pub allocation: AllocationStrategy,
-    pub delivery: Delivery,
-}
-
 impl<S: Service, Q: Sendable + ?Sized, QH: Sendable, P: Sendable + ?Sized, PH: Sendable> Server<S, Q, QH, P, PH> {
-    pub(crate) fn new(
-        opened: <PolicyOf<S> as Policy>::Ref<Opened<PolicyOf<S>>>,
-        port: (Id, usize),
-        settings: ServerSettings,
-    ) -> Self {
-        Server { opened, port: port.0, seat: port.1, settings, types: PhantomData }
+    pub(crate) fn new(opened: <PolicyOf<S> as Policy>::Ref<Opened<PolicyOf<S>>>, port: (Id, usize)) -> Self {
+        let server_id = UniqueServerId(opened.core.unique_id(&port.0));
+        let empty_at = AtomicU64::new(UNKNOWN);
+        Server { opened, port: port.0, seat: port.1, server_id, empty_at, types: PhantomData }
     }
 
     #[inline]
@@ -83,7 +75,7 @@ impl<S: Service, Q: Sendable + ?Sized, QH: Sendable, P: Sendable + ?Sized, PH: S
 
     /// Returns the id of the server.
     pub fn id(&self) -> UniqueServerId {
-        self.settings.server
+        self.server_id
     }
 
     /// Returns whether a request is queued. In a service without fire-and-forget it may be one whose pending response
@@ -93,17 +85,25 @@ impl<S: Service, Q: Sendable + ?Sized, QH: Sendable, P: Sendable + ?Sized, PH: S
     ///
     /// None here. The type is iceoryx2's.
     pub fn has_requests(&self) -> Result<bool, ConnectionFailure> {
-        Ok(self.core().call(|state| state.hub.has_entries(&self.port)))
+        Ok(self.has_news() && self.core().call(|state| state.hub.has_entries(&self.port)))
     }
 
     /// Returns what the server's sends do where a queue is full and does not overflow.
     pub fn backpressure_strategy(&self) -> BackpressureStrategy {
-        self.settings.delivery.strategy
+        self.core().call(|state| state.servers[self.seat].settings.delivery.strategy)
+    }
+
+    /// Returns whether something may have been queued since the queues were empty.
+    #[inline]
+    fn has_news(&self) -> bool {
+        self.core().news.asked() != self.empty_at.load(Ordering::Relaxed)
     }
 
     #[inline]
     fn receive_slot(&self, state: &mut State) -> Result<Option<Slot>, ReceiveError> {
-        state.receive_request(&self.port, self.seat)
+        let received = state.receive_request(&self.port, self.seat);
+        self.empty_at.store(state.servers[self.seat].empty_at, Ordering::Relaxed);
+        received
     }
 
     fn wait(&self) -> Wait {
@@ -123,7 +123,7 @@ impl<S: Service, Q: Payload + Sendable + ?Sized, QH: Sendable, P: Sendable + ?Si
     fn active_request(&self, slot: Slot) -> ActiveRequest<S, Q, QH, P, PH> {
         // SAFETY: point 7 of `message.rs`: all clients of the service write requests of these types, and the library
         // just gave this one.
-        ActiveRequest::new(unsafe { Message::written(self.core().clone(), slot, self.seat) }, self.settings)
+        ActiveRequest::new(unsafe { Message::written(self.core().clone(), slot, self.seat) })
     }
 
     /// Receives the next request, if one is queued. The clients take turns.
@@ -135,6 +135,9 @@ impl<S: Service, Q: Payload + Sendable + ?Sized, QH: Sendable, P: Sendable + ?Si
     #[inline]
     #[allow(clippy::type_complexity)]
     pub fn receive(&self) -> Result<Option<ActiveRequest<S, Q, QH, P, PH>>, ReceiveError> {
+        if !self.has_news() {
+            return Ok(None);
+        }
         let received = self.core().call(|state| self.receive_slot(state))?;
         Ok(received.map(|slot| self.active_request(slot)))
     }
@@ -179,7 +182,7 @@ impl<S: Service, Q: Payload + Sendable + ?Sized, QH: Sendable, P: Sendable + ?Si
     where
         S::ThreadsafetyPolicy: SharedByThreads,
     {
-        let received = block(self.core(), self.wait(), Patience::Endless, |state| self.receive_slot(state))?;
+        let received = self.receive_within(Patience::Endless)?;
         Ok(self.active_request(received.expect("an endless wait ends with a request or an error")))
     }
 
@@ -195,8 +198,13 @@ impl<S: Service, Q: Payload + Sendable + ?Sized, QH: Sendable, P: Sendable + ?Si
     where
         S::ThreadsafetyPolicy: SharedByThreads,
     {
-        let received = block(self.core(), self.wait(), Patience::of(timeout), |state| self.receive_slot(state))?;
+        let received = self.receive_within(Patience::of(timeout))?;
         Ok(received.map(|slot| self.active_request(slot)))
+    }
+
+    fn receive_within(&self, patience: Patience) -> Result<Option<Slot>, ReceiveError> {
+        let has_news = || self.has_news();
+        block(self.core(), self.wait(), patience, has_news, |state| self.receive_slot(state))
     }
 
     /// Returns a future of the next request. A future that is dropped has received nothing.
@@ -254,7 +262,7 @@ impl<S: Service, Q: Sendable + ?Sized, QH: Sendable, P: Sendable + ?Sized, PH: S
 impl<S: Service, Q: Sendable + ?Sized, QH: Sendable, P: Sendable, PH: Sendable> Server<S, Q, QH, [P], PH> {
     /// Returns how many elements a response may have before its slot has to grow.
     pub fn initial_max_slice_len(&self) -> usize {
-        self.settings.initial_max_slice_len
+        self.core().call(|state| state.servers[self.seat].details.max_slice_len)
     }
 }
 

@@ -6,6 +6,7 @@ errors! { ConnectionFailure }
 /// Why two ports are not connected. In one process all are.
 ///
 /// iceoryx2's `port::update_connections::ConnectionFailure`.
+#[repr(u64)]
 #[derive(Debug, Clone, Copy, PartialEq, Eq)]
 pub enum ConnectionFailure {
     /// Never returned here.

@@ -31,7 +31,7 @@ mod sealed {
 ///
 /// iceoryx2's `service::Service`.
 pub trait Service: Debug + Clone + Sized + sealed::Kind + 'static {
-    /// How the ports of the service are shared.
+    /// The policy by which the ports of the service are shared.
     ///
     /// After iceoryx2's associated type `ArcThreadSafetyPolicy`.
     type ThreadsafetyPolicy: ThreadsafetyPolicy;

@@ -39,7 +39,7 @@ fn names() -> MutexGuard<'static, Names> {
     NAMES.lock().unwrap_or_else(PoisonError::into_inner)
 }
 
-/// Where the service of a name is.
+/// The result of a search by name.
 pub(crate) enum Found<Safety: Policy> {
     /// This thread may use it.
     Here(Safety::Ref<Core<Safety>>),

@@ -1,4 +1,4 @@
-//! How the ports of a service are shared: within one thread, or by threads.
+//! The two policies of thread safety: ports of one thread, and ports that threads share.
 //!
 //! | Kind of service | Policy | Ports and messages |
 //! |---|---|---|

@@ -3,10 +3,12 @@
 //! A wait is registered in the critical section that found nothing, so that no change is missed in between. The call
 //! whose change ends a wait wakes it after it has released the lock.
 mod change;
+mod news;
 mod task;
 mod thread;
 
 pub(crate) use change::Change;
+pub(crate) use news::News;
 pub(crate) use task::Turn;
 pub(crate) use thread::{Parker, Patience, block};
 

@@ -110,16 +110,12 @@ impl Parker {
     /// Waits to be woken. Returns whether it was in time.
     pub fn wait(&self, patience: Patience) -> bool {
         let state = &self.parts().unparker.state;
-        for look in 0..LOOKS {
-            if state.load(Ordering::Acquire) == WOKEN {
-                return true;
-            }
-            if look < PAUSED_LOOKS {
-                (0..1 << look).for_each(|_| hint::spin_loop());
-            } else {
-                thread::yield_now();
-            }
-        }
+        spin(|| state.load(Ordering::Acquire) == WOKEN) || self.park(patience)
+    }
+
+    /// Waits as `wait`, but does not spin first.
+    fn park(&self, patience: Patience) -> bool {
+        let state = &self.parts().unparker.state;
         if state
             .compare_exchange(EMPTY, PARKED, Ordering::AcqRel, Ordering::Acquire)
             .is_ok()
@@ -133,6 +129,20 @@ impl Parker {
         }
         true
     }
+}
+
+/// Looks for some microseconds. Returns whether what is looked for came.
+fn spin(has_come: impl Fn() -> bool) -> bool {
+    (0..LOOKS).any(|look| {
+        let has_come = has_come();
+        if has_come {
+        } else if look < PAUSED_LOOKS {
+            (0..1 << look).for_each(|_| hint::spin_loop());
+        } else {
+            thread::yield_now();
+        }
+        has_come
+    })
 }
 
 impl Drop for Parker {
@@ -149,11 +159,13 @@ fn park(patience: Patience) {
     }
 }
 
-/// Attempts until something is found, or the patience is over.
+/// Attempts until something is found, or the patience is over. As long as there is no news, an attempt would find
+/// nothing, so that the thread spins before it makes one.
 pub(crate) fn block<Safety: Policy, T, E>(
     core: &Core<Safety>,
     wait: Wait,
     patience: Patience,
+    has_news: impl Fn() -> bool,
     mut attempt: impl FnMut(&mut State) -> Result<Option<T>, E>,
 ) -> Result<Option<T>, E> {
     if patience.is_over() {
@@ -161,11 +173,13 @@ pub(crate) fn block<Safety: Policy, T, E>(
     }
     let parker = Parker::borrow();
     loop {
+        let has_spun = !spin(&has_news);
         let token = match attempt_or_register(core, wait, &parker, &mut attempt) {
             Ok(token) => token,
             Err(found) => return found,
         };
-        if !parker.wait(patience) {
+        let is_woken = if has_spun { parker.park(patience) } else { parker.wait(patience) };
+        if !is_woken {
             // The last attempt and the end of the wait are one critical section, so that nothing is missed.
             let (waker, found) = core.call(|state| (state.unregister(token), attempt(state)));
             drop(waker);

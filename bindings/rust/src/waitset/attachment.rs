@@ -22,7 +22,7 @@ use std::task::Waker;
 pub trait Attachable: Sealed {}
 impl<T: Sealed> Attachable for T {}
 
-/// What a wait set needs of an attachment.
+/// The requirements of a wait set on an attachment.
 pub trait Sealed {
     fn notification(&self) -> Box<dyn Notification>;
 }

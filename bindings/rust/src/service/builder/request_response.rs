@@ -44,8 +44,8 @@ use std::marker::PhantomData;
 
 /// Builds a request-response service.
 ///
-/// What is set is what the service gets if it is created, and what it must have at least, or exactly, if it is opened.
-/// What is not set comes from the node's configuration, or is not compared.
+/// A service that is created gets the settings that are made here, and the others from the node's configuration. A
+/// service that is opened must have at least, or exactly, the settings that are made; the others are not compared.
 ///
 /// iceoryx2's `service::builder::request_response::Builder`.
 pub struct Builder<Q: Sendable + ?Sized, QH: Sendable, P: Sendable + ?Sized, PH: Sendable, S: Service> {

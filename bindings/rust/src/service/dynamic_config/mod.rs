@@ -1,2 +1,2 @@
-//! What changes of a service.
+//! The ports and nodes of a service now.
 pub mod request_response;

@@ -6,10 +6,11 @@ use crate::identifiers::UniqueClientId;
 use crate::port::allocation_strategy::AllocationStrategy;
 use crate::port::backpressure::{BackpressureFn, Handler};
 use crate::port::backpressure_strategy::BackpressureStrategy;
-use crate::port::client::{Client, ClientSettings};
+use crate::port::client::Client;
 use crate::port::degradation::DegradationFn;
 use crate::port::delivery::Delivery;
 use crate::raw;
+use crate::seats::{ClientSeat, PortSettings};
 use crate::service::Service;
 use crate::service::dynamic_config::request_response::ClientDetails;
 use crate::zero_copy_send::Sendable;
@@ -105,7 +106,7 @@ impl<'factory, S: Service, Q: Sendable + ?Sized, QH: Sendable, P: Sendable + ?Si
     /// [`ClientCreateError`], whose variants say when they come and what helps.
     pub fn create(mut self) -> Result<Client<S, Q, QH, P, PH>, ClientCreateError> {
         let opened = &self.factory.opened;
-        let (core, node) = (&opened.core, opened.node);
+        let core = &opened.core;
         let bytes = core.config.request_message_type_details.bytes(self.initial_max_slice_len);
         // The library refuses what is too large, in the order of its refusals.
         let number_of_requests = hub::worst_case_requests(&core.limits)
@@ -116,19 +117,21 @@ impl<'factory, S: Service, Q: Sendable + ?Sized, QH: Sendable, P: Sendable + ?Si
             backpressure_strategy: raw::RR_BACKPRESSURE_DISCARD_DATA,
             allocation_strategy: self.allocation.number(),
         };
-        let details = |port: &raw::Id| ClientDetails {
-            client_id: UniqueClientId(core.unique_id(port)),
-            node_id: node,
-            number_of_requests,
-            response_buffer_size: core.config.max_response_buffer_size,
-            max_slice_len: self.initial_max_slice_len,
-        };
         let overflows = core.config.enable_safe_overflow_for_requests;
         let delivery = Delivery::new(self.strategy, overflows, self.handler.is_some());
-        let port = core.call(|state| state.create_client(&settings, details, &mut self.handler))?;
-        let (initial_max_slice_len, allocation) = (self.initial_max_slice_len, self.allocation);
-        let settings = ClientSettings { node, initial_max_slice_len, allocation, delivery };
-        Ok(Client::new(opened.clone(), port, settings))
+        let most_elements = self.allocation.most_elements(self.initial_max_slice_len);
+        let seat = |port: &raw::Id| {
+            let details = ClientDetails {
+                client_id: UniqueClientId(core.unique_id(port)),
+                node_id: opened.node,
+                number_of_requests,
+                response_buffer_size: core.config.max_response_buffer_size,
+                max_slice_len: self.initial_max_slice_len,
+            };
+            ClientSeat::new(details, PortSettings { delivery, handler: self.handler.take(), most_elements })
+        };
+        let port = core.call(|state| state.create_client(&settings, seat))?;
+        Ok(Client::new(opened.clone(), port))
     }
 }
 

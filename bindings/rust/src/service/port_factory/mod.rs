@@ -7,15 +7,15 @@ use crate::service::Service;
 use crate::service::service_name::ServiceName;
 use std::fmt::Debug;
 
-/// What an open service tells of itself.
+/// The queries of an open service.
 ///
 /// iceoryx2's `service::port_factory::PortFactory`.
 pub trait PortFactory: Debug {
     /// The kind of the service.
     type Service: Service;
-    /// What the service was created with.
+    /// Returns the limits and types with which the service was created.
     type StaticConfig: Debug;
-    /// What changes of the service.
+    /// Returns the ports and nodes that the service has now.
     type DynamicConfig;
 
     /// Returns the name of the service.

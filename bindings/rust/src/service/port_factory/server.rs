@@ -8,8 +8,9 @@ use crate::port::backpressure::{BackpressureFn, Handler};
 use crate::port::backpressure_strategy::BackpressureStrategy;
 use crate::port::degradation::DegradationFn;
 use crate::port::delivery::Delivery;
-use crate::port::server::{Server, ServerSettings};
+use crate::port::server::Server;
 use crate::raw;
+use crate::seats::{PortSettings, ServerSeat};
 use crate::service::Service;
 use crate::service::dynamic_config::request_response::ServerDetails;
 use crate::zero_copy_send::Sendable;
@@ -113,7 +114,7 @@ impl<'factory, S: Service, Q: Sendable + ?Sized, QH: Sendable, P: Sendable + ?Si
     /// [`ServerCreateError`], whose variants say when they come and what helps.
     pub fn create(mut self) -> Result<Server<S, Q, QH, P, PH>, ServerCreateError> {
         let opened = &self.factory.opened;
-        let (core, node) = (&opened.core, opened.node);
+        let core = &opened.core;
         let bytes = core.config.response_message_type_details.bytes(self.initial_max_slice_len);
         // The library refuses what is too large, in the order of its refusals.
         let number_of_responses = hub::worst_case_responses(&core.limits, self.max_loaned_responses_per_request)
@@ -125,20 +126,21 @@ impl<'factory, S: Service, Q: Sendable + ?Sized, QH: Sendable, P: Sendable + ?Si
             backpressure_strategy: raw::RR_BACKPRESSURE_DISCARD_DATA,
             allocation_strategy: self.allocation.number(),
         };
-        let details = |port: &raw::Id| ServerDetails {
-            server_id: UniqueServerId(core.unique_id(port)),
-            node_id: node,
-            request_buffer_size: core.config.max_active_requests_per_client,
-            number_of_responses,
-            max_slice_len: self.initial_max_slice_len,
-        };
         let overflows = core.config.enable_safe_overflow_for_responses;
         let delivery = Delivery::new(self.strategy, overflows, self.handler.is_some());
-        let port = core.call(|state| state.create_server(&settings, details, &mut self.handler))?;
-        let (initial_max_slice_len, allocation) = (self.initial_max_slice_len, self.allocation);
-        let server = UniqueServerId(core.unique_id(&port.0));
-        let settings = ServerSettings { server, node, initial_max_slice_len, allocation, delivery };
-        Ok(Server::new(opened.clone(), port, settings))
+        let most_elements = self.allocation.most_elements(self.initial_max_slice_len);
+        let seat = |port: &raw::Id| {
+            let details = ServerDetails {
+                server_id: UniqueServerId(core.unique_id(port)),
+                node_id: opened.node,
+                request_buffer_size: core.config.max_active_requests_per_client,
+                number_of_responses,
+                max_slice_len: self.initial_max_slice_len,
+            };
+            ServerSeat::new(details, PortSettings { delivery, handler: self.handler.take(), most_elements })
+        };
+        let port = core.call(|state| state.create_server(&settings, seat))?;
+        Ok(Server::new(opened.clone(), port))
     }
 }
 

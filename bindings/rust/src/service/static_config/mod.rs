@@ -1,3 +1,3 @@
-//! What a service was created with.
+//! The constants of a service.
 pub mod message_type_details;
 pub mod request_response;

@@ -3,7 +3,7 @@ use super::message_type_details::MessageTypeDetails;
 use crate::config;
 use crate::raw;
 
-/// What a service was created with. It never changes.
+/// The limits and types with which a service was created. They never change.
 ///
 /// iceoryx2's `service::static_config::request_response::StaticConfig`.
 #[derive(Debug, Clone, PartialEq, Eq)]

@@ -1,10 +1,10 @@
-//! What was set of a service, what it is created with, and what it is opened for.
+//! The settings of a builder, the configuration of the service that it creates, and the requirements on one that it opens.
 use super::RequestResponseOpenError;
 use crate::config::RequestResponse;
 use crate::service::static_config::message_type_details::MessageTypeDetails;
 use crate::service::static_config::request_response::StaticConfig;
 
-/// What was set. The rest is not compared when a service is opened.
+/// The settings that the user made. No other one is compared when a service is opened.
 #[derive(Debug, Clone, Copy, Default)]
 pub(super) struct Settings {
     pub enable_safe_overflow_for_requests: Option<bool>,
