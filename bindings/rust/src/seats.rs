@@ -116,7 +116,7 @@ impl ServerSeat {
 
     /// Notes that the queues are empty at this sequence number.
     #[inline]
-    pub fn is_empty(&mut self, sequence: u64) {
+    pub fn note_empty(&mut self, sequence: u64) {
         self.empty_at = sequence;
         self.taken = 0;
     }
@@ -124,10 +124,10 @@ impl ServerSeat {
     /// Notes that a request was received at this sequence number. No more requests have entered the queues since they
     /// were empty than were sent, so that none is left if as many were received.
     #[inline]
-    pub fn take(&mut self, sequence: u64) {
+    pub fn note_received(&mut self, sequence: u64) {
         self.taken += 1;
         if self.empty_at + self.taken == sequence {
-            self.is_empty(sequence);
+            self.note_empty(sequence);
         }
     }
 }

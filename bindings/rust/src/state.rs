@@ -285,9 +285,9 @@ impl State {
                 let last = &mut server.last[head.seat as usize];
                 *last = head.sequence.max(*last);
                 server.handles += 1;
-                server.take(self.sequence);
+                server.note_received(self.sequence);
             }
-            Ok(None) => server.is_empty(self.sequence),
+            Ok(None) => server.note_empty(self.sequence),
             Err(_) => {}
         }
         self.wake(Change::Received);
