@@ -9,13 +9,13 @@ use rr_ports::{
     ActiveRequest, Client, ClientCreateError, NoHandler, PendingResponse, ReceiveError,
     RequestSendError, SendError, Server, ServerCreateError,
 };
-use rr_slots::{Body, KeptBody, SliceBody};
+use rr_slots::{KeptBody, SliceBody, WriteBody};
 
 /// A hub whose requests and responses are of one family.
 pub type Hub<B> = rr_ports::Hub<B, u64, B, u64, NoHandler>;
 
 /// A family of messages: how they are written and read.
-pub trait Family: Body {
+pub trait Family: WriteBody {
     /// Creates a client whose requests have at most `len` elements.
     fn client(hub: &mut Hub<Self>, _len: usize) -> Result<Client<Self>, ClientCreateError>
         ensures free { IfOk result (λ client. IsFree [] hub.old client) }

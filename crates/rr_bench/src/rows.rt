@@ -3,7 +3,7 @@ use crate::crowd::{ALONE, CLIENTS, HANDLES, Job, MOST, PASSED, POOLS, SERVERS, S
 use crate::locked::time_pair;
 use crate::pages::time_pages;
 use crate::shared::time_shared;
-use crate::threads::Pace::{Alone, Nap, Sleep, Spin};
+use crate::threads::Pace::{Alone, Call, Nap, Sleep};
 use crate::threads::{Pace, time_threads};
 use crate::trip::time_ports;
 use anyhow::ensure;
@@ -81,7 +81,7 @@ pub const TIMED: [Row; 16] = [
     Row("shared", 2, 8, 100_000, 1, Work::Shared),
     Row("shared", 8, 8, 6_250, 16, Work::Shared),
     Row("threads", 1, 8, 100_000, 1, Work::Ports(Alone, 1, 1)),
-    Row("threads-spin", 2, 8, 100_000, 1, Work::Ports(Spin, 1, 1)),
+    Row("threads-call", 2, 8, 100_000, 1, Work::Ports(Call, 1, 1)),
     SLEEP,
     Row("threads-slice", 1, 65_536, 10_000, 1, Work::Pages),
     Row("threads-sleep", 8, 8, 10_000, 16, Work::Ports(Sleep, 4, 4)),

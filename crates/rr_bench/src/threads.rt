@@ -5,8 +5,8 @@ use crate::rows::Timed;
 use crate::shared::TURNS;
 use rand_core::{Rng, SeedableRng};
 use rand_xoshiro::SplitMix64;
-use rr_locked::{Bell, Bells};
-use rr_ports::{Limits, UniqueNodeId};
+use rr_locked::Bell;
+use rr_ports::{Limits, Refused, UniqueNodeId};
 use rr_shared_ports::Naming;
 use rr_shared_ports::typed::{
     ActiveRequest, Client, Opened, PendingResponse, Seat, Server, SharedPorts,
@@ -32,8 +32,8 @@ pub type HubSeat<N> = Seat<N, u64, (), u64, ()>;
 pub enum Pace {
     /// Not at all: they are of one thread.
     Alone,
-    /// They spin at bells.
-    Spin,
+    /// By `call` and `serve`.
+    Call,
     /// They sleep until something comes.
     Sleep,
     /// The same, and they also sleep at random times.
@@ -45,7 +45,7 @@ pub enum Pace {
 struct At<'a, N: Naming, R> {
     rt: &'a R,
     hub: &'a Hub<N>,
-    bells: &'a Bells,
+    created: &'a Bell,
     ended: &'a Bell,
     pace: Pace,
     seat: HubSeat<N>,
@@ -68,70 +68,55 @@ fn heard<N: Naming, R: Wait>(
     server: &Server<N, u64>,
 ) -> Option<ActiveRequest<N, u64>> {
     match at.pace {
-        Pace::Alone | Pace::Spin => server.receive(at.hub, at.rt, &mut at.seat).ok()?,
-        Pace::Sleep | Pace::Nap => server.receive_wait(at.hub, at.rt, &mut at.seat).ok(),
+        Pace::Alone => server.receive(at.hub, at.rt, &mut at.seat).ok()?,
+        _ => server.receive_wait(at.hub, at.rt, &mut at.seat).ok(),
     }
 }
 
-/// Answers a request with the number after the one that it says, and releases it. Returns whether one came.
+/// Answers a request with the number after the one that it says. Returns whether one came.
 fn answer<N: Naming, R: Wait + Clock>(at: &mut At<N, R>, server: &Server<N, u64>) -> bool {
+    if matches!(at.pace, Pace::Call) {
+        return server
+            .serve(at.hub, at.rt, &mut at.seat, |asked| asked.wrapping_add(1))
+            .is_ok();
+    }
     let Some(active) = heard(at, server) else {
         return false;
     };
     nap(at);
-    let asked = active.payload_copy(at.hub, at.rt, &mut at.seat);
     // A refusal is found by the sum.
-    let _ = active.send_copy(at.hub, at.rt, &mut at.seat, asked.wrapping_add(1));
-    active.release(at.hub, at.rt, &mut at.seat);
+    let _ = active.answer_with(at.hub, at.rt, &mut at.seat, |asked| asked.wrapping_add(1));
     true
 }
 
 /// Receives a response and releases it. Returns what it says, or `None` if none comes.
 fn take<N: Naming, R: Wait>(at: &mut At<N, R>, pending: &PendingResponse<N, u64>) -> Option<u64> {
-    let response = match at.pace {
-        Pace::Alone | Pace::Spin => pending.receive(at.hub, at.rt, &mut at.seat).ok()??,
-        Pace::Sleep | Pace::Nap => pending.receive_wait(at.hub, at.rt, &mut at.seat).ok()??,
-    };
-    let answer = response.payload_copy(at.hub, at.rt, &mut at.seat);
-    response.release(at.hub, at.rt, &mut at.seat);
-    Some(answer)
-}
-
-/// Answers requests as they come, until the hub is closed.
-fn answer_all<N: Naming, R: Wait + Clock>(at: &mut At<N, R>, server: &Server<N, u64>) {
-    for answered in 0..u64::MAX {
-        if matches!(at.pace, Pace::Spin) {
-            at.bells.server.wait(answered, TURNS);
-        }
-        if !answer(at, server) {
-            return;
-        }
-        if matches!(at.pace, Pace::Spin) {
-            at.bells.client.ring();
-        }
-    }
+    let response = pending.receive_wait(at.hub, at.rt, &mut at.seat).ok()??;
+    Some(response.into_payload(at.hub, at.rt, &mut at.seat))
 }
 
 /// Creates a server, which answers until the hub is closed. It rings once it is there.
 fn serve<N: Naming, R: Wait + Clock>(mut at: At<N, R>) -> anyhow::Result<u64> {
     let servers = at.hub.server_builder(at.rt);
     let server = at.hub.create_server(at.rt, &mut at.seat, servers)?;
-    at.bells.client.ring();
-    answer_all(&mut at, &server);
+    at.created.ring();
+    for _ in 0..u64::MAX {
+        if !answer(&mut at, &server) {
+            break;
+        }
+    }
     server.release(at.hub, at.rt, &mut at.seat);
     Ok(0)
 }
 
 /// Asks all servers for the number after this one. Returns the sum of their answers.
 fn ask<N: Naming, R: Wait>(at: &mut At<N, R>, client: &Client<N, u64>, asked: u64) -> u64 {
-    let rings = at.bells.client.rings();
+    if matches!(at.pace, Pace::Call) {
+        return client.call(at.hub, at.rt, &mut at.seat, asked).unwrap_or(0);
+    }
     let Ok(pending) = client.send_copy(at.hub, at.rt, &mut at.seat, asked) else {
         return 0;
     };
-    if matches!(at.pace, Pace::Spin) {
-        at.bells.server.ring();
-        at.bells.client.wait(rings, TURNS);
-    }
     let mut sum = 0u64;
     for _ in 0..at.hub.limits().max_servers {
         sum = sum.wrapping_add(take(at, &pending).unwrap_or(0));
@@ -147,7 +132,7 @@ fn ask_all<N: Naming, R: Wait + Clock>(
     trips: u64,
 ) -> u64 {
     for rings in 0..at.hub.limits().max_servers as u64 {
-        at.bells.client.wait(rings, TURNS);
+        at.created.wait(rings, TURNS);
     }
     let mut sum = 0u64;
     for asked in 0..trips {
@@ -168,8 +153,10 @@ fn alone<N: Naming, R: Wait + Clock>(
     for asked in 0..trips {
         if let Ok(pending) = client.send_copy(at.hub, at.rt, &mut at.seat, asked) {
             answer(at, server);
-            sum = sum.wrapping_add(take(at, &pending).unwrap_or(0));
-            pending.release(at.hub, at.rt, &mut at.seat);
+            match pending.finish(at.hub, at.rt, &mut at.seat) {
+                Ok(answer) => sum = sum.wrapping_add(answer),
+                Err(Refused { message, error: _ }) => message.release(at.hub, at.rt, &mut at.seat),
+            }
         }
     }
     sum
@@ -206,7 +193,6 @@ fn inquire<N: Naming, R: Wait + Clock>(mut at: At<N, R>, trips: u64) -> anyhow::
     at.ended.ring();
     if at.ended.rings() == at.hub.limits().max_clients as u64 {
         at.hub.close();
-        at.bells.server.ring();
     }
     sum
 }
@@ -215,7 +201,7 @@ fn inquire<N: Naming, R: Wait + Clock>(mut at: At<N, R>, trips: u64) -> anyhow::
 fn work<'a, N: Naming, R: Wait + Clock>(
     rt: &'a R,
     hub: &'a Hub<N>,
-    bells: &'a Bells,
+    created: &'a Bell,
     ended: &'a Bell,
     pace: Pace,
     place: usize,
@@ -224,7 +210,7 @@ fn work<'a, N: Naming, R: Wait + Clock>(
     let at = At {
         rt,
         hub,
-        bells,
+        created,
         ended,
         pace,
         seat: hub.seat(),
@@ -253,7 +239,7 @@ fn together<N: Naming, R: Threads + Wait + Clock + Sync>(
     requires node_id { opened.node_id ≡ N.node_id }
 {
     let hub = opened.named::<N>();
-    let (bells, ended) = (Bells::new(), Bell::new());
+    let (created, ended) = (Bell::new(), Bell::new());
     let limits = hub.limits();
     let ports = limits.max_clients.saturating_add(limits.max_servers);
     let threads = if matches!(pace, Pace::Alone) {
@@ -265,7 +251,7 @@ fn together<N: Naming, R: Threads + Wait + Clock + Sync>(
         rt,
         alloc,
         threads,
-        &|place| work(rt, &hub, &bells, &ended, pace, place, trips),
+        &|place| work(rt, &hub, &created, &ended, pace, place, trips),
     )?;
     let mut total = 0u64;
     for sum in sums {

@@ -11,7 +11,7 @@ ghost use Rattle.rr_ports.specs.Queues.{HearsNothing};
 
 use rr_ports::{
     BackpressureFn, Body, Client, Error, Hub, PortFactoryClient, PortFactoryServer, Server,
-    UniqueNodeId,
+    UniqueNodeId, WriteBody,
 };
 use std::alloc::Global;
 
@@ -32,13 +32,13 @@ pub struct Connected<
     pub server: Server<PB>,
 }
 
-impl<QB: Body, QH: Default + Drop, PB: Body, PH: Default + Drop, K: BackpressureFn> Connected<
-    QB,
-    QH,
-    PB,
-    PH,
-    K,
-> {
+impl<
+    QB: WriteBody,
+    QH: Default + Drop,
+    PB: WriteBody,
+    PH: Default + Drop,
+    K: BackpressureFn,
+> Connected<QB, QH, PB, PH, K> {
     /// Makes a hub with default limits, and creates a client and a server with default settings.
     ///
     /// # Errors
@@ -96,7 +96,15 @@ impl<QB: Body, QH: Default + Drop, PB: Body, PH: Default + Drop, K: Backpressure
             }
         }
     }
+}
 
+impl<QB: Body, QH: Default + Drop, PB: Body, PH: Default + Drop, K: BackpressureFn> Connected<
+    QB,
+    QH,
+    PB,
+    PH,
+    K,
+> {
     /// Releases the ports.
     pub fn end(self)
         requires client { Names self.hub self.client kind.Client }

@@ -9,17 +9,19 @@ ghost use Rattle.rr_checked.specs.Answers.{replied};
 use crate::refusal::Refusal;
 use rr_hub::Core;
 use rr_protocol::{AllocationStrategy, BackpressureFn, ClientSettings, ServerSettings};
-use rr_slots::{Body, Family};
+use rr_slots::{Body, Family, WriteBody};
 
 /// Creates a client. After iceoryx2's `PortFactoryClient::create`.
 ///
 /// # Errors
 ///
 /// `Client` as the call of the factory.
-pub fn create_client<T: Copy + Default, B: Body<Item = T>, H: Copy + Default, K: BackpressureFn>(
-    core: &mut Core<B, H, B, H, K>,
-    settings: ClientSettings<K>,
-) -> Result<u64, Refusal>
+pub fn create_client<
+    T: Copy + Default,
+    B: WriteBody<Item = T>,
+    H: Copy + Default,
+    K: BackpressureFn,
+>(core: &mut Core<B, H, B, H, K>, settings: ClientSettings<K>) -> Result<u64, Refusal>
     ensures { Step K.action T.is_default H.is_default B.family core.old (Command.CreateClient settings) (replied Reply.Created result) core.new }
 {
     match core.create_client(client_settings(B::family(), settings)) {
@@ -33,10 +35,12 @@ pub fn create_client<T: Copy + Default, B: Body<Item = T>, H: Copy + Default, K:
 /// # Errors
 ///
 /// `Server` as the call of the factory.
-pub fn create_server<T: Copy + Default, B: Body<Item = T>, H: Copy + Default, K: BackpressureFn>(
-    core: &mut Core<B, H, B, H, K>,
-    settings: ServerSettings<K>,
-) -> Result<u64, Refusal>
+pub fn create_server<
+    T: Copy + Default,
+    B: WriteBody<Item = T>,
+    H: Copy + Default,
+    K: BackpressureFn,
+>(core: &mut Core<B, H, B, H, K>, settings: ServerSettings<K>) -> Result<u64, Refusal>
     ensures { Step K.action T.is_default H.is_default B.family core.old (Command.CreateServer settings) (replied Reply.Created result) core.new }
 {
     match core.create_server(server_settings(B::family(), settings)) {

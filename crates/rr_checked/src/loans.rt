@@ -11,7 +11,7 @@ ghost use Rattle.rr_checked.specs.Answers.{replied};
 use crate::refusal::Refusal;
 use rr_hub::{Core, HandleId};
 use rr_protocol::{BackpressureFn, Kind};
-use rr_slots::{Body, Family};
+use rr_slots::{Body, Family, WriteBody};
 
 /// Loans a message of so many elements: a request of a client, or a response of an active request. After iceoryx2's `loan_uninit` and
 /// `loan_slice_uninit` of `Client` and `ActiveRequest`.
@@ -21,7 +21,7 @@ use rr_slots::{Body, Family};
 /// - `Unknown` and `WrongKind`, the latter too if the family has no message of so many elements.
 /// - `NumbersExhausted` if no number is left for the loan.
 /// - `Loan` as the call of the port.
-pub fn loan<T: Copy + Default, B: Body<Item = T>, H: Copy + Default, K: BackpressureFn>(
+pub fn loan<T: Copy + Default, B: WriteBody<Item = T>, H: Copy + Default, K: BackpressureFn>(
     core: &mut Core<B, H, B, H, K>,
     id: &HandleId,
     len: usize,
@@ -37,7 +37,7 @@ pub fn loan<T: Copy + Default, B: Body<Item = T>, H: Copy + Default, K: Backpres
 }
 
 /// Loans a request of a client.
-fn loan_request<T: Copy + Default, B: Body<Item = T>, H: Copy + Default, K: BackpressureFn>(
+fn loan_request<T: Copy + Default, B: WriteBody<Item = T>, H: Copy + Default, K: BackpressureFn>(
     core: &mut Core<B, H, B, H, K>,
     client: u64,
     len: usize,
@@ -58,7 +58,7 @@ fn loan_request<T: Copy + Default, B: Body<Item = T>, H: Copy + Default, K: Back
 }
 
 /// Loans a response of an active request.
-fn loan_response<T: Copy + Default, B: Body<Item = T>, H: Copy + Default, K: BackpressureFn>(
+fn loan_response<T: Copy + Default, B: WriteBody<Item = T>, H: Copy + Default, K: BackpressureFn>(
     core: &mut Core<B, H, B, H, K>,
     active: &HandleId,
     len: usize,

@@ -8,14 +8,14 @@ use crate::naming::{self, Named};
 use crate::refusal::Refusal;
 use rr_hub::{Core, HandleId};
 use rr_protocol::{BackpressureFn, Kind};
-use rr_slots::Body;
+use rr_slots::{Body, WriteBody};
 
 /// Appends an element to a message that is being written. Returns whether it had room. Not in iceoryx2.
 ///
 /// # Errors
 ///
 /// `Unknown` and `WrongKind`.
-pub fn push<T: Copy + Default, B: Body<Item = T>, H: Copy + Default, K: BackpressureFn>(
+pub fn push<T: Copy + Default, B: WriteBody<Item = T>, H: Copy + Default, K: BackpressureFn>(
     core: &mut Core<B, H, B, H, K>,
     id: &HandleId,
     item: T,
@@ -35,7 +35,7 @@ pub fn push<T: Copy + Default, B: Body<Item = T>, H: Copy + Default, K: Backpres
 /// # Errors
 ///
 /// `Unknown` and `WrongKind`.
-pub fn set<T: Copy + Default, B: Body<Item = T>, H: Copy + Default, K: BackpressureFn>(
+pub fn set<T: Copy + Default, B: WriteBody<Item = T>, H: Copy + Default, K: BackpressureFn>(
     core: &mut Core<B, H, B, H, K>,
     id: &HandleId,
     index: usize,
@@ -77,7 +77,7 @@ pub fn set_user_header<T: Copy + Default, B: Body<Item = T>, H: Copy + Default, 
 /// # Errors
 ///
 /// `Unknown`, `WrongKind`, and `Incomplete` if less is written than was asked for.
-pub fn assume_init<T: Copy + Default, B: Body<Item = T>, H: Copy + Default, K: BackpressureFn>(
+pub fn assume_init<T: Copy + Default, B: WriteBody<Item = T>, H: Copy + Default, K: BackpressureFn>(
     core: &mut Core<B, H, B, H, K>,
     id: &HandleId,
 ) -> Result<(), Refusal>

@@ -17,7 +17,7 @@ ghost use Rattle.rr_store.specs.Ports.{connected_of};
 use crate::pools::{pool_size, worst_case_requests};
 use rr_protocol::{BackpressureFn, ClientCreateError, ClientSettings, Limits};
 use rr_sender::{Sender, SenderSize};
-use rr_slots::Body;
+use rr_slots::{Body, WriteBody};
 use rr_store::{ClientPort, NO_SERVER, NUMBERS, Port, RequestDetails, Store};
 use std::alloc::{AllocError, Global};
 
@@ -26,7 +26,13 @@ use std::alloc::{AllocError, Global};
 /// Returns `UnableToCreatePortTag` if no number remains, `ExceedsMaxSupportedClients` if as many clients are connected as may
 /// be, `UnableToCreateDataSegment` if memory was refused; nothing has changed then. The initial length is one that the body's
 /// family takes.
-pub fn create_client<QB: Body, QH: Default + Drop, PB: Body, PH: Default + Drop, K: BackpressureFn>(
+pub fn create_client<
+    QB: WriteBody,
+    QH: Default + Drop,
+    PB: Body,
+    PH: Default + Drop,
+    K: BackpressureFn,
+>(
     store: &mut Store<QB, QH, PB, PH, K>,
     alloc: Global,
     settings: ClientSettings<K>,
@@ -46,7 +52,7 @@ pub fn create_client<QB: Body, QH: Default + Drop, PB: Body, PH: Default + Drop,
 }
 
 /// Adds a client. Returns `AllocError` if memory was refused; contracts see no change then.
-fn add_client<QB: Body, QH: Default + Drop, PB: Body, PH: Default + Drop, K: BackpressureFn>(
+fn add_client<QB: WriteBody, QH: Default + Drop, PB: Body, PH: Default + Drop, K: BackpressureFn>(
     store: &mut Store<QB, QH, PB, PH, K>,
     alloc: Global,
     settings: ClientSettings<K>,
@@ -65,7 +71,13 @@ fn add_client<QB: Body, QH: Default + Drop, PB: Body, PH: Default + Drop, K: Bac
 
 /// Adds a client that can leave without memory, with the sender of one that left if nothing uses it any more. Returns
 /// `AllocError` if memory was refused; nothing has changed then.
-fn insert_client<QB: Body, QH: Default + Drop, PB: Body, PH: Default + Drop, K: BackpressureFn>(
+fn insert_client<
+    QB: WriteBody,
+    QH: Default + Drop,
+    PB: Body,
+    PH: Default + Drop,
+    K: BackpressureFn,
+>(
     store: &mut Store<QB, QH, PB, PH, K>,
     alloc: Global,
     settings: ClientSettings<K>,
@@ -224,7 +236,7 @@ pub struct ClientStore<B: Body, H: Default + Drop> {
 
 /// Makes the store of a client: `slots` slots, each with room for `room` elements, a length that the body's family takes.
 /// Returns `AllocError` if memory was refused.
-fn client_store<B: Body, H: Default + Drop>(
+fn client_store<B: WriteBody, H: Default + Drop>(
     alloc: Global,
     limits: &Limits,
     slots: usize,

@@ -17,7 +17,7 @@ ghost use Rattle.rr_store.specs.Ports.{connected_of, server_part};
 use crate::pools::{pool_size, worst_case_requests, worst_case_responses};
 use rr_protocol::{BackpressureFn, Limits, ServerCreateError, ServerSettings};
 use rr_sender::{Sender, SenderSize};
-use rr_slots::Body;
+use rr_slots::{Body, WriteBody};
 use rr_store::{NUMBERS, Port, ResponseDetails, ServerPort, Store};
 use std::alloc::{AllocError, Global};
 
@@ -38,7 +38,13 @@ const NO_RESPONSE: ResponseDetails = ResponseDetails {
 /// Returns `UnableToCreatePortTag` if no number remains, `ExceedsMaxSupportedServers` if as many servers are connected as may
 /// be, `UnableToCreateDataSegment` if the worst-case number of responses is more than a `usize` counts, or memory was refused;
 /// nothing has changed then. The initial length is one that the body's family takes.
-pub fn create_server<QB: Body, QH: Default + Drop, PB: Body, PH: Default + Drop, K: BackpressureFn>(
+pub fn create_server<
+    QB: Body,
+    QH: Default + Drop,
+    PB: WriteBody,
+    PH: Default + Drop,
+    K: BackpressureFn,
+>(
     store: &mut Store<QB, QH, PB, PH, K>,
     alloc: Global,
     settings: ServerSettings<K>,
@@ -58,7 +64,7 @@ pub fn create_server<QB: Body, QH: Default + Drop, PB: Body, PH: Default + Drop,
 }
 
 /// Adds a server. Returns `AllocError` if memory was refused; contracts see no change then.
-fn add_server<QB: Body, QH: Default + Drop, PB: Body, PH: Default + Drop, K: BackpressureFn>(
+fn add_server<QB: Body, QH: Default + Drop, PB: WriteBody, PH: Default + Drop, K: BackpressureFn>(
     store: &mut Store<QB, QH, PB, PH, K>,
     alloc: Global,
     settings: ServerSettings<K>,
@@ -77,7 +83,13 @@ fn add_server<QB: Body, QH: Default + Drop, PB: Body, PH: Default + Drop, K: Bac
 
 /// Adds a server that can leave without memory, with the sender of one that left if nothing uses it any more. Returns
 /// `AllocError` if memory was refused; nothing has changed then.
-fn insert_server<QB: Body, QH: Default + Drop, PB: Body, PH: Default + Drop, K: BackpressureFn>(
+fn insert_server<
+    QB: Body,
+    QH: Default + Drop,
+    PB: WriteBody,
+    PH: Default + Drop,
+    K: BackpressureFn,
+>(
     store: &mut Store<QB, QH, PB, PH, K>,
     alloc: Global,
     settings: ServerSettings<K>,
@@ -109,7 +121,7 @@ fn insert_server<QB: Body, QH: Default + Drop, PB: Body, PH: Default + Drop, K: 
 
 /// Makes what a server sends from: `slots` slots, each with room for `room` elements, a length that the body's family takes.
 /// Returns `AllocError` if memory was refused.
-fn server_messages<B: Body, H: Default + Drop>(
+fn server_messages<B: WriteBody, H: Default + Drop>(
     alloc: Global,
     limits: &Limits,
     slots: usize,

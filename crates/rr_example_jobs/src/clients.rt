@@ -2,8 +2,8 @@
 ghost use Rattle.std.specs.Prelude.{◌≡◌};
 
 use rr_ports::{Limits, UniqueNodeId};
-use rr_shared_ports::Naming;
 use rr_shared_ports::typed::{Client, Opened, Seat, Server, SharedPorts};
+use rr_shared_ports::{AskError, Naming, ServeError};
 use std::alloc::Global;
 use std::marker::Brand;
 use std::sync::Wait;
@@ -87,16 +87,11 @@ fn serve<N: Naming, R: Wait>(
 ) -> u64 {
     let mut answers = 0u64;
     for _ in rt.forever() {
-        let Ok(active) = server.receive_wait(hub, rt, seat) else {
-            return answers;
-        };
-        if active
-            .respond_with(hub, rt, seat, |asked| asked.wrapping_mul(2))
-            .is_ok()
-        {
-            answers = answers.wrapping_add(1);
+        match server.serve(hub, rt, seat, |asked| asked.wrapping_mul(2)) {
+            Ok(()) => answers = answers.wrapping_add(1),
+            Err(ServeError::Send(_refused)) => {}
+            Err(ServeError::Receive(_over)) => return answers,
         }
-        active.release(hub, rt, seat);
     }
     unreachable!()
 }
@@ -122,14 +117,9 @@ fn ask<N: Naming, R: Wait>(
     client: &Client<N, u64>,
     asked: u64,
 ) -> u64 {
-    let Ok(pending) = client.send_copy(hub, rt, seat, asked) else {
-        return 0;
-    };
-    let answer = match pending.receive_wait(hub, rt, seat) {
-        Ok(Some(response)) => response.into_payload(hub, rt, seat),
-        Ok(None) => 0,
-        Err(_) => 0,
-    };
-    pending.release(hub, rt, seat);
-    answer
+    match client.call(hub, rt, seat, asked) {
+        Ok(answer) => answer,
+        Err(AskError::Send(_refused)) => 0,
+        Err(AskError::Finish(_over)) => 0,
+    }
 }

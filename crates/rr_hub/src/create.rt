@@ -10,9 +10,9 @@ use rr_creating::{create_client, create_server};
 use rr_protocol::{
     BackpressureFn, ClientCreateError, ClientSettings, ServerCreateError, ServerSettings,
 };
-use rr_slots::Body;
+use rr_slots::{Body, WriteBody};
 
-impl<QB: Body, QH: Default + Drop, PB: Body, PH: Default + Drop, K: BackpressureFn> Core<
+impl<QB: WriteBody, QH: Default + Drop, PB: Body, PH: Default + Drop, K: BackpressureFn> Core<
     QB,
     QH,
     PB,
@@ -36,7 +36,15 @@ impl<QB: Body, QH: Default + Drop, PB: Body, PH: Default + Drop, K: Backpressure
     {
         create_client(&mut self.parts, self.alloc, settings)
     }
+}
 
+impl<QB: Body, QH: Default + Drop, PB: WriteBody, PH: Default + Drop, K: BackpressureFn> Core<
+    QB,
+    QH,
+    PB,
+    PH,
+    K,
+> {
     /// Creates a server under the next number, which it returns. The initial length is one that the body's family takes. After
     /// iceoryx2's `PortFactoryServer::create`.
     ///

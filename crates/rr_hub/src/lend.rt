@@ -8,17 +8,17 @@ ghost use Rattle.rr_protocol.specs.State.{handle_at};
 
 use crate::state::Core;
 use rr_protocol::{BackpressureFn, Kind};
-use rr_slots::{Body, LendBody};
+use rr_slots::{Body, LendBody, WriteBody};
 use rr_store::HandleId;
 
-impl<QB: Body, QH: Default + Drop, PB: Body, PH: Default + Drop, K: BackpressureFn> Core<
+impl<QB: WriteBody, QH: Default + Drop, PB: Body, PH: Default + Drop, K: BackpressureFn> Core<
     QB,
     QH,
     PB,
     PH,
     K,
 > {
-    ghost use Rattle.rr_hub.specs.CoreLends.{lends_request_element, lends_request_user_header, lends_response_element, lends_response_user_header};
+    ghost use Rattle.rr_hub.specs.CoreLends.{lends_request_element};
 
     /// Lends an element of a request that was not sent.
     ///
@@ -34,6 +34,16 @@ impl<QB: Body, QH: Default + Drop, PB: Body, PH: Default + Drop, K: Backpressure
             .clients
             .element_mut(entry.sender, entry.slot, index)
     }
+}
+
+impl<QB: Body, QH: Default + Drop, PB: Body, PH: Default + Drop, K: BackpressureFn> Core<
+    QB,
+    QH,
+    PB,
+    PH,
+    K,
+> {
+    ghost use Rattle.rr_hub.specs.CoreLends.{lends_request_user_header, lends_response_user_header};
 
     /// Lends the user header of a request that was not sent.
     ///
@@ -46,6 +56,28 @@ impl<QB: Body, QH: Default + Drop, PB: Body, PH: Default + Drop, K: Backpressure
         let entry = self.parts.look_up(id);
         self.parts.clients.user_header_mut(entry.sender, entry.slot)
     }
+
+    /// Lends the user header of a response that was not sent.
+    ///
+    /// After iceoryx2's `ResponseMut::user_header_mut`.
+    pub fn response_user_header_mut(&mut self, id: &HandleId) -> &mut PH
+        requires { (kind_at self.old id.now ≡ Some Kind.ResponseMutUninit) ⊎ (kind_at self.old id.now ≡ Some Kind.ResponseMut) }
+        ensures* lends { sem 𝓛 (lends_response_user_header QB.row QH.row PB.row PH.row K.row QB.Item.row PB.Item.row QB.Body QH.Default PB.Body PH.Default K.BackpressureFn self.entry id.now result) }
+        ensures value { IsSomeAnd (option_and_then response_in (handle_at self.old id.now)) (λ m. m.content.user_header ≡ result.now) }
+    {
+        let entry = self.parts.look_up(id);
+        self.parts.servers.user_header_mut(entry.sender, entry.slot)
+    }
+}
+
+impl<QB: Body, QH: Default + Drop, PB: WriteBody, PH: Default + Drop, K: BackpressureFn> Core<
+    QB,
+    QH,
+    PB,
+    PH,
+    K,
+> {
+    ghost use Rattle.rr_hub.specs.CoreLends.{lends_response_element};
 
     /// Lends an element of a response that was not sent.
     ///
@@ -60,18 +92,6 @@ impl<QB: Body, QH: Default + Drop, PB: Body, PH: Default + Drop, K: Backpressure
         self.parts
             .servers
             .element_mut(entry.sender, entry.slot, index)
-    }
-
-    /// Lends the user header of a response that was not sent.
-    ///
-    /// After iceoryx2's `ResponseMut::user_header_mut`.
-    pub fn response_user_header_mut(&mut self, id: &HandleId) -> &mut PH
-        requires { (kind_at self.old id.now ≡ Some Kind.ResponseMutUninit) ⊎ (kind_at self.old id.now ≡ Some Kind.ResponseMut) }
-        ensures* lends { sem 𝓛 (lends_response_user_header QB.row QH.row PB.row PH.row K.row QB.Item.row PB.Item.row QB.Body QH.Default PB.Body PH.Default K.BackpressureFn self.entry id.now result) }
-        ensures value { IsSomeAnd (option_and_then response_in (handle_at self.old id.now)) (λ m. m.content.user_header ≡ result.now) }
-    {
-        let entry = self.parts.look_up(id);
-        self.parts.servers.user_header_mut(entry.sender, entry.slot)
     }
 }
 

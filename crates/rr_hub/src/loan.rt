@@ -10,10 +10,10 @@ ghost use Rattle.rr_laws.specs.Unreduced.{ClientHasPool, ServerHasPool};
 use crate::state::Core;
 use rr_loaning::{loan_request, loan_response_at};
 use rr_protocol::{BackpressureFn, LoanError};
-use rr_slots::Body;
+use rr_slots::{Body, WriteBody};
 use rr_store::HandleId;
 
-impl<QB: Body, QH: Default + Drop, PB: Body, PH: Default + Drop, K: BackpressureFn> Core<
+impl<QB: WriteBody, QH: Default + Drop, PB: Body, PH: Default + Drop, K: BackpressureFn> Core<
     QB,
     QH,
     PB,
@@ -41,7 +41,15 @@ impl<QB: Body, QH: Default + Drop, PB: Body, PH: Default + Drop, K: Backpressure
     {
         loan_request(&mut self.parts, client, len)
     }
+}
 
+impl<QB: Body, QH: Default + Drop, PB: WriteBody, PH: Default + Drop, K: BackpressureFn> Core<
+    QB,
+    QH,
+    PB,
+    PH,
+    K,
+> {
     /// Loans a response of `len` elements, a length that the body's family takes, from an active request. It has the next
     /// number, of which one remains, a default user header, and the request's channel. After iceoryx2's
     /// `ActiveRequest::loan_uninit`.

@@ -11,7 +11,7 @@ use crate::at_once::{send_request_at_once, send_response_at_once};
 use crate::state::Core;
 use rr_protocol::{BackpressureFn, RequestSendError, SendError};
 use rr_sending::{send_request_at, send_response_at};
-use rr_slots::Body;
+use rr_slots::{Body, WriteBody};
 use rr_store::HandleId;
 
 impl<QB: Body, QH: Default + Drop, PB: Body, PH: Default + Drop, K: BackpressureFn> Core<
@@ -75,7 +75,15 @@ impl<QB: Body, QH: Default + Drop, PB: Body, PH: Default + Drop, K: Backpressure
         let place = self.parts.locate(id);
         send_response_at(&mut self.parts, id.number(), place)
     }
+}
 
+impl<QB: WriteBody, QH: Default + Drop, PB: Body, PH: Default + Drop, K: BackpressureFn> Core<
+    QB,
+    QH,
+    PB,
+    PH,
+    K,
+> {
     /// Loans a request of one element, writes the element and sends it, as `loan_request`, `write_request` and `send_request` do one
     /// after another. Its handle is made once, as a pending response. Takes no memory. After iceoryx2's `Client::send_copy`.
     ///
@@ -97,7 +105,15 @@ impl<QB: Body, QH: Default + Drop, PB: Body, PH: Default + Drop, K: Backpressure
     {
         send_request_at_once(&mut self.parts, client, element)
     }
+}
 
+impl<QB: Body, QH: Default + Drop, PB: WriteBody, PH: Default + Drop, K: BackpressureFn> Core<
+    QB,
+    QH,
+    PB,
+    PH,
+    K,
+> {
     /// Loans a response of one element, writes the element and sends it, as `loan_response`, `write_response` and `send_response` do
     /// one after another. The response gets no handle. Takes no memory. After iceoryx2's `ActiveRequest::send_copy`.
     ///

@@ -14,7 +14,7 @@ ghost use Rattle.rr_protocol.specs.declared.kind.Kind.TheVariants as kind;
 
 use crate::limits::is_too_long;
 use rr_protocol::{BackpressureFn, LoanError};
-use rr_slots::Body;
+use rr_slots::{Body, WriteBody};
 use rr_store::{HandleEntry, HandleId, RequestDetails, Stage, Store};
 
 /// Loans a request of `len` elements, a length that the body's family takes, from a client whose value lives. It has the next
@@ -28,11 +28,13 @@ use rr_store::{HandleEntry, HandleId, RequestDetails, Stage, Store};
 ///
 /// The store is unchanged then.
 #[inline(always)]
-pub fn loan_request<QB: Body, QH: Default + Drop, PB: Body, PH: Default + Drop, K: BackpressureFn>(
-    store: &mut Store<QB, QH, PB, PH, K>,
-    client: u64,
-    len: usize,
-) -> Result<HandleId, LoanError>
+pub fn loan_request<
+    QB: WriteBody,
+    QH: Default + Drop,
+    PB: Body,
+    PH: Default + Drop,
+    K: BackpressureFn,
+>(store: &mut Store<QB, QH, PB, PH, K>, client: u64, len: usize) -> Result<HandleId, LoanError>
     requires core { IsCore (opened store.old) }
     requires kind { kind_at (state_of (opened store.old)) client ≡ Some kind.Client }
     requires number { 0 < numbers_left (state_of (opened store.old)) }

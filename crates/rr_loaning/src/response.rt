@@ -16,7 +16,7 @@ ghost use Rattle.rr_protocol.specs.declared.kind.Kind.TheVariants as kind;
 
 use crate::limits::{is_at_loan_limit, is_too_long};
 use rr_protocol::{BackpressureFn, LoanError};
-use rr_slots::Body;
+use rr_slots::{Body, WriteBody};
 use rr_store::{HandleEntry, HandleId, ResponseDetails, Stage, Store};
 use rr_table::Place;
 
@@ -34,7 +34,7 @@ use rr_table::Place;
 pub fn loan_response_at<
     QB: Body,
     QH: Default + Drop,
-    PB: Body,
+    PB: WriteBody,
     PH: Default + Drop,
     K: BackpressureFn,
 >(

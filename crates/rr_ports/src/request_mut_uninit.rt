@@ -16,7 +16,7 @@ use crate::handle::Handle;
 use crate::hub::Hub;
 use crate::request_mut::RequestMut;
 use rr_hub::{BackpressureFn, HandleId, Kind, LoanError, RequestHeader};
-use rr_slots::Body;
+use rr_slots::{Body, WriteBody};
 use std::marker::{Model, PhantomData};
 
 /// A loaned request whose payload is being written. It is not dropped: `assume_init`, a write of the whole payload or `release` ends it.
@@ -101,18 +101,6 @@ impl<QB: Body> RequestMutUninit<QB> {
         hub.core.request_user_header(&self.id)
     }
 
-    /// Returns whether as many elements were written as were asked for. Not in iceoryx2.
-    #[inline(always)]
-    pub fn is_complete<QH: Default + Drop, PB: Body, PH: Default + Drop, K: BackpressureFn>(
-        &self,
-        hub: &Hub<QB, QH, PB, PH, K>,
-    ) -> bool
-        requires { Names hub.now self.now kind.RequestMutUninit }
-        ensures { IsSomeAnd (option_and_then request_in (handle_at hub.now self.now)) (λ m. result ≡ is_complete m.content) }
-    {
-        hub.core.request_body(&self.id).is_complete()
-    }
-
     /// Makes a request whose payload is complete one that can be sent. After iceoryx2's unsafe `RequestMutUninit::assume_init`, whose
     /// condition is the caller's here: `is_complete` tests it.
     #[inline(always)]
@@ -158,6 +146,20 @@ impl<QB: Body> RequestMutUninit<QB> {
     {
         let RequestMutUninit { id, of: _ } = self;
         hub.core.release_request(&id);
+    }
+}
+
+impl<QB: WriteBody> RequestMutUninit<QB> {
+    /// Returns whether as many elements were written as were asked for. Not in iceoryx2.
+    #[inline(always)]
+    pub fn is_complete<QH: Default + Drop, PB: Body, PH: Default + Drop, K: BackpressureFn>(
+        &self,
+        hub: &Hub<QB, QH, PB, PH, K>,
+    ) -> bool
+        requires { Names hub.now self.now kind.RequestMutUninit }
+        ensures { IsSomeAnd (option_and_then request_in (handle_at hub.now self.now)) (λ m. result ≡ is_complete m.content) }
+    {
+        hub.core.request_body(&self.id).is_complete()
     }
 }
 

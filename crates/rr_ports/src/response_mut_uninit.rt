@@ -16,7 +16,7 @@ use crate::handle::Handle;
 use crate::hub::Hub;
 use crate::response_mut::ResponseMut;
 use rr_hub::{BackpressureFn, HandleId, Kind, LoanError, ResponseHeader};
-use rr_slots::Body;
+use rr_slots::{Body, WriteBody};
 use std::marker::{Model, PhantomData};
 
 /// A loaned response whose payload is being written. It is not dropped: `assume_init`, a write of the whole payload or `release` ends it.
@@ -100,18 +100,6 @@ impl<PB: Body> ResponseMutUninit<PB> {
         hub.core.response_user_header(&self.id)
     }
 
-    /// Returns whether as many elements were written as were asked for. Not in iceoryx2.
-    #[inline(always)]
-    pub fn is_complete<QB: Body, QH: Default + Drop, PH: Default + Drop, K: BackpressureFn>(
-        &self,
-        hub: &Hub<QB, QH, PB, PH, K>,
-    ) -> bool
-        requires { Names hub.now self.now kind.ResponseMutUninit }
-        ensures { IsSomeAnd (option_and_then response_in (handle_at hub.now self.now)) (λ m. result ≡ is_complete m.content) }
-    {
-        hub.core.response_body(&self.id).is_complete()
-    }
-
     /// Makes a response whose payload is complete one that can be sent. After iceoryx2's unsafe `ResponseMutUninit::assume_init`, whose
     /// condition is the caller's here: `is_complete` tests it.
     #[inline(always)]
@@ -157,6 +145,20 @@ impl<PB: Body> ResponseMutUninit<PB> {
     {
         let ResponseMutUninit { id, of: _ } = self;
         hub.core.release_response_loan(&id);
+    }
+}
+
+impl<PB: WriteBody> ResponseMutUninit<PB> {
+    /// Returns whether as many elements were written as were asked for. Not in iceoryx2.
+    #[inline(always)]
+    pub fn is_complete<QB: Body, QH: Default + Drop, PH: Default + Drop, K: BackpressureFn>(
+        &self,
+        hub: &Hub<QB, QH, PB, PH, K>,
+    ) -> bool
+        requires { Names hub.now self.now kind.ResponseMutUninit }
+        ensures { IsSomeAnd (option_and_then response_in (handle_at hub.now self.now)) (λ m. result ≡ is_complete m.content) }
+    {
+        hub.core.response_body(&self.id).is_complete()
     }
 }
 

@@ -9,7 +9,7 @@ use crate::error::OutOfMemory;
 use rr_commands::{Command, Reply};
 use rr_protocol::BackpressureFn;
 use rr_runner::Runner;
-use rr_slots::Body;
+use rr_slots::WriteBody;
 
 /// Carries out commands, one after another, and appends their replies. A refusal is a reply, and the next command follows.
 ///
@@ -22,7 +22,7 @@ use rr_slots::Body;
 /// # Errors
 ///
 /// - `OutOfMemory` if no memory was found for the replies, for all of which room is got first. Nothing has changed then.
-pub fn run<T: Copy + Default, B: Body<Item = T>, H: Copy + Default, K: BackpressureFn + Copy>(
+pub fn run<T: Copy + Default, B: WriteBody<Item = T>, H: Copy + Default, K: BackpressureFn + Copy>(
     runner: &mut Runner<T, B, H, K>,
     commands: &[Command<T, H, K>],
     replies: &mut Vec<Reply<T, H>>,

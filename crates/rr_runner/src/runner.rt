@@ -12,7 +12,7 @@ use crate::runner::numbers::number_in;
 use rr_commands::{Command, Reply};
 use rr_hub::{Core, HandleId};
 use rr_protocol::{BackpressureFn, HubCreateError, Kind, Limits, UniqueNodeId};
-use rr_slots::Body;
+use rr_slots::WriteBody;
 use std::alloc::Global;
 use std::marker::Model;
 
@@ -30,13 +30,13 @@ mod sends;
 ///
 /// It keeps a core, and where handles stood last. Not in iceoryx2, which has the calls alone.
 #[derive(Drop)]
-pub struct Runner<T: Copy + Default, B: Body<Item = T>, H: Copy + Default, K: BackpressureFn> {
+pub struct Runner<T: Copy + Default, B: WriteBody<Item = T>, H: Copy + Default, K: BackpressureFn> {
     alloc: Global,
     core: Core<B, H, B, H, K>,
     places: Places,
 }
 
-impl<T: Copy + Default, B: Body<Item = T>, H: Copy + Default, K: BackpressureFn> Model
+impl<T: Copy + Default, B: WriteBody<Item = T>, H: Copy + Default, K: BackpressureFn> Model
     for Runner<T, B, H, K> {
     ghost use Rattle.rr_protocol.specs.State.{State};
     ghost use Rattle.rr_protocol.specs.Codes.{state_code};
@@ -52,7 +52,7 @@ impl<T: Copy + Default, B: Body<Item = T>, H: Copy + Default, K: BackpressureFn>
     ghost invariant = { λ r. KnowsHandles r.places r.core };
 }
 
-impl<T: Copy + Default, B: Body<Item = T>, H: Copy + Default, K: BackpressureFn> Runner<
+impl<T: Copy + Default, B: WriteBody<Item = T>, H: Copy + Default, K: BackpressureFn> Runner<
     T,
     B,
     H,
@@ -131,7 +131,7 @@ impl<T: Copy + Default, B: Body<Item = T>, H: Copy + Default, K: BackpressureFn>
 }
 
 /// Creates a client or a server.
-fn create<T: Copy + Default, B: Body<Item = T>, H: Copy + Default, K: BackpressureFn>(
+fn create<T: Copy + Default, B: WriteBody<Item = T>, H: Copy + Default, K: BackpressureFn>(
     core: &mut Core<B, H, B, H, K>,
     creation: Command<T, H, K>,
 ) -> Reply<T, H>
@@ -152,7 +152,7 @@ fn create<T: Copy + Default, B: Body<Item = T>, H: Copy + Default, K: Backpressu
 
 /// Carries out a command that names a port or a handle, and keeps where the handle stands that it gives.
 #[inline(always)]
-fn act<T: Copy + Default, B: Body<Item = T>, H: Copy + Default, K: BackpressureFn>(
+fn act<T: Copy + Default, B: WriteBody<Item = T>, H: Copy + Default, K: BackpressureFn>(
     core: &mut Core<B, H, B, H, K>,
     alloc: Global,
     places: &mut Places,

@@ -6,7 +6,7 @@ use crate::stop::Stop;
 use rr_commands::Reply;
 use rr_protocol::{Limits, NoHandler, UniqueNodeId};
 use rr_run::{OutOfMemory, Runner, run};
-use rr_slots::{Body, Family, SliceBody};
+use rr_slots::{Family, SliceBody, WriteBody};
 use std::alloc::Global;
 use std::io::{BufRead, Write};
 
@@ -42,7 +42,7 @@ fn play<R: BufRead + Drop, W: Write>(
 }
 
 /// Makes a hub whose messages have such bodies, and carries out the lines that are left.
-fn play_on<B: Body<Item = u64>, R: BufRead + Drop, W: Write>(
+fn play_on<B: WriteBody<Item = u64>, R: BufRead + Drop, W: Write>(
     alloc: Global,
     limits: Limits,
     lines: &mut Lines<R>,
@@ -55,7 +55,7 @@ fn play_on<B: Body<Item = u64>, R: BufRead + Drop, W: Write>(
 }
 
 /// Makes a hub, and writes `done`.
-fn hub<B: Body<Item = u64>, W: Write>(
+fn hub<B: WriteBody<Item = u64>, W: Write>(
     alloc: Global,
     limits: Limits,
     output: &mut W,
@@ -70,7 +70,7 @@ fn hub<B: Body<Item = u64>, W: Write>(
 }
 
 /// Carries out the commands of the lines that are left.
-fn commands<B: Body<Item = u64>, R: BufRead + Drop, W: Write>(
+fn commands<B: WriteBody<Item = u64>, R: BufRead + Drop, W: Write>(
     alloc: Global,
     runner: &mut ScriptRunner<B>,
     lines: &mut Lines<R>,
@@ -87,7 +87,7 @@ fn commands<B: Body<Item = u64>, R: BufRead + Drop, W: Write>(
 }
 
 /// Carries out one command, and writes its reply.
-fn carry_out<B: Body<Item = u64>, W: Write>(
+fn carry_out<B: WriteBody<Item = u64>, W: Write>(
     alloc: Global,
     runner: &mut ScriptRunner<B>,
     command: ScriptCommand,
@@ -100,7 +100,7 @@ fn carry_out<B: Body<Item = u64>, W: Write>(
 }
 
 /// Runs one command, and gives its reply.
-fn replies_to<B: Body<Item = u64>>(
+fn replies_to<B: WriteBody<Item = u64>>(
     alloc: Global,
     runner: &mut ScriptRunner<B>,
     command: ScriptCommand,

@@ -5,7 +5,7 @@ ghost use Rattle.rr_slots.specs.Pools.{nothing_written, written};
 ghost use Rattle.rr_sender.specs.Senders.{all_entries, given_back, loaned, times, used_count, uses, with_held};
 
 use crate::links::Links;
-use rr_slots::{AcquireError, Body, Pool};
+use rr_slots::{AcquireError, Body, Pool, WriteBody};
 use std::alloc::{AllocError, Global};
 use std::marker::Model;
 
@@ -59,7 +59,7 @@ impl<B: Body, N: Copy, H: Drop> Model for Sender<B, N, H> {
     ghost invariant = { λ l. IsSound l.pool l.heads.items l.links };
 }
 
-impl<B: Body, N: Copy, H: Drop> Sender<B, N, H> {
+impl<B: WriteBody, N: Copy, H: Drop> Sender<B, N, H> {
     /// Slots that nobody holds and queues with no entry, in the numbers of `size`; each slot has room for `size.room`
     /// elements, a length that the body's family takes. Each has these details, and a default user header. `Err` where there is
     /// no memory for them all.
@@ -110,7 +110,9 @@ impl<B: Body, N: Copy, H: Drop> Sender<B, N, H> {
             Err(error) => Err(error),
         }
     }
+}
 
+impl<B: Body, N: Copy, H: Drop> Sender<B, N, H> {
     /// One more handle holds a slot that a handle holds.
     #[inline(always)]
     pub fn hold(&mut self, slot: usize)

@@ -9,7 +9,7 @@ use rr_commands::{Command, Reply};
 use rr_log::{Log, Pen};
 use rr_protocol::BackpressureFn;
 use rr_runner::Runner;
-use rr_slots::Body;
+use rr_slots::WriteBody;
 use std::marker::{Model, PhantomData};
 use std::snapshot::Snapshot;
 
@@ -18,7 +18,7 @@ use std::snapshot::Snapshot;
 pub(crate) struct Desk<
     N: Naming,
     T: Copy + Default,
-    B: Body<Item = T>,
+    B: WriteBody<Item = T>,
     H: Copy + Default,
     K: BackpressureFn,
 > {
@@ -27,8 +27,13 @@ pub(crate) struct Desk<
     pub(crate) of: PhantomData<N>,
 }
 
-impl<N: Naming, T: Copy + Default, B: Body<Item = T>, H: Copy + Default, K: BackpressureFn> Model
-    for Desk<N, T, B, H, K> {
+impl<
+    N: Naming,
+    T: Copy + Default,
+    B: WriteBody<Item = T>,
+    H: Copy + Default,
+    K: BackpressureFn,
+> Model for Desk<N, T, B, H, K> {
     ghost use Rattle.std.specs.Prelude.{◌≡◌, ℕ, List, None};
     ghost use Rattle.rr_commands.specs.AnswerRule.{Event};
     ghost use Rattle.rr_commands.specs.Continuing.{LeadsTo};
@@ -42,13 +47,13 @@ impl<N: Naming, T: Copy + Default, B: Body<Item = T>, H: Copy + Default, K: Back
     ghost invariant = { λ d. (d.pen.log_id ≡ N.log_id) × LeadsTo K.action T.is_default H.is_default B.family N.limits N.node_id (without_callers d.pen.entries) d.runner × (hub_refusal N.limits ≡ None) };
 }
 
-impl<N: Naming, T: Copy + Default, B: Body<Item = T>, H: Copy + Default, K: BackpressureFn> Desk<
-    N,
-    T,
-    B,
-    H,
-    K,
-> {
+impl<
+    N: Naming,
+    T: Copy + Default,
+    B: WriteBody<Item = T>,
+    H: Copy + Default,
+    K: BackpressureFn,
+> Desk<N, T, B, H, K> {
     /// Does nothing. Its clause tells of what is kept: the log is legal.
     pub(crate) fn is_legal(&self)
         ensures { IsLegal K.action T.is_default H.is_default B.family N.limits N.node_id (without_callers self.now) }

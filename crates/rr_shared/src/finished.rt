@@ -13,7 +13,7 @@ use crate::seat::Seat;
 use crate::shared_hub::SharedHub;
 use rr_log::Log;
 use rr_protocol::BackpressureFn;
-use rr_slots::Body;
+use rr_slots::WriteBody;
 use std::marker::Model;
 
 /// A hub whose sharing has ended. Contracts see its whole history: all calls, each with its caller. Not in iceoryx2.
@@ -29,13 +29,15 @@ use std::marker::Model;
 ///
 /// use rr_protocol::BackpressureFn;
 /// use rr_shared::{Naming, Seat, SharedHub};
-/// use rr_slots::Body;
+/// use rr_slots::WriteBody;
 ///
-/// fn ended<N: Naming, T: Copy + Default, B: Body<Item = T>, H: Copy + Default, K: BackpressureFn>(
-///     hub: SharedHub<N, T, B, H, K>,
-///     one: &mut Seat<N, T, H, K>,
-///     other: &mut Seat<N, T, H, K>,
-/// )
+/// fn ended<
+///     N: Naming,
+///     T: Copy + Default,
+///     B: WriteBody<Item = T>,
+///     H: Copy + Default,
+///     K: BackpressureFn,
+/// >(hub: SharedHub<N, T, B, H, K>, one: &mut Seat<N, T, H, K>, other: &mut Seat<N, T, H, K>)
 ///     ensures same { one.new.1 ≡ other.new.1 }
 ///     ensures one { calls_of one.new ≡ calls_of one.old }
 ///     ensures other { calls_of other.new ≡ calls_of other.old }
@@ -49,7 +51,7 @@ use std::marker::Model;
 pub struct Finished<
     N: Naming,
     T: Copy + Default,
-    B: Body<Item = T>,
+    B: WriteBody<Item = T>,
     H: Copy + Default,
     K: BackpressureFn,
 > {
@@ -57,8 +59,13 @@ pub struct Finished<
     log: Log<Call<T, H, K>>,
 }
 
-impl<N: Naming, T: Copy + Default, B: Body<Item = T>, H: Copy + Default, K: BackpressureFn> Model
-    for Finished<N, T, B, H, K> {
+impl<
+    N: Naming,
+    T: Copy + Default,
+    B: WriteBody<Item = T>,
+    H: Copy + Default,
+    K: BackpressureFn,
+> Model for Finished<N, T, B, H, K> {
     ghost use Rattle.std.specs.Prelude.{◌≡◌, ℕ, List};
     ghost use Rattle.rr_commands.specs.AnswerRule.{Event, ReceivesOnce};
     ghost use Rattle.rr_shared.specs.Histories.{without_callers};
@@ -73,7 +80,7 @@ impl<N: Naming, T: Copy + Default, B: Body<Item = T>, H: Copy + Default, K: Back
 impl<
     N: Naming,
     T: Copy + Default,
-    B: Body<Item = T>,
+    B: WriteBody<Item = T>,
     H: Copy + Default,
     K: BackpressureFn,
 > SharedHub<N, T, B, H, K> {
@@ -98,7 +105,7 @@ impl<
 impl<
     N: Naming,
     T: Copy + Default,
-    B: Body<Item = T>,
+    B: WriteBody<Item = T>,
     H: Copy + Default,
     K: BackpressureFn,
 > Finished<N, T, B, H, K> {

@@ -9,7 +9,7 @@ use crate::shared_hub::SharedHub;
 use rr_log::{Log, Pen};
 use rr_protocol::{BackpressureFn, HubCreateError, Limits, UniqueNodeId};
 use rr_runner::Runner;
-use rr_slots::Body;
+use rr_slots::WriteBody;
 use std::alloc::Global;
 use std::marker::{Model, PhantomData};
 use std::sync::Mutex;
@@ -40,7 +40,7 @@ use std::sync::Mutex;
 /// }
 /// ```
 #[derive(Drop)]
-pub struct Opened<T: Copy + Default, B: Body<Item = T>, H: Copy + Default, K: BackpressureFn> {
+pub struct Opened<T: Copy + Default, B: WriteBody<Item = T>, H: Copy + Default, K: BackpressureFn> {
     limits: Limits,
     node_id: UniqueNodeId,
     runner: Runner<T, B, H, K>,
@@ -48,7 +48,7 @@ pub struct Opened<T: Copy + Default, B: Body<Item = T>, H: Copy + Default, K: Ba
     pen: Pen<Call<T, H, K>>,
 }
 
-impl<T: Copy + Default, B: Body<Item = T>, H: Copy + Default, K: BackpressureFn> Model
+impl<T: Copy + Default, B: WriteBody<Item = T>, H: Copy + Default, K: BackpressureFn> Model
     for Opened<T, B, H, K> {
     ghost use Rattle.std.specs.Prelude.{◌≡◌, [], None};
     ghost use Rattle.rr_protocol.specs.Limits.{hub_refusal};
@@ -65,7 +65,7 @@ impl<T: Copy + Default, B: Body<Item = T>, H: Copy + Default, K: BackpressureFn>
     ghost invariant = { λ o. (hub_refusal o.limits ≡ None) × (o.runner ≡ empty_hub o.limits o.node_id.0) × (o.pen ≡ whole o.log []) };
 }
 
-impl<T: Copy + Default, B: Body<Item = T>, H: Copy + Default, K: BackpressureFn> Opened<
+impl<T: Copy + Default, B: WriteBody<Item = T>, H: Copy + Default, K: BackpressureFn> Opened<
     T,
     B,
     H,

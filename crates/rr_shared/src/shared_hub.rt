@@ -13,7 +13,7 @@ use crate::seat::Seat;
 use rr_commands::{Command, Reply};
 use rr_log::Log;
 use rr_protocol::{BackpressureFn, Limits, UniqueNodeId};
-use rr_slots::Body;
+use rr_slots::WriteBody;
 use std::marker::{Model, PhantomData};
 use std::sync::{Mutex, Wait};
 
@@ -72,7 +72,7 @@ use std::sync::{Mutex, Wait};
 pub struct SharedHub<
     N: Naming,
     T: Copy + Default,
-    B: Body<Item = T>,
+    B: WriteBody<Item = T>,
     H: Copy + Default,
     K: BackpressureFn,
 > {
@@ -82,8 +82,13 @@ pub struct SharedHub<
     pub(crate) log: Log<Call<T, H, K>>,
 }
 
-impl<N: Naming, T: Copy + Default, B: Body<Item = T>, H: Copy + Default, K: BackpressureFn> Model
-    for SharedHub<N, T, B, H, K> {
+impl<
+    N: Naming,
+    T: Copy + Default,
+    B: WriteBody<Item = T>,
+    H: Copy + Default,
+    K: BackpressureFn,
+> Model for SharedHub<N, T, B, H, K> {
     ghost use Rattle.std.specs.Prelude.{◌≡◌, None};
     ghost use Rattle.rr_protocol.specs.Limits.{hub_refusal};
 
@@ -97,7 +102,7 @@ impl<N: Naming, T: Copy + Default, B: Body<Item = T>, H: Copy + Default, K: Back
 impl<
     N: Naming,
     T: Copy + Default,
-    B: Body<Item = T>,
+    B: WriteBody<Item = T>,
     H: Copy + Default,
     K: BackpressureFn,
 > SharedHub<N, T, B, H, K> {

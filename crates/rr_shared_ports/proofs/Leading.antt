@@ -1,6 +1,8 @@
 -- Each call of a port leads on, by calls of the message machine.
 use Rattle.std.proofs.Common.{◌≡◌, ℕ, List, [], ◌∷◌, ◌++◌, Option, Some, None, Result, Ok, Err, refl, sym, ap, ◌∙◌, subst, ⊎_elim, inl, inr}
 use Rattle.std.specs.Prelude.{true, option_and_then, IsSomeAnd}
+use Rattle.std.specs.Borrow.{Bor}
+use Rattle.std.specs.Fn.{Once}
 use Rattle.rr_map_laws.proofs.MapLaws.{get-insert_same}
 use Rattle.rr_protocol.specs.declared.settings.BackpressureAction.{BackpressureAction}
 use Rattle.rr_protocol.specs.declared.settings.ClientSettings.{ClientSettings}
@@ -30,6 +32,12 @@ use Rattle.rr_hub.specs.Copies.{with_complete_request, with_complete_response}
 use Rattle.rr_ports.specs.Responding.{RespondsSlice}
 use Rattle.rr_ports.specs.Sending.{SendsPending}
 use Rattle.rr_ports.specs.Shortcuts.{HearsCopy, ReceivesCopy, TellsCopy}
+use Rattle.rr_ports.specs.declared.try_send.Refused.{Refused}
+use Rattle.rr_shared_ports.specs.declared.error.CallError.{CallError}
+use Rattle.rr_shared_ports.specs.declared.error.CallError.TheVariants.{NumbersExhausted, Port}
+use Rattle.rr_shared_ports.specs.declared.error.FinishError.{FinishError}
+use Rattle.rr_shared_ports.specs.declared.error.FinishError.TheVariants.{NoResponse, NoServer, Receive}
+use Rattle.rr_shared_ports.specs.Exchanges.{AnswersWith, Finishes, ReceivesNone}
 use Rattle.rr_shared_ports.specs.Leading.{LeadsTo, Steps}
 
 -- what a server received is an active request
@@ -229,6 +237,25 @@ module _ {Q QH P PH K : Type 0} (action : K → ℕ → ℕ → BackpressureActi
       leads_on old copies.0 new (request_received old copies.0 n (Ok (Some copies.1)) copies.2) (released copies.0 new copies.1 copies.4)
   request_copied old new n (Ok None) copies = request_received old new n (Ok None) copies
   request_copied old new n (Err error) copies = request_received old new n (Err error) copies
+
+  unfinished : (old new : State Q QH P PH K) (n : ℕ) (error : FinishError) → ReceivesNone old n error new → LeadsTo action D E old new
+  unfinished old new n NoResponse none = response_copied old new n (Ok None) none
+  unfinished old new n NoServer none = response_copied old new n (Ok None) none.0
+  unfinished old new n (Receive error) none = response_copied old new n (Err error) none
+
+  -- a request ends with the response that was received, or with its answer
+  pub finished : (old new : State Q QH P PH K) (n : ℕ) (result : Result P (Refused ℕ FinishError)) → Finishes old n result new
+      → LeadsTo action D E old new
+  finished old new n (Ok value) ends = leads_on old ends.0 new (response_copied old ends.0 n (Ok (Some value)) ends.1) (released ends.0 new n ends.2)
+  finished old new n (Err refused) kept = unfinished old new n refused.error kept.1
+
+  pub answered_with : {F : Type 0} (g : Once F (Bor Q × Unit {0}) P) (f : F) (old new : State Q QH P PH K) (n : ℕ)
+      (result : Result (Unit {0}) (CallError SendError)) → AnswersWith E action g f old n result new → LeadsTo action D E old new
+  answered_with g f old new n (Ok unit) answers =
+      leads_on old answers.0 new (response_elements_sent old answers.0 n 1 (answers.1.1 ∷ []) (Ok unit) answers.1.4) (released answers.0 new n answers.2)
+  answered_with g f old new n (Err (Port error)) answers =
+      leads_on old answers.0 new (response_elements_sent {U = Unit {0}} old answers.0 n 1 (answers.1.1 ∷ []) (Err error) answers.1.4) (released answers.0 new n answers.2)
+  answered_with g f old new n (Err NumbersExhausted) answers = leads_on old answers.0 new (rests old answers.0 answers.1.1) (released answers.0 new n answers.2)
 
   -- what leads on is a step, of states that are known by other names
   pub stepped : {old shown new left : State Q QH P PH K} → shown ≡ old → left ≡ new → Keeps [] shown left → LeadsTo action D E shown left

@@ -4,4 +4,5 @@ pub mod Readings
 pub mod Turns
 pub mod Telling
 pub mod Waits
+pub mod Exchanges
 pub mod Lengths

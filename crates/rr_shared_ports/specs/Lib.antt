@@ -4,3 +4,4 @@ pub mod Calls
 pub mod Numbers
 pub mod Tries
 pub mod Waits
+pub mod Exchanges

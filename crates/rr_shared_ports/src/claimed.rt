@@ -21,8 +21,8 @@ use std::sync::Wait;
 /// Asks for a number, and waits for the answer (`rr_example_jobs::clients`):
 ///
 /// ```
-/// use rr_shared_ports::Naming;
 /// use rr_shared_ports::typed::{Client, Seat, SharedPorts};
+/// use rr_shared_ports::{AskError, Naming};
 /// use std::sync::Wait;
 ///
 /// type Hub<N> = SharedPorts<N, u64, (), u64, ()>;
@@ -36,16 +36,11 @@ use std::sync::Wait;
 ///     client: &Client<N, u64>,
 ///     asked: u64,
 /// ) -> u64 {
-///     let Ok(pending) = client.send_copy(hub, rt, seat, asked) else {
-///         return 0;
-///     };
-///     let answer = match pending.receive_wait(hub, rt, seat) {
-///         Ok(Some(response)) => response.into_payload(hub, rt, seat),
-///         Ok(None) => 0,
-///         Err(_) => 0,
-///     };
-///     pending.release(hub, rt, seat);
-///     answer
+///     match client.call(hub, rt, seat, asked) {
+///         Ok(answer) => answer,
+///         Err(AskError::Send(_refused)) => 0,
+///         Err(AskError::Finish(_over)) => 0,
+///     }
 /// }
 /// ```
 #[must_use]

@@ -1,11 +1,12 @@
 //! What calls of the ports do to claims.
 ghost use Rattle.std.specs.Prelude.{◌≡◌, ◌∷◌, []};
+ghost use Rattle.rr_shared_ports.specs.Calls.{IsMade, IsReceived, IsSpent, IsTried, MakesFree, ReceivesFree, SpendsFree, TriesFree, TurnsFree};
 
 use crate::claimed::Claimed;
 use crate::naming::Naming;
 use crate::ports::Ports;
 use rr_claims::{Claim, Keeper, Named, Says};
-use rr_ports::Handle;
+use rr_ports::{Handle, Refused};
 use rr_protocol::Kind;
 use std::marker::{Model, PhantomData};
 
@@ -104,5 +105,123 @@ pub(crate) fn exchanged<N: Naming, A: Handle, H: Ports>(
         handle,
         claim,
         of: PhantomData,
+    }
+}
+
+/// Claims what a call made, if it made something.
+pub(crate) fn granted_if<N: Naming, A: Handle, H: Ports, E>(
+    hub: &H,
+    keeper: &mut HubKeeper<H>,
+    made: Result<A, E>,
+) -> Result<Claimed<N, A>, E>
+    requires id { keeper.old.id ≡ N.keeper_id }
+    requires makes { MakesFree A.number A.kind H.steps H.is_free H.names keeper.old.state made hub.now }
+    ensures id { keeper.new.id ≡ keeper.old.id }
+    ensures state { keeper.new.state ≡ hub.now }
+    ensures made { IsMade A.number made result }
+{
+    match made {
+        Ok(made) => Ok(granted(hub, keeper, made)),
+        Err(error) => {
+            kept(hub, keeper);
+            Err(error)
+        }
+    }
+}
+
+/// Claims what a call received, if something came.
+pub(crate) fn granted_some<N: Naming, A: Handle, H: Ports, E>(
+    hub: &H,
+    keeper: &mut HubKeeper<H>,
+    received: Result<Option<A>, E>,
+) -> Result<Option<Claimed<N, A>>, E>
+    requires id { keeper.old.id ≡ N.keeper_id }
+    requires receives { ReceivesFree A.number A.kind H.steps H.is_free H.names keeper.old.state received hub.now }
+    ensures id { keeper.new.id ≡ keeper.old.id }
+    ensures state { keeper.new.state ≡ hub.now }
+    ensures received { IsReceived A.number received result }
+{
+    match received {
+        Ok(Some(made)) => Ok(Some(granted(hub, keeper, made))),
+        Ok(None) => {
+            kept(hub, keeper);
+            Ok(None)
+        }
+        Err(error) => {
+            kept(hub, keeper);
+            Err(error)
+        }
+    }
+}
+
+/// Gives a claim for one on what a call made of it, or back if the call ended it.
+pub(crate) fn exchanged_if<N: Naming, A: Handle, H: Ports, E>(
+    hub: &H,
+    keeper: &mut HubKeeper<H>,
+    claim: Claim<Kind>,
+    made: Result<A, E>,
+) -> Result<Claimed<N, A>, E>
+    requires id { keeper.old.id ≡ N.keeper_id }
+    requires claim { claim.id ≡ keeper.old.id }
+    requires turns { TurnsFree A.number A.kind H.steps H.names claim.number keeper.old.state made hub.now }
+    ensures id { keeper.new.id ≡ keeper.old.id }
+    ensures state { keeper.new.state ≡ hub.now }
+    ensures made { IsMade A.number made result }
+{
+    match made {
+        Ok(made) => Ok(exchanged(hub, keeper, claim, made)),
+        Err(error) => {
+            retired(hub, keeper, claim);
+            Err(error)
+        }
+    }
+}
+
+/// Gives a claim for one on what a call made of it, or for one on what the call gave back.
+pub(crate) fn exchanged_both<N: Naming, A: Handle, B: Handle, H: Ports, E>(
+    hub: &H,
+    keeper: &mut HubKeeper<H>,
+    claim: Claim<Kind>,
+    made: Result<B, Refused<A, E>>,
+) -> Result<Claimed<N, B>, Refused<Claimed<N, A>, E>>
+    requires id { keeper.old.id ≡ N.keeper_id }
+    requires claim { claim.id ≡ keeper.old.id }
+    requires tries { TriesFree A.number B.number A.kind B.kind H.steps H.names claim.number keeper.old.state made hub.now }
+    ensures id { keeper.new.id ≡ keeper.old.id }
+    ensures state { keeper.new.state ≡ hub.now }
+    ensures tried { IsTried A.number B.number made result }
+{
+    match made {
+        Ok(made) => Ok(exchanged(hub, keeper, claim, made)),
+        Err(Refused { message, error }) => {
+            let message = exchanged(hub, keeper, claim, message);
+            Err(Refused { message, error })
+        }
+    }
+}
+
+/// Gives a claim back after a call that ended what it was on, or for one on what the call gave back.
+pub(crate) fn retired_if<N: Naming, A: Handle, H: Ports, U, E>(
+    hub: &H,
+    keeper: &mut HubKeeper<H>,
+    claim: Claim<Kind>,
+    spent: Result<U, Refused<A, E>>,
+) -> Result<U, Refused<Claimed<N, A>, E>>
+    requires id { keeper.old.id ≡ N.keeper_id }
+    requires claim { claim.id ≡ keeper.old.id }
+    requires spends { SpendsFree A.number A.kind H.steps H.names claim.number keeper.old.state spent hub.now }
+    ensures id { keeper.new.id ≡ keeper.old.id }
+    ensures state { keeper.new.state ≡ hub.now }
+    ensures spent { IsSpent A.number spent result }
+{
+    match spent {
+        Ok(answer) => {
+            retired(hub, keeper, claim);
+            Ok(answer)
+        }
+        Err(Refused { message, error }) => {
+            let message = exchanged(hub, keeper, claim, message);
+            Err(Refused { message, error })
+        }
     }
 }

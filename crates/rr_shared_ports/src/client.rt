@@ -13,13 +13,13 @@ use crate::seat::Seat;
 use crate::shared_ports::SharedPorts;
 use rr_ports::{
     BackpressureFn, Body, Client, ClientCreateError, Hub, PortFactoryClient, Preallocation,
-    UniqueClientId,
+    UniqueClientId, WriteBody,
 };
 use std::sync::Wait;
 
 impl<
     N: Naming,
-    QB: Body,
+    QB: WriteBody,
     QH: Default + Drop,
     PB: Body,
     PH: Default + Drop,
@@ -29,7 +29,7 @@ impl<
     pub fn client_builder<R: Wait>(&self, rt: &R) -> PortFactoryClient<QB, K>
         ensures { result ≡ record { settings = client_defaults; preallocation = tt } }
     {
-        self.inside.lock(rt).hub.ports.client_builder()
+        self.inside.lock(rt).ports.client_builder()
     }
 
     /// Creates a client as a factory says. After `PortFactoryClient::create` of `rr_ports`.

@@ -1,4 +1,7 @@
 //! Why a call of a shared hub was refused.
+ghost use Rattle.rr_shared_ports.specs.Calls.{IsAnswer};
+
+use rr_ports::{ReceiveError, RequestSendError, SendError};
 use std::fmt::Display;
 use thiserror::Error;
 
@@ -126,4 +129,139 @@ pub enum WaitError<E: Display> {
     /// The time is over, or the clock can't be read, and there is nothing to receive, or no room to send.
     #[error("the time is over")]
     TimedOut,
+}
+
+/// Why a request was not finished. Not in iceoryx2.
+///
+/// # Examples
+///
+/// Finishes a request, or tells why that can't be (`rr_test_threads::tests::scenes`):
+///
+/// ```
+/// use rr_ports::Refused;
+/// use rr_shared_ports::typed::{PendingResponse, Seat, SharedPorts};
+/// use rr_shared_ports::{FinishError, Naming};
+/// use std::sync::Wait;
+///
+/// type Shared<N> = SharedPorts<N, u64, (), u64, ()>;
+///
+/// type Caller<N> = Seat<N, u64, (), u64, ()>;
+///
+/// fn unfinished<N: Naming, R: Wait>(
+///     rt: &R,
+///     hub: &Shared<N>,
+///     seat: &mut Caller<N>,
+///     pending: PendingResponse<N, u64>,
+/// ) -> Option<FinishError> {
+///     match pending.finish(hub, rt, seat) {
+///         Ok(_answer) => None,
+///         Err(Refused { message, error }) => {
+///             message.release(hub, rt, seat);
+///             Some(error)
+///         }
+///     }
+/// }
+/// ```
+#[derive(Clone, Copy, Debug, PartialEq, Eq, Hash, Error)]
+pub enum FinishError {
+    /// No response is queued, and a connected server may answer yet.
+    #[error("no response is queued")]
+    NoResponse,
+    /// No response is queued, and no connected server may answer any more.
+    #[error("no server may answer any more")]
+    NoServer,
+    /// The receive was refused.
+    #[error("{0}")]
+    Receive(ReceiveError),
+}
+
+/// Why a question got no answer. Not in iceoryx2.
+///
+/// # Examples
+///
+/// Asks for a number, and waits for the answer (`rr_example_jobs::clients`):
+///
+/// ```
+/// use rr_shared_ports::typed::{Client, Seat, SharedPorts};
+/// use rr_shared_ports::{AskError, Naming};
+/// use std::sync::Wait;
+///
+/// type Hub<N> = SharedPorts<N, u64, (), u64, ()>;
+///
+/// type Caller<N> = Seat<N, u64, (), u64, ()>;
+///
+/// fn ask<N: Naming, R: Wait>(
+///     rt: &R,
+///     hub: &Hub<N>,
+///     seat: &mut Caller<N>,
+///     client: &Client<N, u64>,
+///     asked: u64,
+/// ) -> u64 {
+///     match client.call(hub, rt, seat, asked) {
+///         Ok(answer) => answer,
+///         Err(AskError::Send(_refused)) => 0,
+///         Err(AskError::Finish(_over)) => 0,
+///     }
+/// }
+/// ```
+#[derive(Clone, Copy, Debug, PartialEq, Eq, Hash, Error)]
+pub enum AskError {
+    /// It was not sent.
+    #[error("{0}")]
+    Send(CallError<RequestSendError>),
+    /// It was sent, and no answer came.
+    #[error("{0}")]
+    Finish(WaitError<FinishError>),
+}
+
+/// Why no question was answered. Not in iceoryx2.
+///
+/// # Examples
+///
+/// Answers each request with its double, until the hub is closed (`rr_example_jobs::clients`):
+///
+/// ```
+/// use rr_shared_ports::typed::{Seat, Server, SharedPorts};
+/// use rr_shared_ports::{Naming, ServeError};
+/// use std::sync::Wait;
+///
+/// type Hub<N> = SharedPorts<N, u64, (), u64, ()>;
+///
+/// type Caller<N> = Seat<N, u64, (), u64, ()>;
+///
+/// fn serve<N: Naming, R: Wait>(
+///     rt: &R,
+///     hub: &Hub<N>,
+///     seat: &mut Caller<N>,
+///     server: &Server<N, u64>,
+/// ) -> u64 {
+///     let mut answers = 0u64;
+///     for _ in rt.forever() {
+///         match server.serve(hub, rt, seat, |asked| asked.wrapping_mul(2)) {
+///             Ok(()) => answers = answers.wrapping_add(1),
+///             Err(ServeError::Send(_refused)) => {}
+///             Err(ServeError::Receive(_over)) => return answers,
+///         }
+///     }
+///     unreachable!()
+/// }
+/// ```
+#[derive(Clone, Copy, Debug, PartialEq, Eq, Hash, Error)]
+pub enum ServeError {
+    /// None was received.
+    #[error("{0}")]
+    Receive(WaitError<CallError<ReceiveError>>),
+    /// One was received, and its answer was not sent.
+    #[error("{0}")]
+    Send(CallError<SendError>),
+}
+
+/// Returns what a call of a port answered.
+pub(crate) fn told<U, E: Display>(answer: Result<U, E>) -> Result<U, CallError<E>>
+    ensures { IsAnswer answer result }
+{
+    match answer {
+        Ok(answer) => Ok(answer),
+        Err(error) => Err(CallError::Port(error)),
+    }
 }

@@ -3,14 +3,12 @@
 #![tactic(auto)]
 
 mod active_request;
-mod calls;
 mod claimed;
 mod claims;
 mod client;
 mod deadline;
 mod desk;
 mod error;
-mod kept_hub;
 mod legal;
 mod lend;
 mod locked;
@@ -33,7 +31,7 @@ mod waking;
 mod writing;
 
 pub use claimed::Claimed;
-pub use error::{CallError, WaitError, WriteError};
+pub use error::{AskError, CallError, FinishError, ServeError, WaitError, WriteError};
 pub use naming::Naming;
 pub use opened::Opened;
 pub use ports::Ports;

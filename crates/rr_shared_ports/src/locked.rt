@@ -5,7 +5,12 @@ ghost use Rattle.rr_shared_ports.specs.Calls.{CanTake, IsMade, IsReceived, IsSpe
 ghost use Rattle.rr_shared_ports.specs.Turns.{MakesCall};
 
 use crate::claimed::Claimed;
-use crate::error::CallError;
+use crate::claims::{
+    exchanged, exchanged_both, exchanged_if, granted_if, granted_some, kept, renewed, retired,
+    retired_if,
+};
+use crate::desk::noted;
+use crate::error::{CallError, told};
 use crate::naming::Naming;
 use crate::ports::Ports;
 use crate::seat::Seat;
@@ -28,7 +33,12 @@ impl<N: Naming, H: Ports> SharedPorts<N, H> {
         requires makes { (state : H) → (made : Result B E) (after : H) → FnOnceReturnsAtMut F.FnOnce f state made after → MakesFree B.number B.kind H.steps H.is_free H.names state made after }
         ensures { MakesCall (H.empty N.limits N.node_id) (λ before after. (made : Result B E) × FnOnceReturnsAtMut F.FnOnce f before made after × IsMade B.number made result) seat.old seat.new }
     {
-        self.inside.lock(rt).created(&self.log, seat, f)
+        let mut inside = self.inside.lock(rt);
+        let desk = &mut *inside;
+        let answer = f(&mut desk.ports);
+        let answer = granted_if(&desk.ports, &mut desk.keeper, answer);
+        noted(&desk.ports, &self.log, &mut desk.pen, seat);
+        answer
     }
 
     /// Looks at a hub.
@@ -43,7 +53,12 @@ impl<N: Naming, H: Ports> SharedPorts<N, H> {
         requires callable { (state : H) → H.names state claimed.now A.kind → FnOnceTakesAt F.FnOnce f state }
         ensures { MakesCall (H.empty N.limits N.node_id) (λ before after. (after ≡ before) × (FnOnceReturnsAt F.FnOnce f before result)) seat.old seat.new }
     {
-        self.inside.lock(rt).looked(&self.log, seat, claimed, f)
+        let mut inside = self.inside.lock(rt);
+        let desk = &mut *inside;
+        desk.keeper.look(&claimed.claim);
+        let answer = f(&desk.ports);
+        noted(&desk.ports, &self.log, &mut desk.pen, seat);
+        answer
     }
 
     /// Changes a hub by a call that ends nothing.
@@ -60,9 +75,15 @@ impl<N: Naming, H: Ports> SharedPorts<N, H> {
         requires keeps { (state : H) → (returned : U) (after : H) → FnOnceReturnsAtMut F.FnOnce f state returned after → H.steps [] state after }
         ensures { MakesCall (H.empty N.limits N.node_id) (λ before after. FnOnceReturnsAtMut F.FnOnce f before result after) seat.old seat.new }
     {
-        let returned = self.inside.lock(rt).changed(&self.log, seat, claimed, f);
+        let mut inside = self.inside.lock(rt);
+        let desk = &mut *inside;
+        desk.keeper.look(&claimed.claim);
+        let answer = f(&mut desk.ports);
+        kept(&desk.ports, &mut desk.keeper);
+        noted(&desk.ports, &self.log, &mut desk.pen, seat);
+        drop(inside);
         self.waking.wake(changes);
-        returned
+        answer
     }
 
     /// Makes a call that needs a number and makes nothing that stays, if a number is left.
@@ -79,9 +100,19 @@ impl<N: Naming, H: Ports> SharedPorts<N, H> {
         requires keeps { (state : H) → (returned : Result U E) (after : H) → FnOnceReturnsAtMut F.FnOnce f state returned after → H.steps [] state after }
         ensures { MakesCall (H.empty N.limits N.node_id) (Tells H.numbers (λ answer before after. FnOnceReturnsAtMut F.FnOnce f before answer after) result) seat.old seat.new }
     {
-        let returned = self.inside.lock(rt).numbered(&self.log, seat, claimed, f);
+        let mut inside = self.inside.lock(rt);
+        let desk = &mut *inside;
+        if desk.ports.numbers_left() == 0 {
+            noted(&desk.ports, &self.log, &mut desk.pen, seat);
+            return Err(CallError::NumbersExhausted);
+        }
+        desk.keeper.look(&claimed.claim);
+        let answer = f(&mut desk.ports);
+        kept(&desk.ports, &mut desk.keeper);
+        noted(&desk.ports, &self.log, &mut desk.pen, seat);
+        drop(inside);
         self.waking.wake(changes);
-        returned
+        told(answer)
     }
 
     /// Makes a handle, if a number is left, and claims it.
@@ -104,9 +135,19 @@ impl<N: Naming, H: Ports> SharedPorts<N, H> {
         requires makes { (state : H) → (made : Result B E) (after : H) → FnOnceReturnsAtMut F.FnOnce f state made after → MakesFree B.number B.kind H.steps H.is_free H.names state made after }
         ensures { MakesCall (H.empty N.limits N.node_id) (Tells H.numbers (λ answer before after. (made : Result B E) × FnOnceReturnsAtMut F.FnOnce f before made after × IsMade B.number made answer) result) seat.old seat.new }
     {
-        let returned = self.inside.lock(rt).made(&self.log, seat, claimed, f);
+        let mut inside = self.inside.lock(rt);
+        let desk = &mut *inside;
+        if desk.ports.numbers_left() == 0 {
+            noted(&desk.ports, &self.log, &mut desk.pen, seat);
+            return Err(CallError::NumbersExhausted);
+        }
+        desk.keeper.look(&claimed.claim);
+        let answer = f(&mut desk.ports);
+        let answer = granted_if(&desk.ports, &mut desk.keeper, answer);
+        noted(&desk.ports, &self.log, &mut desk.pen, seat);
+        drop(inside);
         self.waking.wake(changes);
-        returned
+        told(answer)
     }
 
     /// Receives a handle, if one comes, and claims it.
@@ -129,9 +170,15 @@ impl<N: Naming, H: Ports> SharedPorts<N, H> {
         requires receives { (state : H) → (received : Result (Option B) E) (after : H) → FnOnceReturnsAtMut F.FnOnce f state received after → ReceivesFree B.number B.kind H.steps H.is_free H.names state received after }
         ensures { MakesCall (H.empty N.limits N.node_id) (λ before after. (received : Result (Option B) E) × FnOnceReturnsAtMut F.FnOnce f before received after × IsReceived B.number received result) seat.old seat.new }
     {
-        let returned = self.inside.lock(rt).received(&self.log, seat, claimed, f);
+        let mut inside = self.inside.lock(rt);
+        let desk = &mut *inside;
+        desk.keeper.look(&claimed.claim);
+        let answer = f(&mut desk.ports);
+        let answer = granted_some(&desk.ports, &mut desk.keeper, answer);
+        noted(&desk.ports, &self.log, &mut desk.pen, seat);
+        drop(inside);
         self.waking.wake(changes);
-        returned
+        answer
     }
 
     /// Makes a handle another one, or ends it, and gives its claim for one on what it is then.
@@ -148,9 +195,20 @@ impl<N: Naming, H: Ports> SharedPorts<N, H> {
         requires exchanges { (state : H) → (made : Result B E) (after : H) → Takes F.FnOnce A.number f claimed state made after → TurnsFree B.number B.kind H.steps H.names claimed state made after }
         ensures { MakesCall (H.empty N.limits N.node_id) (λ before after. (made : Result B E) × Takes F.FnOnce A.number f claimed before made after × IsMade B.number made result) seat.old seat.new }
     {
-        let returned = self.inside.lock(rt).turned(&self.log, seat, claimed, f);
+        let mut inside = self.inside.lock(rt);
+        let desk = &mut *inside;
+        let Claimed {
+            handle,
+            claim,
+            of: _,
+        } = claimed;
+        desk.keeper.look(&claim);
+        let answer = f(handle, &mut desk.ports);
+        let answer = exchanged_if(&desk.ports, &mut desk.keeper, claim, answer);
+        noted(&desk.ports, &self.log, &mut desk.pen, seat);
+        drop(inside);
         self.waking.wake(changes);
-        returned
+        answer
     }
 
     /// Ends a handle, and gives its claim back.
@@ -167,9 +225,20 @@ impl<N: Naming, H: Ports> SharedPorts<N, H> {
         requires keeps { (state : H) → (returned : U) (after : H) → Takes F.FnOnce A.number f claimed state returned after → H.steps (claimed ∷ []) state after }
         ensures { MakesCall (H.empty N.limits N.node_id) (λ before after. Takes F.FnOnce A.number f claimed before result after) seat.old seat.new }
     {
-        let returned = self.inside.lock(rt).ended(&self.log, seat, claimed, f);
+        let mut inside = self.inside.lock(rt);
+        let desk = &mut *inside;
+        let Claimed {
+            handle,
+            claim,
+            of: _,
+        } = claimed;
+        desk.keeper.look(&claim);
+        let answer = f(handle, &mut desk.ports);
+        retired(&desk.ports, &mut desk.keeper, claim);
+        noted(&desk.ports, &self.log, &mut desk.pen, seat);
+        drop(inside);
         self.waking.wake(changes);
-        returned
+        answer
     }
 
     /// Makes a handle another one, and gives its claim for one on what it is then.
@@ -185,7 +254,18 @@ impl<N: Naming, H: Ports> SharedPorts<N, H> {
         requires exchanges { (state : H) → (made : B) (after : H) → Takes F.FnOnce A.number f claimed state made after → H.steps (claimed ∷ []) state after × (B.number made ≡ claimed) × H.names after (B.number made) B.kind }
         ensures { MakesCall (H.empty N.limits N.node_id) (λ before after. (made : B) × Takes F.FnOnce A.number f claimed before made after × (result ≡ B.number made)) seat.old seat.new }
     {
-        self.inside.lock(rt).became(&self.log, seat, claimed, f)
+        let mut inside = self.inside.lock(rt);
+        let desk = &mut *inside;
+        let Claimed {
+            handle,
+            claim,
+            of: _,
+        } = claimed;
+        desk.keeper.look(&claim);
+        let answer = f(handle, &mut desk.ports);
+        let answer = exchanged(&desk.ports, &mut desk.keeper, claim, answer);
+        noted(&desk.ports, &self.log, &mut desk.pen, seat);
+        answer
     }
 
     /// Receives a handle, if a number is left and one comes, and claims it.
@@ -208,9 +288,19 @@ impl<N: Naming, H: Ports> SharedPorts<N, H> {
         requires receives { (state : H) → (received : Result (Option B) E) (after : H) → FnOnceReturnsAtMut F.FnOnce f state received after → ReceivesFree B.number B.kind H.steps H.is_free H.names state received after }
         ensures { MakesCall (H.empty N.limits N.node_id) (Tells H.numbers (λ answer before after. (received : Result (Option B) E) × FnOnceReturnsAtMut F.FnOnce f before received after × IsReceived B.number received answer) result) seat.old seat.new }
     {
-        let returned = self.inside.lock(rt).heard(&self.log, seat, claimed, f);
+        let mut inside = self.inside.lock(rt);
+        let desk = &mut *inside;
+        if desk.ports.numbers_left() == 0 {
+            noted(&desk.ports, &self.log, &mut desk.pen, seat);
+            return Err(CallError::NumbersExhausted);
+        }
+        desk.keeper.look(&claimed.claim);
+        let answer = f(&mut desk.ports);
+        let answer = granted_some(&desk.ports, &mut desk.keeper, answer);
+        noted(&desk.ports, &self.log, &mut desk.pen, seat);
+        drop(inside);
         self.waking.wake(changes);
-        returned
+        told(answer)
     }
 
     /// Changes what a handle names, which is of the same kind after it.
@@ -226,7 +316,13 @@ impl<N: Naming, H: Ports> SharedPorts<N, H> {
         requires rewrites { (state : H) → (returned : U) (after : H) → FnOnceReturnsAtMut F.FnOnce f state returned after → H.steps (claimed.now ∷ []) state after × H.names after claimed.now A.kind }
         ensures { MakesCall (H.empty N.limits N.node_id) (λ before after. FnOnceReturnsAtMut F.FnOnce f before result after) seat.old seat.new }
     {
-        self.inside.lock(rt).rewritten(&self.log, seat, claimed, f)
+        let mut inside = self.inside.lock(rt);
+        let desk = &mut *inside;
+        desk.keeper.look(&claimed.claim);
+        let answer = f(&mut desk.ports);
+        renewed(&desk.ports, &mut desk.keeper, &claimed.claim);
+        noted(&desk.ports, &self.log, &mut desk.pen, seat);
+        answer
     }
 
     /// Makes a handle another one, or gives it back, and gives its claim for one on what it is then.
@@ -249,11 +345,22 @@ impl<N: Naming, H: Ports> SharedPorts<N, H> {
         requires tries { (state : H) → (made : Result B (Refused A E)) (after : H) → Takes F.FnOnce A.number f claimed state made after → TriesFree A.number B.number A.kind B.kind H.steps H.names claimed state made after }
         ensures { MakesCall (H.empty N.limits N.node_id) (λ before after. (made : Result B (Refused A E)) × Takes F.FnOnce A.number f claimed before made after × IsTried A.number B.number made result) seat.old seat.new }
     {
-        let returned = self.inside.lock(rt).tried(&self.log, seat, claimed, f);
-        if returned.is_ok() {
+        let mut inside = self.inside.lock(rt);
+        let desk = &mut *inside;
+        let Claimed {
+            handle,
+            claim,
+            of: _,
+        } = claimed;
+        desk.keeper.look(&claim);
+        let answer = f(handle, &mut desk.ports);
+        let answer = exchanged_both(&desk.ports, &mut desk.keeper, claim, answer);
+        noted(&desk.ports, &self.log, &mut desk.pen, seat);
+        drop(inside);
+        if answer.is_ok() {
             self.waking.wake(changes);
         }
-        returned
+        answer
     }
 
     /// Ends a handle, and gives its claim back, or gives both back.
@@ -270,10 +377,21 @@ impl<N: Naming, H: Ports> SharedPorts<N, H> {
         requires spends { (state : H) → (spent : Result U (Refused A E)) (after : H) → Takes F.FnOnce A.number f claimed state spent after → SpendsFree A.number A.kind H.steps H.names claimed state spent after }
         ensures { MakesCall (H.empty N.limits N.node_id) (λ before after. (spent : Result U (Refused A E)) × Takes F.FnOnce A.number f claimed before spent after × IsSpent A.number spent result) seat.old seat.new }
     {
-        let returned = self.inside.lock(rt).spent(&self.log, seat, claimed, f);
-        if returned.is_ok() {
+        let mut inside = self.inside.lock(rt);
+        let desk = &mut *inside;
+        let Claimed {
+            handle,
+            claim,
+            of: _,
+        } = claimed;
+        desk.keeper.look(&claim);
+        let answer = f(handle, &mut desk.ports);
+        let answer = retired_if(&desk.ports, &mut desk.keeper, claim, answer);
+        noted(&desk.ports, &self.log, &mut desk.pen, seat);
+        drop(inside);
+        if answer.is_ok() {
             self.waking.wake(changes);
         }
-        returned
+        answer
     }
 }

@@ -11,8 +11,8 @@ use std::marker::Brand;
 /// Is generic in the name of its hub, which its caller picks (`rr_example_jobs::clients`):
 ///
 /// ```
-/// use rr_shared_ports::Naming;
 /// use rr_shared_ports::typed::{Seat, Server, SharedPorts};
+/// use rr_shared_ports::{Naming, ServeError};
 /// use std::sync::Wait;
 ///
 /// type Hub<N> = SharedPorts<N, u64, (), u64, ()>;
@@ -27,16 +27,11 @@ use std::marker::Brand;
 /// ) -> u64 {
 ///     let mut answers = 0u64;
 ///     for _ in rt.forever() {
-///         let Ok(active) = server.receive_wait(hub, rt, seat) else {
-///             return answers;
-///         };
-///         if active
-///             .respond_with(hub, rt, seat, |asked| asked.wrapping_mul(2))
-///             .is_ok()
-///         {
-///             answers = answers.wrapping_add(1);
+///         match server.serve(hub, rt, seat, |asked| asked.wrapping_mul(2)) {
+///             Ok(()) => answers = answers.wrapping_add(1),
+///             Err(ServeError::Send(_refused)) => {}
+///             Err(ServeError::Receive(_over)) => return answers,
 ///         }
-///         active.release(hub, rt, seat);
 ///     }
 ///     unreachable!()
 /// }

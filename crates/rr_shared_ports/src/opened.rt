@@ -4,7 +4,6 @@ ghost use Rattle.rr_shared_ports.specs.Turns.{OpensHub};
 
 use crate::claims::HubKeeper;
 use crate::desk::Desk;
-use crate::kept_hub::KeptHub;
 use crate::naming::Naming;
 use crate::ports::Ports;
 use crate::shared_ports::SharedPorts;
@@ -110,15 +109,16 @@ impl<H: Ports> Opened<H> {
             log,
             pen,
         } = self;
-        let hub = KeptHub {
+        let desk = Desk {
             ports: hub,
             keeper,
+            pen,
             of: PhantomData,
         };
         SharedPorts {
             limits,
             node_id,
-            inside: Mutex::new(Desk { hub, pen }),
+            inside: Mutex::new(desk),
             log,
             waking: Waking::new(),
         }

@@ -45,23 +45,7 @@ impl<N: Naming, QB: Body> Claimed<N, RequestMut<QB>> {
         ensures seen { IsPrefix seat.old.1 seat.new.1 }
         ensures call { WaitsToSend (empty_hub N.limits N.node_id) (λ sent before after. TriesRequest K.action before self sent after) (request_send.SendError send.UnableToDeliver) result seat.new }
     {
-        hub.waking.room.enter();
-        let sent = self.send_again(hub, rt, seat);
-        hub.waking.room.leave();
-        sent
-    }
-
-    /// Sends again and again, and sleeps in between.
-    fn send_again<R: Wait, QH: Default + Drop, PB: Body, PH: Default + Drop, K: BackpressureFn>(
-        self,
-        hub: &SharedPorts<N, Hub<QB, QH, PB, PH, K>>,
-        rt: &R,
-        seat: &mut Seat<N, Hub<QB, QH, PB, PH, K>>,
-    ) -> Posed<N, QB>
-        ensures same { seat.new.0 ≡ seat.old.0 }
-        ensures seen { IsPrefix seat.old.1 seat.new.1 }
-        ensures call { WaitsToSend (empty_hub N.limits N.node_id) (λ sent before after. TriesRequest K.action before self sent after) (request_send.SendError send.UnableToDeliver) result seat.new }
-    {
+        let _waiter = hub.waking.room.enter();
         let mut request = self;
         for _ in rt.forever() {
             let turns = hub.waking.room.turns();
@@ -107,23 +91,7 @@ impl<N: Naming, PB: Body> Claimed<N, ResponseMut<PB>> {
         ensures seen { IsPrefix seat.old.1 seat.new.1 }
         ensures call { WaitsToSend (empty_hub N.limits N.node_id) (λ sent before after. TriesResponse K.action before self sent after) send.UnableToDeliver result seat.new }
     {
-        hub.waking.room.enter();
-        let sent = self.send_again(hub, rt, seat);
-        hub.waking.room.leave();
-        sent
-    }
-
-    /// Sends again and again, and sleeps in between.
-    fn send_again<R: Wait, QB: Body, QH: Default + Drop, PH: Default + Drop, K: BackpressureFn>(
-        self,
-        hub: &SharedPorts<N, Hub<QB, QH, PB, PH, K>>,
-        rt: &R,
-        seat: &mut Seat<N, Hub<QB, QH, PB, PH, K>>,
-    ) -> Offered<N, PB>
-        ensures same { seat.new.0 ≡ seat.old.0 }
-        ensures seen { IsPrefix seat.old.1 seat.new.1 }
-        ensures call { WaitsToSend (empty_hub N.limits N.node_id) (λ sent before after. TriesResponse K.action before self sent after) send.UnableToDeliver result seat.new }
-    {
+        let _waiter = hub.waking.room.enter();
         let mut response = self;
         for _ in rt.forever() {
             let turns = hub.waking.room.turns();

@@ -17,7 +17,7 @@ use crate::shared_ports::SharedPorts;
 use crate::waking::Change;
 use rr_ports::{
     ActiveRequest, BackpressureFn, Body, ConnectionFailure, Hub, PortFactoryServer, Preallocation,
-    ReceiveError, Server, ServerCreateError, UniqueServerId,
+    ReceiveError, Server, ServerCreateError, UniqueServerId, WriteBody,
 };
 use std::sync::Wait;
 
@@ -25,7 +25,7 @@ impl<
     N: Naming,
     QB: Body,
     QH: Default + Drop,
-    PB: Body,
+    PB: WriteBody,
     PH: Default + Drop,
     K: BackpressureFn,
 > SharedPorts<N, Hub<QB, QH, PB, PH, K>> {
@@ -33,7 +33,7 @@ impl<
     pub fn server_builder<R: Wait>(&self, rt: &R) -> PortFactoryServer<PB, K>
         ensures { result ≡ record { settings = server_defaults; preallocation = tt } }
     {
-        self.inside.lock(rt).hub.ports.server_builder()
+        self.inside.lock(rt).ports.server_builder()
     }
 
     /// Creates a server as a factory says. After `PortFactoryServer::create` of `rr_ports`.

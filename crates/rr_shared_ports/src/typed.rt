@@ -1,6 +1,7 @@
 //! The typed family, in which each message has one element.
 mod active_request;
 mod client;
+mod exchange;
 mod fold;
 mod pending_response;
 mod request_mut_uninit;

@@ -84,7 +84,7 @@ impl<N: Naming, PB: Body> Claimed<N, Server<PB>> {
         self.hear(hub, rt, seat, &Timeout::after(rt, most))
     }
 
-    /// Receives a request, among those who wait for one.
+    /// Receives a request, again and again, and sleeps in between.
     fn hear<
         R: Wait,
         QB: Body,
@@ -103,32 +103,8 @@ impl<N: Naming, PB: Body> Claimed<N, Server<PB>> {
         ensures seen { IsPrefix seat.old.1 seat.new.1 }
         ensures call { Waits (empty_hub N.limits N.node_id) (Answered numbers_left (λ received before after. ReceivesRequest before self.now received after)) None Some result seat.new }
     {
-        hub.waking.requests.enter();
-        let received = self.hear_again(hub, rt, seat, deadline);
-        hub.waking.requests.leave();
-        received
-    }
-
-    /// Receives again and again, and sleeps in between.
-    fn hear_again<
-        R: Wait,
-        QB: Body,
-        QH: Default + Drop,
-        PH: Default + Drop,
-        K: BackpressureFn,
-        D: Deadline<R>,
-    >(
-        &self,
-        hub: &SharedPorts<N, Hub<QB, QH, PB, PH, K>>,
-        rt: &R,
-        seat: &mut Seat<N, Hub<QB, QH, PB, PH, K>>,
-        deadline: &D,
-    ) -> Heard<N, QB>
-        ensures same { seat.new.0 ≡ seat.old.0 }
-        ensures seen { IsPrefix seat.old.1 seat.new.1 }
-        ensures call { Waits (empty_hub N.limits N.node_id) (Answered numbers_left (λ received before after. ReceivesRequest before self.now received after)) None Some result seat.new }
-    {
         let sleepers = &hub.waking.requests;
+        let _waiter = sleepers.enter();
         for _ in rt.forever() {
             let turns = sleepers.turns();
             let pause = hub.waking.pause(rt, deadline);
@@ -204,7 +180,7 @@ impl<N: Naming, QB: Body> Claimed<N, PendingResponse<QB>> {
         self.await_response(hub, rt, seat, &Timeout::after(rt, most))
     }
 
-    /// Receives a response, among those who wait for one.
+    /// Receives a response, again and again, and sleeps in between.
     fn await_response<
         R: Wait,
         QH: Default + Drop,
@@ -224,33 +200,8 @@ impl<N: Naming, QB: Body> Claimed<N, PendingResponse<QB>> {
         ensures call { Waits (empty_hub N.limits N.node_id) (λ received before after. ReceivesResponse before self.now received after) None (λ received. received) result seat.new }
         ensures ended { result ≡ Ok None → EndsLater (empty_hub N.limits N.node_id) (FindsNoServer self.now) seat.new }
     {
-        hub.waking.responses.enter();
-        let received = self.await_again(hub, rt, seat, deadline);
-        hub.waking.responses.leave();
-        received
-    }
-
-    /// Receives again and again, and sleeps in between.
-    fn await_again<
-        R: Wait,
-        QH: Default + Drop,
-        PB: Body,
-        PH: Default + Drop,
-        K: BackpressureFn,
-        D: Deadline<R>,
-    >(
-        &self,
-        hub: &SharedPorts<N, Hub<QB, QH, PB, PH, K>>,
-        rt: &R,
-        seat: &mut Seat<N, Hub<QB, QH, PB, PH, K>>,
-        deadline: &D,
-    ) -> Answer<N, PB>
-        ensures same { seat.new.0 ≡ seat.old.0 }
-        ensures seen { IsPrefix seat.old.1 seat.new.1 }
-        ensures call { Waits (empty_hub N.limits N.node_id) (λ received before after. ReceivesResponse before self.now received after) None (λ received. received) result seat.new }
-        ensures ended { result ≡ Ok None → EndsLater (empty_hub N.limits N.node_id) (FindsNoServer self.now) seat.new }
-    {
         let sleepers = &hub.waking.responses;
+        let _waiter = sleepers.enter();
         for _ in rt.forever() {
             let turns = sleepers.turns();
             let pause = hub.waking.pause(rt, deadline);

@@ -123,14 +123,10 @@ impl Sleepers {
         }
     }
 
-    /// Registers a waiter.
-    pub(crate) fn enter(&self) {
+    /// Registers a waiter, until what this returns is dropped.
+    pub(crate) fn enter(&self) -> Waiter<'_> {
         self.inside.fetch_add(1, Ordering::SeqCst);
-    }
-
-    /// Unregisters a waiter.
-    pub(crate) fn leave(&self) {
-        self.inside.fetch_sub(1, Ordering::SeqCst);
+        Waiter { among: self }
     }
 
     /// Returns how often the waiters were woken.
@@ -152,7 +148,7 @@ impl Sleepers {
     /// Sleeps until `turns` changes or `most` has passed. A sole waiter polls a few times first; several of them would keep the threads
     /// that they wait for from the processors.
     pub(crate) fn wait<R: Wait>(&self, rt: &R, turns: u64, most: Duration) {
-        if self.inside.load(Ordering::SeqCst) == 1 && self.were_woken(turns) {
+        if self.were_woken(turns) {
             return;
         }
         let notifications = self.queued.notifications();
@@ -162,8 +158,11 @@ impl Sleepers {
         }
     }
 
-    /// Polls a few times whether `turns` has changed.
-    fn were_woken(&self, turns: u64) -> bool {
+    /// Polls a few times whether `turns` has changed, if this is the sole waiter.
+    pub(crate) fn were_woken(&self, turns: u64) -> bool {
+        if self.inside.load(Ordering::SeqCst) != 1 {
+            return false;
+        }
         for _ in 0..LOOKS {
             if self.turns() != turns {
                 return true;
@@ -171,5 +170,17 @@ impl Sleepers {
             spin_loop();
         }
         false
+    }
+}
+
+/// One of the threads that wait.
+pub(crate) struct Waiter<'a> {
+    among: &'a Sleepers,
+}
+
+impl<'a> Drop for Waiter<'a> {
+    fn drop(self) {
+        let Self { among } = self;
+        among.inside.fetch_sub(1, Ordering::SeqCst);
     }
 }

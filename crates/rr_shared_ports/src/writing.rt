@@ -15,11 +15,11 @@ use crate::seat::Seat;
 use crate::shared_ports::SharedPorts;
 use rr_ports::{
     BackpressureFn, Body, Hub, Refused, RequestMut, RequestMutUninit, ResponseMut,
-    ResponseMutUninit,
+    ResponseMutUninit, WriteBody,
 };
 use std::sync::Wait;
 
-impl<N: Naming, QB: Body> Claimed<N, RequestMutUninit<QB>> {
+impl<N: Naming, QB: WriteBody> Claimed<N, RequestMutUninit<QB>> {
     /// Makes a request whose payload is complete one that can be sent. After `RequestMutUninit::assume_init` of `rr_ports`, whose
     /// condition this call tests.
     ///
@@ -65,7 +65,7 @@ impl<N: Naming, QB: Body> Claimed<N, RequestMutUninit<QB>> {
     }
 }
 
-impl<N: Naming, PB: Body> Claimed<N, ResponseMutUninit<PB>> {
+impl<N: Naming, PB: WriteBody> Claimed<N, ResponseMutUninit<PB>> {
     /// Makes a response whose payload is complete one that can be sent. After `ResponseMutUninit::assume_init` of `rr_ports`, whose
     /// condition this call tests.
     ///

@@ -5,14 +5,12 @@ ghost use Rattle.std.specs.Borrow.{sem, Lends};
 use crate::family::Family;
 use std::alloc::{AllocError, Global};
 
-/// A list of elements with an asked length, and room for a number of elements.
+/// A list of elements with an asked length, and room for a number of elements, which no call lowers.
 ///
-/// Only `new`, and `prepare` above the room, take memory. No call lowers the room. Not in iceoryx2: it stands for a payload that is
-/// being written, which iceoryx2 hands out as `MaybeUninit`.
+/// Not in iceoryx2: it stands for a payload that is being written, which iceoryx2 hands out as `MaybeUninit`.
 pub trait Body: Drop {
-    ghost use Rattle.std.specs.Prelude.{ℕ, List, slice_set};
+    ghost use Rattle.std.specs.Prelude.{ℕ, List};
     ghost use Rattle.rr_slots.specs.declared.family.Family.{Family};
-    ghost use Rattle.rr_slots.specs.Families.{takes_len};
 
     /// An element.
     type Item: Drop;
@@ -29,41 +27,9 @@ pub trait Body: Drop {
     /// The elements written so far.
     ghost elements: { Self → List Self.Item };
 
-    /// The body after the element at a place became another.
-    ghost with_element_at: { Self → ℕ → Self.Item → Self };
-
-    /// The family of every body of this type.
-    fn family() -> Family
-        ensures { result ≡ family };
-
-    /// An empty body that asks for `len` elements and has room for them. `len` is a length that the family takes. `Err` if
-    /// memory was refused.
-    fn new(alloc: Global, len: usize) -> Result<Self, AllocError>
-        requires { IsTrue (takes_len family len) }
-        ensures asked { IfOk result (λ body. asked_len body ≡ len) }
-        ensures empty { IfOk result (λ body. elements body ≡ []) }
-        ensures room { IfOk result (λ body. len ≤ room body) };
-
-    /// Empties the body and asks for `len` elements, a length that the family takes.
-    ///
-    /// `Err` if memory for more room was refused; the body is then as before.
-    fn prepare(&mut self, len: usize) -> Result<(), AllocError>
-        requires { IsTrue (takes_len family len) }
-        ensures asked { OnOk result (asked_len self.new ≡ len) }
-        ensures empty { OnOk result (elements self.new ≡ []) }
-        ensures err { OnErr result (self.new ≡ self.old) }
-        ensures grown { OnOk result (len ≤ room self.new) }
-        ensures room { room self.old ≤ room self.new }
-
-        // Within the room no memory is taken.
-        ensures within_room { len ≤ room self.old → IsOk result };
-
-    /// Appends an element to a body that is not complete.
-    fn push(&mut self, item: Self::Item)
-        requires { length (elements self.old) < asked_len self.old }
-        ensures elements { elements self.new ≡ elements self.old ++ item ∷ [] }
-        ensures asked { asked_len self.new ≡ asked_len self.old }
-        ensures room { room self.new ≡ room self.old };
+    /// How many elements are asked for.
+    fn asked_len(&self) -> usize
+        ensures { result ≡ asked_len self.now };
 
     /// Drops the elements. As many are asked for as before.
     fn clear(&mut self)
@@ -71,45 +37,83 @@ pub trait Body: Drop {
         ensures asked { asked_len self.new ≡ asked_len self.old }
         ensures room { room self.new ≡ room self.old };
 
-    /// How many elements are asked for.
-    fn asked_len(&self) -> usize
-        ensures { result ≡ asked_len self.now };
-
-    /// Whether as many elements are there as are asked for.
-    fn is_complete(&self) -> bool
-        ensures complete { IsTrue result ↔ (length (elements self.now) ≡ asked_len self.now) }
-        ensures open { ¬ IsTrue result → length (elements self.now) < asked_len self.now };
-
-    /// How many elements are there.
-    fn len(&self) -> usize
-        ensures { result ≡ length (elements self.now) };
-
-    /// The element at a place.
-    fn get(&self, index: usize) -> &Self::Item
-        requires { index < length (elements self.now) }
-        ensures { slice_get (elements self.now) index ≡ Some result.now };
-
-    /// Lends the element at a place for writing.
-    fn get_mut(&mut self, index: usize) -> &mut Self::Item
-        requires { index < length (elements self.old) }
-        ensures* lends { sem 𝓛 (Lends Self.row Self.Item.row self.entry result (with_element_at self.old index)) }
-        ensures value { slice_get (elements self.old) index ≡ Some result.now };
-
-    /// A write at a place replaces that element, and no other.
-    ghost sets_one_element: { (body : Self) (index : ℕ) (item : Self.Item) → elements (with_element_at body index item) ≡ slice_set (elements body) index item };
-
-    /// It asks for as many elements as before.
-    ghost keeps_asked_len: { (body : Self) (index : ℕ) (item : Self.Item) → asked_len (with_element_at body index item) ≡ asked_len body };
-
-    /// It keeps the room.
-    ghost keeps_room: { (body : Self) (index : ℕ) (item : Self.Item) → room (with_element_at body index item) ≡ room body };
-
     /// No body of the typed family has more than one element.
     ghost holds_one: { (body : Self) → family ≡ Family.Typed → length (elements body) ≤ 1 };
 }
 
+/// A body that is made, loaned and written. Only `new`, and `prepare` above the room, take memory.
+pub trait WriteBody: Body {
+    ghost use Rattle.std.specs.Prelude.{ℕ, slice_set};
+    ghost use Rattle.rr_slots.specs.Families.{takes_len};
+
+    /// The body after the element at a place became another.
+    ghost with_element_at: { Self → ℕ → Self.Item → Self };
+
+    /// The family of every body of this type.
+    fn family() -> Family
+        ensures { result ≡ Self.family };
+
+    /// An empty body that asks for `len` elements and has room for them. `len` is a length that the family takes. `Err` if
+    /// memory was refused.
+    fn new(alloc: Global, len: usize) -> Result<Self, AllocError>
+        requires { IsTrue (takes_len Self.family len) }
+        ensures asked { IfOk result (λ body. Self.asked_len body ≡ len) }
+        ensures empty { IfOk result (λ body. Self.elements body ≡ []) }
+        ensures room { IfOk result (λ body. len ≤ Self.room body) };
+
+    /// Empties the body and asks for `len` elements, a length that the family takes.
+    ///
+    /// `Err` if memory for more room was refused; the body is then as before.
+    fn prepare(&mut self, len: usize) -> Result<(), AllocError>
+        requires { IsTrue (takes_len Self.family len) }
+        ensures asked { OnOk result (Self.asked_len self.new ≡ len) }
+        ensures empty { OnOk result (Self.elements self.new ≡ []) }
+        ensures err { OnErr result (self.new ≡ self.old) }
+        ensures grown { OnOk result (len ≤ Self.room self.new) }
+        ensures room { Self.room self.old ≤ Self.room self.new }
+
+        // Within the room no memory is taken.
+        ensures within_room { len ≤ Self.room self.old → IsOk result };
+
+    /// Appends an element to a body that is not complete.
+    fn push(&mut self, item: Self::Item)
+        requires { length (Self.elements self.old) < Self.asked_len self.old }
+        ensures elements { Self.elements self.new ≡ Self.elements self.old ++ item ∷ [] }
+        ensures asked { Self.asked_len self.new ≡ Self.asked_len self.old }
+        ensures room { Self.room self.new ≡ Self.room self.old };
+
+    /// Whether as many elements are there as are asked for.
+    fn is_complete(&self) -> bool
+        ensures complete { IsTrue result ↔ (length (Self.elements self.now) ≡ Self.asked_len self.now) }
+        ensures open { ¬ IsTrue result → length (Self.elements self.now) < Self.asked_len self.now };
+
+    /// How many elements are there.
+    fn len(&self) -> usize
+        ensures { result ≡ length (Self.elements self.now) };
+
+    /// The element at a place.
+    fn get(&self, index: usize) -> &Self::Item
+        requires { index < length (Self.elements self.now) }
+        ensures { slice_get (Self.elements self.now) index ≡ Some result.now };
+
+    /// Lends the element at a place for writing.
+    fn get_mut(&mut self, index: usize) -> &mut Self::Item
+        requires { index < length (Self.elements self.old) }
+        ensures* lends { sem 𝓛 (Lends Self.row Self.Item.row self.entry result (with_element_at self.old index)) }
+        ensures value { slice_get (Self.elements self.old) index ≡ Some result.now };
+
+    /// A write at a place replaces that element, and no other.
+    ghost sets_one_element: { (body : Self) (index : ℕ) (item : Self.Item) → Self.elements (with_element_at body index item) ≡ slice_set (Self.elements body) index item };
+
+    /// It asks for as many elements as before.
+    ghost keeps_asked_len: { (body : Self) (index : ℕ) (item : Self.Item) → Self.asked_len (with_element_at body index item) ≡ Self.asked_len body };
+
+    /// It keeps the room.
+    ghost keeps_room: { (body : Self) (index : ℕ) (item : Self.Item) → Self.room (with_element_at body index item) ≡ Self.room body };
+}
+
 /// A body whose elements can be copied.
-pub trait FillBody: Body {
+pub trait FillBody: WriteBody {
     ghost use Rattle.std.specs.Prelude.{length, replicate};
 
     /// Makes an element each of those that are asked for. Old ones are dropped.
@@ -127,7 +131,7 @@ pub trait FillBody: Body {
 }
 
 /// A body whose memory keeps what was written there, from message to message.
-pub trait KeepBody: Body {
+pub trait KeepBody: WriteBody {
     ghost use Rattle.std.specs.Prelude.{length};
 
     /// Makes the body complete, by whatever elements: by those that stand in its memory, where nothing is filled.

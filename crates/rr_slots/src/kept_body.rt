@@ -1,5 +1,5 @@
 //! A body of one element that can be copied.
-use crate::body::{Body, FillBody, KeepBody};
+use crate::body::{Body, FillBody, KeepBody, WriteBody};
 use crate::family::Family;
 use crate::plain_body::PlainBody;
 use std::alloc::{AllocError, Global};
@@ -23,9 +23,8 @@ impl<T: Copy> Model for KeptBody<T> {
 }
 
 impl<T: Copy> Body for KeptBody<T> {
-    ghost use Rattle.std.specs.Prelude.{refl};
     ghost use Rattle.rr_slots.specs.declared.family.Family.TheVariants.{Typed};
-    ghost use Rattle.rr_slots.specs.Elements.{option_elements, with_option, option_elements-with_option, option_elements-few};
+    ghost use Rattle.rr_slots.specs.Elements.{option_elements, option_elements-few};
 
     type Item = T;
 
@@ -37,6 +36,21 @@ impl<T: Copy> Body for KeptBody<T> {
 
     ghost elements = { option_elements };
 
+    ghost holds_one = { λ body _. option_elements-few body };
+
+    fn asked_len(&self) -> usize {
+        1
+    }
+
+    fn clear(&mut self) {
+        self.body.clear();
+    }
+}
+
+impl<T: Copy> WriteBody for KeptBody<T> {
+    ghost use Rattle.std.specs.Prelude.{refl};
+    ghost use Rattle.rr_slots.specs.Elements.{with_option, option_elements-with_option};
+
     ghost with_element_at = { with_option };
 
     ghost sets_one_element = { option_elements-with_option };
@@ -44,8 +58,6 @@ impl<T: Copy> Body for KeptBody<T> {
     ghost keeps_asked_len = { λ _ _ _. refl };
 
     ghost keeps_room = { λ _ _ _. refl };
-
-    ghost holds_one = { λ body _. option_elements-few body };
 
     fn family() -> Family {
         Family::Typed
@@ -62,14 +74,6 @@ impl<T: Copy> Body for KeptBody<T> {
 
     fn push(&mut self, item: T) {
         self.body.push(item);
-    }
-
-    fn clear(&mut self) {
-        self.body.clear();
-    }
-
-    fn asked_len(&self) -> usize {
-        1
     }
 
     fn is_complete(&self) -> bool {

@@ -16,7 +16,7 @@ mod pool;
 mod slice_body;
 mod slot;
 
-pub use body::{Body, FillBody, KeepBody, LendBody};
+pub use body::{Body, FillBody, KeepBody, LendBody, WriteBody};
 pub use channel_state::{ChannelState, RequestId};
 pub use channel_table::{Channel, ChannelTable};
 pub use connection::Connection;

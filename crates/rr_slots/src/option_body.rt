@@ -1,12 +1,11 @@
 //! A body of one element.
-use crate::body::{Body, FillBody};
+use crate::body::{Body, FillBody, WriteBody};
 use crate::family::Family;
 use std::alloc::{AllocError, Global};
 
 impl<T: Drop> Body for Option<T> {
-    ghost use Rattle.std.specs.Prelude.{◌≡◌, refl};
     ghost use Rattle.rr_slots.specs.declared.family.Family.TheVariants.{Typed};
-    ghost use Rattle.rr_slots.specs.Elements.{option_elements, with_option, option_elements-with_option, option_elements-few};
+    ghost use Rattle.rr_slots.specs.Elements.{option_elements, option_elements-few};
 
     type Item = T;
 
@@ -18,6 +17,22 @@ impl<T: Drop> Body for Option<T> {
 
     ghost elements = { option_elements };
 
+    ghost holds_one = { λ body _. option_elements-few body };
+
+    fn asked_len(&self) -> usize {
+        1
+    }
+
+    #[inline(always)]
+    fn clear(&mut self) {
+        *self = None;
+    }
+}
+
+impl<T: Drop> WriteBody for Option<T> {
+    ghost use Rattle.std.specs.Prelude.{refl};
+    ghost use Rattle.rr_slots.specs.Elements.{with_option, option_elements-with_option};
+
     ghost with_element_at = { with_option };
 
     ghost sets_one_element = { option_elements-with_option };
@@ -25,8 +40,6 @@ impl<T: Drop> Body for Option<T> {
     ghost keeps_asked_len = { λ _ _ _. refl };
 
     ghost keeps_room = { λ _ _ _. refl };
-
-    ghost holds_one = { λ body _. option_elements-few body };
 
     fn family() -> Family {
         Family::Typed
@@ -44,15 +57,6 @@ impl<T: Drop> Body for Option<T> {
     #[inline(always)]
     fn push(&mut self, item: T) {
         *self = Some(item);
-    }
-
-    #[inline(always)]
-    fn clear(&mut self) {
-        *self = None;
-    }
-
-    fn asked_len(&self) -> usize {
-        1
     }
 
     fn is_complete(&self) -> bool {

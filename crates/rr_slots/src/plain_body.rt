@@ -1,7 +1,7 @@
 //! A body of any number of elements that can be copied.
 ghost use Rattle.std.specs.Prelude.{◌≡◌, ◌≤◌, vec_capacity, vec_len};
 
-use crate::body::{Body, FillBody, KeepBody, LendBody};
+use crate::body::{Body, FillBody, KeepBody, LendBody, WriteBody};
 use crate::family::Family;
 use std::alloc::{AllocError, Global};
 use std::marker::Model;
@@ -36,9 +36,7 @@ impl<T: Copy> PlainBody<T> {
 }
 
 impl<T: Copy> Body for PlainBody<T> {
-    ghost use Rattle.std.specs.Prelude.{refl};
     ghost use Rattle.rr_slots.specs.declared.family.Family.TheVariants.{Sliced};
-    ghost use Rattle.rr_slots.specs.Elements.{with_slice_at};
     ghost use Rattle.rr_slots.specs.Families.{sliced_is_not_typed};
 
     type Item = T;
@@ -51,6 +49,21 @@ impl<T: Copy> Body for PlainBody<T> {
 
     ghost elements = { λ b. b.elements };
 
+    ghost holds_one = { λ _ is_typed. absurd (sliced_is_not_typed is_typed) };
+
+    fn asked_len(&self) -> usize {
+        self.asked
+    }
+
+    fn clear(&mut self) {
+        self.len = 0;
+    }
+}
+
+impl<T: Copy> WriteBody for PlainBody<T> {
+    ghost use Rattle.std.specs.Prelude.{refl};
+    ghost use Rattle.rr_slots.specs.Elements.{with_slice_at};
+
     ghost with_element_at = { with_slice_at };
 
     ghost sets_one_element = { λ _ _ _. refl };
@@ -58,8 +71,6 @@ impl<T: Copy> Body for PlainBody<T> {
     ghost keeps_asked_len = { λ _ _ _. refl };
 
     ghost keeps_room = { λ _ _ _. refl };
-
-    ghost holds_one = { λ _ is_typed. absurd (sliced_is_not_typed is_typed) };
 
     fn family() -> Family {
         Family::Sliced
@@ -90,14 +101,6 @@ impl<T: Copy> Body for PlainBody<T> {
             self.items.push_reserved(item);
         }
         self.len += 1;
-    }
-
-    fn clear(&mut self) {
-        self.len = 0;
-    }
-
-    fn asked_len(&self) -> usize {
-        self.asked
     }
 
     fn is_complete(&self) -> bool {

@@ -4,7 +4,7 @@ ghost use Rattle.std.specs.Prelude.{◌≡◌, ℕ, ◌+◌, ◌<◌, ◌≤◌,
 ghost use Rattle.rr_slots.specs.Families.{takes_len};
 ghost use Rattle.rr_slots.specs.Pools.{written, nothing_written, free_slots, acquired, held_once_more, given_back, free_count, held_count};
 
-use crate::body::Body;
+use crate::body::{Body, WriteBody};
 use crate::holders::Holders;
 use std::alloc::{AllocError, Global};
 use std::marker::Model;
@@ -47,7 +47,7 @@ impl<B: Body> Model for Pool<B> {
     ghost invariant = { λ p. (length p.bodies.items ≡ length p.holders.holders) × All (λ b. p.room ≤ B.room b) p.bodies.items };
 }
 
-impl<B: Body> Pool<B> {
+impl<B: WriteBody> Pool<B> {
     /// So many free slots, each with room for `room` elements, a length that the body's family takes. `Err` if memory was
     /// refused.
     pub fn new(alloc: Global, slots: usize, room: usize) -> Result<Self, AllocError>
@@ -86,7 +86,9 @@ impl<B: Body> Pool<B> {
             Err(_) => Err(AcquireError::NoRoom),
         }
     }
+}
 
+impl<B: Body> Pool<B> {
     /// One more holds a slot that is held.
     pub fn hold(&mut self, slot: usize)
         requires held { 0 < slice_index self.old.holders slot }
@@ -128,7 +130,7 @@ impl<B: Body> Pool<B> {
 }
 
 /// So many empty bodies, each with room for `room` elements.
-fn bodies<B: Body>(alloc: Global, slots: usize, room: usize) -> Result<Vec<B>, AllocError>
+fn bodies<B: WriteBody>(alloc: Global, slots: usize, room: usize) -> Result<Vec<B>, AllocError>
     requires { IsTrue (takes_len B.family room) }
     ensures written { IfOk result (λ bodies. map (written B.asked_len B.elements) bodies.items ≡ replicate slots (nothing_written room)) }
     ensures room { IfOk result (λ bodies. All (λ b. room ≤ B.room b) bodies.items) }

@@ -2,7 +2,7 @@
 ghost use Rattle.std.specs.Prelude.{◌≡◌};
 ghost use Rattle.std.specs.Borrow.{sem};
 
-use crate::body::{Body, FillBody, LendBody};
+use crate::body::{Body, FillBody, LendBody, WriteBody};
 use crate::family::Family;
 use std::alloc::{AllocError, Global};
 use std::marker::Model;
@@ -35,9 +35,7 @@ impl<T: Drop> SliceBody<T> {
 }
 
 impl<T: Drop> Body for SliceBody<T> {
-    ghost use Rattle.std.specs.Prelude.{refl};
     ghost use Rattle.rr_slots.specs.declared.family.Family.TheVariants.{Sliced};
-    ghost use Rattle.rr_slots.specs.Elements.{with_slice_at};
     ghost use Rattle.rr_slots.specs.Families.{sliced_is_not_typed};
 
     type Item = T;
@@ -50,6 +48,21 @@ impl<T: Drop> Body for SliceBody<T> {
 
     ghost elements = { λ b. b.elements };
 
+    ghost holds_one = { λ _ is_typed. absurd (sliced_is_not_typed is_typed) };
+
+    fn asked_len(&self) -> usize {
+        self.asked
+    }
+
+    fn clear(&mut self) {
+        self.items.clear();
+    }
+}
+
+impl<T: Drop> WriteBody for SliceBody<T> {
+    ghost use Rattle.std.specs.Prelude.{refl};
+    ghost use Rattle.rr_slots.specs.Elements.{with_slice_at};
+
     ghost with_element_at = { with_slice_at };
 
     ghost sets_one_element = { λ _ _ _. refl };
@@ -57,8 +70,6 @@ impl<T: Drop> Body for SliceBody<T> {
     ghost keeps_asked_len = { λ _ _ _. refl };
 
     ghost keeps_room = { λ _ _ _. refl };
-
-    ghost holds_one = { λ _ is_typed. absurd (sliced_is_not_typed is_typed) };
 
     fn family() -> Family {
         Family::Sliced
@@ -83,14 +94,6 @@ impl<T: Drop> Body for SliceBody<T> {
 
     fn push(&mut self, item: T) {
         self.items.push_reserved(item);
-    }
-
-    fn clear(&mut self) {
-        self.items.clear();
-    }
-
-    fn asked_len(&self) -> usize {
-        self.asked
     }
 
     fn is_complete(&self) -> bool {

@@ -6,7 +6,7 @@ use rr_protocol::{
     NoHandler, RequestSendError, SendError, ServerCreateError, ServerSettings, UniqueNodeId,
 };
 use rr_run::Runner;
-use rr_slots::{Body, SliceBody};
+use rr_slots::{SliceBody, WriteBody};
 use std::alloc::Global;
 use std::io::{self, Write};
 
@@ -166,7 +166,7 @@ pub(crate) fn is_want(reply: &Answer) -> bool {
 }
 
 /// Carries out commands. Returns whether no reply was want of memory.
-pub(crate) fn prepare<B: Body<Item = u64>>(
+pub(crate) fn prepare<B: WriteBody<Item = u64>>(
     runner: &mut Runner<u64, B, u64, NoHandler>,
     commands: &[Asked],
 ) -> bool {
@@ -179,7 +179,7 @@ pub(crate) fn prepare<B: Body<Item = u64>>(
 }
 
 /// Makes a call, and makes it again if it found no memory; then carries out what comes after it.
-fn play<B: Body<Item = u64>, W: Write>(
+fn play<B: WriteBody<Item = u64>, W: Write>(
     stage: &mut Stage<W>,
     runner: &mut Runner<u64, B, u64, NoHandler>,
     command: Asked,
@@ -196,7 +196,7 @@ fn play<B: Body<Item = u64>, W: Write>(
 }
 
 /// Tells stories of one family. Returns whether memory was found for all that comes before their calls.
-fn tell_family<B: Body<Item = u64>, W: Write>(
+fn tell_family<B: WriteBody<Item = u64>, W: Write>(
     alloc: Global,
     stage: &mut Stage<W>,
     group: &str,

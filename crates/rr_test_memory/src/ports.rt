@@ -3,7 +3,7 @@
 
 use crate::stage::{LIMITS, Stage};
 use rr_ports::{ClientCreateError, Hub, NoHandler, ServerCreateError, UniqueNodeId};
-use rr_slots::{Body, SliceBody};
+use rr_slots::{SliceBody, WriteBody};
 use std::alloc::Global;
 use std::io::{self, Write};
 
@@ -25,7 +25,7 @@ enum Refused {
 }
 
 /// Creates a port, and releases it. Returns its number.
-fn create<B: Body<Item = u64>>(hub: &mut Ports<B>, side: Side) -> Result<u64, Refused> {
+fn create<B: WriteBody<Item = u64>>(hub: &mut Ports<B>, side: Side) -> Result<u64, Refused> {
     match side {
         Side::Client => match hub.client_builder().create(hub) {
             Ok(client) => {
@@ -47,7 +47,7 @@ fn create<B: Body<Item = u64>>(hub: &mut Ports<B>, side: Side) -> Result<u64, Re
 }
 
 /// Creates a port, and creates it again if memory was refused; then shows how many numbers are left.
-fn play<B: Body<Item = u64>, W: Write>(
+fn play<B: WriteBody<Item = u64>, W: Write>(
     stage: &mut Stage<W>,
     hub: &mut Ports<B>,
     side: Side,
@@ -96,7 +96,7 @@ const STORIES: [Story; 4] = [
 ];
 
 /// Tells of creations in one family. Returns whether memory was found for all that comes before them.
-fn tell_family<B: Body<Item = u64>, W: Write>(
+fn tell_family<B: WriteBody<Item = u64>, W: Write>(
     alloc: Global,
     stage: &mut Stage<W>,
     group: &str,

@@ -10,7 +10,7 @@ ghost use Rattle.rr_store.specs.Views.{state_of};
 ghost use Rattle.rr_table.specs.TableView.{IsAt};
 
 use rr_protocol::{BackpressureFn, Kind};
-use rr_slots::{Body, FillBody, KeepBody};
+use rr_slots::{Body, FillBody, KeepBody, WriteBody};
 use rr_store::{HandleEntry, Stage, Store};
 use rr_table::Place;
 
@@ -18,7 +18,7 @@ use rr_table::Place;
 /// then. One that was written before is dropped.
 #[inline(always)]
 pub fn write_request_at<
-    QB: Body,
+    QB: WriteBody,
     QH: Default + Drop,
     PB: Body,
     PH: Default + Drop,
@@ -49,7 +49,7 @@ pub fn write_request_at<
 pub fn write_response_at<
     QB: Body,
     QH: Default + Drop,
-    PB: Body,
+    PB: WriteBody,
     PH: Default + Drop,
     K: BackpressureFn,
 >(store: &mut Store<QB, QH, PB, PH, K>, number: u64, place: Place, element: PB::Item)

@@ -15,7 +15,7 @@ use crate::id::Id;
 use crate::slices::Slices;
 use rr_checked::Refusal;
 use rr_hub::{BackpressureFn, Core, HandleId, Kind};
-use rr_slots::{Body, PlainBody};
+use rr_slots::{Body, PlainBody, WriteBody};
 use thiserror::Error;
 
 impl<T: Copy + Default, H: Copy + Default, K: BackpressureFn> Slices<T, H, K> {

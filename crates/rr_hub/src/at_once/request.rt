@@ -13,7 +13,7 @@ ghost use Rattle.rr_store.specs.Views.{state_of};
 use rr_loaning::{loan_request, new_request_details, request_loan_limit};
 use rr_protocol::{BackpressureFn, LoanError, RequestSendError, SendError};
 use rr_sending::{open_connections, request_send_limit, send_request_at};
-use rr_slots::Body;
+use rr_slots::{Body, WriteBody};
 use rr_store::{HandleEntry, HandleId, Stage, Store};
 use rr_writing::write_request_at;
 
@@ -25,7 +25,7 @@ use rr_writing::write_request_at;
 /// - `ExceedsMaxActiveRequests` and `SendError(UnableToDeliver)` as `send_request_at`.
 #[inline(always)]
 pub(crate) fn send_request_at_once<
-    QB: Body,
+    QB: WriteBody,
     QH: Default + Drop,
     PB: Body,
     PH: Default + Drop,
@@ -83,7 +83,7 @@ pub(crate) fn send_request_at_once<
 /// - As `send_request_at_once`.
 #[cold]
 fn send_request_in_steps<
-    QB: Body,
+    QB: WriteBody,
     QH: Default + Drop,
     PB: Body,
     PH: Default + Drop,
@@ -113,7 +113,7 @@ fn send_request_in_steps<
 ///
 /// - As `send_request_at`.
 fn send_loaned_request<
-    QB: Body,
+    QB: WriteBody,
     QH: Default + Drop,
     PB: Body,
     PH: Default + Drop,

@@ -14,7 +14,7 @@ ghost use Rattle.rr_table.specs.TableView.{IsAt};
 use rr_loaning::{loan_response_at, new_response_details, response_loan_limit};
 use rr_protocol::{BackpressureFn, LoanError, SendError};
 use rr_sending::{is_response_refused, send_response_at};
-use rr_slots::Body;
+use rr_slots::{Body, WriteBody};
 use rr_store::{HandleId, Store};
 use rr_table::Place;
 use rr_writing::write_response_at;
@@ -29,7 +29,7 @@ use rr_writing::write_response_at;
 pub(crate) fn send_response_at_once<
     QB: Body,
     QH: Default + Drop,
-    PB: Body,
+    PB: WriteBody,
     PH: Default + Drop,
     K: BackpressureFn,
 >(
@@ -85,7 +85,7 @@ pub(crate) fn send_response_at_once<
 fn send_response_in_steps<
     QB: Body,
     QH: Default + Drop,
-    PB: Body,
+    PB: WriteBody,
     PH: Default + Drop,
     K: BackpressureFn,
 >(
@@ -117,7 +117,7 @@ fn send_response_in_steps<
 fn send_loaned_response<
     QB: Body,
     QH: Default + Drop,
-    PB: Body,
+    PB: WriteBody,
     PH: Default + Drop,
     K: BackpressureFn,
 >(

@@ -7,11 +7,11 @@ ghost use Rattle.rr_protocol.specs.Writing.{is_complete, with_element, with_elem
 
 use crate::state::Core;
 use rr_protocol::{BackpressureFn, Kind};
-use rr_slots::{Body, FillBody, KeepBody};
+use rr_slots::{Body, FillBody, KeepBody, WriteBody};
 use rr_store::HandleId;
 use rr_writing::{complete_request_at, copy_request_at, fill_request_at, write_request_at};
 
-impl<QB: Body, QH: Default + Drop, PB: Body, PH: Default + Drop, K: BackpressureFn> Core<
+impl<QB: WriteBody, QH: Default + Drop, PB: Body, PH: Default + Drop, K: BackpressureFn> Core<
     QB,
     QH,
     PB,
@@ -64,7 +64,15 @@ impl<QB: Body, QH: Default + Drop, PB: Body, PH: Default + Drop, K: Backpressure
             .clients
             .write_element(entry.sender, entry.slot, index, element)
     }
+}
 
+impl<QB: Body, QH: Default + Drop, PB: Body, PH: Default + Drop, K: BackpressureFn> Core<
+    QB,
+    QH,
+    PB,
+    PH,
+    K,
+> {
     /// Replaces the user header of a request that was not sent. The old one is dropped.
     ///
     /// Not in iceoryx2: it stands for writes through what iceoryx2's `RequestMut::user_header_mut` lends.

@@ -7,11 +7,11 @@ ghost use Rattle.rr_protocol.specs.Writing.{is_complete, with_element, with_elem
 
 use crate::state::Core;
 use rr_protocol::{BackpressureFn, Kind};
-use rr_slots::{Body, FillBody, KeepBody};
+use rr_slots::{Body, FillBody, KeepBody, WriteBody};
 use rr_store::HandleId;
 use rr_writing::{complete_response_at, copy_response_at, fill_response_at, write_response_at};
 
-impl<QB: Body, QH: Default + Drop, PB: Body, PH: Default + Drop, K: BackpressureFn> Core<
+impl<QB: Body, QH: Default + Drop, PB: WriteBody, PH: Default + Drop, K: BackpressureFn> Core<
     QB,
     QH,
     PB,
@@ -64,7 +64,15 @@ impl<QB: Body, QH: Default + Drop, PB: Body, PH: Default + Drop, K: Backpressure
             .servers
             .write_element(entry.sender, entry.slot, index, element)
     }
+}
 
+impl<QB: Body, QH: Default + Drop, PB: Body, PH: Default + Drop, K: BackpressureFn> Core<
+    QB,
+    QH,
+    PB,
+    PH,
+    K,
+> {
     /// Replaces the user header of a response that was not sent. The old one is dropped.
     ///
     /// Not in iceoryx2: it stands for writes through what iceoryx2's `ResponseMut::user_header_mut` lends.

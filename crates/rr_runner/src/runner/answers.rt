@@ -10,11 +10,16 @@ use crate::runner::{payload, replies};
 use rr_commands::{Command, Reply};
 use rr_hub::{Core, HandleId};
 use rr_protocol::BackpressureFn;
-use rr_slots::Body;
+use rr_slots::WriteBody;
 use std::alloc::Global;
 
 /// Answers a question of a port or of a handle; with `NoMemory` if no memory was found for a copy of several elements.
-pub(crate) fn answer<T: Copy + Default, B: Body<Item = T>, H: Copy + Default, K: BackpressureFn>(
+pub(crate) fn answer<
+    T: Copy + Default,
+    B: WriteBody<Item = T>,
+    H: Copy + Default,
+    K: BackpressureFn,
+>(
     core: &Core<B, H, B, H, K>,
     alloc: Global,
     id: &HandleId,

@@ -12,12 +12,12 @@ use rr_checked::takes_len;
 use rr_commands::Reply;
 use rr_hub::{Core, HandleId};
 use rr_protocol::{BackpressureFn, Kind};
-use rr_slots::Body;
+use rr_slots::WriteBody;
 
 /// Loans a message of `len` default elements, which can be sent: a request of a client, or a response of an active request.
 pub(crate) fn loan_default<
     T: Copy + Default,
-    B: Body<Item = T>,
+    B: WriteBody<Item = T>,
     H: Copy + Default,
     K: BackpressureFn,
 >(core: &mut Core<B, H, B, H, K>, places: &mut Places, id: &HandleId, len: usize) -> Reply<T, H>
@@ -34,12 +34,12 @@ pub(crate) fn loan_default<
 }
 
 /// Loans a request of default elements.
-fn loan_default_request<T: Copy + Default, B: Body<Item = T>, H: Copy + Default, K: BackpressureFn>(
-    core: &mut Core<B, H, B, H, K>,
-    places: &mut Places,
-    client: u64,
-    len: usize,
-) -> Reply<T, H>
+fn loan_default_request<
+    T: Copy + Default,
+    B: WriteBody<Item = T>,
+    H: Copy + Default,
+    K: BackpressureFn,
+>(core: &mut Core<B, H, B, H, K>, places: &mut Places, client: u64, len: usize) -> Reply<T, H>
     requires { kind_at core.old client ≡ Some kind.Client }
     ensures step { Step K.action T.is_default H.is_default B.family core.old (Command.LoanDefault client len) result core.new }
     ensures memory { result ≢ Reply.NoMemory }
@@ -64,7 +64,7 @@ fn loan_default_request<T: Copy + Default, B: Body<Item = T>, H: Copy + Default,
 /// Loans a response of default elements.
 fn loan_default_response<
     T: Copy + Default,
-    B: Body<Item = T>,
+    B: WriteBody<Item = T>,
     H: Copy + Default,
     K: BackpressureFn,
 >(core: &mut Core<B, H, B, H, K>, places: &mut Places, active: &HandleId, len: usize) -> Reply<T, H>
@@ -90,7 +90,7 @@ fn loan_default_response<
 }
 
 /// Writes `len` default elements to a request that was loaned for them, and takes it as complete.
-fn fill_request<T: Copy + Default, B: Body<Item = T>, H: Copy + Default, K: BackpressureFn>(
+fn fill_request<T: Copy + Default, B: WriteBody<Item = T>, H: Copy + Default, K: BackpressureFn>(
     core: &mut Core<B, H, B, H, K>,
     id: &HandleId,
     len: usize,
@@ -106,7 +106,7 @@ fn fill_request<T: Copy + Default, B: Body<Item = T>, H: Copy + Default, K: Back
 }
 
 /// Writes `len` default elements to a response that was loaned for them, and takes it as complete.
-fn fill_response<T: Copy + Default, B: Body<Item = T>, H: Copy + Default, K: BackpressureFn>(
+fn fill_response<T: Copy + Default, B: WriteBody<Item = T>, H: Copy + Default, K: BackpressureFn>(
     core: &mut Core<B, H, B, H, K>,
     id: &HandleId,
     len: usize,

@@ -9,10 +9,10 @@ use crate::runner::replies::refused;
 use rr_commands::Reply;
 use rr_hub::{Core, HandleId};
 use rr_protocol::BackpressureFn;
-use rr_slots::Body;
+use rr_slots::WriteBody;
 
 /// Loans a message of `len` elements: a request of a client, or a response of an active request.
-pub(crate) fn loan<T: Copy + Default, B: Body<Item = T>, H: Copy + Default, K: BackpressureFn>(
+pub(crate) fn loan<T: Copy + Default, B: WriteBody<Item = T>, H: Copy + Default, K: BackpressureFn>(
     core: &mut Core<B, H, B, H, K>,
     places: &mut Places,
     id: &HandleId,

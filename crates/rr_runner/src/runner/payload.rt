@@ -9,15 +9,16 @@ use crate::runner::replies::refused;
 use rr_commands::{Elements, Reply};
 use rr_hub::{Core, HandleId};
 use rr_protocol::BackpressureFn;
-use rr_slots::Body;
+use rr_slots::WriteBody;
 use std::alloc::{AllocError, Global};
 
 /// Returns a handle's elements, or `NoMemory` if there are several and no memory was found for a copy.
-pub(crate) fn payload<T: Copy + Default, B: Body<Item = T>, H: Copy + Default, K: BackpressureFn>(
-    core: &Core<B, H, B, H, K>,
-    alloc: Global,
-    id: &HandleId,
-) -> Reply<T, H>
+pub(crate) fn payload<
+    T: Copy + Default,
+    B: WriteBody<Item = T>,
+    H: Copy + Default,
+    K: BackpressureFn,
+>(core: &Core<B, H, B, H, K>, alloc: Global, id: &HandleId) -> Reply<T, H>
     ensures step { Step K.action T.is_default H.is_default B.family core.now (Command.Payload id.now) result core.now }
     ensures memory { result ≡ Reply.NoMemory → MayLackMemory B.family core.now (Command.Payload id.now) }
 {
@@ -31,7 +32,7 @@ pub(crate) fn payload<T: Copy + Default, B: Body<Item = T>, H: Copy + Default, K
 }
 
 /// Returns a copy of a body's elements, or an error if there are several and no memory was found for them.
-fn elements_of<T: Copy, B: Body<Item = T>>(
+fn elements_of<T: Copy, B: WriteBody<Item = T>>(
     alloc: Global,
     body: &B,
 ) -> Result<Elements<T>, AllocError>
@@ -46,7 +47,7 @@ fn elements_of<T: Copy, B: Body<Item = T>>(
 }
 
 /// Returns a copy of a body's elements, in a vector, or an error if there are some and no memory was found for them.
-fn vector_of<T: Copy, B: Body<Item = T>>(alloc: Global, body: &B) -> Result<Vec<T>, AllocError>
+fn vector_of<T: Copy, B: WriteBody<Item = T>>(alloc: Global, body: &B) -> Result<Vec<T>, AllocError>
     ensures ok { IfOk result (λ elements. elements.items ≡ B.elements body.now) }
     ensures some { OnErr result (0 < length (B.elements body.now)) }
 {

@@ -10,14 +10,15 @@ use rr_checked::Received;
 use rr_commands::Reply;
 use rr_hub::{Core, HandleId};
 use rr_protocol::BackpressureFn;
-use rr_slots::Body;
+use rr_slots::WriteBody;
 
 /// Receives a request of a server, or a response of a pending response.
-pub(crate) fn receive<T: Copy + Default, B: Body<Item = T>, H: Copy + Default, K: BackpressureFn>(
-    core: &mut Core<B, H, B, H, K>,
-    places: &mut Places,
-    id: &HandleId,
-) -> Reply<T, H>
+pub(crate) fn receive<
+    T: Copy + Default,
+    B: WriteBody<Item = T>,
+    H: Copy + Default,
+    K: BackpressureFn,
+>(core: &mut Core<B, H, B, H, K>, places: &mut Places, id: &HandleId) -> Reply<T, H>
     ensures step { Step K.action T.is_default H.is_default B.family core.old (Command.Receive id.now) result core.new }
     ensures memory { result ≢ Reply.NoMemory }
     ensures places { Remembers places.old (given {K = K} (Command.Receive id.now) result) places.new }

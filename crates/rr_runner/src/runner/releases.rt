@@ -8,14 +8,15 @@ use crate::runner::replies::refused;
 use rr_commands::Reply;
 use rr_hub::{Core, HandleId};
 use rr_protocol::BackpressureFn;
-use rr_slots::Body;
+use rr_slots::WriteBody;
 
 /// Releases a port or a handle.
-pub(crate) fn release<T: Copy + Default, B: Body<Item = T>, H: Copy + Default, K: BackpressureFn>(
-    core: &mut Core<B, H, B, H, K>,
-    places: &mut Places,
-    id: &HandleId,
-) -> Reply<T, H>
+pub(crate) fn release<
+    T: Copy + Default,
+    B: WriteBody<Item = T>,
+    H: Copy + Default,
+    K: BackpressureFn,
+>(core: &mut Core<B, H, B, H, K>, places: &mut Places, id: &HandleId) -> Reply<T, H>
     ensures step { Step K.action T.is_default H.is_default B.family core.old (Command.Release id.now) result core.new }
     ensures places { ForgetsGone places.old id.now core.new places.new }
 {

@@ -14,10 +14,10 @@ use rr_checked::{Refusal, Sent};
 use rr_commands::Reply;
 use rr_hub::{Core, HandleId};
 use rr_protocol::{BackpressureFn, Kind, LoanError, RequestSendError, SendError};
-use rr_slots::Body;
+use rr_slots::WriteBody;
 
 /// Sends a request or a response.
-pub(crate) fn send<T: Copy + Default, B: Body<Item = T>, H: Copy + Default, K: BackpressureFn>(
+pub(crate) fn send<T: Copy + Default, B: WriteBody<Item = T>, H: Copy + Default, K: BackpressureFn>(
     core: &mut Core<B, H, B, H, K>,
     places: &mut Places,
     id: &HandleId,
@@ -44,12 +44,12 @@ pub(crate) fn send<T: Copy + Default, B: Body<Item = T>, H: Copy + Default, K: B
 }
 
 /// Loans a message of one element, writes this one and sends it: a request of a client, or a response of an active request.
-pub(crate) fn send_copy<T: Copy + Default, B: Body<Item = T>, H: Copy + Default, K: BackpressureFn>(
-    core: &mut Core<B, H, B, H, K>,
-    places: &mut Places,
-    id: &HandleId,
-    item: T,
-) -> Reply<T, H>
+pub(crate) fn send_copy<
+    T: Copy + Default,
+    B: WriteBody<Item = T>,
+    H: Copy + Default,
+    K: BackpressureFn,
+>(core: &mut Core<B, H, B, H, K>, places: &mut Places, id: &HandleId, item: T) -> Reply<T, H>
     ensures step { Step K.action T.is_default H.is_default B.family core.old (Command.SendCopy id.now item) result core.new }
     ensures memory { result ≢ Reply.NoMemory }
     ensures places { Remembers places.old (given {K = K} (Command.SendCopy id.now item) result) places.new }
@@ -63,12 +63,12 @@ pub(crate) fn send_copy<T: Copy + Default, B: Body<Item = T>, H: Copy + Default,
 }
 
 /// Sends a request of one element.
-fn send_request_copy<T: Copy + Default, B: Body<Item = T>, H: Copy + Default, K: BackpressureFn>(
-    core: &mut Core<B, H, B, H, K>,
-    places: &mut Places,
-    client: u64,
-    item: T,
-) -> Reply<T, H>
+fn send_request_copy<
+    T: Copy + Default,
+    B: WriteBody<Item = T>,
+    H: Copy + Default,
+    K: BackpressureFn,
+>(core: &mut Core<B, H, B, H, K>, places: &mut Places, client: u64, item: T) -> Reply<T, H>
     requires { kind_at core.old client ≡ Some kind.Client }
     ensures step { Step K.action T.is_default H.is_default B.family core.old (Command.SendCopy client item) result core.new }
     ensures memory { result ≢ Reply.NoMemory }
@@ -93,11 +93,12 @@ fn send_request_copy<T: Copy + Default, B: Body<Item = T>, H: Copy + Default, K:
 }
 
 /// Sends a response of one element.
-fn send_response_copy<T: Copy + Default, B: Body<Item = T>, H: Copy + Default, K: BackpressureFn>(
-    core: &mut Core<B, H, B, H, K>,
-    active: &HandleId,
-    item: T,
-) -> Reply<T, H>
+fn send_response_copy<
+    T: Copy + Default,
+    B: WriteBody<Item = T>,
+    H: Copy + Default,
+    K: BackpressureFn,
+>(core: &mut Core<B, H, B, H, K>, active: &HandleId, item: T) -> Reply<T, H>
     requires { kind_at core.old active.now ≡ Some kind.ActiveRequest }
     ensures step { Step K.action T.is_default H.is_default B.family core.old (Command.SendCopy active.now item) result core.new }
     ensures memory { result ≢ Reply.NoMemory }
@@ -117,7 +118,7 @@ fn send_response_copy<T: Copy + Default, B: Body<Item = T>, H: Copy + Default, K
 }
 
 /// Loans a request of one element from a client, and writes it.
-fn written_request<T: Copy + Default, B: Body<Item = T>, H: Copy + Default, K: BackpressureFn>(
+fn written_request<T: Copy + Default, B: WriteBody<Item = T>, H: Copy + Default, K: BackpressureFn>(
     core: &mut Core<B, H, B, H, K>,
     client: u64,
     item: T,
@@ -133,11 +134,12 @@ fn written_request<T: Copy + Default, B: Body<Item = T>, H: Copy + Default, K: B
 }
 
 /// Loans a response of one element from an active request, and writes it.
-fn written_response<T: Copy + Default, B: Body<Item = T>, H: Copy + Default, K: BackpressureFn>(
-    core: &mut Core<B, H, B, H, K>,
-    active: &HandleId,
-    item: T,
-) -> Result<HandleId, LoanError>
+fn written_response<
+    T: Copy + Default,
+    B: WriteBody<Item = T>,
+    H: Copy + Default,
+    K: BackpressureFn,
+>(core: &mut Core<B, H, B, H, K>, active: &HandleId, item: T) -> Result<HandleId, LoanError>
     requires kind { kind_at core.old active.now ≡ Some kind.ActiveRequest }
     requires number { 0 < numbers_left core.old }
     ensures { WritesResponse H.is_default core.old active.now item result core.new }

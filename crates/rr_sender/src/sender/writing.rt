@@ -5,10 +5,10 @@ ghost use Rattle.rr_slots.specs.Pools.{appended, filled, with_elements};
 ghost use Rattle.rr_sender.specs.Senders.{CompletesAt, content_at, given_back, uses, with_changed_at};
 
 use crate::sender::Sender;
-use rr_slots::{Body, FillBody, KeepBody, LendBody};
+use rr_slots::{Body, FillBody, KeepBody, LendBody, WriteBody};
 
 impl<B: Body, N: Copy, H: Drop> Sender<B, N, H> {
-    ghost use Rattle.rr_sender.specs.SenderLends.{lends_user_header, lends_element};
+    ghost use Rattle.rr_sender.specs.SenderLends.{lends_user_header};
 
     /// Lends the user header of a slot's message for writing.
     pub fn user_header_mut(&mut self, slot: usize) -> &mut H
@@ -20,15 +20,6 @@ impl<B: Body, N: Copy, H: Drop> Sender<B, N, H> {
         &mut head.user_header
     }
 
-    /// Appends an element to what stands in a slot, which is not complete.
-    #[inline(always)]
-    pub fn push(&mut self, slot: usize, item: B::Item)
-        requires { length (content_at self.old slot).elements < (content_at self.old slot).asked_len }
-        ensures { self.new ≡ with_changed_at self.old slot (appended item) }
-    {
-        self.pool.push(slot, item);
-    }
-
     /// Drops the elements in a slot. As many are asked for as before.
     #[inline(always)]
     pub fn clear(&mut self, slot: usize)
@@ -36,6 +27,19 @@ impl<B: Body, N: Copy, H: Drop> Sender<B, N, H> {
         ensures { self.new ≡ with_changed_at self.old slot (with_elements []) }
     {
         self.pool.clear(slot);
+    }
+}
+
+impl<B: WriteBody, N: Copy, H: Drop> Sender<B, N, H> {
+    ghost use Rattle.rr_sender.specs.SenderLends.{lends_element};
+
+    /// Appends an element to what stands in a slot, which is not complete.
+    #[inline(always)]
+    pub fn push(&mut self, slot: usize, item: B::Item)
+        requires { length (content_at self.old slot).elements < (content_at self.old slot).asked_len }
+        ensures { self.new ≡ with_changed_at self.old slot (appended item) }
+    {
+        self.pool.push(slot, item);
     }
 
     /// Makes an element the only one in a slot, where one is asked for at least. Old ones are dropped.

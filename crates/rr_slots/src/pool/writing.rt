@@ -3,10 +3,22 @@ ghost use Rattle.std.specs.Prelude.{◌≡◌, ◌<◌, [], ◌∷◌, length, s
 ghost use Rattle.std.specs.Borrow.{sem, Lends};
 ghost use Rattle.rr_slots.specs.Pools.{CompletesAt, content_at, appended, filled, given_back, with_changed_at, with_elements};
 
-use crate::body::{Body, FillBody, KeepBody, LendBody};
+use crate::body::{Body, FillBody, KeepBody, LendBody, WriteBody};
 use crate::pool::Pool;
 
 impl<B: Body> Pool<B> {
+    /// Drops the elements in a slot. As many are asked for as before.
+    #[inline(always)]
+    pub fn clear(&mut self, slot: usize)
+        requires { slot < length self.old.contents }
+        ensures { self.new ≡ with_changed_at self.old slot (with_elements []) }
+    {
+        let body = &mut self.bodies[slot];
+        body.clear();
+    }
+}
+
+impl<B: WriteBody> Pool<B> {
     ghost use Rattle.rr_slots.specs.PoolLends.{lends_element};
 
     /// Appends an element to what stands in a slot, which is not complete.
@@ -17,16 +29,6 @@ impl<B: Body> Pool<B> {
     {
         let body = &mut self.bodies[slot];
         body.push(item);
-    }
-
-    /// Drops the elements in a slot. As many are asked for as before.
-    #[inline(always)]
-    pub fn clear(&mut self, slot: usize)
-        requires { slot < length self.old.contents }
-        ensures { self.new ≡ with_changed_at self.old slot (with_elements []) }
-    {
-        let body = &mut self.bodies[slot];
-        body.clear();
     }
 
     /// Makes an element the only one in a slot, where one is asked for at least. Old ones are dropped.

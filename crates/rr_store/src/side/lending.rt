@@ -6,10 +6,10 @@ ghost use Rattle.rr_sender.specs.Senders.{content_at};
 ghost use Rattle.rr_store.specs.Views.{sender_of};
 
 use crate::side::Side;
-use rr_slots::{Body, LendBody};
+use rr_slots::{Body, LendBody, WriteBody};
 
-impl<B: Body, N: Copy, H: Drop, P: Drop> Side<B, N, H, P> {
-    ghost use Rattle.rr_store.specs.SideLends.{lends_element, lends_user_header};
+impl<B: WriteBody, N: Copy, H: Drop, P: Drop> Side<B, N, H, P> {
+    ghost use Rattle.rr_store.specs.SideLends.{lends_element};
 
     /// Lends an element of the message in a slot.
     #[inline(always)]
@@ -21,6 +21,10 @@ impl<B: Body, N: Copy, H: Drop, P: Drop> Side<B, N, H, P> {
     {
         self.senders[sender].messages.get_mut(slot, index)
     }
+}
+
+impl<B: Body, N: Copy, H: Drop, P: Drop> Side<B, N, H, P> {
+    ghost use Rattle.rr_store.specs.SideLends.{lends_user_header};
 
     /// Lends the user header of the message in a slot.
     #[inline(always)]

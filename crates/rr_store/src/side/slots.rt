@@ -8,10 +8,10 @@ ghost use Rattle.rr_store.specs.Views.{sender_of};
 ghost use Rattle.rr_store.specs.Writing.{is_written};
 
 use crate::side::Side;
-use rr_slots::{AcquireError, Body, FillBody, KeepBody};
+use rr_slots::{AcquireError, Body, FillBody, KeepBody, WriteBody};
 use rr_table::Place;
 
-impl<B: Body, N: Copy, H: Drop, P: Drop> Side<B, N, H, P> {
+impl<B: WriteBody, N: Copy, H: Drop, P: Drop> Side<B, N, H, P> {
     /// Loans a slot for a message of `len` elements, a length that the body's family takes. Returns the place of its handle.
     ///
     /// # Errors
@@ -46,16 +46,6 @@ impl<B: Body, N: Copy, H: Drop, P: Drop> Side<B, N, H, P> {
             }),
             Err(error) => Err(error),
         }
-    }
-
-    /// Gives back a hold on the message in a slot. What stands in the slot is dropped with the last use.
-    #[inline(always)]
-    pub fn give_back(&mut self, sender: usize, slot: usize)
-        requires sender { sender < length self.old.senders }
-        requires held { 0 < slice_index (sender_of sender self.old.senders).messages.held slot }
-        ensures { self.new ≡ with_sent self.old sender (λ m. given_back m slot) }
-    {
-        self.senders[sender].messages.give_back(slot);
     }
 
     /// Appends an element to the message in a slot, unless it is complete, and returns whether it did.
@@ -104,6 +94,18 @@ impl<B: Body, N: Copy, H: Drop, P: Drop> Side<B, N, H, P> {
         }
         *self.senders[sender].messages.get_mut(slot, index) = element;
         true
+    }
+}
+
+impl<B: Body, N: Copy, H: Drop, P: Drop> Side<B, N, H, P> {
+    /// Gives back a hold on the message in a slot. What stands in the slot is dropped with the last use.
+    #[inline(always)]
+    pub fn give_back(&mut self, sender: usize, slot: usize)
+        requires sender { sender < length self.old.senders }
+        requires held { 0 < slice_index (sender_of sender self.old.senders).messages.held slot }
+        ensures { self.new ≡ with_sent self.old sender (λ m. given_back m slot) }
+    {
+        self.senders[sender].messages.give_back(slot);
     }
 }
 

@@ -62,18 +62,31 @@ fn server(handler: Option<AtPortTwo>) -> ServerSettings<AtPortTwo> {
     }
 }
 
-/// Carries out commands. Returns the last two replies.
+/// Carries out commands on a new runner. Returns the last two replies.
 fn last_replies(
-    runner: &mut TypedRunner,
+    alloc: Global,
     commands: Vec<TypedCommand>,
-) -> (Option<Reply<u64, u64>>, Option<Reply<u64, u64>>) {
+) -> Result<(Option<Reply<u64, u64>>, Option<Reply<u64, u64>>), Fail> {
+    let mut runner: TypedRunner = Runner::new(alloc, LIMITS, UniqueNodeId(7))?;
     let mut before = None;
     let mut last = None;
     for command in commands {
         before = last;
         last = Some(runner.apply(command));
     }
-    (before, last)
+    Ok((before, last))
+}
+
+/// Carries out a list of commands on a new runner of these limits. Returns the replies, after one that was there.
+fn replies_to(
+    alloc: Global,
+    limits: Limits,
+    commands: Vec<TypedCommand>,
+) -> Result<Vec<Reply<u64, u64>>, Fail> {
+    let mut replies = vec![in alloc; Reply::Nothing]?;
+    let mut runner: TypedRunner = Runner::new(alloc, limits, UniqueNodeId(7))?;
+    run(&mut runner, commands.as_slice(), &mut replies)?;
+    Ok(replies)
 }
 
 /// Creates a client on a new runner. Returns the reply, and what 0 and 1 name then.
@@ -91,34 +104,27 @@ fn a_number_names_what_was_created(rt: HostRuntime) -> Result<(), Fail> {
     Ok(())
 }
 
-/// The replies to a list of commands, after one that was there.
-fn replies_in_turn(alloc: Global) -> Result<Vec<Reply<u64, u64>>, AllocError> {
+/// A client sends a value, and a server receives it.
+fn exchange(alloc: Global) -> Result<Vec<TypedCommand>, AllocError> {
     Ok(vec![in alloc;
+        Command::CreateClient(client(BackpressureStrategy::DiscardData, None)),
+        Command::CreateServer(server(None)),
+        Command::SendCopy(0, 123),
+        Command::Receive(1),
+    ]?)
+}
+
+#[test]
+fn commands_are_carried_out_in_turn(rt: HostRuntime) -> Result<(), Fail> {
+    let replies = replies_to(rt.alloc(), LIMITS, exchange(rt.alloc())?)?;
+    let wanted = [
         Reply::Nothing,
         Reply::Created(0),
         Reply::Created(1),
         Reply::Pending(2, 1),
         Reply::Active(3, 2),
-    ]?)
-}
-
-/// Whether a list of commands is carried out in turn, and their replies appended.
-fn is_run_in_turn(alloc: Global) -> Result<bool, Fail> {
-    let mut runner: TypedRunner = Runner::new(alloc, LIMITS, UniqueNodeId(7))?;
-    let mut replies = vec![in alloc; Reply::Nothing]?;
-    let commands = vec![in alloc;
-        Command::CreateClient(client(BackpressureStrategy::DiscardData, None)),
-        Command::CreateServer(server(None)),
-        Command::SendCopy(0, 123),
-        Command::Receive(1),
-    ]?;
-    run(&mut runner, commands.as_slice(), &mut replies)?;
-    Ok(replies == replies_in_turn(alloc)?)
-}
-
-#[test]
-fn commands_are_carried_out_in_turn(rt: HostRuntime) -> Result<(), Fail> {
-    assert!(rt; is_run_in_turn(rt.alloc())?);
+    ];
+    assert!(rt; replies.as_slice() == wanted.as_slice());
     Ok(())
 }
 
@@ -129,7 +135,6 @@ fn third_request(
     strategy: BackpressureStrategy,
     action: BackpressureAction,
 ) -> Result<(Option<Reply<u64, u64>>, Option<Reply<u64, u64>>), Fail> {
-    let mut runner: TypedRunner = Runner::new(alloc, LIMITS, UniqueNodeId(7))?;
     let commands = vec![in alloc;
         Command::CreateClient(client(strategy, Some(AtPortTwo { action }))),
         Command::CreateServer(server(None)),
@@ -143,7 +148,7 @@ fn third_request(
         Command::SendCopy(0, 3),
         Command::Receive(1),
     ]?;
-    Ok(last_replies(&mut runner, commands))
+    last_replies(alloc, commands)
 }
 
 /// Whether the third request was delivered to port 1 alone.
@@ -199,18 +204,12 @@ fn a_handler_that_follows_leaves_it_to_the_strategy(rt: HostRuntime) -> Result<(
     Ok(())
 }
 
-/// Lets a server that discards, but whose handler refuses, send a second response to a queue of one, from which the first was not
-/// received. Returns whether it is refused, its number then is unknown, and the next loan of its active request succeeds.
-fn is_second_response_refused(alloc: Global) -> Result<bool, Fail> {
-    let limits = Limits {
-        max_response_buffer_size: 1,
-        ..LIMITS
-    };
-    let mut runner: TypedRunner = Runner::new(alloc, limits, UniqueNodeId(7))?;
+/// A server that discards, but whose handler refuses, sends a second response to a queue of one, from which the first was not received.
+fn second_response(alloc: Global) -> Result<Vec<TypedCommand>, AllocError> {
     let refuses = AtPortTwo {
         action: BackpressureAction::DiscardData,
     };
-    let commands = vec![in alloc;
+    Ok(vec![in alloc;
         Command::CreateClient(client(BackpressureStrategy::DiscardData, None)),
         Command::CreateServer(server(Some(refuses))),
         Command::SendCopy(0, 1),
@@ -219,10 +218,19 @@ fn is_second_response_refused(alloc: Global) -> Result<bool, Fail> {
         Command::SendCopy(3, 11),
         Command::Header(5),
         Command::Loan(3, 1),
-    ]?;
-    let mut replies = Vec::new(alloc);
-    run(&mut runner, commands.as_slice(), &mut replies)?;
-    let wanted = vec![in alloc;
+    ]?)
+}
+
+/// It is refused, its number then is unknown, and the next loan of its active request succeeds.
+#[test]
+fn a_servers_handler_refuses_a_response(rt: HostRuntime) -> Result<(), Fail> {
+    let limits = Limits {
+        max_response_buffer_size: 1,
+        ..LIMITS
+    };
+    let replies = replies_to(rt.alloc(), limits, second_response(rt.alloc())?)?;
+    let wanted = [
+        Reply::Nothing,
         Reply::Created(0),
         Reply::Created(1),
         Reply::Pending(2, 1),
@@ -231,12 +239,7 @@ fn is_second_response_refused(alloc: Global) -> Result<bool, Fail> {
         Reply::SendError(SendError::UnableToDeliver),
         Reply::Unknown,
         Reply::Loaned(6),
-    ]?;
-    Ok(replies == wanted)
-}
-
-#[test]
-fn a_servers_handler_refuses_a_response(rt: HostRuntime) -> Result<(), Fail> {
-    assert!(rt; is_second_response_refused(rt.alloc())?);
+    ];
+    assert!(rt; replies.as_slice() == wanted.as_slice());
     Ok(())
 }

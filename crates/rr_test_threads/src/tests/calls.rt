@@ -34,9 +34,13 @@ impl<N: Naming, R: Abort + Wait + Clock> Worker<'_, N, R> {
         let changed = self.ask_changed(&ports.client);
         let made = self.ask_copy(&ports.client);
         let default = self.ask_default(&ports.client);
+        let called = ports.client.call(self.hub, self.rt, &mut self.seat, 9);
         self.tell(&ports.client, 4);
         self.tell(&ports.client, 5);
-        changed.wrapping_add(made).wrapping_add(default)
+        changed
+            .wrapping_add(made)
+            .wrapping_add(default)
+            .wrapping_add(called.expect(self.rt, "an answer comes"))
     }
 
     /// Checks that a request reached one server, which may answer it, and sets its hint.
@@ -141,6 +145,10 @@ impl<N: Naming, R: Abort + Wait + Clock> Worker<'_, N, R> {
         assert!(self.rt; self.has_hint(&ports.active));
         let made = self.answer_made(&ports.server);
         let default = self.answer_default(&ports.server);
+        let served = ports
+            .server
+            .serve(self.hub, self.rt, &mut self.seat, tenfold);
+        assert!(self.rt; served.is_ok());
         let told = self.told(&ports.server);
         changed
             .wrapping_add(made)

@@ -3,9 +3,9 @@ ghost use Rattle.std.specs.Prelude.{◌≡◌};
 
 use super::exchange::{meet, release_both};
 use super::worker::{Caller, Numbers, Ports, Shared, Worker};
-use rr_ports::{Limits, UniqueNodeId};
-use rr_shared_ports::typed::{Client, Server};
-use rr_shared_ports::{Naming, WaitError};
+use rr_ports::{Limits, Refused, UniqueNodeId};
+use rr_shared_ports::typed::{Client, PendingResponse, Server};
+use rr_shared_ports::{AskError, FinishError, Naming, WaitError};
 use std::marker::Brand;
 use std::process::Abort;
 use std::sync::Wait;
@@ -30,6 +30,22 @@ fn times_out<N: Naming, R: Wait + Clock>(
     }
 }
 
+/// Finishes a request. Returns why that can't be, where it is released.
+fn unfinished<N: Naming, R: Wait>(
+    rt: &R,
+    hub: &Shared<N>,
+    seat: &mut Caller<N>,
+    pending: PendingResponse<N, u64>,
+) -> Option<FinishError> {
+    match pending.finish(hub, rt, seat) {
+        Ok(_answer) => None,
+        Err(Refused { message, error }) => {
+            message.release(hub, rt, seat);
+            Some(error)
+        }
+    }
+}
+
 impl<N: Naming, R: Abort + Wait + Clock> Worker<'_, N, R> {
     /// Waits for a request and for a response, which don't come, until the time ends the waits.
     fn wait_for_a_moment(&mut self, ports: &Ports<N>) {
@@ -40,17 +56,30 @@ impl<N: Naming, R: Abort + Wait + Clock> Worker<'_, N, R> {
         }
     }
 
-    /// Compares what two seats have seen, and releases all.
-    fn end(&mut self, ports: Ports<N>) {
-        meet(self.hub, &mut self.seat, &mut self.hub.seat());
+    /// Releases all but the client, which then asks in vain: at a closed hub, and without a server.
+    fn ask_in_vain(&mut self, ports: Ports<N>) -> Client<N, u64> {
         let Ports {
             client,
             server,
             pending,
             active,
         } = ports;
-        release_both(self.rt, self.hub, &mut self.seat, pending, active);
-        release_both(self.rt, self.hub, &mut self.seat, client, server);
+        let found = unfinished(self.rt, self.hub, &mut self.seat, pending);
+        assert!(self.rt; found == Some(FinishError::NoResponse));
+        let closed = client.call(self.hub, self.rt, &mut self.seat, 9);
+        assert!(self.rt; closed == Err(AskError::Finish(WaitError::Closed)));
+        release_both(self.rt, self.hub, &mut self.seat, active, server);
+        let alone = client.call(self.hub, self.rt, &mut self.seat, 9);
+        let nobody = WaitError::Call(FinishError::NoServer);
+        assert!(self.rt; alone == Err(AskError::Finish(nobody)));
+        client
+    }
+
+    /// Compares what two seats have seen, and releases all.
+    fn end(&mut self, ports: Ports<N>) {
+        meet(self.hub, &mut self.seat, &mut self.hub.seat());
+        let client = self.ask_in_vain(ports);
+        client.release(self.hub, self.rt, &mut self.seat);
     }
 }
 
@@ -112,7 +141,7 @@ fn played<N: Naming, R: Abort + Threads + Wait + Clock + Sync>(
 fn threads_make_each_call_and_exchange_numbers(rt: HostRuntime) -> Result<(), Fail> {
     let opened = Numbers::new(rt.alloc(), Limits::DEFAULT, UniqueNodeId(3))?;
     let counted = played::<Brand, _>(&rt, opened);
-    assert_eq!(rt; counted, ((133, 22), (500_500, 1_000)));
+    assert_eq!(rt; counted, ((223, 22), (500_500, 1_000)));
     Ok(())
 }
 

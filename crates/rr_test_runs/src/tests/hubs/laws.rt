@@ -10,7 +10,7 @@ ghost use Rattle.rr_shared.specs.Laws.{calls_of, HasReceived, WasSentFor};
 use super::rows::{HubCommand, HubReply};
 use rr_protocol::{BackpressureFn, ClientSettings, NoHandler};
 use rr_shared::{Command, Naming, Reply, Seat, SharedHub};
-use rr_slots::Body;
+use rr_slots::WriteBody;
 use std::sync::Wait;
 
 /// A hub whose messages are numbers.
@@ -23,7 +23,7 @@ pub type NumbersSeat<N> = Seat<N, u64, u64, NoHandler>;
 pub fn asked_twice<
     N: Naming,
     T: Copy + Default,
-    B: Body<Item = T>,
+    B: WriteBody<Item = T>,
     H: Copy + Default,
     K: BackpressureFn,
     R: Wait,
@@ -120,11 +120,13 @@ pub fn created<N: Naming, R: Wait>(
 
 /// Ends the sharing of a hub, and shows two seats the whole history. Promises that they have then seen the same, and that each made
 /// just the calls that it knew of.
-pub fn ended<N: Naming, T: Copy + Default, B: Body<Item = T>, H: Copy + Default, K: BackpressureFn>(
-    hub: SharedHub<N, T, B, H, K>,
-    one: &mut Seat<N, T, H, K>,
-    other: &mut Seat<N, T, H, K>,
-)
+pub fn ended<
+    N: Naming,
+    T: Copy + Default,
+    B: WriteBody<Item = T>,
+    H: Copy + Default,
+    K: BackpressureFn,
+>(hub: SharedHub<N, T, B, H, K>, one: &mut Seat<N, T, H, K>, other: &mut Seat<N, T, H, K>)
     ensures same { one.new.1 ≡ other.new.1 }
     ensures one { calls_of one.new ≡ calls_of one.old }
     ensures other { calls_of other.new ≡ calls_of other.old }

@@ -17,7 +17,7 @@ returns g c =
           looks = c.self.inside.holders.looks;
         })
             (changed g.B.Body.asked_len g.B.Body.elements _ _ _ inside c.index_mut-body.ensures.value _ (with_element_at c.args.index w)
-            (g.met.B.Body.keeps_asked_len _ _ _) (g.met.B.Body.sets_one_element _ _ _)),
+            (g.met.B.WriteBody.keeps_asked_len _ _ _) (g.met.B.WriteBody.sets_one_element _ _ _)),
       ),
       record { lends = tt; value = rw here c.get_mut.ensures.value },
     ))
