@@ -239,7 +239,7 @@ module _ {Q QH P PH K : Type 0} (action : K → ℕ → ℕ → BackpressureActi
   request_copied old new n (Err error) copies = request_received old new n (Err error) copies
 
   unfinished : (old new : State Q QH P PH K) (n : ℕ) (error : FinishError) → ReceivesNone old n error new → LeadsTo action D E old new
-  unfinished old new n NoResponse none = response_copied old new n (Ok None) none
+  unfinished old new n NoResponse none = response_copied old new n (Ok None) none.0
   unfinished old new n NoServer none = response_copied old new n (Ok None) none.0
   unfinished old new n (Receive error) none = response_copied old new n (Err error) none
 

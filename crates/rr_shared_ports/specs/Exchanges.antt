@@ -1,5 +1,5 @@
 -- Two calls of ports in one critical section, and what asks and serves by them.
-use Rattle.std.specs.Prelude.{◌≡◌, ℕ, [], ◌∷◌, Some, None, Result, Ok, Err, false, IsSomeAnd, length, nat_lt}
+use Rattle.std.specs.Prelude.{◌≡◌, ℕ, [], ◌∷◌, Some, None, Result, Ok, Err, Bool, false, true, IsSomeAnd, length, nat_lt}
 use Rattle.std.specs.Borrow.{Bor}
 use Rattle.std.specs.Fn.{FnOnceReturnsAt, Once}
 use mathlib.Core.List.{IsPrefix}
@@ -32,20 +32,20 @@ FindsOver wait.Closed found = found ≡ finish.NoResponse
 FindsOver wait.TimedOut found = found ≡ finish.NoResponse
 
 module _ {Q QH P PH K : Type 0} where
-  -- no connected server may answer a request any more
-  abbrev pub HasNoServer : State Q QH P PH K → ℕ → Type 0
-  HasNoServer s n = IsSomeAnd (pending_at s n) (λ pending. false ≡ nat_lt 0 (length pending.servers))
+  -- a connected server may answer a request yet, or none may any more
+  abbrev pub MayBeAnswered : State Q QH P PH K → ℕ → Bool → Type 0
+  MayBeAnswered s n may = IsSomeAnd (pending_at s n) (λ pending. may ≡ nat_lt 0 (length pending.servers))
 
   -- why a request has no response
   abbrev pub IsWhyNone : State Q QH P PH K → ℕ → FinishError → Type 0
-  IsWhyNone s n finish.NoResponse = Unit
-  IsWhyNone s n finish.NoServer = HasNoServer s n
+  IsWhyNone s n finish.NoResponse = MayBeAnswered s n true
+  IsWhyNone s n finish.NoServer = MayBeAnswered s n false
   IsWhyNone s n (finish.Receive error) = ⊥
 
   -- no response is received, and why
   abbrev pub ReceivesNone : State Q QH P PH K → ℕ → FinishError → State Q QH P PH K → Type 0
-  ReceivesNone old n finish.NoResponse new = ReceivesCopy old n (Ok None) new
-  ReceivesNone old n finish.NoServer new = ReceivesCopy old n (Ok None) new × HasNoServer new n
+  ReceivesNone old n finish.NoResponse new = ReceivesCopy old n (Ok None) new × MayBeAnswered new n true
+  ReceivesNone old n finish.NoServer new = ReceivesCopy old n (Ok None) new × MayBeAnswered new n false
   ReceivesNone old n (finish.Receive error) new = ReceivesCopy old n (Err error) new
 
   -- the value of a response is received, and the request ends; or none is, and the request is given back

@@ -115,7 +115,7 @@ impl<N: Naming, QB: Body> Claimed<N, PendingResponse<QB>> {
         )
     }
 
-    /// Finishes the request as soon as a response comes; the hub's waiters for responses were woken so often before it was sent.
+    /// Finishes the request as soon as a response comes. `turns` is how often those who wait for responses had been woken before it was sent.
     fn finish_since<R: Wait, QH: Default + Drop, PH: Default + Drop, K: BackpressureFn, T: Copy>(
         self,
         hub: &SharedPorts<N, Hub<QB, QH, Option<T>, PH, K>>,
@@ -159,6 +159,7 @@ impl<N: Naming, T: Drop> Claimed<N, Client<Option<T>>> {
     /// - `Send` as `send_copy`.
     /// - `Finish(Call(NoServer))` if no connected server may answer any more.
     /// - `Finish(Closed)` if `close` was called, and no response is queued.
+    /// - `Finish(Call(Receive(..)))` as `receive_copy`.
     ///
     /// The request is released.
     pub fn call<R: Wait, QH: Default + Drop, PH: Default + Drop, K: BackpressureFn, U: Copy>(
